@@ -22,7 +22,7 @@ counts_weigh app lengths are short weights by = record {
       let none : length (function app f).items ≡ 0 = ap (λ (g : Func). length g.items) (get_or_past app.funcs f no_function past) in
       absurd (omega (arith, none, inside)))
       (cases_lt f (length app.funcs));
-  no_lighter = (counts_fit app lengths are short weights by).no_lighter;
+  no_lighter = (counts_fit app lengths short weights by).no_lighter;
 }
 
 pub counts_end : (app : App) (lengths : List (List ℕ)) (weights : List BodyWeights) → AreCountsBy app lengths weights → WeighsEndings app (length_of lengths) weights

@@ -6,10 +6,15 @@ pub mod Counted
 pub mod Spending
 pub mod Owing
 pub mod Rounded
+pub mod States
+pub mod Awake
 pub mod Running
 pub mod Owned
 pub mod Gaps
 pub mod OwnRounds
+pub mod Shared
+pub mod SpentStages
+pub mod OwnItems
 pub mod Taken
 pub mod Entered
 pub mod Stretches

@@ -8,19 +8,15 @@ use Rattle.osek_scheduler.specs.State.{opening}
 use Rattle.osek_scheduler.proofs.Facts.{facts}
 use Rattle.osek_scheduler.proofs.Leading.{follows_leads}
 use Rattle.raised_sections.specs.Pace.{takes_line}
-use Rattle.event_weights.specs.Items.{length_of}
 use Rattle.event_weights.specs.Pace.{ItemSizes}
-use Rattle.event_weights.proofs.BodyLengths.{short}
-use Rattle.sim_induction.specs.Sound.{events_of}
 use Rattle.run_counts.specs.Stages.{Stage, is_running, unseen, spanned, own, run_stages}
 use Rattle.run_counts.specs.Laws.{IsWithinWeights}
 use Rattle.run_counts.specs.Rounds.{closes_round, round_of, total, charged_to}
-use Rattle.run_counts.specs.OwnCounts.{is_preempted, if_preempted, IsOwn, begun, IsBehindItem, paced_at, RoundsOwnWithinItems, ImagesOwnWithinItems}
+use Rattle.run_counts.specs.OwnCounts.{is_preempted, if_preempted, IsOwn, begun, IsBehindItem, paced_at, RoundsOwnWithinItems}
 use Rattle.run_counts.proofs.Staged.{keeps_weights}
 use Rattle.run_counts.proofs.Rounded.{rounds_within}
 use Rattle.run_counts.proofs.Owned.{HasParts, run_owned, first_of}
 use Rattle.run_counts.proofs.Gaps.{line_facts, preempts_within}
-use Rattle.run_counts.proofs.Counted.{counts_weigh, counts_end}
 
 -- ---- what holds of all stages
 
@@ -133,12 +129,3 @@ own_within_items config app size longest n t cuts weights arrivals events wf run
           (part (IsBehindItem config size t) (preempts_within config app size longest n t events run keeps))) in
           omega (arith, sum, items, items_begun);
     }
-
-pub own_in_image : ImagesOwnWithinItems
-own_in_image config app image lengths weights arrivals n t cuts wf code sound pace lengths_are counts are few before behind first is opens =
-    let run = sound.each arrivals n are few in
-    let items_short = short app code lengths lengths_are in
-    let keeps = (pace.paced lengths lengths_are).each arrivals n 36 are few items_short in
-    let within = own_within_items config app (length_of lengths) 36 n t cuts weights arrivals (events_of image arrivals n) wf run.osek run.in_time keeps
-    (counts_weigh app lengths lengths_are items_short weights counts) (counts_end app lengths weights counts) before behind first is opens in
-    within.alone

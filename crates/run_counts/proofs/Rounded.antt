@@ -148,11 +148,11 @@ module _ (config : Config) (app : App) (size : ItemSizes) (longest : ℕ) (weigh
 
   -- ---- any event
 
-  abbrev Fits : (counts t : ℕ) → Event → System → System → Type 0
+  abbrev pub Fits : (counts t : ℕ) → Event → System → System → Type 0
   Fits counts t what s next =
       cond (is_turn t what) counts 0 + debt t next ≤ cond (is_turn t what) (executed_weight weights s what) 0 + debt t s
 
-  fits : (what : Event) (counts t : ℕ) (s next : System) → IsValid config app s → OsekStep config app what s next → IsWithin counts what s
+  pub fits : (what : Event) (counts t : ℕ) (s next : System) → IsValid config app s → OsekStep config app what s next → IsWithin counts what s
       → is_left t what ≡ false → Fits counts t what s next
   fits (event.Run u func item result) counts t s next v step within stays =
       either_fits counts (next_going weights (task s u).frames) t u s next (frame_effect config app w s next v (event.Run u func item result) step).others
@@ -174,10 +174,10 @@ module _ (config : Config) (app : App) (size : ItemSizes) (longest : ℕ) (weigh
   fits event.Stray counts t s next v step within stays = absurd step
 
   -- without what stands behind it
-  abbrev FitsAlone : (counts t : ℕ) → Event → System → Type 0
+  abbrev pub FitsAlone : (counts t : ℕ) → Event → System → Type 0
   FitsAlone counts t what s = cond (is_turn t what) counts 0 ≤ cond (is_turn t what) (executed_weight weights s what) 0 + debt t s
 
-  alone : (what : Event) (counts t : ℕ) (s next : System) → IsValid config app s → OsekStep config app what s next → IsWithin counts what s
+  pub alone : (what : Event) (counts t : ℕ) (s next : System) → IsValid config app s → OsekStep config app what s next → IsWithin counts what s
       → FitsAlone counts t what s
   alone what counts t s next v step within = by (cases_Bool (is_left t what))
     where
@@ -221,7 +221,7 @@ module _ (config : Config) (app : App) (size : ItemSizes) (longest : ℕ) (weigh
 
   -- ---- a round
 
-  left_closes : (cuts : Bool) (t : ℕ) (e : Event) → closes_round cuts t e ≡ false → is_left t e ≡ false
+  pub left_closes : (cuts : Bool) (t : ℕ) (e : Event) → closes_round cuts t e ≡ false → is_left t e ≡ false
   left_closes cuts t e stays = by (is_left t e) refl
     where
       by : (b : Bool) → is_left t e ≡ b → b ≡ false
@@ -263,7 +263,7 @@ module _ (config : Config) (app : App) (size : ItemSizes) (longest : ℕ) (weigh
           omega (arith, one, rest, a, c, d)
 
   -- where a round begins the task owes nothing
-  begins_free : (what : Event) (cuts : Bool) (t : ℕ) (s next : System) → IsValid config app s → OsekStep config app what s next
+  pub begins_free : (what : Event) (cuts : Bool) (t : ℕ) (s next : System) → IsValid config app s → OsekStep config app what s next
       → opens_round cuts t what ≡ true → (task next t).owed ≡ false
   begins_free (event.Enter u) cuts t s next v step opens =
       let e = eqb-true u t (enters (u == t) cuts opens) in

@@ -1,50 +1,24 @@
 -- Which task runs in the state that an event finds.
-use Rattle.std.proofs.Common.{◌≡◌, ◌∙◌, ℕ, ◌<◌, ◌≤◌, ◌⊎◌, ◌||◌, Bool, true, false, not, leb, length, refl, sym, ap, subst, arith, inl, inr}
-use Rattle.std.specs.Bool.{Decides}
-use Rattle.std.proofs.lemmas.Bool.{true≢false, cases_eq, cases_lt}
-use Rattle.std.proofs.lemmas.Bool.Decides.{Decides-and, Decides-or, Decides-not, Decides-like, Decides-below_and}
+use Rattle.std.proofs.Common.{◌≡◌, ◌∙◌, ℕ, ◌<◌, ◌≤◌, ◌⊎◌, Bool, true, false, length, refl, sym, ap, subst, arith, inl, inr}
+use Rattle.std.proofs.lemmas.Bool.{cases_eq, cases_lt}
 use Rattle.std.proofs.lemmas.List.{get_or_past}
 use Rattle.sloth_base.specs.declared.config.Config.{Config}
 use Rattle.osek_scheduler.specs.declared.state.TaskState.TheVariants as mode
 use Rattle.osek_scheduler.specs.State.{Task, System, sleeping_task, task}
-use Rattle.osek_scheduler.specs.Next.{all_below}
-use Rattle.osek_scheduler.specs.Priority.{is_active, rank}
+use Rattle.osek_scheduler.specs.Priority.{rank}
 use Rattle.osek_scheduler.specs.Apart.{IsActive}
 use Rattle.osek_scheduler.proofs.Apart.{Above, at_least_static, rank_active}
-use Rattle.osek_scheduler.proofs.Tests.{Decides-is_active, Decides-leb}
+pub use Rattle.sim_induction.proofs.Running.{Decides-is_running}
 use Rattle.run_counts.specs.Stages.{is_running}
 
 module _ (config : Config) (s : System) (t : ℕ) where
-  -- an Active task is of no greater rank
-  abbrev Yields : ℕ → Type 0
-  Yields u = IsActive s u → rank config s u ≤ rank config s t
-
-  from_cases : (u : ℕ) → (¬ (IsActive s u)) ⊎ (rank config s u ≤ rank config s t) → Yields u
-  from_cases u (inl idle) active = absurd (idle active)
-  from_cases u (inr le) active = le
-
-  by_active : (u : ℕ) → Yields u → (b : Bool) → is_active (task s u).state ≡ b → (¬ (IsActive s u)) ⊎ (rank config s u ≤ rank config s t)
-  by_active u h true e = inr (h ((Decides-is_active (task s u).state).0 e))
-  by_active u h false e = inl (λ active. true≢false (sym ((Decides-is_active (task s u).state).1 active) ∙ e))
-
-  Decides-yields : (u : ℕ) → Decides (not (is_active (task s u).state) || leb (rank config s u) (rank config s t)) (Yields u)
-  Decides-yields u =
-      Decides-like _ (from_cases u) (λ h. by_active u h (is_active (task s u).state) refl)
-      (Decides-or _ _ (Decides-not _ (Decides-is_active (task s u).state)) (Decides-leb (rank config s u) (rank config s t)))
-
-  pub Decides-is_running : Decides (is_running config s t) (IsActive s t × ((u : ℕ) → u < length config.tasks → Yields u))
-  Decides-is_running =
-      Decides-and _ _ (Decides-is_active (task s t).state)
-      (Decides-below_and (λ u. not (is_active (task s u).state) || leb (rank config s u) (rank config s t)) Yields
-      (λ n. all_below n (λ u. not (is_active (task s u).state) || leb (rank config s u) (rank config s t))) Decides-yields refl (λ _. refl) (length config.tasks))
-
   -- a task that is not Active does not run
   pub others_rest : (IsActive s t → ⊥) → is_running config s t ≡ false
   others_rest n = by (is_running config s t) refl
     where
       by : (b : Bool) → is_running config s t ≡ b → b ≡ false
       by false e = refl
-      by true e = absurd (n (Decides-is_running.0 e).0)
+      by true e = absurd (n ((Decides-is_running config s t).0 e).0)
 
 module _ (config : Config) (s : System) where
   pub active_declared : (t : ℕ) → length s.tasks ≡ length config.tasks → IsActive s t → t < length config.tasks

@@ -31,8 +31,8 @@ use Rattle.raised_sections.proofs.Placed.{Advances}
 use Rattle.raised_sections.proofs.Window.{LowerPair, Waits, Rests, View, works, departs, keeps, view, Blocked, goes, Onward, onward, rests_all}
 use Rattle.bound_rules.specs.declared.weights.BodyWeights.{BodyWeights}
 use Rattle.bound_rules.specs.Weights.{going_weight}
-use Rattle.section_sizes.specs.Weights.{going_at, ending_at, sum_of}
-use Rattle.section_counts.specs.Told.{NoneIsAbove}
+use Rattle.walk_sums.specs.Weights.{going_at, ending_at, sum_of}
+use Rattle.walk_sums.specs.Told.{NoneIsAbove}
 use Rattle.event_weights.specs.Pace.{ItemSizes}
 use Rattle.sim_induction.specs.Paced.{ArePacedTo}
 use Rattle.run_counts.specs.Spending.{WeighsItems}
@@ -214,7 +214,7 @@ module _ {config : Config} {app : App} {h l : ℕ} (pair : LowerPair config app 
 
   -- ---- what is found is within the greatest sum
 
-  module _ (most heaviest : ℕ) (none_above : NoneIsAbove config app weights h l most) (heavy : (f i : ℕ) → going_weight weights f i ≤ heaviest) where
+  module _ (most heaviest : ℕ) (none_above : NoneIsAbove (IsSection config app h l) weights most) (heavy : (f i : ℕ) → going_weight weights f i ≤ heaviest) where
     pub within : (s : System) (counts : ℕ) → Found s counts → counts ≤ most
     within s counts f =
         let sum = f.sum in

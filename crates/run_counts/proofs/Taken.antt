@@ -27,7 +27,7 @@ use Rattle.raised_sections.proofs.Stepping.{position_of}
 use Rattle.raised_sections.proofs.Window.{LowerPair, Waits}
 use Rattle.bound_rules.specs.declared.weights.BodyWeights.{BodyWeights}
 use Rattle.bound_rules.specs.Weights.{going_weight, ending_weight}
-use Rattle.section_sizes.specs.Weights.{ending_at}
+use Rattle.walk_sums.specs.Weights.{ending_at}
 use Rattle.event_weights.specs.Pace.{ItemSizes, paced_counts}
 use Rattle.sim_induction.specs.Paced.{GoesInPace, ArePacedTo}
 use Rattle.run_bounds.specs.Latency.{IsHighest, is_tick}

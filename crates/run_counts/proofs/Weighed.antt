@@ -20,7 +20,7 @@ use Rattle.raised_sections.specs.Spent.{spent_counts}
 use Rattle.raised_sections.proofs.Stepping.{position_of}
 use Rattle.bound_rules.specs.declared.weights.BodyWeights.{BodyWeights}
 use Rattle.bound_rules.specs.Weights.{going_weight}
-use Rattle.section_sizes.specs.Weights.{going_at}
+use Rattle.walk_sums.specs.Weights.{going_at}
 use Rattle.event_weights.specs.Events.{call_counts}
 use Rattle.event_weights.specs.Items.{served_counts, going_counts}
 use Rattle.event_weights.specs.Pace.{ItemSizes, next_size, next_size_of, paced_counts}

@@ -1,5 +1,5 @@
 -- What the own counts of a task come to: by what its events are charged with, by where it is preempted, and by the weights of a round's items.
-use Rattle.std.specs.Prelude.{ℕ, ◌+◌, ◌≤◌, ◌≡◌, ◌&&◌, List, ◌∷◌, ◌++◌, Bool, true, cond}
+use Rattle.std.specs.Prelude.{ℕ, ◌+◌, ◌<◌, ◌≤◌, ◌≡◌, ◌⊎◌, ◌&&◌, List, [], ◌∷◌, ◌++◌, Bool, true, cond, length, is_none}
 use Rattle.std.specs.List.{AllByRecursion}
 use Rattle.sloth_base.specs.declared.config.Config.{Config}
 use Rattle.sloth_base.specs.declared.app.App.{App}
@@ -20,8 +20,9 @@ use Rattle.event_weights.specs.Items.{length_of, AreLengths}
 use Rattle.event_weights.specs.Pace.{ItemSizes, next_size_of, paced_counts}
 use Rattle.section_counts.specs.Counts.{AreCountsBy}
 use Rattle.sim_induction.specs.Paced.{KeepsPace, InPace}
+use Rattle.sim_induction.specs.Spent.{SpendsOnItems}
 use Rattle.sim_induction.specs.Sound.{Sound, events_of}
-use Rattle.run_counts.specs.Stages.{Stage, is_running, unseen, spanned, own, run_stages}
+use Rattle.run_counts.specs.Stages.{Stage, turn_task, is_running, is_turn, unseen, spanned, charged, own, run_stages}
 use Rattle.run_counts.specs.Spending.{WeighsItems}
 use Rattle.run_counts.specs.Rounds.{opens_round, round_of, total, charged_to, weight_of, WeighsEndings}
 
@@ -47,6 +48,22 @@ abbrev pub RunsOwnWhatIsCharged : Type 0
 RunsOwnWhatIsCharged = (config : Config) (app : App) (n t : ℕ) (arrivals : List Arrival) (events : List Stamped)
     → WellFormed config app → OsekRun config app events → InTime config n arrivals events
     → AllByRecursion (IsOwn config t) (run_stages config app events)
+
+-- ---- whose each count is
+
+-- the counts of an event that is no task's: of an entry or a tick those that it spans, of boot and of the idle loop those in front of it too
+abbrev pub unowned : Stage → ℕ
+unowned x = cond (takes_line x.stamped.event) (spanned x) (cond (is_none (turn_task x.stamped.event)) (charged x) 0)
+
+-- a stage has no counts but those, or these and own counts of one task
+abbrev pub IsShared : Config → Stage → Type 0
+IsShared config x = (charged x ≤ unowned x) ⊎ ((t : ℕ) × (t < length config.tasks) × (charged x ≤ unowned x + own config t x))
+
+-- so it is in each stage of a run in time that keeps the pace
+abbrev pub RunsShareCounts : Type 0
+RunsShareCounts = (config : Config) (app : App) (size : ItemSizes) (longest n : ℕ) (arrivals : List Arrival) (events : List Stamped)
+    → WellFormed config app → OsekRun config app events → InTime config n arrivals events → KeepsPace config app size longest n events
+    → AllByRecursion (IsShared config) (run_stages config app events)
 
 -- ---- in front of an entry or a tick
 
@@ -98,11 +115,32 @@ RoundsOwnWithinItems =
     → opens_round cuts t first.stamped.event ≡ true
     → OwnIsWithin config app size longest weights t (round_of cuts t behind)
 
+-- ---- with the items that are preempted counted once
+
+-- The instructions of the item that task t has begun and not ended behind these stages, as where it is preempted last; none where an event of it came
+-- since. In front of them these were so many.
+abbrev pub left_begun : Config → ItemSizes → (t : ℕ) → (so_far : ℕ) → List Stage → ℕ
+left_begun config size t so_far [] = so_far
+left_begun config size t so_far (x ∷ xs) =
+    left_begun config size t (cond (is_turn t x.stamped.event) 0 (cond (is_preempted config t x) (begun size t x) so_far)) xs
+
+-- In every run in time that keeps the pace, and in which no task spends more on an item than it has, the own counts of a task in a round are at most the
+-- weights of its items; in one that is not finished, with the item that it has begun.
+abbrev pub RoundsOwnItems : Type 0
+RoundsOwnItems =
+    (config : Config) (app : App) (size : ItemSizes) (longest n t : ℕ) (cuts : Bool) (weights : List BodyWeights) (arrivals : List Arrival) (events : List Stamped)
+    → WellFormed config app → OsekRun config app events → InTime config n arrivals events → SpendsOnItems config app size longest t events
+    → WeighsItems app size weights → WeighsEndings app size weights
+    → (before behind : List Stage) (first : Stage) → run_stages config app events ≡ before ++ first ∷ behind
+    → opens_round cuts t first.stamped.event ≡ true
+    → total (own config t) (round_of cuts t behind)
+    ≤ total (weight_of weights t) (round_of cuts t behind) + left_begun config size t 0 (round_of cuts t behind)
+
 -- ---- of the runs of an image
 
 -- Of an image whose builder promises `Sound` and `InPace`, in every run, by the weights in counts and the lengths of the items of its task code: the own
--- counts of a task in a round, finished or not, are at most the sum of the weights of the items that its events execute, and for each entry and tick that
--- preempts it the instructions of the item that it has begun.
+-- counts of a task in a round, finished or not, are at most the sum of the weights of the items that its events execute, and in one that is not finished
+-- the instructions of the item that it has begun. So an item that is preempted, however often, counts once.
 abbrev pub ImagesOwnWithinItems : Type 0
 ImagesOwnWithinItems =
     (config : Config) (app : App) (image : Image) (lengths : List (List ℕ)) (weights : List BodyWeights) (arrivals : List Arrival) (n t : ℕ) (cuts : Bool)
@@ -111,4 +149,4 @@ ImagesOwnWithinItems =
     → (before behind : List Stage) (first : Stage) → run_stages config app (events_of image arrivals n) ≡ before ++ first ∷ behind
     → opens_round cuts t first.stamped.event ≡ true
     → total (own config t) (round_of cuts t behind)
-    ≤ total (weight_of weights t) (round_of cuts t behind) + total (if_preempted config t (begun (length_of lengths) t)) (round_of cuts t behind)
+    ≤ total (weight_of weights t) (round_of cuts t behind) + left_begun config (length_of lengths) t 0 (round_of cuts t behind)

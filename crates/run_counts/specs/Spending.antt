@@ -9,11 +9,11 @@ use Rattle.osek_scheduler.specs.State.{System, opening}
 use Rattle.osek_scheduler.specs.Runs.{AreStepsTo, OsekRun}
 use Rattle.osek_blocking.specs.Blocking.{events_up_to_entry, MakesReady}
 use Rattle.raised_sections.specs.Pace.{last_count}
-use Rattle.raised_sections.specs.Sections.{IsLower}
+use Rattle.raised_sections.specs.Sections.{IsSection, IsLower}
 use Rattle.raised_sections.specs.Spent.{spent_counts}
 use Rattle.bound_rules.specs.declared.weights.BodyWeights.{BodyWeights}
 use Rattle.bound_rules.specs.Weights.{going_weight, ending_weight}
-use Rattle.section_counts.specs.Told.{NoneIsAbove}
+use Rattle.walk_sums.specs.Told.{NoneIsAbove}
 use Rattle.event_weights.specs.Items.{going_counts}
 use Rattle.event_weights.specs.Pace.{ItemSizes}
 use Rattle.sim_induction.specs.Paced.{KeepsPace}
@@ -25,7 +25,7 @@ pub record WeighsItems (app : App) (size : ItemSizes) (weights : List BodyWeight
 
 -- no section of a lower task for h has a larger sum
 abbrev pub NoSumIsAbove : Config → App → (weights : List BodyWeights) → (h most : ℕ) → Type 0
-NoSumIsAbove config app weights h most = (k : ℕ) → IsLower config h k → NoneIsAbove config app weights h k most
+NoSumIsAbove config app weights h most = (k : ℕ) → IsLower config h k → NoneIsAbove (IsSection config app h k) weights most
 
 -- From each event that makes a task h Ready up to its `enter` lower tasks spend at most one item, of the service that was running as an arrival made h
 -- Ready, and a section.

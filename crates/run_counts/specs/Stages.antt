@@ -1,40 +1,13 @@
 -- The events of a run with the states around them, and the counts that each task spends.
-use Rattle.std.specs.Prelude.{ℕ, ◌+◌, ◌-◌, ◌&&◌, ◌||◌, not, leb, List, [], ◌∷◌, Bool, cond, length, Option, Some, None}
+use Rattle.std.specs.Prelude.{ℕ, ◌+◌, ◌-◌, List, [], ◌∷◌, cond, Option, Some, None}
 use Rattle.sloth_base.specs.declared.config.Config.{Config}
 use Rattle.sloth_base.specs.declared.app.App.{App}
 use Rattle.sloth_base.specs.declared.event.Event.{Event}
-use Rattle.sloth_base.specs.declared.event.Event.TheVariants as event
 use Rattle.sloth_base.specs.declared.event.Stamped.{Stamped}
-use Rattle.sloth_base.specs.Events.{entered_task}
-use Rattle.sloth_base.specs.Options.{is_number}
-use Rattle.osek_scheduler.specs.State.{System, task, opening}
+use Rattle.osek_scheduler.specs.State.{System, opening}
 use Rattle.osek_scheduler.specs.InTime.{is_admit}
-use Rattle.osek_scheduler.specs.Next.{all_below, next_state}
-use Rattle.osek_scheduler.specs.Priority.{is_active, rank}
-
--- ---- whose counts they are
-
--- the task in whose turn an event comes
-abbrev pub turn_task : Event → Option ℕ
-turn_task (event.Run t func item result) = Some t
-turn_task (event.Call t served status) = Some t
-turn_task (event.Left t served) = Some t
-turn_task (event.Back t) = Some t
-turn_task _ = None
-
--- the event comes in a turn of task t
-abbrev pub is_turn : (t : ℕ) → Event → Bool
-is_turn t e = is_number t (turn_task e)
-
--- the event enters task t
-abbrev pub is_entry : (t : ℕ) → Event → Bool
-is_entry t e = is_number t (entered_task e)
-
--- task t runs where no line is taken: it is Active, and no other Active task is of greater rank
-abbrev pub is_running : Config → System → (t : ℕ) → Bool
-is_running config s t =
-    is_active (task s t).state
-    && all_below (length config.tasks) (λ u. not (is_active (task s u).state) || leb (rank config s u) (rank config s t))
+use Rattle.osek_scheduler.specs.Next.{next_state}
+pub use Rattle.sim_induction.specs.Spent.{turn_task, is_turn, is_entry, is_running}
 
 -- ---- stages
 

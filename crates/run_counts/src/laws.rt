@@ -3,7 +3,7 @@ ghost use Rattle.run_counts.specs.Laws.{RunsKeepWeights};
 ghost use Rattle.run_counts.specs.Spending.{RunsSpendOnLower, RunsSpendNothing};
 ghost use Rattle.run_counts.specs.Latency.{RunsEnterByWeights};
 ghost use Rattle.run_counts.specs.Rounds.{RoundsSpendWithinItems};
-ghost use Rattle.run_counts.specs.OwnCounts.{RunsOwnWhatIsCharged, RunsHaveShortGaps, RunsPreemptWithinItems, RoundsOwnWithinItems, ImagesOwnWithinItems};
+ghost use Rattle.run_counts.specs.OwnCounts.{RunsOwnWhatIsCharged, RunsShareCounts, RunsHaveShortGaps, RunsPreemptWithinItems, RoundsOwnWithinItems, RoundsOwnItems, ImagesOwnWithinItems};
 
 /// In a run that keeps the pace no stage spends more than its event weighs, with the item in front of it.
 pub fn runs_keep_weights()
@@ -33,11 +33,22 @@ pub fn runs_own_what_is_charged()
     ensures { RunsOwnWhatIsCharged }
 {}
 
+/// In each stage of a run in time that keeps the pace the counts are those of an event that is no task's, and own counts of one task.
+pub fn runs_share_counts()
+    ensures { RunsShareCounts }
+{}
+
 /// In a run in time of well-formed task code that keeps the pace, the own counts of a task in a round are at most the sum of the weights of the items that
 /// its events execute and, for each entry and tick that preempts it, the instructions of the item that it has begun; and with these entries and ticks at most
 /// the items' weights, theirs, and for each of them the longest item.
 pub fn rounds_own_within_items()
     ensures { RoundsOwnWithinItems }
+{}
+
+/// In a run in time of well-formed task code in which no task spends more on an item than it has, the own counts of a task in a round are at most the sum of
+/// the weights of the items that its events execute, and in one that is not finished the instructions of the item that it has begun.
+pub fn rounds_own_items()
+    ensures { RoundsOwnItems }
 {}
 
 /// In a run that keeps the pace no entry and no tick stands behind more counts that show no event than the longest item has instructions.
@@ -52,7 +63,7 @@ pub fn runs_preempt_within_items()
 {}
 
 /// In every run of an image whose builder promises that its runs are sound and keep the pace, the own counts of a task in a round are at most the sum of the
-/// weights in counts of the items that its events execute, and for each entry and tick that preempts it the instructions of the item that it has begun.
+/// weights in counts of the items that its events execute, and in one that is not finished the instructions of the item that it has begun.
 pub fn images_own_within_items()
     ensures { ImagesOwnWithinItems }
 {}

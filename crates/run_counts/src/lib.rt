@@ -5,13 +5,14 @@
 //! the greatest sum of a section's (`runs_spend_on_lower`; `specs/Spending`). What a round of a task is charged with is within its items' weights
 //! (`rounds_spend_within_items`; `specs/Rounds`).
 //!
-//! A task's own counts are those that its events are charged with, and in front of an entry or a tick that preempts it those of the item that it has begun
-//! (`runs_own_what_is_charged`; `specs/OwnCounts`). In a round they are at most its items' weights and for each preemption the item that it has begun, in every
-//! run of a built image (`images_own_within_items`, by `runs_preempt_within_items`); with the entries and ticks that preempt it at most the weights of all
-//! these, and the longest item for each preemption (`rounds_own_within_items`). What a task has begun is counted twice so, in front of the preemption and with
-//! its item.
+//! In each stage the counts are those of an event that is no task's, and own counts of one task (`runs_share_counts`; `specs/OwnCounts`).
 //!
-//! The sums: `section_counts` (`Told`). Weights and pace of events: `event_weights` (`Events`, `Pace`); that runs of a built image keep it: `sim_induction`
+//! A task's own counts are those that its events are charged with, and in front of an entry or a tick that preempts it those of the item that it has begun
+//! (`runs_own_what_is_charged`; `specs/OwnCounts`). In a round they are at most its items' weights, and in one that is not finished the instructions of the
+//! item that it has begun, in every run of a built image (`images_own_within_items`, by `rounds_own_items`): an item that is preempted counts once. With the
+//! entries and ticks that preempt it they are at most the weights of all these, and the longest item for each preemption (`rounds_own_within_items`).
+//!
+//! The sums: `walk_sums` (`Told`). Weights and pace of events: `event_weights` (`Events`, `Pace`); that runs of a built image keep it: `sim_induction`
 //! (`InPace`).
 #![tactic(auto)]
 

@@ -1,6 +1,6 @@
 -- Every run from the start is sound.
-use Rattle.std.proofs.Common.{◌≡◌, ℕ, zero, suc, ◌+◌, ◌-◌, ◌<◌, ◌≤◌, List, [], ◌∷◌, ◌++◌, length, take, refl, sym, ap, ◌∙◌, subst, arith, append_assoc, Bool, true, false, cond, Option, Some, None, ⊎_elim, filter}
-use Rattle.std.specs.Prelude.{map, not, ◌||◌, Contains}
+use Rattle.std.proofs.Common.{◌≡◌, ℕ, zero, suc, ◌+◌, ◌-◌, ◌<◌, ◌≤◌, List, [], ◌∷◌, ◌++◌, length, take, refl, sym, ap, ◌∙◌, subst, arith, append_assoc, Bool, true, false, cond, Option, Some, ⊎_elim, filter}
+use Rattle.std.specs.Prelude.{map, not, Contains}
 use Rattle.std.specs.List.{flat_map, AllByRecursion}
 use Rattle.std.proofs.lemmas.Bool.{cases_lt, true≢false, false≢true}
 use Rattle.std.proofs.lemmas.List.{length-take}
@@ -15,8 +15,7 @@ use Rattle.sloth_base.specs.Arrive.{state_arrive}
 use Rattle.rv32_instr.specs.Execute.{touched}
 use Rattle.rv32_machine.specs.Advance.{Goes}
 use Rattle.rv32_machine.specs.Run.{state_after_from, moment, run_from, state_with_arrivals}
-use Rattle.masked_code.specs.Trace.{Trace, is_touched_line, touched_lines_of, touched_lines, lines_of, early_arrivals, late_arrivals}
-use Rattle.sloth_base.specs.Options.{is_number}
+use Rattle.masked_code.specs.Trace.{Trace, touched_lines, early_arrivals, late_arrivals}
 use Rattle.sloth_base.specs.Owners.{owners_in, IsOwned, AreOwned}
 use Rattle.sloth_base.specs.Stretches.{Boots, stretch_limit}
 use Rattle.observe.specs.Pieces.{Stretch, pieces, cut_off_steps}
@@ -28,14 +27,15 @@ use Rattle.osek_scheduler.specs.Runs.{AreStepsTo, AreStepsBehind}
 use Rattle.osek_scheduler.specs.InTime.{is_admit, admits_at, arrivals_at, IsOrdered, KeepsOrder, longest_cut_off_stretch}
 use Rattle.sim_induction.specs.Short.{AreShort, IsShortPiece, TouchesOnly, HasShortGaps}
 use Rattle.sim_induction.specs.Sound.{stands_before}
-use Rattle.sim_induction.specs.Admits.{Setting, IsSetting, lines_at, with_admits, admit_event, arrivals_before_event, arrivals_behind_event, arrivals_at_moment}
+use Rattle.sim_induction.specs.Admits.{Setting, IsSetting, lines_at, with_admits, admit_event, arrivals_before_event, arrivals_behind_event}
 use Rattle.sim_induction.proofs.Lines.{spans_admit, admit_behind}
 use Rattle.sim_induction.specs.Observed.{trace_of, IsTraced}
 use Rattle.raised_sections.specs.Pace.{last_count}
 use Rattle.sim_induction.specs.Weighed.{AreWeighedTo}
 use Rattle.sim_induction.specs.Paced.{ArePacedTo}
 use Rattle.sim_induction.specs.Advances.{RunTo, EachPair, IsInCounts}
-use Rattle.sim_induction.specs.PieceLaws.{BootLaw, seen_step_at}
+use Rattle.sim_induction.specs.PieceLaws.{Passed, BootLaw, seen_step_at}
+use Rattle.sim_induction.specs.Spent.{spent_behind, AreSpentTo}
 use Rattle.sim_induction.specs.Related.{IsSimulation}
 use Rattle.sim_induction.proofs.Follow.{leads-append, follows-append, follows_leads, follows_admits, booted_admits}
 use Rattle.sim_induction.proofs.Events.{IsFrom, filter_all, each_map, each-append, each_arrival, admit_pairs, behind_within, before}
@@ -43,41 +43,22 @@ use Rattle.sim_induction.proofs.Schedule.{from_zero, moments-split, owned_at, ad
 use Rattle.sim_induction.proofs.Counts.{admits-append, arrivals-append}
 use Rattle.sim_induction.proofs.Order.{orders-append, parted_order, admits_order}
 use Rattle.sim_induction.proofs.Runs.{steps_from, run_steps, run_take, after_steps, goes_through}
-use Rattle.sim_induction.proofs.RunFrom.{events_from, ReachedAt, SoundFrom}
+use Rattle.sim_induction.proofs.RunFrom.{events_from, ReachedAt, HasSpentTo, nothing_spent, SoundFrom}
+use Rattle.sim_induction.proofs.Spending.{no_more_left, spent-append, spent_admits}
 use Rattle.sim_induction.proofs.Traces.{lines_behind, is_traced, lines_trace, steps_touch, each_step-take}
 use Rattle.sim_induction.proofs.MaskedRun.{MaskedRun, masked_steps, masked_inside, masked_moment, none_taken, trace_long, Flags, flag_first}
 use Rattle.sim_induction.proofs.Cut.{cut_whole, cut_short}
+use Rattle.sim_induction.proofs.Untouched.{nil_cons, nothing_before}
 use Rattle.sim_induction.proofs.Induct.{sound_from, within_wider, pairs_apart}
 use Rattle.sim_induction.proofs.StretchPiece.{stretch_arrivals}
 use Rattle.sim_induction.proofs.Weighing.{weighed-append, weighed_admits}
 use Rattle.sim_induction.proofs.Pacing.{last-append, last_admits, paced-append, paced_admits}
 use Rattle.sim_induction.proofs.WholeRun.{WholeRun}
 
--- ---- a stretch that touches no line
-
-nil_cons : {x : ℕ} {a : List ℕ} → x ∷ a ≡ [] → ⊥
-nil_cons e = cc
-
-no_line : (o : Option ℕ) (rest : List ℕ) (line : ℕ) → lines_of o rest ≡ [] → (is_number line o ≡ false) × (rest ≡ [])
-no_line None rest line h = (refl, h)
-no_line (Some l) rest line h = absurd (nil_cons h)
-
-no_touch : (t : Trace) (line : ℕ) → touched_lines t ≡ [] → is_touched_line t line ≡ false
-no_touch [] line h = refl
-no_touch (e ∷ t) line h = let q = no_line e.1 (touched_lines t) line h in ap (λ b. b || is_touched_line t line) q.0 ∙ no_touch t line q.1
-
-none_touched : (t : Trace) (a : List ℕ) → touched_lines t ≡ [] → touched_lines_of t a ≡ []
-none_touched t [] h = refl
-none_touched t (l ∷ a) h = ap (λ b. cond b (l ∷ touched_lines_of t a) (touched_lines_of t a)) (no_touch t l h) ∙ none_touched t a h
-
-pub nothing_before : (k : ℕ) (t : Trace) → touched_lines t ≡ [] → arrivals_before_event k t ≡ []
-nothing_before k [] h = refl
-nothing_before k (e ∷ t) h =
-    ap (λ u. arrivals_at_moment k u ++ arrivals_before_event (k + 1) t) (none_touched (e ∷ t) e.0 h) ∙ nothing_before (k + 1) t (no_line e.1 (touched_lines t) 0 h).1
-
 -- ---- the first stretch
 
-module _ (given : Setting) (setting : IsSetting given) (R : State → System → Type 0) (progress : State → System → ℕ) (simulation : IsSimulation given R progress) (m : State) (law : BootLaw given R m) where
+module _ (given : Setting) (setting : IsSetting given) (R : Passed → State → System → Type 0) (progress : State → System → ℕ) (simulation : IsSimulation given R progress) (passed : Passed) (m : State)
+    (law : BootLaw given (R passed) m) where
   abbrev A : List Arrival
   A = given.arrivals
 
@@ -172,7 +153,7 @@ module _ (given : Setting) (setting : IsSetting given) (R : State → System →
   z = with_admits (late_arrivals law.trace) law.after
 
   after_booted : law.after.booted ≡ true
-  after_booted = sym (booted_admits (late_arrivals law.trace) law.after) ∙ simulation.booted law.end z law.related
+  after_booted = sym (booted_admits (late_arrivals law.trace) law.after) ∙ simulation.booted passed law.end z law.related
 
   follow0 : AreStepsBehind given.config given.app [] s E0 z
   follow0 = (
@@ -199,12 +180,30 @@ module _ (given : Setting) (setting : IsSetting given) (R : State → System →
     record {
       begins = λ other later. absurd (true≢false later);
       preempts = λ takes t runs. absurd (false≢true takes);
+      idles = λ takes rests. absurd (false≢true takes);
       ends = λ other later. absurd (true≢false later);
     },
     law.step_is,
     subst (λ a. ArePacedTo given.config given.app given.size longest law.more (map admit_event (arrivals_behind_event 0 law.trace)) law.after (with_admits a law.after)) (lines_behind 0 law.trace)
         (paced_admits given.config given.app given.size longest law.more (arrivals_behind_event 0 law.trace) law.after setting.few_tasks after_booted owned_behind),
   )
+
+  -- nor has a task spent anything before it
+  spent0 : (longest t : ℕ) → AreSpentTo given.config given.app given.size longest t 0 0 E0 s z law.more 0
+  spent0 longest t =
+      let none : spent_behind given.config t 0 0 s boot ≡ 0 = let few = no_more_left given.config t 0 0 s boot refl in omega (arith, few) in (
+        law.after,
+        record {
+          begins = λ turn. absurd (false≢true turn);
+          ends = λ turn. absurd (false≢true turn);
+          preempts = λ takes. absurd (false≢true takes);
+        },
+        law.step_is,
+        subst (λ v. AreSpentTo given.config given.app given.size longest t law.more v (map admit_event (arrivals_behind_event 0 law.trace)) law.after z law.more 0) (sym none)
+            (subst (λ a. AreSpentTo given.config given.app given.size longest t law.more 0 (map admit_event (arrivals_behind_event 0 law.trace)) law.after (with_admits a law.after) law.more 0)
+            (lines_behind 0 law.trace)
+            (spent_admits given.config given.app given.size longest t law.more 0 (arrivals_behind_event 0 law.trace) law.after setting.few_tasks after_booted owned_behind)),
+      )
 
   last0 : last_count 0 E0 ≡ law.more
   last0 = last_admits law.more (arrivals_behind_event 0 law.trace)
@@ -260,6 +259,7 @@ module _ (given : Setting) (setting : IsSetting given) (R : State → System →
     paced = λ longest most. refl;
     reaches = λ longest most some. absurd (let none : 0 < 0 = some in omega (arith, none));
     reaches_within = λ longest most heaviest stretches some. absurd (let none : 0 < 0 = some in omega (arith, none));
+    spends = λ t declared. nothing_spent given t 0 0 s;
     within = tt;
     placed = tt;
     to = 0;
@@ -297,6 +297,7 @@ module _ (given : Setting) (setting : IsSetting given) (R : State → System →
         paced = λ longest most. subst (λ E. ArePacedTo given.config given.app given.size longest 0 E s s) (sym obs) refl;
         reaches = λ longest most some. absurd (let none = ap (λ (E : List Stamped). length E) obs in omega (arith, none, some));
         reaches_within = λ longest most heaviest stretches some. absurd (let none = ap (λ (E : List Stamped). length E) obs in omega (arith, none, some));
+        spends = λ t declared. subst (λ E. HasSpentTo given t 0 0 E s s) (sym obs) (nothing_spent given t 0 0 s);
         within = subst (AllByRecursion (IsInCounts 0 (suc n))) (sym obs) tt;
         placed = subst (EachPair IsOrdered) (sym obs) tt;
         to = 0;
@@ -320,7 +321,7 @@ module _ (given : Setting) (setting : IsSetting given) (R : State → System →
       let E = events_from given n J law.end in
       let q = r.long in
       let few = law.few in
-      let g : SoundFrom given R progress n J law.end z E0 = sound_from given setting R progress simulation n n J law.end z E0 (omega arith) (omega arith) law.related (follows_leads given.config given.app [] s E0 z follow0) in
+      let g : SoundFrom given R progress passed n J law.end z E0 = sound_from given setting R progress simulation n n J passed law.end z E0 (omega arith) (omega arith) law.related (follows_leads given.config given.app [] s E0 z follow0) in
       let run : steps_from (J + n) A 0 m ≡ (f ∷ r.steps) ++ F = run_steps J n 0 A m (f ∷ r.steps) law.end runs ∙ ap (λ i. (f ∷ r.steps) ++ steps_from n A i law.end) (omega arith) in
       let pieces_are : pieces [] (steps_from (J + n) A 0 m) ≡ Stretch (f ∷ r.steps) ∷ pieces [] F =
       ap (pieces []) run ∙ pieces-append [] (f ∷ r.steps) F ∙ ap (λ v. pieces [] (f ∷ r.steps) ++ pieces v F) cut.1 ∙ ap (λ v. v ++ pieces [] F) cut.0 in
@@ -347,6 +348,14 @@ module _ (given : Setting) (setting : IsSetting given) (R : State → System →
             let far = (g.paced longest law.more most (omega arith)).2 heaviest stretches in
             let last : last_count 0 (events_from given (J + n) 0 m) ≡ last_count law.more E = ap (last_count 0) obs ∙ last-append 0 E0 E ∙ ap (λ v. last_count v E) last0 in
             omega (arith, far, last);
+        spends = λ t declared.
+            let rest = g.spends t law.more 0 declared (record { later = omega arith; running = λ named. omega arith; preempted = λ other. omega arith }) in
+            record {
+              to = rest.to;
+              left = rest.left;
+              leads = λ longest. subst (λ u. AreSpentTo given.config given.app given.size longest t 0 0 u s g.last rest.to rest.left) (sym obs)
+                  (spent-append given.config given.app given.size longest t E0 E 0 0 law.more 0 s z g.last rest.to rest.left (spent0 longest t) (rest.leads longest));
+            };
         within = subst (AllByRecursion (IsInCounts 0 (J + n))) (sym obs)
             (each-append (IsInCounts 0 (J + n)) E0 E (within_wider 0 J 0 (J + n) E0 (omega arith) (omega arith) within0) (within_wider J (J + n) 0 (J + n) E (omega arith) (omega arith) g.within));
         placed = subst (EachPair IsOrdered) (sym obs) (pairs_apart 0 J (J + n) E0 E within0 g.within placed0 g.placed);

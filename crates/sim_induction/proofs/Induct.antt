@@ -22,7 +22,9 @@ use Rattle.sim_induction.specs.Short.{AreShort, IsShortPiece, HasShortGaps, pass
 use Rattle.sim_induction.specs.Sound.{stands_before}
 use Rattle.sim_induction.specs.Admits.{Setting, IsSetting, lines_at, with_admits, admit_event}
 use Rattle.sim_induction.proofs.Lines.{is_admitted, spans_admit, admit_before}
-use Rattle.sim_induction.specs.Advances.{EachPair, IsInCounts, found_events, IsWithinItem, Advances}
+use Rattle.sim_induction.specs.Advances.{EachPair, IsInCounts, found_events, IsWithinItem, IsNamedByWord, Advances}
+use Rattle.sim_induction.specs.PieceLaws.{Passed}
+use Rattle.sim_induction.specs.Spent.{AreSpentTo}
 use Rattle.raised_sections.specs.Pace.{last_count}
 use Rattle.sim_induction.specs.Weighed.{AreWeighedTo}
 use Rattle.sim_induction.specs.Paced.{ArePacedTo}
@@ -33,9 +35,10 @@ use Rattle.sim_induction.proofs.Schedule.{from_zero, moments-split, owned_at, ad
 use Rattle.sim_induction.proofs.Counts.{admits-append, arrivals-append, admits_of}
 use Rattle.sim_induction.proofs.Order.{orders-append, admits_order}
 use Rattle.sim_induction.proofs.Runs.{steps_from, run_steps, run_take, after_steps, goes_through}
-use Rattle.sim_induction.proofs.RunFrom.{events_from, ReachedAt, SoundFrom}
+use Rattle.sim_induction.proofs.RunFrom.{events_from, ReachedAt, nothing_spent, SoundFrom}
 use Rattle.sim_induction.proofs.Weighing.{weighed-append, weighed_admits}
 use Rattle.sim_induction.proofs.Pacing.{last-append, last_admits, paced-append, paced_admits}
+use Rattle.sim_induction.proofs.Spending.{spent-append, spent_admits}
 
 -- events of earlier counts stand before those of later ones
 ordered_apart : (mid from to : ℕ) (x y : Stamped) → IsInCounts from mid x → IsInCounts mid to y → IsOrdered x y
@@ -56,7 +59,7 @@ within_wider from to low high a l h = each_map (IsInCounts from to) (IsInCounts 
 
 -- ---- the induction
 
-module _ (given : Setting) (setting : IsSetting given) (R : State → System → Type 0) (progress : State → System → ℕ) (simulation : IsSimulation given R progress) where
+module _ (given : Setting) (setting : IsSetting given) (R : Passed → State → System → Type 0) (progress : State → System → ℕ) (simulation : IsSimulation given R progress) where
   abbrev A : List Arrival
   A = given.arrivals
 
@@ -69,18 +72,29 @@ module _ (given : Setting) (setting : IsSetting given) (R : State → System →
   owned_here : (k : ℕ) → AreOwned (owners_in given.config) (lines_at A k)
   owned_here = owned_at given setting
 
-  follow_mine : (past : List Stamped) (k : ℕ) (m : State) (s : System) → R m s → AreStepsBehind given.config given.app past s (mine k) (with_admits (lines_at A k) s)
-  follow_mine past k m s r = follows_admits given.config given.app past (here k) s setting.few_tasks (simulation.booted m s r) (owned_here k)
+  follow_mine : (passed : Passed) (past : List Stamped) (k : ℕ) (m : State) (s : System) → R passed m s → AreStepsBehind given.config given.app past s (mine k) (with_admits (lines_at A k) s)
+  follow_mine passed past k m s r = follows_admits given.config given.app past (here k) s setting.few_tasks (simulation.booted passed m s r) (owned_here k)
 
-  weigh_mine : (k : ℕ) (m : State) (s : System) → R m s → AreWeighedTo given.config given.app (mine k) s (with_admits (lines_at A k) s)
-  weigh_mine k m s r = weighed_admits given.config given.app (here k) s setting.few_tasks (simulation.booted m s r) (owned_here k)
+  weigh_mine : (passed : Passed) (k : ℕ) (m : State) (s : System) → R passed m s → AreWeighedTo given.config given.app (mine k) s (with_admits (lines_at A k) s)
+  weigh_mine passed k m s r = weighed_admits given.config given.app (here k) s setting.few_tasks (simulation.booted passed m s r) (owned_here k)
 
-  pace_mine : (longest at k : ℕ) (m : State) (s : System) → R m s → ArePacedTo given.config given.app given.size longest at (mine k) s (with_admits (lines_at A k) s)
-  pace_mine longest at k m s r = paced_admits given.config given.app given.size longest at (here k) s setting.few_tasks (simulation.booted m s r) (owned_here k)
+  pace_mine : (passed : Passed) (longest at k : ℕ) (m : State) (s : System) → R passed m s → ArePacedTo given.config given.app given.size longest at (mine k) s (with_admits (lines_at A k) s)
+  pace_mine passed longest at k m s r = paced_admits given.config given.app given.size longest at (here k) s setting.few_tasks (simulation.booted passed m s r) (owned_here k)
+
+  spend_mine : (passed : Passed) (longest t at spent k : ℕ) (m : State) (s : System) → R passed m s
+      → AreSpentTo given.config given.app given.size longest t at spent (mine k) s (with_admits (lines_at A k) s) at spent
+  spend_mine passed longest t at spent k m s r =
+      spent_admits given.config given.app given.size longest t at spent (here k) s setting.few_tasks (simulation.booted passed m s r) (owned_here k)
 
   -- the word names the task that runs, so no more has shown nothing than its item has instructions
-  within_item : (m : State) (s : System) → R m s → IsWithinItem given progress m s
-  within_item m s r t runs = (simulation.measured m s r).turn t ((simulation.mirrors m s r).running t runs).1 [] []
+  within_item : (passed : Passed) (m : State) (s : System) → R passed m s → IsWithinItem given progress m s
+  within_item passed m s r = record {
+    of_task = λ t runs. (simulation.measured passed m s r).turn t ((simulation.mirrors passed m s r).running t runs).1 [] [];
+    idle = λ rests. (simulation.measured passed m s r).idle ((simulation.mirrors passed m s r).idle rests).1;
+  }
+
+  by_word : (passed : Passed) (m : State) (s : System) → R passed m s → IsNamedByWord given m s
+  by_word passed m s r t runs = ((simulation.mirrors passed m s r).running t runs).1
 
   mine_within : (k hi : ℕ) → k < hi → AllByRecursion (IsInCounts k hi) (mine k)
   mine_within k hi l = each_arrival (IsInCounts k hi) (λ a. a.at ≡ k) (λ a e. record { begins = omega arith; ordered = omega arith; ends = omega arith; spans = spans_admit a }) (here k) (moment_within k A)
@@ -95,20 +109,21 @@ module _ (given : Setting) (setting : IsSetting given) (R : State → System →
   none_mine k = moments-none k A
 
   -- nothing has run
-  none : (k : ℕ) (m : State) (s : System) (past : List Stamped) → R m s → SoundFrom given R progress 0 k m s past
+  none : (passed : Passed) (k : ℕ) (m : State) (s : System) (past : List Stamped) → R passed m s → SoundFrom given R progress passed 0 k m s past
   unfolding run_from state_after_from observe
-  none k m s past r = record {
+  none passed k m s past r = record {
     end = m;
     whole = refl;
     last = s;
     follows = refl;
     weighed = refl;
     paced = λ longest at most near.
-        let few = (simulation.measured m s r).few longest most in (
+        let few = (simulation.measured passed m s r).few longest most in (
           refl,
           omega (arith, near, few),
           (λ heaviest within. let some = within.some in omega (arith, near, few, some)),
         );
+    spends = λ t at spent declared h. nothing_spent given t at spent s;
     within = tt;
     placed = tt;
     to = k;
@@ -123,10 +138,10 @@ module _ (given : Setting) (setting : IsSetting given) (R : State → System →
   }
 
   -- the first count
-  at_first : (k : ℕ) (m : State) (s : System) → R m s → (E others : List Stamped) → E ≡ mine k ++ others → AllByRecursion (λ e. stands_before k e ≡ false) others
+  at_first : (passed : Passed) (k : ℕ) (m : State) (s : System) → R passed m s → (E others : List Stamped) → E ≡ mine k ++ others → AllByRecursion (λ e. stands_before k e ≡ false) others
       → (x : State) → state_after_from 0 A k m ≡ Some x → ReachedAt given R E s (k + 0) x
   unfolding state_after_from
-  at_first k m s r E others e away x h =
+  at_first passed k m s r E others e away x h =
       let k0 : k + 0 ≡ k = omega arith in
       let f : filter (stands_before k) E ≡ mine k =
       ap (filter (stands_before k)) e ∙ filter-append (stands_before k) (mine k) others
@@ -135,12 +150,12 @@ module _ (given : Setting) (setting : IsSetting given) (R : State → System →
       let mx : m ≡ x = cc in
       subst (λ i. ReachedAt given R E s i x) (sym k0) (
         with_admits (lines_at A k) s,
-        subst (λ u. AreStepsTo given.config given.app u s (with_admits (lines_at A k) s)) (sym f) (follows_leads given.config given.app [] s (mine k) (with_admits (lines_at A k) s) (follow_mine [] k m s r)),
-        subst (λ y. R (state_with_arrivals A k y) (with_admits (lines_at A k) s)) mx (simulation.arrives k m s r),
+        subst (λ u. AreStepsTo given.config given.app u s (with_admits (lines_at A k) s)) (sym f) (follows_leads given.config given.app [] s (mine k) (with_admits (lines_at A k) s) (follow_mine passed [] k m s r)),
+        (passed, subst (λ y. R passed (state_with_arrivals A k y) (with_admits (lines_at A k) s)) mx (simulation.arrives passed k m s r)),
       )
 
   -- a stretch that the end cuts off
-  module _ (n k : ℕ) (m : State) (s : System) (past : List Stamped) (r : R m s) (a : Advances given R progress k m s) (l : suc n < suc (length a.rest)) where
+  module _ (passed : Passed) (n k : ℕ) (m : State) (s : System) (past : List Stamped) (r : R passed m s) (a : Advances given R progress passed k m s) (l : suc n < suc (length a.rest)) where
     cut_run : steps_from (suc n) A k m ≡ a.first ∷ take n a.rest
     cut_run = run_take (suc (length a.rest)) (suc n) k A m (a.first ∷ a.rest) a.next a.runs (omega arith)
 
@@ -160,27 +175,33 @@ module _ (given : Setting) (setting : IsSetting given) (R : State → System →
         ∙ ap (λ v. map (admission given.view) (here v)) a.finds.0
         ∙ admits_are given setting (here k) (owned_here k)
 
-    cut_sound : SoundFrom given R progress (suc n) k m s past
+    cut_sound : SoundFrom given R progress passed (suc n) k m s past
     cut_sound =
         let through = goes_through (suc (length a.rest)) (suc n) k A m (a.first ∷ a.rest) a.next a.runs (omega arith) in
         record {
           end = through.0;
           whole = through.1;
           last = with_admits (lines_at A k) s;
-          follows = subst (λ E. AreStepsBehind given.config given.app past s E (with_admits (lines_at A k) s)) (sym cut_observed) (follow_mine past k m s r);
-          weighed = subst (λ E. AreWeighedTo given.config given.app E s (with_admits (lines_at A k) s)) (sym cut_observed) (weigh_mine k m s r);
+          follows = subst (λ E. AreStepsBehind given.config given.app past s E (with_admits (lines_at A k) s)) (sym cut_observed) (follow_mine passed past k m s r);
+          weighed = subst (λ E. AreWeighedTo given.config given.app E s (with_admits (lines_at A k) s)) (sym cut_observed) (weigh_mine passed k m s r);
           paced = λ longest at most near. (
-            subst (λ E. ArePacedTo given.config given.app given.size longest at E s (with_admits (lines_at A k) s)) (sym cut_observed) (pace_mine longest at k m s r),
+            subst (λ E. ArePacedTo given.config given.app given.size longest at E s (with_admits (lines_at A k) s)) (sym cut_observed) (pace_mine passed longest at k m s r),
             (let last : last_count at (events_from given (suc n) k m) ≡ at = ap (last_count at) cut_observed ∙ last_admits at (here k) in
-                let few = (simulation.measured m s r).few longest most in
+                let few = (simulation.measured passed m s r).few longest most in
                 let short = a.few in
                 omega (arith, near, few, short, last, l)),
             (λ heaviest stretches.
                 let last : last_count at (events_from given (suc n) k m) ≡ at = ap (last_count at) cut_observed ∙ last_admits at (here k) in
-                let few = (simulation.measured m s r).few longest most in
+                let few = (simulation.measured passed m s r).few longest most in
                 let short = a.brief heaviest stretches in
                 omega (arith, near, few, short, last, l)),
           );
+          spends = λ t at spent declared h. record {
+            to = at;
+            left = spent;
+            leads = λ longest. subst (λ E. AreSpentTo given.config given.app given.size longest t at spent E s (with_admits (lines_at A k) s) at spent) (sym cut_observed)
+                (spend_mine passed longest t at spent k m s r);
+          };
           within = subst (AllByRecursion (IsInCounts k (k + suc n))) (sym cut_observed) (mine_within k (k + suc n) (omega arith));
           placed = subst (EachPair IsOrdered) (sym cut_observed) (admit_pairs (here k));
           to = k + 1;
@@ -195,12 +216,12 @@ module _ (given : Setting) (setting : IsSetting given) (R : State → System →
         }
       where
         cut_mirror : (i : ℕ) → i < suc n → (x : State) → state_after_from i A k m ≡ Some x → x.core.mie ≡ true → ReachedAt given R (events_from given (suc n) k m) s (k + i) x
-        cut_mirror zero h x g o = at_first k m s r (events_from given (suc n) k m) [] (cut_observed ∙ sym (append-nil (mine k))) tt x g
+        cut_mirror zero h x g o = at_first passed k m s r (events_from given (suc n) k m) [] (cut_observed ∙ sym (append-nil (mine k))) tt x g
         cut_mirror (suc i) h x g o = let f = a.closed (suc i) (omega arith) (omega arith) x g in cc
 
   -- a piece, and the run behind it
-  module _ (n k : ℕ) (m : State) (s : System) (past : List Stamped) (reached : AreStepsTo given.config given.app past (opening given.config given.app) s) (r : R m s) (a : Advances given R progress k m s)
-      (g : SoundFrom given R progress n (k + suc (length a.rest)) a.next a.after (past ++ (mine k ++ a.others))) where
+  module _ (passed : Passed) (n k : ℕ) (m : State) (s : System) (past : List Stamped) (reached : AreStepsTo given.config given.app past (opening given.config given.app) s) (r : R passed m s)
+      (a : Advances given R progress passed k m s) (g : SoundFrom given R progress a.behind n (k + suc (length a.rest)) a.next a.after (past ++ (mine k ++ a.others))) where
     abbrev j : ℕ
     j = suc (length a.rest)
 
@@ -245,16 +266,16 @@ module _ (given : Setting) (setting : IsSetting given) (R : State → System →
         (λ e t. behind (is_admit e) e.stamp.at k (let u = t.begins in let v = t.ordered in omega arith) (λ z. let u = t.begins in let v = t.ordered in omega arith)) E g.within
 
     mine_leads : AreStepsTo given.config given.app (past ++ mine k) (opening given.config given.app) (with_admits (lines_at A k) s)
-    mine_leads = leads-append given.config given.app past (mine k) (opening given.config given.app) s (with_admits (lines_at A k) s) reached (follows_leads given.config given.app past s (mine k) (with_admits (lines_at A k) s) (follow_mine past k m s r))
+    mine_leads = leads-append given.config given.app past (mine k) (opening given.config given.app) s (with_admits (lines_at A k) s) reached (follows_leads given.config given.app past s (mine k) (with_admits (lines_at A k) s) (follow_mine passed past k m s r))
 
     piece_follows : AreStepsBehind given.config given.app past s (mine k ++ a.others) a.after
-    piece_follows = follows-append given.config given.app past s (with_admits (lines_at A k) s) a.after (mine k) a.others (follow_mine past k m s r) (a.follows (past ++ mine k) mine_leads)
+    piece_follows = follows-append given.config given.app past s (with_admits (lines_at A k) s) a.after (mine k) a.others (follow_mine passed past k m s r) (a.follows (past ++ mine k) mine_leads)
 
     piece_leads : AreStepsTo given.config given.app (mine k ++ a.others) s a.after
     piece_leads = follows_leads given.config given.app past s (mine k ++ a.others) a.after piece_follows
 
     piece_weighed : AreWeighedTo given.config given.app (mine k ++ a.others) s a.after
-    piece_weighed = weighed-append given.config given.app (mine k) a.others s (with_admits (lines_at A k) s) a.after (weigh_mine k m s r) a.weighed
+    piece_weighed = weighed-append given.config given.app (mine k) a.others s (with_admits (lines_at A k) s) a.after (weigh_mine passed k m s r) a.weighed
 
     -- and ends in pace
     last_piece : (at : ℕ) → last_count at (mine k ++ a.others) ≡ last_count at a.others
@@ -266,7 +287,7 @@ module _ (given : Setting) (setting : IsSetting given) (R : State → System →
     piece_paced : (longest at : ℕ) → ArePacedTo given.config given.app given.size longest at a.others (with_admits (lines_at A k) s) a.after
         → ArePacedTo given.config given.app given.size longest at (mine k ++ a.others) s a.after
     piece_paced longest at h =
-        paced-append given.config given.app given.size longest (mine k) a.others at at s (with_admits (lines_at A k) s) a.after (last_admits at (here k)) (pace_mine longest at k m s r) h
+        paced-append given.config given.app given.size longest (mine k) a.others at at s (with_admits (lines_at A k) s) a.after (last_admits at (here k)) (pace_mine passed longest at k m s r) h
 
     piece_within : AllByRecursion (IsInCounts k (k + j)) (mine k ++ a.others)
     piece_within = each-append (IsInCounts k (k + j)) (mine k) a.others (mine_within k (k + j) (omega arith)) a.stamps
@@ -281,7 +302,7 @@ module _ (given : Setting) (setting : IsSetting given) (R : State → System →
         by y true z e w = tt
         by y false z e w = let u = w.begins in let v = w.ordered in omega arith
 
-    longer : SoundFrom given R progress (j + n) k m s past
+    longer : SoundFrom given R progress passed (j + n) k m s past
     longer =
         let same : k + j + n ≡ k + (j + n) = omega arith in
         record {
@@ -291,7 +312,7 @@ module _ (given : Setting) (setting : IsSetting given) (R : State → System →
           follows = subst (λ u. AreStepsBehind given.config given.app past s u g.last) (sym observed) (follows-append given.config given.app past s a.after g.last (mine k ++ a.others) E piece_follows g.follows);
           weighed = subst (λ u. AreWeighedTo given.config given.app u s g.last) (sym observed) (weighed-append given.config given.app (mine k ++ a.others) E s a.after g.last piece_weighed g.weighed);
           paced = λ longest at most near.
-              let front = a.paced longest at most near (within_item m s r) in
+              let front = a.paced longest at most near (within_item passed m s r) in
               let rest = g.paced longest (last_count at a.others) most front.1 in (
                 subst (λ u. ArePacedTo given.config given.app given.size longest at u s g.last) (sym observed)
                     (paced-append given.config given.app given.size longest (mine k ++ a.others) E at (last_count at a.others) s a.after g.last (last_piece at)
@@ -299,6 +320,17 @@ module _ (given : Setting) (setting : IsSetting given) (R : State → System →
                 (let far = rest.1 in let last = last_whole at in omega (arith, far, last)),
                 (λ heaviest stretches. let far = rest.2 heaviest stretches in let last = last_whole at in omega (arith, far, last)),
               );
+          spends = λ t at spent declared h.
+              let front = a.spends t at spent declared (by_word passed m s r) h in
+              let rest = g.spends t front.to front.left declared front.holds in
+              record {
+                to = rest.to;
+                left = rest.left;
+                leads = λ longest. subst (λ u. AreSpentTo given.config given.app given.size longest t at spent u s g.last rest.to rest.left) (sym observed)
+                    (spent-append given.config given.app given.size longest t (mine k ++ a.others) E at spent front.to front.left s a.after g.last rest.to rest.left
+                    (spent-append given.config given.app given.size longest t (mine k) a.others at spent at spent s (with_admits (lines_at A k) s) a.after front.to front.left
+                    (spend_mine passed longest t at spent k m s r) (front.leads longest)) (rest.leads longest));
+              };
           within = subst (AllByRecursion (IsInCounts k (k + (j + n)))) (sym observed)
               (each-append (IsInCounts k (k + (j + n))) (mine k ++ a.others) E
               (within_wider k (k + j) k (k + (j + n)) (mine k ++ a.others) (omega arith) (omega arith) piece_within)
@@ -319,7 +351,7 @@ module _ (given : Setting) (setting : IsSetting given) (R : State → System →
           short = subst (AllByRecursion (IsShortPiece given.config)) (sym long_pieces) (a.short, g.short);
           short_cut = subst (AreShort given.config) (sym long_open) g.short_cut;
           gaps = λ b h. subst (HasShortGaps given.view b) (sym long_pieces) (
-            (let p = a.progresses b h in let q = simulation.bounded a.next a.after a.related in omega arith),
+            (let p = a.progresses b h in let q = simulation.bounded a.behind a.next a.after a.related in omega arith),
             g.gaps (passed_length given.view a.piece b) (a.progresses b h),
           );
           mirrors = λ i h x f o. ⊎_elim (λ (z : i < j). first_count i z x f o) (λ (z : j ≤ i). later_count i z h x f o) (cases_lt i j);
@@ -327,7 +359,7 @@ module _ (given : Setting) (setting : IsSetting given) (R : State → System →
       where
         first_count : (i : ℕ) → i < j → (x : State) → state_after_from i A k m ≡ Some x → x.core.mie ≡ true → ReachedAt given R (events_from given (j + n) k m) s (k + i) x
         first_count zero z x f o =
-            at_first k m s r (events_from given (j + n) k m) (a.others ++ E) (observed ∙ append_assoc (mine k) a.others E)
+            at_first passed k m s r (events_from given (j + n) k m) (a.others ++ E) (observed ∙ append_assoc (mine k) a.others E)
             (each-append (λ e. stands_before k e ≡ false) a.others E others_behind rest_behind) x f
         first_count (suc i) z x f o = let q = a.closed (suc i) (omega arith) z x f in cc
 
@@ -346,20 +378,21 @@ module _ (given : Setting) (setting : IsSetting given) (R : State → System →
             (v.0, subst (λ u. AreStepsTo given.config given.app u s v.0) (sym fl) (leads-append given.config given.app (mine k ++ a.others) (filter (stands_before (k + i)) E) s a.after v.0 piece_leads v.1), v.2)
 
   -- Every run from a count at which R holds is sound.
-  pub sound_from : (fuel n k : ℕ) (m : State) (s : System) (past : List Stamped) → n ≤ fuel → 0 < k → R m s → AreStepsTo given.config given.app past (opening given.config given.app) s → SoundFrom given R progress n k m s past
-  sound_from fuel zero k m s past h z r l = none k m s past r
-  sound_from zero (suc n) k m s past h z r l = absurd (omega arith)
-  sound_from (suc fuel) (suc n) k m s past h z r l =
-      let a = simulation.advances k m s z r in
+  pub sound_from : (fuel n k : ℕ) (passed : Passed) (m : State) (s : System) (past : List Stamped) → n ≤ fuel → 0 < k → R passed m s → AreStepsTo given.config given.app past (opening given.config given.app) s
+      → SoundFrom given R progress passed n k m s past
+  sound_from fuel zero k passed m s past h z r l = none passed k m s past r
+  sound_from zero (suc n) k passed m s past h z r l = absurd (omega arith)
+  sound_from (suc fuel) (suc n) k passed m s past h z r l =
+      let a = simulation.advances passed k m s z r in
       ⊎_elim
-      (λ (q : suc n < suc (length a.rest)). cut_sound n k m s past r a q)
+      (λ (q : suc n < suc (length a.rest)). cut_sound passed n k m s past r a q)
       (λ (q : suc (length a.rest) ≤ suc n).
       let n' = suc n - suc (length a.rest) in
       let e : suc (length a.rest) + n' ≡ suc n = omega arith in
       let past' = past ++ (mine k ++ a.others) in
       let reach = leads-append given.config given.app past (mine k ++ a.others) (opening given.config given.app) s a.after l
-      (leads-append given.config given.app (mine k) a.others s (with_admits (lines_at A k) s) a.after (follows_leads given.config given.app [] s (mine k) (with_admits (lines_at A k) s) (follow_mine [] k m s r)) a.leads) in
-      subst (λ x. SoundFrom given R progress x k m s past) e
-      (longer n' k m s past l r a
-      (sound_from fuel n' (k + suc (length a.rest)) a.next a.after past' (omega arith) (omega arith) a.related reach)))
+      (leads-append given.config given.app (mine k) a.others s (with_admits (lines_at A k) s) a.after (follows_leads given.config given.app [] s (mine k) (with_admits (lines_at A k) s) (follow_mine passed [] k m s r)) a.leads) in
+      subst (λ x. SoundFrom given R progress passed x k m s past) e
+      (longer passed n' k m s past l r a
+      (sound_from fuel n' (k + suc (length a.rest)) a.behind a.next a.after past' (omega arith) (omega arith) a.related reach)))
       (cases_lt (suc n) (suc (length a.rest)))

@@ -20,7 +20,7 @@ use Rattle.osek_scheduler.specs.Runs.{AreStepsTo}
 use Rattle.sim_induction.specs.Mirror.{Mirror}
 use Rattle.sim_induction.specs.Admits.{Setting, IsSetting, lines_at, with_admits, admit_event, arrivals_behind_event}
 use Rattle.sim_induction.specs.Advances.{RunTo, Advances}
-use Rattle.sim_induction.specs.PieceLaws.{BootLaw, IsMeasure}
+use Rattle.sim_induction.specs.PieceLaws.{Passed, BootLaw, IsMeasure}
 use Rattle.sim_induction.specs.Related.{IsSimulation}
 use Rattle.sim_induction.proofs.Follow.{leads_admits}
 use Rattle.sim_induction.proofs.Schedule.{owned_at}
@@ -47,15 +47,16 @@ pub record With (R : State → System → Type 0) (I : State → Type 0) (J : Sy
   pub machine : I m
   pub system : J s
 
-module _ (given : Setting) (setting : IsSetting given) (R : State → System → Type 0) (I : State → Type 0) (J : System → Type 0) (progress : State → System → ℕ)
+module _ (given : Setting) (setting : IsSetting given) (R : Passed → State → System → Type 0) (I : State → Type 0) (J : System → Type 0) (progress : State → System → ℕ)
     (keep_i : IsKeptByRuns given.arrivals I) (keep_j : IsKeptByEvents given.config given.app J) where
   admits_keep : (k : ℕ) (s : System) → s.booted ≡ true → J s → J (with_admits (lines_at given.arrivals k) s)
   admits_keep k s b j =
       along_events given.config given.app J keep_j (map admit_event (moments k (k + 1) given.arrivals)) s (with_admits (lines_at given.arrivals k) s)
       (leads_admits given.config given.app (moments k (k + 1) given.arrivals) s setting.few_tasks b (owned_at given setting k)) j
 
-  pub strengthen : (k : ℕ) (m : State) (s : System) → s.booted ≡ true → With R I J m s → Advances given R progress k m s → Advances given (With R I J) progress k m s
-  strengthen k m s b w a = record {
+  pub strengthen : (passed : Passed) (k : ℕ) (m : State) (s : System) → s.booted ≡ true → With (R passed) I J m s → Advances given R progress passed k m s
+      → Advances given (λ p. With (R p) I J) progress passed k m s
+  strengthen passed k m s b w a = record {
     first = a.first;
     rest = a.rest;
     next = a.next;
@@ -81,6 +82,8 @@ module _ (given : Setting) (setting : IsSetting given) (R : State → System →
     leads = a.leads;
     weighed = a.weighed;
     paced = a.paced;
+    behind = a.behind;
+    spends = a.spends;
     follows = a.follows;
     progresses = a.progresses;
     related = record {
@@ -91,25 +94,27 @@ module _ (given : Setting) (setting : IsSetting given) (R : State → System →
   }
 
   -- the laws of the relation may use what is kept
-  pub simulation_with : ((count : ℕ) (state : State) (s : System) → 0 < count → With R I J state s → Advances given R progress count state s)
-      → ((count : ℕ) (state : State) (s : System) → With R I J state s → R (state_with_arrivals given.arrivals count state) (with_admits (lines_at given.arrivals count) s))
+  pub simulation_with : ((passed : Passed) (count : ℕ) (state : State) (s : System) → 0 < count → With (R passed) I J state s → Advances given R progress passed count state s)
+      → ((passed : Passed) (count : ℕ) (state : State) (s : System) → With (R passed) I J state s
+      → R passed (state_with_arrivals given.arrivals count state) (with_admits (lines_at given.arrivals count) s))
       → ((count : ℕ) (state : State) → I state → I (state_with_arrivals given.arrivals count state))
-      → ((state : State) (s : System) → With R I J state s → s.booted ≡ true)
-      → ((state : State) (s : System) → With R I J state s → Mirror given.config state.core s)
-      → ((state : State) (s : System) → With R I J state s → IsMeasure given progress state s)
-      → ((state : State) (s : System) → With R I J state s → progress state s ≤ unseen_counts)
-      → IsSimulation given (With R I J) progress
+      → ((passed : Passed) (state : State) (s : System) → With (R passed) I J state s → s.booted ≡ true)
+      → ((passed : Passed) (state : State) (s : System) → With (R passed) I J state s → Mirror given.config state.core s)
+      → ((passed : Passed) (state : State) (s : System) → With (R passed) I J state s → IsMeasure given progress state s)
+      → ((passed : Passed) (state : State) (s : System) → With (R passed) I J state s → progress state s ≤ unseen_counts)
+      → IsSimulation given (λ p. With (R p) I J) progress
   simulation_with advances arrives kept booted mirrors measured bounded = record {
-    advances = λ k m s z w. strengthen k m s (booted m s w) w (advances k m s z w);
-    arrives = λ k m s w. record { base = arrives k m s w; machine = kept k m w.machine; system = admits_keep k s (booted m s w) w.system };
+    advances = λ passed k m s z w. strengthen passed k m s (booted passed m s w) w (advances passed k m s z w);
+    arrives = λ passed k m s w. record { base = arrives passed k m s w; machine = kept k m w.machine; system = admits_keep k s (booted passed m s w) w.system };
     booted = booted;
     mirrors = mirrors;
     measured = measured;
     bounded = bounded;
   }
 
-  pub boot_with : (m : State) (law : BootLaw given R m) → law.after.booted ≡ true → I m → J (opening given.config given.app) → BootLaw given (With R I J) m
-  boot_with m law b i j =
+  pub boot_with : (passed : Passed) (m : State) (law : BootLaw given (R passed) m) → law.after.booted ≡ true → I m → J (opening given.config given.app)
+      → BootLaw given (With (R passed) I J) m
+  boot_with passed m law b i j =
       let r = masked_steps given.arrivals (suc law.more) 0 m law.trace law.end law.steps law.ends in
       let in_range = lines_trace (IsOwned (owners_in given.config)) (suc law.more) 0 (lines_at given.arrivals) m law.trace law.end (owned_at given setting) law.steps in
       let late_below : AreOwned (owners_in given.config) (map (λ a. a.line) (arrivals_behind_event 0 law.trace)) = subst (AreOwned (owners_in given.config)) (sym (lines_behind 0 law.trace)) in_range.1 in

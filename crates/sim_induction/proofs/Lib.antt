@@ -15,6 +15,7 @@ pub mod LeftOut
 pub mod RunFrom
 pub mod Induct
 pub mod WholeRun
+pub mod Untouched
 pub mod Boot
 pub mod Simulated
 pub mod Routes
@@ -24,3 +25,6 @@ pub mod Stretched
 pub mod Lines
 pub mod Weighing
 pub mod Pacing
+pub mod Running
+pub mod Spending
+pub mod Wider

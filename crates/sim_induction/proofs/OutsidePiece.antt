@@ -15,18 +15,20 @@ use Rattle.osek_scheduler.specs.Runs.{AreStepsTo, AreStepsBehind, PassesOverArri
 use Rattle.osek_scheduler.specs.InTime.{is_admit, admits_at, HasSpanFor, IsOrdered, KeepsOrder}
 use Rattle.sim_induction.specs.Short.{passed_count}
 use Rattle.sim_induction.specs.Admits.{Setting, IsSetting, lines_at, with_admits}
-use Rattle.sim_induction.specs.Advances.{EachPair, IsInCounts, found_events, Advances}
+use Rattle.sim_induction.specs.Advances.{EachPair, IsInCounts, found_events, HasSpent, Spends, Advances}
 use Rattle.std.specs.List.{AllByRecursion}
+use Rattle.rv32_instr.specs.Ram.{word_at}
 use Rattle.raised_sections.specs.Pace.{last_count, takes_line}
 use Rattle.event_weights.specs.Pace.{single_counts, gap_counts, paced_counts}
 use Rattle.sim_induction.specs.Weighed.{AreWeighedTo}
 use Rattle.sim_induction.specs.Paced.{ArePacedTo}
-use Rattle.sim_induction.specs.PieceLaws.{OutsideLaw, IsOutsideStep, MakesProgress, seen_step_at}
+use Rattle.sim_induction.specs.PieceLaws.{Passed, OutsideLaw, IsOutsideStep, MakesProgress, RunsOn, seen_step_at}
 use Rattle.sim_induction.proofs.Schedule.{owned_at, admits_are}
 use Rattle.sim_induction.proofs.Counts.{admits-append, admits_of, others_count}
 use Rattle.sim_induction.proofs.Order.{orders-append, admits_order, others_order}
 use Rattle.sim_induction.proofs.Shown.{AreSingle, IsSingle, outside_single}
 use Rattle.sim_induction.proofs.MaskedRun.{going_moment}
+use Rattle.sim_induction.proofs.Spending.{nothing_spends, item_spends, idle_spends}
 
 single_other : (what : Event) (k : ℕ) → IsSingle what → is_admit (stamp k k what) ≡ false
 single_other (event.Run t func item result) k h = refl
@@ -105,6 +107,7 @@ alone given k (what ∷ []) s after h w =
           record {
             begins = λ other later. single_begins given longest s what h.0 at from k near p;
             preempts = λ takes t runs. absurd (false≢true (sym (single_takes what h.0) ∙ takes));
+            idles = λ takes rests. absurd (false≢true (sym (single_takes what h.0) ∙ takes));
             ends = λ other later. single_paced given longest s what h.0 at from k near p;
           },
           w,
@@ -115,13 +118,25 @@ alone given k (what ∷ []) s after h w =
     }
 alone given k (what ∷ other ∷ more) s after h w = absurd w
 
-pub outside_advances : (given : Setting) → IsSetting given → (R : State → System → Type 0) (progress : State → System → ℕ) (k : ℕ) (m : State) (s : System) (x : State)
-    → OutsideLaw given R progress k m s x → Advances given R progress k m s
-outside_advances given setting R progress k m s x law =
+-- what a task spends before it
+alone_spends : (given : Setting) (k at t spent current now from to : ℕ) (passed : Passed) (s after : System) (whats : List Event) → AreSingle whats → IsOutsideStep given whats s after
+    → RunsOn current now whats → MakesProgress given.size whats from to → HasSpent current from passed k at t spent
+    → Spends given t at spent (map (stamp k k) whats) s after now to passed (k + 1)
+alone_spends given k at t spent current now from to passed s after [] single w runs less h = nothing_spends given k at t spent current now from to passed s after h w runs less
+alone_spends given k at t spent current now from to passed s after (event.Run u func item result ∷ []) single w runs less h =
+    item_spends given k at t spent current now from to passed s after h u func item result w runs.0 runs.1 less
+alone_spends given k at t spent current now from to passed s after (event.Idle ∷ []) single w runs less h =
+    idle_spends given k at t spent current now from to passed s after h w runs.0 runs.1
+alone_spends given k at t spent current now from to passed s after (what ∷ []) single w runs less h = absurd single.0
+alone_spends given k at t spent current now from to passed s after (what ∷ other ∷ more) single w runs less h = absurd w
+
+pub outside_advances : (given : Setting) → IsSetting given → (R : Passed → State → System → Type 0) (progress : State → System → ℕ) (passed : Passed) (k : ℕ) (m : State) (s : System) (x : State)
+    → OutsideLaw given (R passed) progress k m s x → Advances given R progress passed k m s
+outside_advances given setting R progress passed k m s x law =
     let first : Step = seen_step_at given k m x in
     let out : is_outside [] first ≡ true = not_from_false (begins first) law.outside in
-    let a = alone given k law.whats (with_admits (lines_at given.arrivals k) s) law.after
-    (subst AreSingle law.whats_are (outside_single (mark_at given.view first.pc) given.view first)) law.shows in
+    let single : AreSingle law.whats = subst AreSingle law.whats_are (outside_single (mark_at given.view first.pc) given.view first) in
+    let a = alone given k law.whats (with_admits (lines_at given.arrivals k) s) law.after single law.shows in
     let others = map (stamp k k) law.whats in
     record {
       first = first;
@@ -155,6 +170,10 @@ outside_advances given setting R progress k m s x law =
       after = law.after;
       leads = a.leads;
       weighed = a.weighed;
+      behind = passed;
+      spends = λ t at spent declared named h.
+          alone_spends given k at t spent (word_at m.core.ram 0) (word_at x.core.ram 0) (progress m s) (progress x law.after) passed
+          (with_admits (lines_at given.arrivals k) s) law.after law.whats single law.shows law.runs_on law.progresses h;
       follows = λ past h. a.follows past;
       paced = λ longest at most near item. a.paced longest at (progress m s) (progress x law.after) near law.progresses;
       progresses = λ before l. subst (λ v. passed_count v before ≤ progress x law.after) (sym law.whats_are) (a.passing before (progress m s) (progress x law.after) l law.progresses);

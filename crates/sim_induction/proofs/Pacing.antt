@@ -69,6 +69,7 @@ module _ (c : Config) (app : App) (size : ItemSizes) (longest : ℕ) where
     record {
       begins = λ other later. absurd (true≢false (sym (is_admitted x) ∙ other));
       preempts = λ takes t runs. absurd (true≢false (sym (is_admitted x) ∙ takes_no_admit (admit_event x).event takes));
+      idles = λ takes rests. absurd (true≢false (sym (is_admitted x) ∙ takes_no_admit (admit_event x).event takes));
       ends = λ other later. absurd (true≢false (sym (is_admitted x) ∙ other));
     },
     arrival_steps c app x.line s few h.0 b,
@@ -109,7 +110,7 @@ named_no_boot current what named = absurd named
 -- ---- longer items
 
 module _ (config : Config) (app : App) (size wider : ItemSizes) (longer : (func item : ℕ) → size func item ≤ wider func item) where
-  next_wider : (own : Task) → next_size_of size own ≤ next_size_of wider own
+  pub next_wider : (own : Task) → next_size_of size own ≤ next_size_of wider own
   next_wider own = by own.owed own.frames
     where
       by : (owed : Bool) (frames : List Frame) → cond owed 0 (next_size size frames) ≤ cond owed 0 (next_size wider frames)
@@ -117,7 +118,7 @@ module _ (config : Config) (app : App) (size wider : ItemSizes) (longer : (func 
       by false [] = omega arith
       by false (frame ∷ outer) = longer frame.func frame.item
 
-  gap_wider : (longest : ℕ) (found : System) (what : Event) → gap_counts size longest found what ≤ gap_counts wider longest found what
+  pub gap_wider : (longest : ℕ) (found : System) (what : Event) → gap_counts size longest found what ≤ gap_counts wider longest found what
   gap_wider longest found (event.Run t func item result) = longer func item
   gap_wider longest found (event.Call t served status) = next_wider (task found t)
   gap_wider longest found (event.Left t served) = next_wider (task found t)
@@ -144,6 +145,7 @@ module _ (config : Config) (app : App) (size wider : ItemSizes) (longer : (func 
                     let soon = goes.preempts takes t runs in
                     let next = next_wider (task found t) in
                     omega (arith, soon, next);
+                idles = goes.idles;
                 ends = λ other later. let soon = goes.ends other later in omega (arith, soon, gap);
               };
           reaches = keeps.reaches;

@@ -19,7 +19,7 @@ use Rattle.osek_scheduler.specs.Services.{if_suspended, activated_state}
 use Rattle.osek_scheduler.specs.Steps.{OsekStep, admitted_state}
 use Rattle.osek_scheduler.specs.Runs.{AreStepsTo, ReadySince, PassesOver}
 use Rattle.osek_scheduler.proofs.Apart.{at_task}
-use Rattle.sim_induction.specs.Mirror.{priority_of, IsRunningTask}
+use Rattle.sim_induction.specs.Mirror.{priority_of, IsRunningTask, NoneIsActive}
 use Rattle.masked_code.specs.Trace.{Trace, early_arrivals}
 use Rattle.sim_induction.specs.Admits.{line_event, with_arrival, with_admits, admit_event, arrivals_before_event}
 use Rattle.sim_induction.proofs.Follow.{leads-append, booted_arrival}
@@ -156,6 +156,11 @@ ran_before c lines t s runs =
       },
       same,
     )
+
+-- where none is Active behind arrivals, none was before them
+pub rested_before : (c : Config) (lines : List ℕ) (s : System) → NoneIsActive c (with_admits lines s) → NoneIsActive c s
+rested_before c lines s rests t l active =
+    rests t l (ap (λ (v : Task). v.state) (kept_admits lines t s (not_suspended (task s t).state active)) ∙ active)
 
 -- ---- a task that arrivals made Ready
 

@@ -27,9 +27,10 @@ use Rattle.raised_sections.specs.Pace.{last_count}
 use Rattle.event_weights.specs.Pace.{AreAtMost, next_size_of, gap_counts}
 use Rattle.sim_induction.specs.Weighed.{AreWeighedTo}
 use Rattle.sim_induction.specs.Paced.{ArePacedTo, GoesInPace}
-use Rattle.sim_induction.specs.Advances.{RunTo, EachPair, IsInCounts, found_events, IsWithinItem, Advances}
+use Rattle.sim_induction.specs.Advances.{RunTo, EachPair, IsInCounts, found_events, IsWithinItem, IsNamedByWord, HasSpent, Spends, Advances}
 use Rattle.std.specs.List.{AllByRecursion}
-use Rattle.sim_induction.specs.PieceLaws.{StretchLaw, IsMeasure, seen_step_at}
+use Rattle.sim_induction.specs.PieceLaws.{Passed, StretchLaw, IsMeasure, seen_step_at}
+use Rattle.sim_induction.specs.Spent.{is_running, spent_behind, AreSpentTo}
 use Rattle.sim_induction.proofs.Follow.{leads-append, follows-append, booted_admits, follows_admits, leads_admits}
 use Rattle.sim_induction.proofs.Events.{IsFrom, each-append, each_arrival, admit_pairs, pairs-append, before_within, behind_within}
 use Rattle.sim_induction.proofs.Runs.{one_after}
@@ -43,7 +44,9 @@ use Rattle.sim_induction.proofs.MaskedRun.{MaskedRun, masked_steps, masked_insid
 use Rattle.sim_induction.proofs.Cut.{cut_whole, cut_short}
 use Rattle.sim_induction.proofs.Weighing.{weighed-append, weighed_admits}
 use Rattle.sim_induction.proofs.Pacing.{gap_enough, named_no_boot, last_admits, last_between, paced-append, paced_admits}
-use Rattle.sim_induction.proofs.Passing.{ran_before}
+use Rattle.sim_induction.proofs.Passing.{ran_before, rested_before}
+use Rattle.sim_induction.proofs.Running.{runs_greatest}
+use Rattle.sim_induction.proofs.Spending.{spent_admits, spent_between, stretch_spends, stretch_within}
 
 -- ---- the events of a stretch with this event
 
@@ -102,8 +105,8 @@ stretch_arrivals i t e found inside before behind p other b c =
 
 -- ---- the piece
 
-module _ (given : Setting) (setting : IsSetting given) (R : State → System → Type 0) (progress : State → System → ℕ) (k : ℕ) (late_k : 0 < k) (m : State) (s : System)
-    (x1 : State) (t : Trace) (x : State) (law : StretchLaw given R k m s x1 t x) (s_booted : s.booted ≡ true) (after_booted : law.after.booted ≡ true)
+module _ (given : Setting) (setting : IsSetting given) (R : Passed → State → System → Type 0) (progress : State → System → ℕ) (passed behind : Passed) (k : ℕ) (late_k : 0 < k)
+    (m : State) (s : System) (x1 : State) (t : Trace) (x : State) (law : StretchLaw given (R behind) progress passed behind k m s x1 t x) (s_booted : s.booted ≡ true) (after_booted : law.after.booted ≡ true)
     (measure : IsMeasure given progress m s) where
   abbrev A : List Arrival
   A = given.arrivals
@@ -226,10 +229,13 @@ module _ (given : Setting) (setting : IsSetting given) (R : State → System →
         preempts = λ takes u runs.
             let before = ran_before given.config (early_arrivals t) u s1 runs in
             let first = ran_before given.config (lines_at A k) u s before.0 in
-            let few = item u first.0 in
+            let few = item.of_task u first.0 in
             let same : next_size_of given.size (task (with_admits (early_arrivals t) s1) u) ≡ next_size_of given.size (task s u) =
             ap (next_size_of given.size) (before.1 ∙ first.1) in
             omega (arith, near, few, same);
+        idles = λ takes rests.
+            let none = item.idle (rested_before given.config (lines_at A k) s (rested_before given.config (early_arrivals t) s1 rests)) in
+            omega (arith, near, none);
         ends = λ other later. omega (arith, near, gap, span);
       }
 
@@ -247,6 +253,37 @@ module _ (given : Setting) (setting : IsSetting given) (R : State → System →
             (lines_behind (k + 1) t)
             (paced_admits given.config given.app given.size longest (cond (is_admit event) at event.stamp.at) (arrivals_behind_event (k + 1) t) law.after setting.few_tasks after_booted owned_behind),
       )
+
+  -- a task that runs at the event ran before, and the word names it
+  names : IsNamedByWord given m s → (u : ℕ) → u < length given.config.tasks → is_running given.config (with_admits (early_arrivals t) s1) u ≡ true → word_at m.core.ram 0 ≡ u + 1
+  names named u declared is =
+      let runs = runs_greatest given.config (with_admits (early_arrivals t) s1) u declared is in
+      named u (ran_before given.config (lines_at A k) u s (ran_before given.config (early_arrivals t) u s1 runs).0).0
+
+  spends_others : (u at spent : ℕ) → u < length given.config.tasks → IsNamedByWord given m s → HasSpent (word_at m.core.ram 0) (progress m s) passed k at u spent
+      → Spends given u at spent others s1 (with_admits (late_arrivals t) law.after) (word_at x.core.ram 0) (progress x (with_admits (late_arrivals t) law.after)) behind (k + suc law.more)
+  spends_others u at spent declared named h =
+      let found = with_admits (early_arrivals t) s1 in
+      let end = with_admits (late_arrivals t) law.after in
+      let left = spent_behind given.config u at spent found event in
+      let to_task = names named u declared in
+      let after = progress x (with_admits (late_arrivals t) law.after) in
+      record {
+        to = k + law.more;
+        left = left;
+        leads = λ longest.
+            spent_between given.config given.app given.size longest u at spent (arrivals_before_event (k + 1) t) (arrivals_behind_event (k + 1) t) event s1 found law.after end other
+            (subst (λ a. AreSpentTo given.config given.app given.size longest u at spent (map admit_event (arrivals_before_event (k + 1) t)) s1 (with_admits a s1) at spent)
+            (lines_before (k + 1) t)
+            (spent_admits given.config given.app given.size longest u at spent (arrivals_before_event (k + 1) t) s1 setting.few_tasks s1_booted owned_before))
+            (stretch_within given k law.more at u spent (word_at m.core.ram 0) (word_at x.core.ram 0) (progress m s) after passed behind found h to_task
+            (λ v is. measure.turn v is (lines_at A k) (early_arrivals t)) longest law.what law.named law.within)
+            law.step_is
+            (subst (λ a. AreSpentTo given.config given.app given.size longest u (k + law.more) left (map admit_event (arrivals_behind_event (k + 1) t)) law.after (with_admits a law.after)
+            (k + law.more) left) (lines_behind (k + 1) t)
+            (spent_admits given.config given.app given.size longest u (k + law.more) left (arrivals_behind_event (k + 1) t) law.after setting.few_tasks after_booted owned_behind));
+        holds = stretch_spends given k law.more at u spent (word_at m.core.ram 0) (word_at x.core.ram 0) (progress m s) after passed behind found h to_task law.what law.named law.goes_on;
+      }
 
   reaches : (at to : ℕ) → k + suc (length r.steps) ≤ last_count at others + 1 + to
   reaches at to =
@@ -299,7 +336,7 @@ module _ (given : Setting) (setting : IsSetting given) (R : State → System →
       let n = r.long in
       masked_inside A law.more (k + 1) x1 t x law.steps i (omega arith) y (sym (one_after i k A m x1 first (going_moment A k m x1 law.goes)) ∙ e)
 
-  pub stretch_advances : Advances given R progress k m s
+  pub stretch_advances : Advances given R progress passed k m s
   stretch_advances =
       let cut = cut_whole r.steps [] first outside flags in
       let long = trace_long law.more (k + 1) (lines_at A) x1 t x law.steps in
@@ -336,6 +373,10 @@ module _ (given : Setting) (setting : IsSetting given) (R : State → System →
         after = with_admits (late_arrivals t) law.after;
         leads = lead_others;
         weighed = weighed_others;
+        behind = behind;
+        spends = λ u at spent declared named h.
+            subst (λ j. Spends given u at spent others s1 (with_admits (late_arrivals t) law.after) (word_at x.core.ram 0) (progress x (with_admits (late_arrivals t) law.after)) behind (k + suc j))
+            (sym n) (spends_others u at spent declared named h);
         follows = follow_others;
         paced = λ longest at most near item. (paced_others longest at most near item, reaches at (progress x (with_admits (late_arrivals t) law.after)));
         progresses = λ before l. omega arith;

@@ -1,7 +1,7 @@
 -- The laws of stretches, from what contracts say of the code that runs.
-use Rattle.std.proofs.Common.{◌≡◌, ℕ, ◌+◌, ◌-◌, ◌<◌, ◌≤◌, List, [], ◌++◌, length, sym, ap, ◌∙◌, subst, arith, Bool, true, false, cond, Some, None, nat_le, suc}
+use Rattle.std.proofs.Common.{◌≡◌, ℕ, ◌+◌, ◌-◌, ◌<◌, ◌≤◌, List, [], ◌++◌, length, sym, ap, ◌∙◌, subst, arith, Bool, true, false, cond, Some, None, nat_le, suc, ◌⊎◌, inl, inr, refl}
 use Rattle.std.specs.Prelude.{◌&&◌, ◌==◌, map, IfSome, slice_index, Contains}
-use Rattle.std.proofs.lemmas.Bool.{ne_eqb, eq-eqb, lt-ltb, le-leb}
+use Rattle.std.proofs.lemmas.Bool.{false≢true, ne_eqb, eq-eqb, eqb-true, lt-ltb, le-leb}
 use Rattle.sloth_base.specs.declared.service.Service.{Service}
 use Rattle.sloth_base.specs.declared.image.Mark.{Mark}
 use Rattle.sloth_base.specs.declared.image.MarkKind.TheVariants as kind
@@ -25,11 +25,11 @@ use Rattle.osek_scheduler.specs.Steps.{OsekStep}
 use Rattle.osek_scheduler.specs.Runs.{PassesOver, PassesOverArrivals}
 use Rattle.event_weights.specs.Events.{stretch_counts}
 use Rattle.sim_induction.specs.Admits.{Setting, lines_at, with_admits, admit_event, arrivals_before_event}
-use Rattle.sim_induction.specs.PieceLaws.{StretchLaw, IsNamed, seen_step_at, served_event}
+use Rattle.sim_induction.specs.PieceLaws.{Passed, StretchLaw, IsNamed, GoesOn, seen_step_at, served_event}
 use Rattle.std.specs.List.{AllByRecursion}
 use Rattle.sim_induction.proofs.Follow.{booted_admits}
 use Rattle.sim_induction.proofs.Traces.{lines_before}
-use Rattle.sim_induction.proofs.Boot.{nothing_before}
+use Rattle.sim_induction.proofs.Untouched.{nothing_before}
 use Rattle.sim_induction.proofs.Passing.{passes_inner}
 use Rattle.sim_induction.proofs.Routes.{Masking, begins_masked, opened_event}
 
@@ -57,9 +57,17 @@ both_named : (current t : ℕ) (called : Service) (status : ℕ) (b : Bool) → 
 both_named current t called status true h = h
 both_named current t called status false h = h
 
+-- the task itself goes on behind a call, and behind a leave another one where it stood
+both_go_on : (passed : Passed) (current now before after t : ℕ) (called : Service) (status : ℕ) (b : Bool) → (t + 1 == now) ≡ b
+    → (now ≡ t + 1) ⊎ ((u : ℕ) → now ≡ u + 1 → passed u ≤ after)
+    → GoesOn passed passed current now before after (cond b (event.Call t called status) (event.Left t called))
+both_go_on passed current now before after t called status true is h = (sym (eqb-true (t + 1) now is), refl)
+both_go_on passed current now before after t called status false is (inl same) = absurd (false≢true (sym is ∙ eq-eqb (t + 1) now (sym same)))
+both_go_on passed current now before after t called status false is (inr h) = (h, refl)
+
 -- What is known of a service's code that begins at its opening mark with interrupts open, whose effect is such a one: where it begins, which
 -- task calls, what it leaves, and that it is a step of the abstract scheduler within its weight, to a state that is related again.
-pub record ServesFrom (given : Setting) (R : State → System → Type 0) (k : ℕ) (m : State) (s : System) (t : ℕ) (called : Service) (most : ℕ)
+pub record ServesFrom (given : Setting) (R : State → System → Type 0) (progress : State → System → ℕ) (passed : Passed) (k : ℕ) (m : State) (s : System) (t : ℕ) (called : Service) (most : ℕ)
     (Effect : List ℕ → State → State → Type 0) (e : Masking given.arrivals most k m Effect) : Type 0 where
   -- the beginning
   pub after_boot : 0 < k
@@ -90,12 +98,15 @@ pub record ServesFrom (given : Setting) (R : State → System → Type 0) (k : �
   pub within : suc e.more ≤ stretch_counts given.config given.app (with_admits (early_arrivals e.trace) (with_admits (lines_at given.arrivals k) s)) (served_event t called e.end)
   pub step_is : OsekStep given.config given.app (served_event t called e.end) (with_admits (early_arrivals e.trace) (with_admits (lines_at given.arrivals k) s)) after
   pub related : R (state_arrive (late_arrivals e.trace) e.last) (with_admits (late_arrivals e.trace) after)
+  -- the caller goes on, or a task that was preempted does where it stood
+  pub resumes : (word_at e.end.core.ram 0 ≡ t + 1)
+      ⊎ ((u : ℕ) → word_at e.end.core.ram 0 ≡ u + 1 → passed u ≤ progress e.end (with_admits (late_arrivals e.trace) after))
 
 -- It is a stretch of a run.
-pub service_law : (given : Setting) (R : State → System → Type 0) (k : ℕ) (m : State) (s : System) (t : ℕ) (called : Service) (most : ℕ)
-    (Effect : List ℕ → State → State → Type 0) (e : Masking given.arrivals most k m Effect) → ServesFrom given R k m s t called most Effect e
-    → StretchLaw given R k m s e.next e.trace e.end
-service_law given R k m s t called most Effect e h =
+pub service_law : (given : Setting) (R : State → System → Type 0) (progress : State → System → ℕ) (passed : Passed) (k : ℕ) (m : State) (s : System) (t : ℕ) (called : Service) (most : ℕ)
+    (Effect : List ℕ → State → State → Type 0) (e : Masking given.arrivals most k m Effect) → ServesFrom given R progress passed k m s t called most Effect e
+    → StretchLaw given R progress passed passed k m s e.next e.trace e.end
+service_law given R progress passed k m s t called most Effect e h =
     let n = state_with_arrivals given.arrivals k m in
     let admits = lines_at given.arrivals k in
     let first = seen_step_at given k m e.next in
@@ -127,6 +138,8 @@ service_law given R k m s t called most Effect e h =
       passes = λ past p. both_pass given (past ++ map admit_event (arrivals_before_event (k + 1) e.trace)) (with_admits (early_arrivals e.trace) (with_admits admits s)) k t called
           (slice_index e.end.core.registers 10) (t + 1 == word_at e.end.core.ram 0)
           (passes_inner given.config given.app past k t (with_admits admits s) e.trace h.few_tasks p (booted_admits admits s ∙ h.booted) h.tasks_alone h.top h.active);
+      goes_on = both_go_on passed (word_at m.core.ram 0) (word_at e.end.core.ram 0) (progress m s) (progress e.end (with_admits (late_arrivals e.trace) h.after)) t called
+          (slice_index e.end.core.registers 10) (t + 1 == word_at e.end.core.ram 0) refl h.resumes;
       related = subst (λ x. R x (with_admits (late_arrivals e.trace) h.after)) (sym e.late_behind) h.related;
     }
 

@@ -26,6 +26,8 @@ use Rattle.sim_induction.specs.Weighed.{AreWeighedTo, AreWithinWeights}
 use Rattle.sim_induction.specs.Paced.{ArePacedTo, AreStretchesWithin, KeepsPace}
 use Rattle.sim_induction.specs.Admits.{Setting, IsSetting}
 use Rattle.sim_induction.specs.Advances.{EachPair, IsInCounts}
+use Rattle.sim_induction.specs.PieceLaws.{Passed}
+use Rattle.sim_induction.specs.Spent.{SpendsOnItems}
 use Rattle.sim_induction.specs.Related.{IsSimulation}
 use Rattle.sim_induction.proofs.Events.{each_map}
 use Rattle.std.proofs.lemmas.List.Elements.{All-from_recursion}
@@ -33,11 +35,11 @@ use Rattle.sim_induction.proofs.Schedule.{from_zero}
 use Rattle.sim_induction.proofs.Order.{order_within}
 use Rattle.sim_induction.proofs.LeftOut.{left_out}
 use Rattle.sim_induction.proofs.Runs.{steps_from}
-use Rattle.sim_induction.proofs.RunFrom.{events_from, ReachedAt}
+use Rattle.sim_induction.proofs.RunFrom.{events_from, ReachedAt, HasSpentTo}
 use Rattle.sim_induction.proofs.Weighing.{found_within}
 use Rattle.sim_induction.proofs.Pacing.{found_paced}
 
-pub record WholeRun (given : Setting) (R : State → System → Type 0) (n : ℕ) (m : State) : Type 0 where
+pub record WholeRun (given : Setting) (R : Passed → State → System → Type 0) (n : ℕ) (m : State) : Type 0 where
   pub end : State
   pub whole : state_after_from n given.arrivals 0 m ≡ Some end
   pub last : System
@@ -48,6 +50,7 @@ pub record WholeRun (given : Setting) (R : State → System → Type 0) (n : ℕ
       → n ≤ last_count 0 (events_from given n 0 m) + longest + longest_stretch given.config
   pub reaches_within : (longest : ℕ) → AreAtMost given.size longest → (heaviest : ℕ) → AreStretchesWithin given.config given.app heaviest
       → 0 < length (events_from given n 0 m) → n ≤ last_count 0 (events_from given n 0 m) + longest + heaviest
+  pub spends : (t : ℕ) → t < length given.config.tasks → HasSpentTo given t 0 0 (events_from given n 0 m) (opening given.config given.app) last
   pub within : AllByRecursion (IsInCounts 0 n) (events_from given n 0 m)
   pub placed : EachPair IsOrdered (events_from given n 0 m)
   pub to : ℕ
@@ -71,7 +74,7 @@ all_pairs R (x ∷ a) h i zero d l k = absurd (omega arith)
 all_pairs R (x ∷ a) h zero (suc j) d l k = All-from_recursion (R x) a h.0 j d (omega arith)
 all_pairs R (x ∷ a) h (suc i) (suc j) d l k = all_pairs R a h.1 i j d (omega arith) (omega arith)
 
-pub in_time : (given : Setting) → IsSetting given → (R : State → System → Type 0) (n : ℕ) (m : State) → WholeRun given R n m → InTime given.config n given.arrivals (events_from given n 0 m)
+pub in_time : (given : Setting) → IsSetting given → (R : Passed → State → System → Type 0) (n : ℕ) (m : State) → WholeRun given R n m → InTime given.config n given.arrivals (events_from given n 0 m)
 in_time given setting R n m w =
     let events = events_from given n 0 m in
     record {
@@ -81,7 +84,7 @@ in_time given setting R n m w =
       admitted = left_out given.config n w.to given.arrivals events (from_zero given.arrivals setting.ordered) w.to_in.0 w.counted w.ends w.to_in.1;
     }
 
-pub short_of : (given : Setting) (R : State → System → Type 0) (n : ℕ) (m : State) → WholeRun given R n m → Short given.config given.view (steps_from n given.arrivals 0 m)
+pub short_of : (given : Setting) (R : Passed → State → System → Type 0) (n : ℕ) (m : State) → WholeRun given R n m → Short given.config given.view (steps_from n given.arrivals 0 m)
 short_of given R n m w = record {
   finished = all_pieces (IsShortPiece given.config) (pieces [] (steps_from n given.arrivals 0 m)) w.short;
   cut = w.short_cut;
@@ -92,7 +95,7 @@ short_of given R n m w = record {
 abbrev pub setting_of : Config → App → ItemSizes → Image → List Arrival → Setting
 setting_of config app size image arrivals = record { config = config; app = app; size = size; view = view_of_image image; arrivals = arrivals }
 
-pub sound_of : (config : Config) (app : App) (size : ItemSizes) (image : Image) (arrivals : List Arrival) (R : State → System → Type 0) (progress : State → System → ℕ)
+pub sound_of : (config : Config) (app : App) (size : ItemSizes) (image : Image) (arrivals : List Arrival) (R : Passed → State → System → Type 0) (progress : State → System → ℕ)
     → IsSetting (setting_of config app size image arrivals) → IsSimulation (setting_of config app size image arrivals) R progress → (n : ℕ) → WholeRun (setting_of config app size image arrivals) R n (start image)
     → IsSoundRun config app image arrivals n
 sound_of config app size image arrivals R progress setting simulation n w = record {
@@ -100,16 +103,16 @@ sound_of config app size image arrivals R progress setting simulation n w = reco
   osek = (w.last, w.follows);
   in_time = in_time (setting_of config app size image arrivals) setting R n (start image) w;
   short = short_of (setting_of config app size image arrivals) R n (start image) w;
-  mirrors = λ count state l after enabled. let z = w.mirrors count l state after enabled in (z.0, z.1, simulation.mirrors _ z.0 z.2);
+  mirrors = λ count state l after enabled. let z = w.mirrors count l state after enabled in (z.0, z.1, simulation.mirrors z.2.0 _ z.0 z.2.1);
 }
 
-pub weighed_of : (config : Config) (app : App) (size : ItemSizes) (image : Image) (arrivals : List Arrival) (R : State → System → Type 0) (n : ℕ) → WholeRun (setting_of config app size image arrivals) R n (start image)
+pub weighed_of : (config : Config) (app : App) (size : ItemSizes) (image : Image) (arrivals : List Arrival) (R : Passed → State → System → Type 0) (n : ℕ) → WholeRun (setting_of config app size image arrivals) R n (start image)
     → AreWithinWeights config app (events_of image arrivals n)
 weighed_of config app size image arrivals R n w = λ before behind e found is leads.
     found_within config app before behind e (opening config app) w.last found
     (subst (λ events. AreWeighedTo config app events (opening config app) w.last) is w.weighed) leads
 
-pub paced_of : (config : Config) (app : App) (size : ItemSizes) (image : Image) (arrivals : List Arrival) (R : State → System → Type 0) (n longest : ℕ) → AreAtMost size longest
+pub paced_of : (config : Config) (app : App) (size : ItemSizes) (image : Image) (arrivals : List Arrival) (R : Passed → State → System → Type 0) (n longest : ℕ) → AreAtMost size longest
     → WholeRun (setting_of config app size image arrivals) R n (start image) → KeepsPace config app size longest n (events_of image arrivals n)
 paced_of config app size image arrivals R n longest most w = record {
   each = λ before behind e found is leads.
@@ -118,3 +121,9 @@ paced_of config app size image arrivals R n longest most w = record {
   reaches = λ some. w.reaches longest most some;
   reaches_within = λ heaviest stretches some. w.reaches_within longest most heaviest stretches some;
 }
+
+pub spent_of : (config : Config) (app : App) (size : ItemSizes) (image : Image) (arrivals : List Arrival) (R : Passed → State → System → Type 0) (n longest t : ℕ)
+    → t < length config.tasks → WholeRun (setting_of config app size image arrivals) R n (start image) → SpendsOnItems config app size longest t (events_of image arrivals n)
+spent_of config app size image arrivals R n longest t declared w =
+    let spends = w.spends t declared in
+    record { last = w.last; to = spends.to; left = spends.left; each = spends.leads longest }

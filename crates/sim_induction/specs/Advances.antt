@@ -7,6 +7,7 @@ use Rattle.sloth_base.specs.declared.step.Step.{Step}
 use Rattle.sloth_base.specs.Machine.{State}
 use Rattle.sloth_base.specs.Arrivals.{moments}
 use Rattle.sloth_base.specs.Stretches.{longest_stretch}
+use Rattle.rv32_instr.specs.Ram.{word_at}
 use Rattle.rv32_machine.specs.Advance.{Goes}
 use Rattle.rv32_machine.specs.Run.{moment, state_after_from}
 use Rattle.observe.specs.Pieces.{RunPiece, pieces, cut_off_steps}
@@ -18,9 +19,11 @@ use Rattle.sim_induction.specs.Short.{AreShort, IsShortPiece, passed_length}
 use Rattle.sim_induction.specs.Admits.{Setting, lines_at, with_admits, admit_event}
 use Rattle.raised_sections.specs.Pace.{last_count}
 use Rattle.event_weights.specs.Pace.{AreAtMost, next_size_of}
-use Rattle.sim_induction.specs.Mirror.{IsRunningTask}
+use Rattle.sim_induction.specs.Mirror.{IsRunningTask, NoneIsActive}
 use Rattle.sim_induction.specs.Weighed.{AreWeighedTo}
 use Rattle.sim_induction.specs.Paced.{ArePacedTo, AreStretchesWithin}
+use Rattle.sim_induction.specs.PieceLaws.{Passed}
+use Rattle.sim_induction.specs.Spent.{AreSpentTo}
 
 -- the instructions of the counts from this one on lead by these steps from the first state to the last
 abbrev pub RunTo : List Arrival → ℕ → ℕ → State → List Step → State → Type 0
@@ -45,13 +48,34 @@ pub record IsInCounts (from to : ℕ) (e : Stamped) : Type 0 where
 abbrev pub found_events : Setting → ℕ → List Stamped
 found_events given count = map admit_event (moments count (count + 1) given.arrivals)
 
--- no more instructions have shown nothing than the next item of the task that runs has
-abbrev pub IsWithinItem : (given : Setting) (progress : State → System → ℕ) → State → System → Type 0
-IsWithinItem given progress state s = (t : ℕ) → IsRunningTask given.config s t → progress state s ≤ next_size_of given.size (task s t)
+-- no more instructions have shown nothing than the next item of the task that runs has, and none where no task does
+pub record IsWithinItem (given : Setting) (progress : State → System → ℕ) (state : State) (s : System) : Type 0 where
+  pub of_task : (t : ℕ) → IsRunningTask given.config s t → progress state s ≤ next_size_of given.size (task s t)
+  pub idle : NoneIsActive given.config s → progress state s ≡ 0
+
+-- the word at 0x80000000 names the task that runs
+abbrev pub IsNamedByWord : Setting → State → System → Type 0
+IsNamedByWord given state s = (t : ℕ) → IsRunningTask given.config s t → word_at state.core.ram 0 ≡ t + 1
+
+-- Before a count, and behind events of which the last ended at count `at`: what task t has spent on its next item is passed. Where the word names it,
+-- it has passed `done` instructions; else at least what the bound says.
+pub record HasSpent (current done : ℕ) (passed : Passed) (count at t spent : ℕ) : Type 0 where
+  pub later : at < count
+  pub running : current ≡ t + 1 → count + spent ≤ at + 1 + done
+  pub preempted : (current ≡ t + 1 → ⊥) → spent ≤ passed t
+
+-- These events lead from s to `after` as steps before each of which task t has spent no more than its item, and the same can be said before a later
+-- count, where the word is `now`, and what runs has passed so many instructions.
+pub record Spends (given : Setting) (t at spent : ℕ) (events : List Stamped) (s after : System) (now done : ℕ) (behind : Passed) (count : ℕ) : Type 0 where
+  pub to : ℕ
+  pub left : ℕ
+  pub leads : (longest : ℕ) → AreSpentTo given.config given.app given.size longest t at spent events s after to left
+  pub holds : HasSpent now done behind count to t left
 
 -- The relation R is one between the states at counts that find MIE 1, before the arrivals of the count. The piece that begins at
 -- the count ends at the next such count; its events are steps of the abstract scheduler, and the states are related again.
-pub record Advances (given : Setting) (R : State → System → Type 0) (progress : State → System → ℕ) (count : ℕ) (state : State) (s : System) : Type 0 where
+pub record Advances (given : Setting) (R : Passed → State → System → Type 0) (progress : State → System → ℕ) (passed : Passed) (count : ℕ)
+    (state : State) (s : System) : Type 0 where
   pub first : Step
   pub rest : List Step
   pub next : State
@@ -81,7 +105,12 @@ pub record Advances (given : Setting) (R : State → System → Type 0) (progres
   pub paced : (longest at : ℕ) → AreAtMost given.size longest → count ≤ at + 1 + progress state s → IsWithinItem given progress state s
       → ArePacedTo given.config given.app given.size longest at others (with_admits (lines_at given.arrivals count) s) after
       × (count + suc (length rest) ≤ last_count at others + 1 + progress next after)
+  -- the bound behind it; where what task t has spent was passed before, each of its events finds no more spent than its item
+  pub behind : Passed
+  pub spends : (t at spent : ℕ) → t < length given.config.tasks → IsNamedByWord given state s → HasSpent (word_at state.core.ram 0) (progress state s) passed count at t spent
+      → Spends given t at spent others (with_admits (lines_at given.arrivals count) s) after (word_at next.core.ram 0) (progress next after) behind
+      (count + suc (length rest))
   pub follows : (past : List Stamped) → AreStepsTo given.config given.app past (opening given.config given.app) (with_admits (lines_at given.arrivals count) s)
       → AreStepsBehind given.config given.app past (with_admits (lines_at given.arrivals count) s) others after
   pub progresses : (before : ℕ) → before ≤ progress state s → passed_length given.view piece before ≤ progress next after
-  pub related : R next after
+  pub related : R behind next after

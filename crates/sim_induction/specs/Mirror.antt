@@ -21,6 +21,10 @@ pub record IsRunningTask (config : Config) (s : System) (t : ℕ) : Type 0 where
   pub active : (task s t).state ≡ mode.Active
   pub is_greatest : (u : ℕ) → u < length config.tasks → (task s u).state ≡ mode.Active → priority_of config s u ≤ priority_of config s t
 
+-- no task is Active
+abbrev pub NoneIsActive : Config → System → Type 0
+NoneIsActive config s = (t : ℕ) → t < length config.tasks → ¬ ((task s t).state ≡ mode.Active)
+
 -- the controller's bytes, the running level and the first word of memory say what the system is
 pub record Mirror (config : Config) (core : Core) (s : System) : Type 0 where
   pub suspended : (t : ℕ) → t < length config.tasks → (task s t).state ≡ mode.Suspended
@@ -33,4 +37,4 @@ pub record Mirror (config : Config) (core : Core) (s : System) : Type 0 where
   -- a counter's line is enabled, and pending exactly where the counter is due
   pub counters : (c : ℕ) → c < length config.counters
       → (slice_index core.enabled (counter_line c) ≡ 1) × (slice_index core.pending (counter_line c) ≡ cond (counter s c).due 1 0)
-  pub idle : ((t : ℕ) → t < length config.tasks → ¬ ((task s t).state ≡ mode.Active)) → (core.ilevel ≡ 0) × (word_at core.ram 0 ≡ 0)
+  pub idle : NoneIsActive config s → (core.ilevel ≡ 0) × (word_at core.ram 0 ≡ 0)

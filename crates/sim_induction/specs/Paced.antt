@@ -19,8 +19,9 @@ use Rattle.raised_sections.specs.Pace.{last_count, takes_line}
 use Rattle.event_weights.specs.Events.{stretch_counts}
 use Rattle.event_weights.specs.Items.{length_of, AreLengths}
 use Rattle.event_weights.specs.Pace.{ItemSizes, AreAtMost, next_size_of, gap_counts, EndsInPace}
-use Rattle.sim_induction.specs.Mirror.{IsRunningTask}
+use Rattle.sim_induction.specs.Mirror.{IsRunningTask, NoneIsActive}
 use Rattle.sim_induction.specs.Sound.{events_of}
+use Rattle.sim_induction.specs.Spent.{SpentBySizes}
 
 -- an event behind one that ended at count `at`: how soon its counts begin and end
 pub record GoesInPace (config : Config) (app : App) (size : ItemSizes) (longest at : ℕ) (found : System) (e : Stamped) : Type 0 where
@@ -28,6 +29,8 @@ pub record GoesInPace (config : Config) (app : App) (size : ItemSizes) (longest 
   pub begins : is_admit e ≡ false → is_boot e.event ≡ false → e.stamp.from ≤ at + 1 + gap_counts size longest found e.event
   -- in front of an entry or a tick no more than the next item of the task that runs has instructions
   pub preempts : takes_line e.event ≡ true → (t : ℕ) → IsRunningTask config found t → e.stamp.from ≤ at + 1 + next_size_of size (task found t)
+  -- and none where no task runs
+  pub idles : takes_line e.event ≡ true → NoneIsActive config found → e.stamp.from ≤ at + 1
   pub ends : EndsInPace config app size longest at found e
 
 -- these events, behind one that ended at count `at`, lead from s to `end`, as steps that go in pace
@@ -57,6 +60,7 @@ pub record Paced (config : Config) (app : App) (size : ItemSizes) (image : Image
   pub each : (arrivals : List Arrival) (n longest : ℕ) → AreArrivals (owners_in config) arrivals → n ≤ count_limit → AreAtMost size longest
       → KeepsPace config app size longest n (events_of image arrivals n)
 
--- by the lengths of the items of the task code
+-- by the lengths of the items of the task code; no task spends more on an item, over all its pieces between preemptions
 pub record InPace (config : Config) (app : App) (image : Image) : Type 0 where
   pub paced : (lengths : List (List ℕ)) → AreLengths app lengths → Paced config app (length_of lengths) image
+  pub spent : (lengths : List (List ℕ)) → AreLengths app lengths → SpentBySizes config app (length_of lengths) image

@@ -47,11 +47,29 @@ IsNamed current (event.Enter t) = Unit {0}
 IsNamed current (event.Tick c) = Unit {0}
 IsNamed current _ = ⊥
 
+-- a bound for each task: so many instructions of its next item it has passed at least while it is preempted
+abbrev pub Passed : Type 0
+Passed = ℕ → ℕ
+
+-- What a stretch with this event leaves of the bound, and who runs behind it, which the word at 0x80000000 names. What runs has passed `before`
+-- instructions of its next item in front of the stretch, and `after` behind it.
+abbrev pub GoesOn : (passed behind : Passed) (current now before after : ℕ) → Event → Type 0
+-- the task itself goes on
+GoesOn passed behind current now before after (event.Call t served status) = (now ≡ t + 1) × (behind ≡ passed)
+GoesOn passed behind current now before after (event.Back t) = (now ≡ t + 1) × (behind ≡ passed)
+-- a task that was preempted goes on where it stood
+GoesOn passed behind current now before after (event.Left t served) = ((u : ℕ) → now ≡ u + 1 → passed u ≤ after) × (behind ≡ passed)
+-- so does the one that ran
+GoesOn passed behind current now before after (event.Tick c) = (now ≡ current) × (before ≤ after) × (behind ≡ passed)
+-- the task that is entered runs, and the one that ran is preempted where it stood
+GoesOn passed behind current now before after (event.Enter t) = (now ≡ t + 1) × ((u : ℕ) → cond (current == u + 1) before (passed u) ≤ behind u)
+GoesOn passed behind current now before after _ = ⊥
+
 -- A stretch that begins at a count which finds MIE 1: its first instruction, which leads to `next`, and the masked ones behind it,
 -- which lead on to `end`. Its event is a step from the system with the arrivals of the count and the early ones, within its weight
 -- there, and the states at its end are related with the late ones.
-pub record StretchLaw (given : Setting) (R : State → System → Type 0) (count : ℕ) (state : State) (s : System)
-    (next : State) (trace : Trace) (end : State) : Type 0 where
+pub record StretchLaw (given : Setting) (R : State → System → Type 0) (progress : State → System → ℕ) (passed behind : Passed)
+    (count : ℕ) (state : State) (s : System) (next : State) (trace : Trace) (end : State) : Type 0 where
   pub finds : state.core.mie ≡ true
   pub goes : step (execution_state (state_with_arrivals given.arrivals count state)) ≡ Going next
   pub starts : begins (seen_step_at given count state next) ≡ true
@@ -74,6 +92,8 @@ pub record StretchLaw (given : Setting) (R : State → System → Type 0) (count
   pub passes : (past : List Stamped) → AreStepsTo given.config given.app past (opening given.config given.app) (with_admits (lines_at given.arrivals count) s)
       → PassesOverArrivals given.config given.app (past ++ map admit_event (arrivals_before_event (count + 1) trace))
       (with_admits (early_arrivals trace) (with_admits (lines_at given.arrivals count) s)) count what
+  pub goes_on : GoesOn passed behind (word_at state.core.ram 0) (word_at end.core.ram 0) (progress state s)
+      (progress end (with_admits (late_arrivals trace) after)) what
   pub related : R end (with_admits (late_arrivals trace) after)
 
 -- what an instruction outside the stretches shows: nothing, or one event, which is a step
@@ -87,12 +107,19 @@ abbrev pub MakesProgress : ItemSizes → List Event → (from to : ℕ) → Type
 MakesProgress size [] from to = from < to
 MakesProgress size (what ∷ more) from to = from < single_counts size what
 
+-- who runs behind an instruction outside the stretches, which the word at 0x80000000 names
+abbrev pub RunsOn : (current now : ℕ) → List Event → Type 0
+RunsOn current now [] = now ≡ current
+RunsOn current now (event.Run t func item result ∷ more) = (current ≡ t + 1) × (now ≡ t + 1)
+RunsOn current now (what ∷ more) = (current ≡ 0) × (now ≡ 0)
+
 -- The measure of the instructions that show nothing: of the task that runs it is at most its next item, whatever has arrived, and of any at most
--- the longest item.
+-- the longest item; of the idle loop nothing.
 pub record IsMeasure (given : Setting) (progress : State → System → ℕ) (state : State) (s : System) : Type 0 where
   pub turn : (t : ℕ) → word_at state.core.ram 0 ≡ t + 1 → (found early : List ℕ)
       → progress state s ≤ next_size_of given.size (task (with_admits early (with_admits found s)) t)
   pub few : (longest : ℕ) → AreAtMost given.size longest → progress state s ≤ longest
+  pub idle : word_at state.core.ram 0 ≡ 0 → progress state s ≡ 0
 
 -- an instruction outside the stretches, at a count that finds MIE 1
 pub record OutsideLaw (given : Setting) (R : State → System → Type 0) (progress : State → System → ℕ)
@@ -105,6 +132,7 @@ pub record OutsideLaw (given : Setting) (R : State → System → Type 0) (progr
   pub after : System
   pub shows : IsOutsideStep given whats (with_admits (lines_at given.arrivals count) s) after
   pub progresses : MakesProgress given.size whats (progress state s) (progress next after)
+  pub runs_on : RunsOn (word_at state.core.ram 0) (word_at next.core.ram 0) whats
   pub related : R next after
 
 -- The first stretch, from count 0 on, touches no line, and its event is Boot.

@@ -7,8 +7,9 @@
 //! (`specs/Advances`, `specs/Related`). How short stretches and gaps are: `specs/Short`; that the controller mirrors the abstract scheduler:
 //! `specs/Mirror`; that the top task of a stretch's beginning stays so, but for those that arrive inside: `specs/Passing`; the trace of a stretch,
 //! told from what is seen of its steps: `specs/Observed`; that no stretch takes more counts than its weight: `Weighed`
-//! (`specs/Weighed`), by the weights of `event_weights`; that each event ends soon behind the one before it: `Paced`, `InPace` (`specs/Paced`). Public
-//! laws: `top_task_stays`, `stretches_are_traced`.
+//! (`specs/Weighed`), by the weights of `event_weights`; that each event ends soon behind the one before it: `Paced`, `InPace` (`specs/Paced`); that
+//! a task spends no more on an item than it has, over all pieces between preemptions: `SpentBySizes` (`specs/Spent`). For that the relation is one for
+//! each bound on what preempted tasks have passed (`Passed`, `specs/PieceLaws`). Public laws: `top_task_stays`, `stretches_are_traced`.
 #![tactic(auto)]
 
 pub mod laws;

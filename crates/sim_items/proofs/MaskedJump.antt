@@ -35,7 +35,7 @@ use Rattle.sim_items.specs.Progress.{progress_in}
 use Rattle.sim_items.proofs.Distances.{arrives}
 use Rattle.sim_items.proofs.InRam as code
 use Rattle.sim_items.proofs.Inner.{prepared_outside}
-use Rattle.sim_items.proofs.Passing.{Passes, passes_stand, at_none, progress_now, progress_next}
+use Rattle.sim_items.proofs.Passing.{Passes, passes_stand, at_none, word_same, progress_now, progress_next}
 use Rattle.sim_items.proofs.Preparing.{Prepares, prepares}
 use Rattle.sim_items.proofs.Registers.{own_agrees}
 use Rattle.sim_items.proofs.Scratch.{SameRegisters, scratch_passes}
@@ -220,7 +220,9 @@ module _ (b : Build) (view : View) (arrivals : List Arrival) (count : ℕ) (stat
       outside.one_instruction b view arrivals (progress_in b) count state s here next [] s1 stepped untouched
           (outside.marked_shows b view arrivals (progress_in b) count state s here next mark [] (ap (mark_at view) (item.here.pc ∙ sym last_is) ∙ placed.marked)
           (ap (λ o. events_of_kind (mark_kind o) view mark (seen_step_at (outside.given b view arrivals (progress_in b) count state s here) count state next)) jump.is))
-          refl rises stands_next,
+          refl rises
+          (word_same b view arrivals count state s here t item.current item.frame item.outer item.frames item.free next passes)
+          stands_next,
     )
 
   pub masked_outside : GoesOutside b view arrivals (progress_in b) count state s

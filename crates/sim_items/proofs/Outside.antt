@@ -24,7 +24,7 @@ use Rattle.osek_scheduler.specs.State.{System}
 use Rattle.osek_scheduler.specs.Priority.{IsTop}
 use Rattle.osek_scheduler.specs.Steps.{settled_state}
 use Rattle.sim_induction.specs.Admits.{Setting, lines_at, with_admits}
-use Rattle.sim_induction.specs.PieceLaws.{OutsideLaw, IsOutsideStep, MakesProgress, seen_step_at}
+use Rattle.sim_induction.specs.PieceLaws.{OutsideLaw, IsOutsideStep, MakesProgress, RunsOn, seen_step_at}
 use Rattle.sim_induction.proofs.Routes.{begins_none}
 use Rattle.sim_induction.proofs.Schedule.{owned_at}
 use Rattle.sim_induction.proofs.Stretched.{task_is}
@@ -63,8 +63,9 @@ module _ (b : Build) (view : View) (arrivals : List Arrival) (progress : State �
   -- any instruction after which the relation stands
   pub one_instruction : (next : State) (whats : List Event) (after : System) → step n ≡ Going next → touched n ≡ None
       → outside_events (mark_at view n.pc) view (seen_step_at given count state next) ≡ whats → IsOutsideStep given whats s1 after
-      → MakesProgress (item_words b) whats (progress state s) (progress next after) → Stands b next after → OutsideLaw given (Stands b) progress count state s next
-  one_instruction next whats after goes quiet shown shows rises related = record {
+      → MakesProgress (item_words b) whats (progress state s) (progress next after) → RunsOn (word_at state.core.ram cur) (word_at next.core.ram cur) whats
+      → Stands b next after → OutsideLaw given (Stands b) progress count state s next
+  one_instruction next whats after goes quiet shown shows rises runs related = record {
     goes = ap (λ o. step (entry_state o n)) none ∙ goes;
     outside = begins_none count n next here.after_boot none related.fixed.open_to_lines;
     untouched = subst (λ o. IfSome o (Contains [])) (sym (ap (λ o. touched (entry_state o n)) none ∙ quiet)) tt;
@@ -73,6 +74,7 @@ module _ (b : Build) (view : View) (arrivals : List Arrival) (progress : State �
     after = after;
     shows = shows;
     progresses = rises;
+    runs_on = runs;
     related = related;
   }
 
@@ -108,7 +110,7 @@ module _ (b : Build) (view : View) (arrivals : List Arrival) (progress : State �
     committed_outside = (
       runs.next,
       one_instruction runs.next _ runs.after runs.goes runs.untouched
-          (marked_shows runs.next mark _ (ap (mark_at view) at_last ∙ placed.marked) shown) runs.step_is early runs.stands,
+          (marked_shows runs.next mark _ (ap (mark_at view) at_last ∙ placed.marked) shown) runs.step_is early (current, runs.current) runs.stands,
     )
 
   pub last_at : (func item done : ℕ) → n.pc ≡ item_address b.places func item + 4 * done → done + 1 ≡ length (expansion b.app b.places func item) → n.pc ≡ last_address b.app b.places func item
@@ -162,5 +164,5 @@ module _ (b : Build) (view : View) (arrivals : List Arrival) (progress : State �
       one_instruction n (event.Idle ∷ []) (settled_state s1) stays (ap touched n_is ∙ idle.idles.untouched idle.offset n.core placed)
           (marked_shows n idle.mark (event.Idle ∷ []) (ap (mark_at view) runs_idle.pc ∙ idle.marked)
           (ap (λ k. events_of_kind k view idle.mark (seen_step_at given count state n)) idle.shows))
-          (now.tidy.booted, none_due b n s1 now few here.none empty, quiet b n s1 now here.none, refl) (let less : progress state s < 1 = omega (arith, still) in less) (stands_fresh b n s1 [] now),
+          (now.tidy.booted, none_due b n s1 now few here.none empty, quiet b n s1 now here.none, refl) (let less : progress state s < 1 = omega (arith, still) in less) (idle_word, idle_word) (stands_fresh b n s1 [] now),
     )

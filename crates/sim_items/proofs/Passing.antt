@@ -69,10 +69,10 @@ passed_few address count pc =
 
 -- of the task that the word names, which owes nothing, by the item at which its innermost frame stands
 by_word : (b : Build) (pc : ℕ) (s : System) (word t : ℕ) (frame : Frame) (outer : List Frame) → word ≡ t + 1 → (task s t).owed ≡ false → (task s t).frames ≡ frame ∷ outer
-    → passed_count_by b pc s word ≡ passed_count_at (item_address b.places frame.func frame.item) (length (expansion b.app b.places frame.func frame.item)) pc
+    → passed_count_by b.app b.places pc s word ≡ passed_count_at (item_address b.places frame.func frame.item) (length (expansion b.app b.places frame.func frame.item)) pc
 by_word b pc s word t frame outer named free frames =
     let one : word ≡ suc t = omega (arith, named) in
-    ap (passed_count_by b pc s) one ∙ ap {B = ℕ} (λ o. cond o 0 (passed_count_in b pc (task s t).frames)) free ∙ ap (passed_count_in b pc) frames
+    ap (passed_count_by b.app b.places pc s) one ∙ ap {B = ℕ} (λ o. cond o 0 (passed_count_in b.app b.places pc (task s t).frames)) free ∙ ap (passed_count_in b.app b.places pc) frames
 
 -- ---- what it leaves
 
@@ -91,7 +91,7 @@ pub record Passes (b : Build) (n next : State) (s : System) (t : ℕ) : Type 0 w
 
 -- the idle loop has passed nothing
 pub none_passed : (b : Build) (state : State) (s : System) → word_at state.core.ram cur ≡ 0 → progress_in b state s ≡ 0
-none_passed b state s none = ap (passed_count_by b state.pc s) none
+none_passed b state s none = ap (passed_count_by b.app b.places state.pc s) none
 
 module _ (b : Build) (view : View) (arrivals : List Arrival) (count : ℕ) (state : State) (s : System) (here : StandsAt b view arrivals count state s)
     (t : ℕ) (current : word_at (outside.n b view arrivals (progress_in b) count state s here).core.ram cur ≡ t + 1)
@@ -152,8 +152,12 @@ module _ (b : Build) (view : View) (arrivals : List Arrival) (count : ℕ) (stat
         (stands_fresh b next (moved_system s1 t (task s1 t) s1.symbols) s1.fresh
         (task_steps b n next s1 now here.fits t found.0 found.1 (task s1 t) s1.symbols task_step))
 
+    -- the word stays
+    pub word_same : word_at next.core.ram cur ≡ word_at state.core.ram cur
+    word_same = word_kept n.core.ram next.core.ram 0 1024 cur passes.kept.low (omega arith) (omega arith)
+
     current_next : word_at next.core.ram cur ≡ t + 1
-    current_next = word_kept n.core.ram next.core.ram 0 1024 cur passes.kept.low (omega arith) (omega arith) ∙ current
+    current_next = word_same ∙ current
 
     pub progress_next : progress_in b next s1 ≡ passed_count_at address size next.pc
     progress_next = by_word b next.pc s1 (word_at next.core.ram cur) t frame outer current_next free frames
@@ -194,7 +198,7 @@ module _ (b : Build) (view : View) (arrivals : List Arrival) (count : ℕ) (stat
       next,
       outside.one_instruction b view arrivals (progress_in b) count state s here next [] s1 stepped untouched
           (ap (λ m. outside_events m view (seen_step_at (outside.given b view arrivals (progress_in b) count state s here) count state next)) unmarked)
-          refl rises (passes_stand next passes),
+          refl rises (word_same next passes) (passes_stand next passes),
     )
 
   -- the instruction behind these of the item

@@ -3,6 +3,7 @@ use Rattle.std.proofs.Common.{◌≡◌, ℕ, zero, suc, ◌+◌, ◌*◌, ◌<�
 use Rattle.std.specs.Prelude.{slice_index}
 use Rattle.sloth_base.specs.declared.app.Op.{Op}
 use Rattle.sloth_base.specs.Machine.{Core, State}
+use Rattle.sloth_region.specs.Layout.{cur}
 use Rattle.rv32_instr.specs.Encode.{Encode}
 use Rattle.rv32_instr.specs.Execute.{Going, step, touched, with_register}
 use Rattle.masked_code.specs.Place.{offset_state}
@@ -23,6 +24,7 @@ use Rattle.sim_relation.specs.Position.{thread_of}
 use Rattle.sim_relation.specs.Context.{IsContext}
 use Rattle.sim_relation.specs.Stands.{Stands}
 use Rattle.sim_relation.specs.Moves.{moved_system, TaskStep, SameMachine}
+use Rattle.sim_relation.proofs.Framing.{word_kept}
 use Rattle.sim_relation.proofs.AtItem.{position_first}
 use Rattle.sim_relation.proofs.Placed.{first_by_word, active_by_word}
 use Rattle.sim_relation.proofs.TaskSteps.{task_steps}
@@ -190,6 +192,7 @@ module _ (b : Build) (view : View) (state : State) (s : System) (t : ℕ) (fits 
       after = moved_system s t own_now v.symbols;
       step_is = (k.tidy.booted, executes);
       stands = stands_now;
+      current = word_kept state.core.ram next.core.ram 0 1024 cur v.kept.low (omega arith) (omega arith) ∙ here.current;
     }
 
   pub straight_run : RunsItem b state s t frame.func frame.item

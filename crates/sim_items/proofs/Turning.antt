@@ -99,4 +99,5 @@ module _ (b : Build) (state : State) (s : System) (t : ℕ) (fits : HasFittingPl
       after = moved_system s t own_now s.symbols;
       step_is = (k.tidy.booted, executes);
       stands = stands_now;
+      current = current;
     }

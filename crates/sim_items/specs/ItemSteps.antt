@@ -2,7 +2,9 @@
 use Rattle.std.specs.Prelude.{ℕ, ◌+◌, ◌<◌, ◌≡◌, [], length, slice_index, None}
 use Rattle.sloth_base.specs.declared.event.Event.TheVariants as event
 use Rattle.sloth_base.specs.Machine.{State}
+use Rattle.sloth_region.specs.Layout.{cur}
 use Rattle.rv32_instr.specs.Execute.{Going, step, touched}
+use Rattle.rv32_instr.specs.Ram.{word_at}
 use Rattle.sloth_base.specs.Named.{operation, function}
 use Rattle.expansion_parts.specs.Expansion.{expansion}
 use Rattle.rv32_expand.specs.InPlace.{result_register}
@@ -22,6 +24,8 @@ pub record RunsItem (b : Build) (state : State) (s : System) (t func item : ℕ)
   pub after : System
   pub step_is : OsekStep b.config b.app (event.Run t func item (slice_index next.core.registers (result_register (operation b.app func item)))) s after
   pub stands : Stands b next after
+  -- the task still runs
+  pub current : word_at next.core.ram cur ≡ t + 1
 
 -- the last instruction of an item behind which the next one follows
 abbrev pub StraightItemsRun : Type 0

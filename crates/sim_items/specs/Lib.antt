@@ -1,4 +1,4 @@
 pub mod Place
 pub mod ItemSteps
-pub mod Progress
+pub use Rattle.sim_relation.specs.Progress
 pub mod Outside

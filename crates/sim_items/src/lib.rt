@@ -3,8 +3,8 @@
 //!
 //! Each instruction of an item, and of the idle loop, is one step of the abstract scheduler or none (`straight_items_go_on`, `expansions_go_on`,
 //! `flowing_items_go_on`, `calls_go_on`, `returns_go_on`, `idle_goes_on`, ..; `specs/ItemSteps`, `specs/Outside`). Where a task stands at an item:
-//! `specs/Place`; the measure of instructions that show no event: `specs/Progress`. The idle loop: `vector_gen` (`Idle`); the relation:
-//! `sim_relation` (`Stands`).
+//! `specs/Place`. The idle loop: `vector_gen` (`Idle`); the relation, and the measure of instructions that show no event: `sim_relation` (`Stands`,
+//! `Progress`).
 #![tactic(auto)]
 
 ghost use Rattle.sim_items.specs.ItemSteps.{StraightItemsRun};

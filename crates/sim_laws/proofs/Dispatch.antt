@@ -1,6 +1,7 @@
 -- From each count that finds MIE 1 the run goes on to the next, by what runs there.
-use Rattle.std.proofs.Common.{◌≡◌, ℕ, ◌+◌, ◌<◌, ◌≤◌, Bool, not, List, [], ◌∷◌, length, refl, inl, inr, sym, ap, ◌∙◌, subst, arith, true, false, Option, Some, None, ⊎_elim}
-use Rattle.std.proofs.lemmas.Bool.{cases_lt}
+use Rattle.std.proofs.Common.{◌≡◌, ℕ, ◌+◌, ◌<◌, ◌≤◌, Bool, not, List, [], ◌∷◌, length, refl, inl, inr, sym, ap, ◌∙◌, subst, arith, true, false, Option, Some, None, ⊎_elim, cond}
+use Rattle.std.specs.Prelude.{◌==◌}
+use Rattle.std.proofs.lemmas.Bool.{cases_lt, eq-eqb, ne_eqb}
 use Rattle.sloth_base.specs.declared.event.Arrival.{Arrival}
 use Rattle.sloth_base.specs.declared.image.Image.{Image}
 use Rattle.sloth_base.specs.declared.app.Call.{Call}
@@ -10,7 +11,9 @@ use Rattle.sloth_base.specs.Machine.{State}
 use Rattle.sloth_base.specs.Owners.{counter_line, owners_in}
 use Rattle.sloth_base.proofs.Owners.{IsCounterLine}
 use Rattle.rv32_machine.specs.Run.{state_with_arrivals}
-use Rattle.masked_code.specs.Trace.{Trace, late_arrivals}
+use Rattle.sloth_region.specs.Layout.{cur}
+use Rattle.rv32_instr.specs.Ram.{word_at}
+use Rattle.masked_code.specs.Trace.{late_arrivals}
 use Rattle.expansion_parts.specs.Expansion.{expansion}
 use Rattle.sloth_base.specs.Named.{operation, function}
 use Rattle.observe.specs.Observe.{View, view_of_image}
@@ -19,18 +22,19 @@ use Rattle.osek_scheduler.specs.State.{Frame, System, task}
 use Rattle.code_rules.specs.Code.{is_in}
 use Rattle.sim_induction.specs.Admits.{IsSetting, lines_at, with_admits}
 use Rattle.sim_induction.specs.Advances.{Advances}
-use Rattle.sim_induction.specs.PieceLaws.{StretchLaw}
+use Rattle.sim_induction.specs.PieceLaws.{Passed}
 use Rattle.sim_induction.proofs.Follow.{booted_admits}
 use Rattle.sim_induction.proofs.OutsidePiece.{outside_advances}
 use Rattle.sim_induction.proofs.Schedule.{owned_at}
 use Rattle.sim_induction.proofs.StretchPiece.{stretch_advances}
-use Rattle.sim_relation.specs.Build.{Build}
+use Rattle.sim_relation.specs.Build.{Build, with_passed}
 use Rattle.sim_relation.specs.Position.{IsPosition, IsStanding, IsOwing, InExpansion, AtBlock, IsCalling, IsReturning, thread_of}
 use Rattle.sim_relation.specs.Context.{RunsFirst, RunsIdle, RunsTask}
 use Rattle.sim_relation.specs.Stands.{Stands, AreActive, IsActiveTask}
 use Rattle.sim_relation.proofs.Arrive.{stands_arrived}
 use Rattle.sim_relation.proofs.Choice.{taken_cases, taken_ready}
 use Rattle.sim_relation.proofs.Framing.{position_elim}
+use Rattle.sim_relation.proofs.Passed.{stands_as, passed_by_word}
 use Rattle.sim_relation.proofs.Tops.{falling_head}
 use Rattle.sim_routines.specs.Range.{IsSane}
 use Rattle.sim_routines.proofs.EnterRoute.{enter_advances}
@@ -48,7 +52,8 @@ use Rattle.sim_items.proofs.Inner.{inner_outside}
 use Rattle.sim_items.proofs.Jump.{jump_outside}
 use Rattle.sim_items.proofs.MaskedJump.{masked_outside}
 use Rattle.sim_routines.specs.Opening.{StandsAtBlock, IsFollowed, OpensService}
-use Rattle.sim_routines.specs.Stretch.{OpensGoingOn}
+use Rattle.sim_routines.specs.EntrySteps.{IsBoundBehind}
+use Rattle.sim_routines.specs.Stretch.{HasStretch, OpensGoingOn}
 use Rattle.sim_routines.proofs.GoingOnStretch.{activates_stretches, chain_stretches, releases_stretches, states_stretches, takes_stretches, tells_stretches}
 use Rattle.sim_routines.proofs.ScheduleStretch.{back_stretches, yields_stretches}
 use Rattle.sim_routines.proofs.TerminateStretch.{terminate_stretches}
@@ -61,6 +66,7 @@ use Rattle.sim_laws.specs.Bounded.{IsBounded}
 use Rattle.sim_laws.specs.Kernel.{Kernel, IsServiceItem, IsComputingItem, IsCallItem, IsKnownItem}
 use Rattle.sim_laws.specs.Kernel.IsKnownItem.{computes, flows, invokes, returns, serves}
 use Rattle.sim_laws.specs.Steady.{IsSteady}
+use Rattle.sim_laws.proofs.AnyBound.{kernel_as}
 use Rattle.sim_laws.proofs.Masks.{call_jumps, is_word}
 use Rattle.sim_laws.proofs.Meeting.{meets}
 use Rattle.sim_laws.proofs.Steady.{basic_anew, ends_free, has_internal, pauses_free, valid_sizes}
@@ -146,6 +152,26 @@ module _ (b : Build) (image : Image) (kernel : Kernel b image) (t : ℕ) where
   has_caller declared frame (caller ∷ rest) chain inside is =
       record { caller = caller; rest = rest; called_by = refl; back = is_return frame caller rest chain inside is }
 
+-- ---- the line of a task is taken
+
+-- with the bound from its entry on: the task starts anew, or goes on behind its wait
+module _ (b : Build) (image : Image) (kernel : Kernel b image) (passed : Passed) (arrivals : List Arrival) (setting : IsSetting (setting_of b (view_of_image image) arrivals))
+    (count : ℕ) (after_boot : 0 < count) (state : State) (s : System) (stands : Stands b state s) (bounded : IsBounded (state_with_arrivals arrivals count state))
+    (steady : IsSteady b.config b.app (with_admits (lines_at arrivals count) s)) (bound : IsBoundBehind b passed state s) where
+  enters_behind : (t : ℕ) → t < length b.config.tasks → choose (state_with_arrivals arrivals count state).core ≡ Some t
+      → Advances (setting_of b (view_of_image image) arrivals) (λ p. Stands (with_passed b p)) (progress_in b) passed count state s
+  enters_behind t l chosen =
+      let view = view_of_image image in
+      let n = state_with_arrivals arrivals count state in
+      let s1 = with_admits (lines_at arrivals count) s in
+      let k : Stands b n s1 = stands_arrived b (lines_at arrivals count) state s kernel.fits.few_tasks (owned_at (setting_of b view arrivals) setting count) stands in
+      let few : length b.config.tasks ≤ line_count = let f = kernel.fits.few_tasks in omega arith in
+      let sane : IsSane n = record { pc = bounded.pc; registers = bounded.core.registers; bytes = bounded.core.bytes; level = bounded.core.level } in
+      let r = taken_ready b n s1 k few t l chosen in
+      enter_advances b passed view arrivals setting kernel.fits count after_boot state s stands bound sane t l chosen (basic_anew b.config b.app s1 t steady.valid l r)
+      (λ fresh u h ne alive. kernel.stacks t u l h ne (meets b n s1 k few steady.valid steady.owing t l chosen u h alive)) (kernel.prologues t l)
+      (measured b state s stands view arrivals)
+
 module _ (b : Build) (image : Image) (kernel : Kernel b image) where
   abbrev view : View
   view = view_of_image image
@@ -162,19 +188,19 @@ module _ (b : Build) (image : Image) (kernel : Kernel b image) where
     few = let f = kernel.fits.few_tasks in omega arith
 
     abbrev Goes : Type 0
-    Goes = Advances (setting_of b view arrivals) (Stands b) (progress_in b) count state s
+    Goes = Advances (setting_of b view arrivals) (λ p. Stands (with_passed b p)) (progress_in b) b.passed count state s
 
     k : Stands b n s1
     k = stands_arrived b (lines_at arrivals count) state s kernel.fits.few_tasks (owned_at (setting_of b view arrivals) setting count) stands
 
     -- one instruction outside the stretches
     outside : GoesOutside b view arrivals (progress_in b) count state s → Goes
-    outside h = outside_advances (setting_of b view arrivals) setting (Stands b) (progress_in b) count state s h.0 h.1
+    outside h = outside_advances (setting_of b view arrivals) setting (λ p. Stands (with_passed b p)) (progress_in b) b.passed count state s h.0 h.1
 
     -- a stretch
-    stretch : (next : State) × (trace : Trace) × (end : State) × StretchLaw (setting_of b view arrivals) (Stands b) count state s next trace end → Goes
+    stretch : HasStretch b view arrivals count state s → Goes
     stretch h =
-        stretch_advances (setting_of b view arrivals) setting (Stands b) (progress_in b) count after_boot state s h.0 h.1 h.2 h.3 stands.tidy.booted
+        stretch_advances (setting_of b view arrivals) setting (λ p. Stands (with_passed b p)) (progress_in b) b.passed b.passed count after_boot state s h.0 h.1 h.2 h.3 stands.tidy.booted
         (sym (booted_admits (late_arrivals h.1) h.3.after) ∙ h.3.related.tidy.booted) (measured b state s stands view arrivals)
 
     module _ (none : choose n.core ≡ None) where
@@ -472,15 +498,28 @@ module _ (b : Build) (image : Image) (kernel : Kernel b image) where
           outside (idle_outside b view arrivals (progress_in b) count state s here r.current kernel.idle (none_passed b state s r.current))
       by_stack (t ∷ below) e = task_goes t below e
 
-    sane : IsSane n
-    sane = record { pc = bounded.pc; registers = bounded.core.registers; bytes = bounded.core.bytes; level = bounded.core.level }
+    -- the bound from an entry on: what is preempted has passed what it had
+    abbrev bound_behind : Passed
+    bound_behind = λ u. cond (word_at state.core.ram cur == u + 1) (progress_in b state s) (b.passed u)
 
-    -- a task's line is taken: the task starts anew, or goes on behind its wait
+    is_bound : IsBoundBehind (with_passed b bound_behind) b.passed state s
+    is_bound = record {
+      ran = λ t named.
+          let now = ap (λ x. cond x (progress_in b state s) (b.passed t)) (eq-eqb (word_at state.core.ram cur) (t + 1) named) in
+          let is = passed_by_word b state s t named in
+          omega (arith, now, is);
+      least = λ u. omega arith;
+    }
+
+    stands_so : Stands (with_passed b bound_behind) state s
+    stands_so =
+        stands_as b bound_behind state s
+        (λ u other. let same = ap (λ x. cond x (progress_in b state s) (b.passed u)) (ne_eqb (word_at state.core.ram cur) (u + 1) other) in omega (arith, same)) stands
+
+    -- a task's line is taken
     enters : (t : ℕ) → t < length b.config.tasks → choose n.core ≡ Some t → Goes
     enters t l chosen =
-        let r = taken_ready b n s1 k few t l chosen in
-        enter_advances b view arrivals setting kernel.fits count after_boot state s stands sane t l chosen (basic_anew b.config b.app s1 t steady.valid l r)
-        (λ fresh u h ne alive. kernel.stacks t u l h ne (meets b n s1 k few steady.valid steady.owing t l chosen u h alive)) (kernel.prologues t l) (progress_in b) (measured b state s stands view arrivals)
+        enters_behind (with_passed b bound_behind) image (kernel_as b bound_behind image kernel) b.passed arrivals setting count after_boot state s stands_so bounded steady is_bound t l chosen
 
     -- a counter's line is taken: the counter ticks
     ticks : (c : ℕ) → c < length b.config.counters → choose n.core ≡ Some (counter_line c) → Goes
@@ -493,7 +532,7 @@ module _ (b : Build) (image : Image) (kernel : Kernel b image) where
           value = steady.valid.clock.values c;
           bytes = bounded.core.bytes;
         })
-        (kernel.ticks c l) (progress_in b) (measured b state s stands view arrivals)
+        (kernel.ticks c l) (measured b state s stands view arrivals)
 
     takes : (line : ℕ) → choose n.core ≡ Some line → Goes
     takes line chosen =
@@ -502,7 +541,7 @@ module _ (b : Build) (image : Image) (kernel : Kernel b image) where
         ticks found.0 found.1.declared (subst (λ x. choose n.core ≡ Some x) found.1.is chosen))
         (taken_cases b n s1 k line chosen)
 
-    pub advance : Advances (setting_of b view arrivals) (Stands b) (progress_in b) count state s
+    pub advance : Advances (setting_of b view arrivals) (λ p. Stands (with_passed b p)) (progress_in b) b.passed count state s
     advance = by (choose n.core) refl
       where
         by : (o : Option ℕ) → choose n.core ≡ o → Goes

@@ -24,18 +24,20 @@ use Rattle.sim_induction.specs.Sound.{Sound, events_of, stands_before}
 use Rattle.sim_induction.specs.Weighed.{Weighed}
 use Rattle.sim_induction.specs.Paced.{Paced}
 use Rattle.sim_induction.specs.Admits.{IsSetting, lines_at, with_admits, admit_event}
-use Rattle.sim_induction.specs.PieceLaws.{BootLaw}
+use Rattle.sim_induction.specs.PieceLaws.{Passed, BootLaw}
+use Rattle.sim_induction.specs.Spent.{SpentBySizes}
 use Rattle.sim_induction.specs.Related.{IsSimulation}
 use Rattle.sim_induction.proofs.Boot.{whole_run}
 use Rattle.sim_induction.proofs.Follow.{booted_admits, leads_admits}
 use Rattle.sim_induction.proofs.Invariants.{With, along_events, simulation_with, boot_with}
 use Rattle.sim_induction.proofs.Schedule.{owned_at}
-use Rattle.sim_induction.proofs.Simulated.{sound, weighed, paced, is_setting}
+use Rattle.sim_induction.proofs.Simulated.{sound, weighed, paced, spent, is_setting}
 use Rattle.sim_relation.specs.Bounds.{AreBelow}
-use Rattle.sim_relation.specs.Build.{Build}
+use Rattle.sim_relation.specs.Build.{Build, with_passed}
 use Rattle.sim_relation.specs.Stands.{Stands}
 use Rattle.sim_relation.proofs.Arrive.{stands_arrived}
 use Rattle.sim_relation.proofs.MirrorOf.{mirror_of}
+use Rattle.sim_relation.proofs.Passed.{stands_as}
 use Rattle.sim_routines.proofs.Boot.{ram_at}
 use Rattle.sim_routines.proofs.BootRoute.{boot_stretch}
 use Rattle.sim_routines.proofs.Spot.{zero_at}
@@ -49,6 +51,7 @@ use Rattle.sim_laws.specs.Steady.{IsSteady}
 use Rattle.sim_laws.proofs.Bounded.{arrive_fits, bounds_stay}
 use Rattle.sim_laws.proofs.Steady.{steady_stays, opening_steady}
 use Rattle.sim_laws.proofs.Measured.{measured}
+use Rattle.sim_laws.proofs.AnyBound.{kernel_as}
 use Rattle.sim_laws.proofs.Dispatch.{advance}
 use Rattle.sim_laws.proofs.Nesting.{stack_nested}
 
@@ -88,7 +91,7 @@ module _ (b : Build) (image : Image) (kernel : Kernel b image) where
       let f = size_few b.app (frame_of b.app (b.config, kernel.well_formed.in_range)) long o in
       omega (arith, e, f.few)
 
-  in_frames : (pc : ℕ) (frames : List Frame) → passed_count_in b pc frames ≤ unseen_counts
+  in_frames : (pc : ℕ) (frames : List Frame) → passed_count_in b.app b.places pc frames ≤ unseen_counts
   in_frames pc [] = omega arith
   in_frames pc (frame ∷ outer) =
       let few = few_instructions frame.func frame.item in
@@ -96,16 +99,20 @@ module _ (b : Build) (image : Image) (kernel : Kernel b image) where
       omega (arith, few, most)
 
   -- the measure is at most `unseen_counts`
-  passed_small : (pc : ℕ) (s : System) (current : ℕ) → passed_count_by b pc s current ≤ unseen_counts
+  passed_small : (pc : ℕ) (s : System) (current : ℕ) → passed_count_by b.app b.places pc s current ≤ unseen_counts
   passed_small pc s zero = omega arith
   passed_small pc s (suc t) = by (task s t).owed
     where
-      by : (owed : Bool) → cond owed 0 (passed_count_in b pc (task s t).frames) ≤ unseen_counts
+      by : (owed : Bool) → cond owed 0 (passed_count_in b.app b.places pc (task s t).frames) ≤ unseen_counts
       by true = omega arith
       by false = in_frames pc (task s t).frames
 
-  abbrev R : State → System → Type 0
-  R = With (Stands b) IsBounded (IsSteady b.config b.app)
+  abbrev R : Passed → State → System → Type 0
+  R p = With (Stands (with_passed b p)) IsBounded (IsSteady b.config b.app)
+
+  -- nothing said of any task
+  abbrev nothing : Passed
+  nothing = λ t. 0
 
   module _ (arrivals : List Arrival) (setting : IsSetting (setting_of b view arrivals)) where
     steady_found : (count : ℕ) (s : System) → s.booted ≡ true → IsSteady b.config b.app s → IsSteady b.config b.app (with_admits (lines_at arrivals count) s)
@@ -115,52 +122,60 @@ module _ (b : Build) (image : Image) (kernel : Kernel b image) where
 
     simulation : IsSimulation (setting_of b view arrivals) R (progress_in b)
     simulation =
-        simulation_with (setting_of b view arrivals) setting (Stands b) IsBounded (IsSteady b.config b.app) (progress_in b) (bounds_stay arrivals) (steady_stays b.config b.app kernel.well_formed)
-        (λ count state s positive w.
-        advance b image kernel arrivals setting count positive state s w.base (arrive_fits (lines_at arrivals count) state w.machine) (steady_found count s w.base.tidy.booted w.system))
-        (λ count state s w. stands_arrived b (lines_at arrivals count) state s kernel.fits.few_tasks (owned_at (setting_of b view arrivals) setting count) w.base)
+        simulation_with (setting_of b view arrivals) setting (λ p. Stands (with_passed b p)) IsBounded (IsSteady b.config b.app) (progress_in b) (bounds_stay arrivals) (steady_stays b.config b.app kernel.well_formed)
+        (λ p count state s positive w.
+        advance (with_passed b p) image (kernel_as b p image kernel) arrivals setting count positive state s w.base (arrive_fits (lines_at arrivals count) state w.machine) (steady_found count s w.base.tidy.booted w.system))
+        (λ p count state s w. stands_arrived (with_passed b p) (lines_at arrivals count) state s kernel.fits.few_tasks (owned_at (setting_of b view arrivals) setting count) w.base)
         (λ count state h. arrive_fits (lines_at arrivals count) state h)
-        (λ state s w. w.base.tidy.booted)
-        (λ state s w. mirror_of b state s w.base)
-        (λ state s w. measured b state s w.base view arrivals)
-        (λ state s w. passed_small state.pc s (word_at state.core.ram cur))
+        (λ p state s w. w.base.tidy.booted)
+        (λ p state s w. mirror_of (with_passed b p) state s w.base)
+        (λ p state s w. measured (with_passed b p) state s w.base view arrivals)
+        (λ p state s w. passed_small state.pc s (word_at state.core.ram cur))
 
-    booting : BootLaw (setting_of b view arrivals) R (start image)
+    booting : BootLaw (setting_of b view arrivals) (R nothing) (start image)
     booting =
-        let law = boot_stretch b view arrivals setting image kernel.fits kernel.is_image kernel.boot in
-        boot_with (setting_of b view arrivals) setting (Stands b) IsBounded (IsSteady b.config b.app) (progress_in b) (bounds_stay arrivals) (steady_stays b.config b.app kernel.well_formed)
-        (start image) law (sym (booted_admits (late_arrivals law.trace) law.after) ∙ law.related.tidy.booted)
+        let k = kernel_as b nothing image kernel in
+        let law = boot_stretch (with_passed b nothing) view arrivals setting image k.fits k.is_image k.boot in
+        boot_with (setting_of b view arrivals) setting (λ p. Stands (with_passed b p)) IsBounded (IsSteady b.config b.app) (progress_in b) (bounds_stay arrivals) (steady_stays b.config b.app kernel.well_formed)
+        nothing (start image) law (sym (booted_admits (late_arrivals law.trace) law.after) ∙ law.related.tidy.booted)
         (start_bounded image kernel.bytes) (opening_steady b.config b.app kernel.well_formed)
 
   pub sound_kernel : Sound b.config b.app image
   sound_kernel =
-      sound b.config b.app (item_words b) image R (progress_in b) kernel.fits.few_tasks kernel.tasks kernel.counters
+      sound b.config b.app (item_words b) image R (progress_in b) nothing kernel.fits.few_tasks kernel.tasks kernel.counters
       (λ arrivals are. let setting = is_setting b.config b.app (item_words b) image arrivals kernel.fits.few_tasks kernel.tasks kernel.counters are in (simulation arrivals setting, booting arrivals setting))
 
   pub weighed_kernel : Weighed b.config b.app image
   weighed_kernel =
-      weighed b.config b.app (item_words b) image R (progress_in b) kernel.fits.few_tasks kernel.tasks kernel.counters
+      weighed b.config b.app (item_words b) image R (progress_in b) nothing kernel.fits.few_tasks kernel.tasks kernel.counters
       (λ arrivals are. let setting = is_setting b.config b.app (item_words b) image arrivals kernel.fits.few_tasks kernel.tasks kernel.counters are in (simulation arrivals setting, booting arrivals setting))
 
   pub paced_kernel : Paced b.config b.app (item_words b) image
   paced_kernel =
-      paced b.config b.app (item_words b) image R (progress_in b) kernel.fits.few_tasks kernel.tasks kernel.counters
+      paced b.config b.app (item_words b) image R (progress_in b) nothing kernel.fits.few_tasks kernel.tasks kernel.counters
+      (λ arrivals are. let setting = is_setting b.config b.app (item_words b) image arrivals kernel.fits.few_tasks kernel.tasks kernel.counters are in (simulation arrivals setting, booting arrivals setting))
+
+  pub spent_kernel : SpentBySizes b.config b.app (item_words b) image
+  spent_kernel =
+      spent b.config b.app (item_words b) image R (progress_in b) nothing kernel.fits.few_tasks kernel.tasks kernel.counters
       (λ arrivals are. let setting = is_setting b.config b.app (item_words b) image arrivals kernel.fits.few_tasks kernel.tasks kernel.counters are in (simulation arrivals setting, booting arrivals setting))
 
   -- at each count that finds MIE 1 the relation stands
   pub stands_kernel : (arrivals : List Arrival) (n count : ℕ) (state : State) → AreArrivals (owners_in b.config) arrivals → n ≤ count_limit → count < n
       → state_after count arrivals (start image) ≡ Some state → state.core.mie ≡ true
       → (s : System) × AreStepsTo b.config b.app (filter (stands_before count) (events_of image arrivals n)) (opening b.config b.app) s
-      × StandsNested b (state_with_arrivals arrivals count state) s
+      × StandsNested (with_passed b nothing) (state_with_arrivals arrivals count state) s
   stands_kernel arrivals n count state are bound before after enabled =
       let setting = is_setting b.config b.app (item_words b) image arrivals kernel.fits.few_tasks kernel.tasks kernel.counters are in
-      let whole = whole_run (setting_of b view arrivals) setting R (progress_in b) (simulation arrivals setting) (start image) (booting arrivals setting) n in
+      let whole = whole_run (setting_of b view arrivals) setting R (progress_in b) (simulation arrivals setting) nothing (start image) (booting arrivals setting) n in
       let found = whole.mirrors count before state after enabled in
-      let related = found.2 in (
+      let related = found.2.1 in
+      let x = state_with_arrivals arrivals count state in
+      let stands : Stands (with_passed b nothing) x found.0 = stands_as (with_passed b found.2.0) nothing x found.0 (λ u other. omega arith) related.base in (
         found.0,
         found.1,
         record {
-          stands = related.base;
-          nested = stack_nested b found.0 related.system.valid related.system.owing kernel.nested related.base.stack related.base.active.falling;
+          stands = stands;
+          nested = stack_nested (with_passed b nothing) found.0 related.system.valid related.system.owing kernel.nested stands.stack stands.active.falling;
         },
       )

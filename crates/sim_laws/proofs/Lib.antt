@@ -5,6 +5,7 @@ pub mod Masks
 pub mod Meeting
 pub mod Nesting
 pub mod Measured
+pub mod AnyBound
 pub mod Dispatch
 pub mod KernelRuns
 pub mod Generated

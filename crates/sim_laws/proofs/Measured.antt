@@ -23,7 +23,7 @@ use Rattle.sim_items.proofs.Passing.{passed_few, none_passed}
 
 module _ (b : Build) where
   -- of an item that there is
-  item_few : (pc : ℕ) (frame : Frame) (outer : List Frame) → frame.item < length (function b.app frame.func).items → passed_count_in b pc (frame ∷ outer) ≤ item_words b frame.func frame.item
+  item_few : (pc : ℕ) (frame : Frame) (outer : List Frame) → frame.item < length (function b.app frame.func).items → passed_count_in b.app b.places pc (frame ∷ outer) ≤ item_words b frame.func frame.item
   item_few pc frame outer inside =
       let size = length (expansion b.app b.places frame.func frame.item) in
       let whole : item_words b frame.func frame.item ≡ size = ap {B = ℕ} (λ v. cond v size 0) (lt-ltb frame.item (length (function b.app frame.func).items) inside) in
@@ -32,12 +32,12 @@ module _ (b : Build) where
 
   -- of a task that stands there
   task_few : (pc : ℕ) (own : Task) (frame : Frame) (outer : List Frame) → own.frames ≡ frame ∷ outer → frame.item < length (function b.app frame.func).items
-      → passed_count_of b pc own ≤ next_size_of (item_words b) own
+      → passed_count_of b.app b.places pc own ≤ next_size_of (item_words b) own
   task_few pc own frame outer frames inside = by own.owed
     where
-      by : (owed : Bool) → cond owed 0 (passed_count_in b pc own.frames) ≤ cond owed 0 (next_size (item_words b) own.frames)
+      by : (owed : Bool) → cond owed 0 (passed_count_in b.app b.places pc own.frames) ≤ cond owed 0 (next_size (item_words b) own.frames)
       by true = omega arith
-      by false = subst (λ fs. passed_count_in b pc fs ≤ next_size (item_words b) fs) (sym frames) (item_few pc frame outer inside)
+      by false = subst (λ fs. passed_count_in b.app b.places pc fs ≤ next_size (item_words b) fs) (sym frames) (item_few pc frame outer inside)
 
   size_few : (longest : ℕ) → AreAtMost (item_words b) longest → (own : Task) → next_size_of (item_words b) own ≤ longest
   size_few longest most own = by own.owed own.frames
@@ -55,7 +55,7 @@ module _ (b : Build) where
         let run : RunsTask b state s t f.0 = subst (RunsFirst b state s) f.1 stands.running in
         let p = run.context.position in
         let one : word_at state.core.ram cur ≡ suc t = omega (arith, named) in
-        subst (λ word. passed_count_by b state.pc s word ≤ next_size_of (item_words b) (task s t)) (sym one) (task_few state.pc (task s t) p.frame p.outer p.frames p.inside)
+        subst (λ word. passed_count_by b.app b.places state.pc s word ≤ next_size_of (item_words b) (task s t)) (sym one) (task_few state.pc (task s t) p.frame p.outer p.frames p.inside)
 
     -- its record stays, whatever arrives
     kept : (t : ℕ) → word_at state.core.ram cur ≡ t + 1 → (found early : List ℕ) → task (with_admits early (with_admits found s)) t ≡ task s t
@@ -80,4 +80,5 @@ module _ (b : Build) where
       turn = λ t named found early.
           subst (λ own. progress_in b state s ≤ next_size_of (item_words b) own) (sym (kept t named found early)) (by_word t named);
       few = few;
+      idle = none_passed b state s;
     }

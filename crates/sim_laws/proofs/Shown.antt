@@ -9,7 +9,7 @@ use Rattle.osek_scheduler.specs.declared.state.TaskState.{TaskState}
 use Rattle.osek_scheduler.specs.declared.state.TaskState.TheVariants as mode
 use Rattle.osek_scheduler.specs.State.{System, task, opening}
 use Rattle.osek_scheduler.proofs.Leading.{one_end}
-use Rattle.sim_relation.specs.Build.{Build}
+use Rattle.sim_relation.specs.Build.{Build, with_passed}
 use Rattle.sim_relation.specs.ServiceWords.{active_word, IsWaitWord}
 use Rattle.sim_relation.specs.Stands.{Stands, AreLineBytes}
 use Rattle.sloth_inspect.specs.States.{state_in}
@@ -52,5 +52,5 @@ kernel_shows b image kernel = record {
       let found = stands_kernel b image kernel arrivals n count state are few before after enabled in
       let same : found.0 ≡ s = one_end b.config b.app _ (opening b.config b.app) found.0 s found.1 leads in
       subst (λ (x : System). ShowsSystem b.config (state_with_arrivals arrivals count state).core x) same
-      (system_shown b (state_with_arrivals arrivals count state) found.0 found.2.stands);
+      (system_shown (with_passed b (λ t. 0)) (state_with_arrivals arrivals count state) found.0 found.2.stands);
 }

@@ -17,6 +17,7 @@ use Rattle.observe.specs.Observe.{View, view_of_image}
 use Rattle.sim_induction.specs.Sound.{Sound}
 use Rattle.sim_induction.specs.Weighed.{Weighed}
 use Rattle.sim_induction.specs.Paced.{Paced}
+use Rattle.sim_induction.specs.Spent.{SpentBySizes}
 use Rattle.sim_relation.specs.Bounds.{AreBelow}
 use Rattle.sim_relation.specs.Build.{Build, HasFittingPlaces}
 use Rattle.sim_relation.specs.Placed.{item_words}
@@ -98,6 +99,10 @@ KernelIsSound = (b : Build) (image : Image) → Kernel b image → Sound b.confi
 -- None has a stretch that takes more counts than its weight.
 abbrev pub KernelIsWeighed : Type 0
 KernelIsWeighed = (b : Build) (image : Image) → Kernel b image → Weighed b.config b.app image
+
+-- In each no task spends more on an item than it has instructions.
+abbrev pub KernelIsSpent : Type 0
+KernelIsSpent = (b : Build) (image : Image) → Kernel b image → SpentBySizes b.config b.app (item_words b) image
 
 -- And in each the events end soon behind one another, by their weights and the items of the task code.
 abbrev pub KernelIsPaced : Type 0

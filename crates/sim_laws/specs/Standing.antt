@@ -11,7 +11,7 @@ use Rattle.rv32_machine.specs.Run.{state_after, state_with_arrivals}
 use Rattle.osek_scheduler.specs.State.{System, opening}
 use Rattle.osek_scheduler.specs.Runs.{AreStepsTo}
 use Rattle.sim_induction.specs.Sound.{events_of, stands_before}
-use Rattle.sim_relation.specs.Build.{Build}
+use Rattle.sim_relation.specs.Build.{Build, with_passed}
 use Rattle.sim_relation.specs.Stands.{Stands}
 use Rattle.sim_laws.specs.Kernel.{Kernel}
 use Rattle.sim_laws.specs.Nested.{AreNested}
@@ -23,10 +23,10 @@ pub record StandsNested (b : Build) (state : State) (s : System) : Type 0 where
   pub nested : AreNested b stands.stack
 
 -- It does so in every run of an image with a kernel in place, at each count that finds MIE 1: with the arrivals of the count, and for the
--- system that the events before it lead to.
+-- system that the events before it lead to. Of what preempted tasks have passed nothing is said.
 abbrev pub KernelStands : Type 0
 KernelStands = (b : Build) (image : Image) → Kernel b image → (arrivals : List Arrival) (n count : ℕ) (state : State)
     → AreArrivals (owners_in b.config) arrivals → n ≤ count_limit → count < n
     → state_after count arrivals (start image) ≡ Some state → state.core.mie ≡ true
     → (s : System) × AreStepsTo b.config b.app (filter (stands_before count) (events_of image arrivals n)) (opening b.config b.app) s
-    × StandsNested b (state_with_arrivals arrivals count state) s
+    × StandsNested (with_passed b (λ t. 0)) (state_with_arrivals arrivals count state) s

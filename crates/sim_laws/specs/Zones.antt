@@ -39,6 +39,7 @@ build_of config app map bounds back memory = record {
   idle = map.idle;
   back = back;
   memory = memory;
+  passed = λ t. 0;
 }
 
 -- so many bytes have room for the frames of each chain of calls from a task's body, and a context below them

@@ -2,8 +2,8 @@
 //! code makes such a kernel (`specs/Generated`, `specs/Items`).
 //!
 //! A kernel is of any configuration in range, with counters and alarms, and of well-formed task code of any items and services. Every run of an image
-//! in which one stands is sound, its stretches are within their weights and its events keep the pace (`kernel_is_sound`, `kernel_is_weighed`,
-//! `kernel_is_paced`, `generated_is_kernel`, `steady_stays`, `bounds_stay`, `marks_are_found`, `items_stand`); each item of such code that is no
+//! in which one stands is sound, its stretches are within their weights, its events keep the pace and no task spends more on an item than it has
+//! (`kernel_is_sound`, `kernel_is_weighed`, `kernel_is_paced`, `kernel_is_spent`, `generated_is_kernel`, `steady_stays`, `bounds_stay`, `marks_are_found`, `items_stand`); each item of such code that is no
 //! service is one of the known ones (`items_are_known`). What each step keeps of the system: `specs/Bounded`, `specs/Steady`; the relation at each count at which interrupts are open, with the Active basic tasks' parts of the shared stack one below the
 //! other in the order of entry: `specs/Standing`, `specs/Nested`.
 //!
@@ -20,7 +20,7 @@ pub mod zones;
 
 ghost use Rattle.sim_laws.specs.Bounded.{BoundsStay};
 ghost use Rattle.sim_laws.specs.Steady.{SteadyStays};
-ghost use Rattle.sim_laws.specs.Kernel.{KernelIsSound, KernelIsWeighed, KernelIsPaced};
+ghost use Rattle.sim_laws.specs.Kernel.{KernelIsSound, KernelIsWeighed, KernelIsPaced, KernelIsSpent};
 ghost use Rattle.sim_laws.specs.Standing.{KernelStands};
 ghost use Rattle.sim_laws.specs.Generated.{GeneratedIsKernel};
 ghost use Rattle.sim_laws.specs.Items.{ItemsAreKnown, ItemsStand, MarksAreFound};
@@ -48,6 +48,11 @@ pub fn kernel_is_weighed()
 /// Each event of such a run ends soon behind the one before it, by its weight and the items of the task code (`event_weights`, `specs/Pace`).
 pub fn kernel_is_paced()
     ensures { KernelIsPaced }
+{}
+
+/// In such a run no task spends more on an item, over all its pieces between preemptions, than the item has instructions (`sim_induction`, `specs/Spent`).
+pub fn kernel_is_spent()
+    ensures { KernelIsSpent }
 {}
 
 /// At each count of such a run that finds interrupts open the machine stands as the system says that the events before it lead to.

@@ -23,7 +23,7 @@ use Rattle.sim_relation.specs.Framing.{AreSameBytes}
 use Rattle.sim_relation.proofs.Alike.{SamePart}
 use Rattle.sim_relation.specs.Changes.{changed_task, system_with_task_state, TaskChange}
 use Rattle.sim_relation.proofs.ClockKept.{clock_kept}
-use Rattle.sim_relation.proofs.Contexts.{context_same, chain_kept, data_kept}
+use Rattle.sim_relation.proofs.Contexts.{passed_as, context_same, chain_kept, data_kept}
 use Rattle.sim_relation.proofs.Framing.{position_task}
 use Rattle.sim_relation.proofs.Parts.{by_task, each_from, service_kept, held_kept, resumes_kept}
 use Rattle.sim_relation.proofs.Rebuilt.{among, rebuilt}
@@ -64,11 +64,15 @@ context_like b ram t old new th place l k = record {
 }
 
 saved_like : (b : Build) (ram : List ℕ) (s next : System) (t place : ℕ) → IsLike (task s t) (task next t) → IsSaved b ram s t place → IsSaved b ram next t place
-saved_like b ram s next t place l k = record {
-  level = k.level ∙ sym (ap (level_of b.config) (like_priority b.config (declaration b.config t) (task s t) (task next t) l));
-  current = k.current;
-  context = context_like b ram t (task s t) (task next t) (thread_at ram place) (place + context_bytes) l k.context;
-}
+saved_like b ram s next t place l k =
+    let same = passed_as b (word_at ram place) (task s t) (task next t) l.owed l.frames in
+    let few = k.passed in
+    record {
+      level = k.level ∙ sym (ap (level_of b.config) (like_priority b.config (declaration b.config t) (task s t) (task next t) l));
+      current = k.current;
+      context = context_like b ram t (task s t) (task next t) (thread_at ram place) (place + context_bytes) l k.context;
+      passed = omega (arith, same, few);
+    }
 
 chain_like : (b : Build) (ram : List ℕ) (s next : System) → ((u : ℕ) → IsLike (task s u) (task next u)) → (stack : List ℕ) (place : ℕ)
     → IsContextChain b ram s stack place → IsContextChain b ram next stack place

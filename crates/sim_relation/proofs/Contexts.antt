@@ -1,7 +1,8 @@
 -- What a task's context, and the chain of contexts, say stands as long as their bytes stay.
 use Rattle.std.specs.Prelude.{slice_index}
-use Rattle.std.proofs.Common.{true, ◌≡◌, ℕ, ◌+◌, ◌*◌, ◌≤◌, List, [], ◌∷◌, refl, sym, ap, ◌∙◌, subst, arith}
+use Rattle.std.proofs.Common.{true, ◌≡◌, ℕ, ◌+◌, ◌*◌, ◌≤◌, List, [], ◌∷◌, refl, sym, ap, ◌∙◌, subst, arith, cond}
 use Rattle.sloth_region.specs.Layout.{idle_context}
+use Rattle.rv32_instr.specs.Ram.{word_at}
 use Rattle.osek_scheduler.specs.State.{Task, System, task}
 use Rattle.sloth_base.specs.Named.{declaration}
 use Rattle.osek_scheduler.specs.Priority.{current_priority}
@@ -9,11 +10,17 @@ use Rattle.sloth_base.specs.PriorityLevels.{level_of}
 use Rattle.sim_relation.specs.Build.{Build}
 use Rattle.sim_relation.specs.Position.{Thread, thread_at}
 use Rattle.sim_relation.specs.Context.{IsContext, IsSaved, IsContextChain}
+use Rattle.sim_relation.specs.Progress.{passed_count_in, passed_count_of}
 use Rattle.sim_relation.specs.DataStands.{DataStands}
 use Rattle.sim_relation.specs.Framing.{AreSameBytes, IsSameIdle}
 use Rattle.sim_relation.proofs.Alike.{SameThread, SamePart}
 use Rattle.std.specs.List.{AllByRecursion}
 use Rattle.sim_relation.proofs.Framing.{word_kept, position_kept, position_below}
+
+-- what a task has passed is read off its frames, and off whether it owes the way back
+pub passed_as : (b : Build) (pc : ℕ) (old new : Task) → new.owed ≡ old.owed → new.frames ≡ old.frames → passed_count_of b.app b.places pc new ≡ passed_count_of b.app b.places pc old
+passed_as b pc old new owed frames =
+    ap {B = ℕ} (λ o. cond o 0 (passed_count_in b.app b.places pc new.frames)) owed ∙ ap {B = ℕ} (λ f. cond old.owed 0 (passed_count_in b.app b.places pc f)) frames
 
 -- a context lies below the top of its task's part of the stacks
 pub context_below : (b : Build) (ram : List ℕ) (t : ℕ) (own : Task) (th : Thread) (place : ℕ) → IsContext b ram t own th place → place ≤ b.top t
@@ -59,10 +66,15 @@ saved_kept b old new s next t place p k =
     let top = context_below b old t (task s t) (thread_at old place) (place + 128) k.context in
     let e4 = word_kept old new (b.low t) (b.top t) (place + 4) p.bytes (omega arith) (omega arith) in
     let e8 = word_kept old new (b.low t) (b.top t) (place + 8) p.bytes (omega arith) (omega arith) in
+    let e0 = word_kept old new (b.low t) (b.top t) place p.bytes (omega arith) (omega arith) in
+    let same : passed_count_of b.app b.places (word_at new place) (task next t) ≡ passed_count_of b.app b.places (word_at old place) (task s t) =
+    ap (λ v. passed_count_of b.app b.places v (task next t)) e0 ∙ ap (passed_count_of b.app b.places (word_at old place)) p.tasks in
+    let few = k.passed in
     record {
       level = e4 ∙ k.level ∙ sym (ap (λ v. level_of b.config (current_priority b.config (declaration b.config t) v)) p.tasks);
       current = e8 ∙ k.current;
       context = context_kept b old new s next t place p k.context;
+      passed = omega (arith, same, few);
     }
 
 -- the chain stands as long as each task's part does, and the idle loop's context

@@ -20,6 +20,7 @@ use Rattle.sloth_base.specs.MemoryMap.{line_count}
 use Rattle.sim_relation.specs.Build.{Build, HasFittingPlaces, IsElsewhere}
 use Rattle.sim_relation.specs.Position.{thread_of, thread_at}
 use Rattle.sim_relation.specs.Context.{IsContext, IsContextChain, RunsFirst, RunsTask}
+use Rattle.sim_relation.specs.Progress.{passed_count_of, HasPassed}
 use Rattle.sim_relation.specs.ServiceWords.{AreServiceWords, AreHeldWords, IsWaitWord, active_word}
 use Rattle.sim_relation.specs.Stands.{Stands, AreFalling, AreLineBytes, IsAlive, IsTidyTask}
 use Rattle.sim_relation.specs.Framing.{AreSameBytes, AreOtherWordsSame}
@@ -46,7 +47,7 @@ not_first : (b : Build) (s : System) (t : ℕ) (below : List ℕ) → AreFalling
 not_first b s t below f u h = ne_eqb t u (λ e. below_other b s t below f u h (sym e))
 
 module _ (b : Build) (old now : State) (s : System) (k : Stands b old s) (fits : HasFittingPlaces b) (t : ℕ) (declared : t < length b.config.tasks) (e : choose old.core ≡ Some t)
-    (own : Task) (place : ℕ) (entry : TaskEntry b old now s t own place) where
+    (own : Task) (place : ℕ) (ran : HasPassed b old s) (entry : TaskEntry b old now s t own place) where
   few : length b.config.tasks ≤ line_count
   few = let f = fits.few_tasks in omega arith
 
@@ -121,7 +122,10 @@ module _ (b : Build) (old now : State) (s : System) (k : Stands b old s) (fits :
       let frame : run.place ≡ place + 128 = let x = run.context.x2 in let y = entry.x2 in omega arith in
       let low = run.context.room in
       let v = fits.from a here.declared in
-      let n = not_t a here.active in (
+      let n = not_t a here.active in
+      let least = ran a run.current in
+      let left : passed_count_of b.app b.places (word_at new_ram place) (task next a) ≡ passed_count_of b.app b.places old.pc (task s a) =
+      ap (λ v. passed_count_of b.app b.places v (task next a)) entry.ram.pc_word ∙ ap (passed_count_of b.app b.places old.pc) same_a in (
         record {
           level = entry.ram.level_word ∙ run.level ∙ sym (ap (λ x. level_of b.config (current_priority b.config (declaration b.config a) x)) same_a);
           current = entry.ram.current_word ∙ run.current;
@@ -131,6 +135,7 @@ module _ (b : Build) (old now : State) (s : System) (k : Stands b old s) (fits :
               (λ i x y. entry.ram.outside i (omega arith) (inr (omega arith))
               (⊎_elim (λ (h : b.top t ≤ b.low a). inr (omega arith)) (λ (h : b.top a ≤ b.low t). inl (omega arith)) (entry.apart a here.declared n (inl here.active))))
               run.context);
+          passed = omega (arith, least, left);
         },
         (
           run.next,

@@ -8,10 +8,11 @@ use Rattle.osek_scheduler.specs.Steps.{settled_state}
 use Rattle.sim_induction.specs.Mirror.{IsRunningTask}
 use Rattle.sim_relation.specs.Build.{Build, HasFittingPlaces}
 use Rattle.sim_relation.specs.Context.{RunsFirst, RunsTask}
+use Rattle.sim_relation.specs.Progress.{HasPassed}
 use Rattle.sim_relation.specs.Stands.{Stands, AreActive}
 use Rattle.sim_relation.specs.Moves.{moved_system, TaskStep, TaskMove, TaskLeave}
 use Rattle.sim_relation.proofs.Below.{is_below}
-use Rattle.sim_relation.proofs.Leaving.{leave_stands}
+use Rattle.sim_relation.proofs.Leaving.{leave_stands, still_passed}
 use Rattle.sim_relation.proofs.MirrorOf.{first_is}
 use Rattle.sim_relation.proofs.TaskMoves.{task_moves}
 use Rattle.sim_relation.proofs.TaskSteps.{task_steps}
@@ -35,8 +36,10 @@ module _ (b : Build) (state : State) (s : System) (t : ℕ) (fits : HasFittingPl
   moves_keep now own symbols step = task_moves b state now s k t first_of.0 first_of.1 own symbols step
 
   -- so does a task that leaves the processor
-  pub leaves_keep : (now : State) (own : Task) (place : ℕ) → TaskLeave b state now s t own place → Stands b now (settled_state (with_task s t own))
-  leaves_keep now own place leave = leave_stands b state now s k fits t first_of.0 first_of.1 own place leave
+  pub leaves_keep : (now : State) (own : Task) (place : ℕ) → TaskLeave b state now s t own place
+      → Stands b now (settled_state (with_task s t own)) × HasPassed b now (settled_state (with_task s t own))
+  leaves_keep now own place leave =
+      (leave_stands b state now s k fits t first_of.0 first_of.1 own place leave, still_passed b state now s k fits t first_of.0 first_of.1 own place leave)
 
   -- the running task runs, by the relation
   pub runs_task : RunsTask b state s t first_of.0

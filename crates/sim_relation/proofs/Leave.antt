@@ -1,5 +1,5 @@
 -- Going back to the task below, or to the idle loop.
-use Rattle.std.proofs.Common.{◌≡◌, ℕ, ◌+◌, ◌<◌, List, [], ◌∷◌, length, sym, ap, ◌∙◌, subst, arith, ⊎_elim, true, eqb}
+use Rattle.std.proofs.Common.{◌≡◌, ℕ, ◌+◌, ◌<◌, ◌≤◌, List, [], ◌∷◌, length, sym, ap, ◌∙◌, subst, arith, ⊎_elim, true, eqb}
 use Rattle.std.specs.Prelude.{◌≢◌}
 use Rattle.std.proofs.lemmas.Bool.{or_cases, eqb-true}
 use Rattle.sloth_base.specs.Machine.{State}
@@ -14,6 +14,7 @@ use Rattle.sloth_base.specs.PriorityLevels.{level_of}
 use Rattle.sim_relation.specs.Build.{Build}
 use Rattle.sim_relation.specs.Position.{thread_of, thread_at}
 use Rattle.sim_relation.specs.Context.{IsContext, IsContextChain, RunsFirst}
+use Rattle.sim_relation.specs.Progress.{passed_count_of, HasPassed}
 use Rattle.sim_relation.specs.Stands.{AreActive}
 use Rattle.sim_relation.specs.Framing.{IsSameIdle, HasLeftFor}
 use Rattle.sim_relation.proofs.Alike.{SamePart}
@@ -50,6 +51,21 @@ leave_runs b old new s next end place (t ∷ below) l idle part k =
       chain = subst (λ q. IsContextChain b q next below k.1.0) (sym l.ram)
           (chain_kept b old new s next idle below k.1.0 (each_from (SamePart b old new s next) below (λ u h. part u (is_in-tail t u below h))) k.1.2);
     }
+
+-- and it has passed at least what was said of it while it was preempted
+pub leave_passed : (b : Build) (old new : List ℕ) (s next : System) (end : State) (place : ℕ) (stack : List ℕ) → HasLeftFor old new place end
+    → ((u : ℕ) → is_in u stack ≡ true → task next u ≡ task s u) → IsContextChain b old s stack place → HasPassed b end next
+leave_passed b old new s next end place [] l same k u named =
+    let p = k.is in
+    let none : word_at end.core.ram cur ≡ 0 = ap (λ q. word_at q cur) l.ram ∙ l.current ∙ ap (λ j. word_at old (j + 8)) p ∙ k.current in
+    absurd (omega (arith, none, named))
+leave_passed b old new s next end place (t ∷ below) l same k u named =
+    let first : word_at end.core.ram cur ≡ t + 1 = ap (λ q. word_at q cur) l.ram ∙ l.current ∙ k.0.current in
+    let this : t ≡ u = omega (arith, first, named) in
+    let few = k.0.passed in
+    let left : passed_count_of b.app b.places end.pc (task next t) ≡ passed_count_of b.app b.places (word_at old place) (task s t) =
+    ap (λ v. passed_count_of b.app b.places v (task next t)) l.pc ∙ ap (passed_count_of b.app b.places (word_at old place)) (same t (is_in-head t below)) in
+    subst (λ v. b.passed v ≤ passed_count_of b.app b.places end.pc (task next v)) this (omega (arith, few, left))
 
 -- the stack without its first task
 pub stack_tail : (b : Build) (s next : System) (t : ℕ) (below : List ℕ) → AreActive b s (t ∷ below)

@@ -9,12 +9,13 @@ use Rattle.osek_scheduler.specs.Priority.{is_active}
 use Rattle.osek_scheduler.specs.Steps.{settled_state}
 use Rattle.sim_relation.specs.Build.{Build, HasFittingPlaces}
 use Rattle.sim_relation.specs.Context.{IsContextChain, RunsFirst, RunsTask}
+use Rattle.sim_relation.specs.Progress.{HasPassed}
 use Rattle.sim_relation.specs.Stands.{Stands, IsActiveTask, AreActive}
 use Rattle.sim_relation.proofs.Alike.{SamePart}
 use Rattle.sim_relation.specs.Moves.{TaskLeave}
 use Rattle.sim_relation.proofs.ClockKept.{clock_named}
 use Rattle.sim_relation.proofs.Contexts.{data_kept}
-use Rattle.sim_relation.proofs.Leave.{leave_runs, stack_tail}
+use Rattle.sim_relation.proofs.Leave.{leave_runs, leave_passed, stack_tail}
 use Rattle.sim_relation.proofs.Parts.{by_task}
 use Rattle.sim_relation.proofs.Rebuilt.{below_parts, other_kept, among, rebuilt}
 use Rattle.sim_relation.proofs.Tops.{falling_head}
@@ -41,6 +42,11 @@ module _ (b : Build) (old now : State) (s : System) (k : Stands b old s) (fits :
 
   runs : RunsFirst b now next below
   runs = leave_runs b old.core.ram now.core.ram s next now place below leave.left leave.idle part
+      (subst (IsContextChain b old.core.ram s below) next_is run.chain)
+
+  -- what goes on has passed at least what was said of it
+  pub still_passed : HasPassed b now next
+  still_passed = leave_passed b old.core.ram now.core.ram s next now place below leave.left (λ u h. (part u h).tasks)
       (subst (IsContextChain b old.core.ram s below) next_is run.chain)
 
   -- who is Active now was so, and is another task

@@ -11,6 +11,7 @@ pub mod Aside
 pub mod Beside
 pub mod Room
 pub mod Arrive
+pub mod Passed
 pub mod Leave
 pub mod Undisturbed
 pub mod TaskMoves

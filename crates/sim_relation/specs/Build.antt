@@ -32,6 +32,13 @@ pub record Build : Type 0 where
   pub back : ℕ
   -- the image's bytes
   pub memory : List ℕ
+  -- no part of what is built, but a bound that a run is looked at with: so many instructions of its next item each task has passed at least while
+  -- it is preempted
+  pub passed : ℕ → ℕ
+
+-- the same with another bound
+abbrev pub with_passed : Build → (ℕ → ℕ) → Build
+with_passed b passed = record b { passed = passed }
 
 -- the level at which a task runs that holds nothing: that of its priority, and where its scheduling is NON the highest
 abbrev pub start_level : Build → ℕ → ℕ

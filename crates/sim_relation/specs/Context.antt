@@ -11,6 +11,7 @@ use Rattle.sloth_base.specs.PriorityLevels.{level_of}
 use Rattle.sloth_base.specs.MemoryMap.{memory_base}
 use Rattle.sim_relation.specs.Build.{Build}
 use Rattle.sim_relation.specs.Position.{Thread, thread_of, thread_at, AreFrames, IsPosition}
+use Rattle.sim_relation.specs.Progress.{passed_count_of}
 
 -- A task's registers, position and frames, with x2 at the offset `place`. All that this says of RAM lies from there up to the
 -- task's top.
@@ -29,6 +30,8 @@ pub record IsSaved (b : Build) (ram : List ℕ) (s : System) (t place : ℕ) : T
   pub level : word_at ram (place + 4) ≡ level_of b.config (priority_of b.config s t)
   pub current : word_at ram (place + 8) ≡ t + 1
   pub context : IsContext b ram t (task s t) (thread_at ram place) (place + context_bytes)
+  -- it has passed at least what is said of it
+  pub passed : b.passed t ≤ passed_count_of b.app b.places (word_at ram place) (task s t)
 
 -- the idle loop's context
 pub record IsIdleSaved (b : Build) (ram : List ℕ) (place : ℕ) : Type 0 where

@@ -1,5 +1,6 @@
 pub mod Build
 pub mod Position
+pub mod Progress
 pub mod Context
 pub mod ServiceWords
 pub mod DataStands

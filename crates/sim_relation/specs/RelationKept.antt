@@ -15,6 +15,7 @@ use Rattle.osek_scheduler.specs.Steps.{settled_state}
 use Rattle.sim_induction.specs.Admits.{with_admits}
 use Rattle.sim_induction.specs.Mirror.{Mirror, IsRunningTask}
 use Rattle.sim_relation.specs.Build.{Build, HasFittingPlaces}
+use Rattle.sim_relation.specs.Progress.{HasPassed}
 use Rattle.sim_relation.specs.Stands.{Stands}
 use Rattle.sim_relation.specs.Moves.{moved_system, TaskStep, TaskMove, TaskLeave}
 use Rattle.sim_relation.specs.Changes.{system_with_task_state, TaskChange}
@@ -66,20 +67,20 @@ abbrev pub MovesKeep : Type 0
 MovesKeep = (b : Build) (old now : State) (s : System) (t : ℕ) (own : Task) (symbols : List (List ℕ)) → HasFittingPlaces b → Stands b old s → IsRunningTask b.config s t
     → TaskMove b old now s t own symbols → Stands b now (moved_system s t own symbols)
 
--- its end, or its wait
+-- its end, or its wait; what goes on has passed at least what was said of it while it was preempted
 abbrev pub LeavesKeep : Type 0
 LeavesKeep = (b : Build) (old now : State) (s : System) (t : ℕ) (own : Task) (place : ℕ) → HasFittingPlaces b → Stands b old s → IsRunningTask b.config s t
-    → TaskLeave b old now s t own place → Stands b now (settled_state (with_task s t own))
+    → TaskLeave b old now s t own place → Stands b now (settled_state (with_task s t own)) × HasPassed b now (settled_state (with_task s t own))
 
 -- a change of any task's events and state, that of the running one or of another
 abbrev pub ChangesKeep : Type 0
 ChangesKeep = (b : Build) (old now : State) (s : System) (t : ℕ) (state : TaskState) (set : ℕ) → HasFittingPlaces b → Stands b old s → t < length b.config.tasks
     → TaskChange b old now s t state set → Stands b now (system_with_task_state s t state set)
 
--- the entry of the task whose line is taken
+-- the entry of the task whose line is taken, where what it preempts has passed at least what is said of it from then on
 abbrev pub EntriesKeep : Type 0
 EntriesKeep = (b : Build) (old now : State) (s : System) (t : ℕ) (own : Task) (place : ℕ) → HasFittingPlaces b → Stands b old s
-    → t < length b.config.tasks → choose old.core ≡ Some t
+    → t < length b.config.tasks → choose old.core ≡ Some t → HasPassed b old s
     → TaskEntry b old now s t own place → Stands b now (settled_state (with_task s t own))
 
 -- the context of what runs below it is where a routine looks for it

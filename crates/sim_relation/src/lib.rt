@@ -5,6 +5,9 @@
 //! `arrivals_are_admits`, `taken_is_next`, `mirror_of_stands`, ..; laws: `specs/RelationKept`). Where a task stands: `specs/Position`; the chain of
 //! contexts from the running task down to the idle loop: `specs/Context`; what is built, and where the image has everything: `specs/Build`; what each
 //! kind of step leaves: `specs/Moves`, `specs/Entry`, `specs/Changes`, `specs/Start`. What mirrors the controller: `sim_induction` (`Mirror`).
+//!
+//! The relation carries a bound on how many instructions of its next item each preempted task has passed at least (`Build`, `passed`): an entry sets it for
+//! what it preempts, a leave gives back a task that has passed so many, and all else keeps it. The measure: `specs/Progress`.
 #![tactic(auto)]
 
 ghost use Rattle.sim_relation.specs.RelationKept.{MirrorOfStands, ArrivalsAreAdmits, TakenIsOwned, TakenIsTop, TakenIsNext, NoneTaken, StepsKeep, MovesKeep, LeavesKeep, ChangesKeep, EntriesKeep, BelowIsFound, StartsStand};
@@ -49,7 +52,7 @@ pub fn moves_keep()
     ensures { MovesKeep }
 {}
 
-/// The relation stands behind the end or the wait of the running task.
+/// The relation stands behind the end or the wait of the running task; what goes on has passed what was said of it.
 pub fn leaves_keep()
     ensures { LeavesKeep }
 {}
@@ -59,7 +62,7 @@ pub fn changes_keep()
     ensures { ChangesKeep }
 {}
 
-/// The relation stands behind the entry of the task whose line is taken.
+/// The relation stands behind the entry of the task whose line is taken, where what it preempts has passed what is said of it from then on.
 pub fn entries_keep()
     ensures { EntriesKeep }
 {}

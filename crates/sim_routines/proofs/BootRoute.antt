@@ -13,7 +13,7 @@ use Rattle.observe.specs.Observe.{View}
 use Rattle.vector_gen.specs.Boot.{BootEffect}
 use Rattle.sim_induction.specs.Admits.{IsSetting, lines_at, with_admits}
 use Rattle.sim_induction.specs.PieceLaws.{BootLaw}
-use Rattle.sim_induction.proofs.Boot.{nothing_before}
+use Rattle.sim_induction.proofs.Untouched.{nothing_before}
 use Rattle.code_lengths.specs.CodeLengths.{boot_length}
 use Rattle.code_lengths.proofs.Short.{short_lines}
 use Rattle.sim_induction.proofs.Routes.{Booting, booting}

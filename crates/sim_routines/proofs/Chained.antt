@@ -19,13 +19,14 @@ use Rattle.osek_scheduler.proofs.ServiceStates.{answered_state, ended_state}
 use Rattle.osek_scheduler.specs.Outcomes.{outcome}
 use Rattle.osek_scheduler.specs.Steps.{settled_state}
 use Rattle.sim_relation.specs.Build.{Build, HasFittingPlaces}
+use Rattle.sim_relation.specs.Progress.{HasPassed}
 use Rattle.sim_relation.specs.Stands.{Stands}
 use Rattle.sim_relation.proofs.Parts.{other_task}
 use Rattle.sim_routines.specs.Served.{IsServed, IsServiceAnswer}
 use Rattle.sim_routines.specs.ServiceSteps.{MayEnd, MayChainTo}
-use Rattle.sim_routines.proofs.Ending.{ended_stands, ended_own, elsewhere}
+use Rattle.sim_routines.proofs.Ending.{ended_stands, ended_passed, ended_own, elsewhere}
 use Rattle.sim_routines.proofs.GoesOn.{active, answers_status, leaves_so}
-use Rattle.sim_routines.proofs.Raising.{looks, is_so, readied, first_outcome, second_outcome}
+use Rattle.sim_routines.proofs.Raising.{looks, is_so, readied, readied_passed, first_outcome, second_outcome}
 
 module _ (b : Build) (state : State) (s : System) (t : ℕ) (own : Task) (object place : ℕ) (touched : List ℕ) (end : State) (fits : HasFittingPlaces b)
     (may : MayChainTo b state s t own object place) where
@@ -81,6 +82,9 @@ module _ (b : Build) (state : State) (s : System) (t : ℕ) (own : Task) (object
     over : Stands b middle after
     over = ended_stands b state s t own service.ChainTask place (t ∷ []) middle fits may_end h.ended
 
+    passed : HasPassed b middle after
+    passed = ended_passed b state s t own service.ChainTask place (t ∷ []) middle fits may_end h.ended
+
     gone : word_at end.core.ram cur ≡ t + 1 → ⊥
     gone now = elsewhere b state s t own service.ChainTask place (t ∷ []) middle fits may_end h.ended (ap (λ (x : State). word_at x.core.ram cur) (sym h.raised) ∙ now)
 
@@ -94,7 +98,8 @@ module _ (b : Build) (state : State) (s : System) (t : ℕ) (own : Task) (object
       ends_so : IsServiceAnswer b s t service.ChainTask touched end
       ends_so =
           leaves_so b state s t own service.ChainTask is fits touched end u t touches names (activated_state (ended_state t s) u) answer_is
-          (subst (λ x. Stands b x (settled_state (activated_state (ended_state t s) u))) (sym raised) (readied b middle after over u in_range few asleep)) gone
+          (subst (λ x. Stands b x (settled_state (activated_state (ended_state t s) u))) (sym raised) (readied b middle after over u in_range few asleep))
+          (subst (λ x. HasPassed b x (settled_state (activated_state (ended_state t s) u))) (sym raised) (readied_passed b middle after over u in_range few asleep passed)) gone
 
     -- the caller ends, and the chained task is activated
     pub chains : IsServiceAnswer b s t service.ChainTask touched end

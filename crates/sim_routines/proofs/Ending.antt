@@ -16,6 +16,7 @@ use Rattle.osek_scheduler.proofs.ServiceStates.{ended_state}
 use Rattle.osek_scheduler.specs.Steps.{settled_state}
 use Rattle.sim_induction.proofs.Passing.{not_suspended}
 use Rattle.sim_relation.specs.Build.{Build, HasFittingPlaces}
+use Rattle.sim_relation.specs.Progress.{HasPassed}
 use Rattle.sim_relation.specs.ServiceWords.{AreServiceWords, AreHeldWords, base_priority}
 use Rattle.sim_relation.specs.Stands.{Stands, IsActiveTask, AreActive, AreLineBytes}
 use Rattle.sim_relation.specs.Moves.{TaskLeave}
@@ -23,7 +24,7 @@ use Rattle.sim_relation.proofs.Machines.{left_whole}
 use Rattle.sim_relation.proofs.Parts.{this_task, line_active}
 use Rattle.sim_relation.proofs.Placed.{first_by_word, active_by_word}
 use Rattle.sim_relation.proofs.Tops.{falling_head}
-use Rattle.sim_relation.proofs.Leaving.{leave_stands}
+use Rattle.sim_relation.proofs.Leaving.{leave_stands, still_passed}
 use Rattle.sim_relation.proofs.TaskSteps.{active_resumes}
 use Rattle.sim_routines.specs.Opening.{AtOpening}
 use Rattle.sim_routines.specs.ServiceSteps.{MayEnd}
@@ -124,9 +125,16 @@ module _ (b : Build) (state : State) (s : System) (t : ℕ) (called : Task) (ser
     stands_behind : Stands b end next
     stands_behind = leave_stands b state end s k fits t below stack_is own place leave
 
+    passed_behind : HasPassed b end next
+    passed_behind = still_passed b state end s k fits t below stack_is own place leave
+
   -- the relation, with what runs below the caller
   pub ended_stands : Stands b end next
   ended_stands = let f = first_by_word b state s t k.stack k.running opening.current in stands_behind f.0 f.1
+
+  -- which has passed at least what was said of it
+  pub ended_passed : HasPassed b end next
+  ended_passed = let f = first_by_word b state s t k.stack k.running opening.current in passed_behind f.0 f.1
 
   active : IsActiveTask b s t
   active = active_by_word b state s t k opening.current

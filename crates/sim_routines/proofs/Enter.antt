@@ -8,7 +8,8 @@ use Rattle.sloth_base.specs.declared.app.Func.{Func}
 use Rattle.sloth_base.specs.declared.event.Event.TheVariants as event
 use Rattle.sloth_base.specs.Machine.{State}
 use Rattle.sloth_base.specs.Choose.{choose}
-use Rattle.sloth_region.specs.Layout.{resume}
+use Rattle.sloth_region.specs.Layout.{cur, resume}
+use Rattle.rv32_instr.specs.Ram.{word_at}
 use Rattle.osek_scheduler.specs.declared.state.TaskState.TheVariants as mode
 use Rattle.osek_scheduler.specs.State.{Task, System, task, with_task, entry_frame, zero_registers}
 use Rattle.sloth_base.specs.Named.{declaration, body_of}
@@ -20,6 +21,7 @@ use Rattle.osek_scheduler.specs.Steps.{OsekStep, settled_state}
 use Rattle.sim_relation.specs.Build.{Build, HasFittingPlaces}
 use Rattle.sim_relation.specs.Position.{AreWords, thread_of}
 use Rattle.sim_relation.specs.Context.{IsContext}
+use Rattle.sim_relation.specs.Progress.{HasPassed}
 use Rattle.sim_relation.specs.Stands.{Stands}
 use Rattle.sim_relation.specs.Entry.{EntryRam, TaskEntry}
 use Rattle.sim_relation.proofs.AtItem.{position_first}
@@ -45,7 +47,7 @@ there app f h =
 
 module _ (b : Build) (state end : State) (s : System) (t place : ℕ) (fits : HasFittingPlaces b) (k : Stands b state s) (sane : IsSane state)
     (declared : t < length b.config.tasks) (e : choose state.core ≡ Some t) (fresh : (task s t).frames ≡ []) (has_item : 0 < length (function b.app (body_of b.app.funcs t)).items) (alone : StandsAlone b s t)
-    (x2 : slice_index state.core.registers 2 ≡ memory_base + (place + 128)) (effect : IsNewEntry b t place state end) where
+    (x2 : slice_index state.core.registers 2 ≡ memory_base + (place + 128)) (ran : HasPassed b state s) (effect : IsNewEntry b t place state end) where
   few : length b.config.tasks ≤ line_count
   few = let f = fits.few_tasks in omega arith
 
@@ -127,7 +129,11 @@ module _ (b : Build) (state end : State) (s : System) (t place : ℕ) (fits : Ha
   }
 
   stands : Stands b end (settled_state (with_task s t own))
-  stands = entry_stands b state end s k fits t declared e own place entry
+  stands = entry_stands b state end s k fits t declared e own place ran entry
+
+  -- the task runs
+  pub entered_word : word_at end.core.ram cur ≡ t + 1
+  entered_word = entry.ram.current
 
   -- The entry is a step of the abstract machine, and the states stand.
   pub enter_law : OsekStep b.config b.app (event.Enter t) s (settled_state (entered_state b.config b.app t s)) × Stands b end (settled_state (entered_state b.config b.app t s))

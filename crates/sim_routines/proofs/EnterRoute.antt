@@ -13,7 +13,9 @@ use Rattle.sloth_base.specs.Owners.{owners_in, IsOwned}
 use Rattle.sloth_base.specs.Stretches.{Takes, later_beginning, stretch_limit}
 use Rattle.sloth_base.specs.declared.lines.Owners.{Owners}
 use Rattle.sloth_base.proofs.Stretches.{task_entry_limit}
+use Rattle.sloth_region.specs.Layout.{cur}
 use Rattle.rv32_instr.specs.Execute.{touched}
+use Rattle.rv32_instr.specs.Ram.{word_at}
 use Rattle.rv32_machine.specs.Run.{state_with_arrivals}
 use Rattle.masked_code.specs.Kernel.{CanRun}
 use Rattle.masked_code.specs.Place.{offset_state}
@@ -35,16 +37,18 @@ use Rattle.code_lengths.specs.LongestPaths.{entry_path, enter_path}
 use Rattle.event_weights.specs.Events.{has_frames, enter_counts, stretch_counts}
 use Rattle.sim_induction.specs.Admits.{IsSetting, lines_at, with_admits}
 use Rattle.sim_induction.specs.Advances.{Advances}
-use Rattle.sim_induction.specs.PieceLaws.{StretchLaw, IsMeasure}
+use Rattle.sim_induction.specs.PieceLaws.{Passed, StretchLaw, IsMeasure}
 use Rattle.std.specs.List.{AllByRecursion}
 use Rattle.sim_induction.proofs.Follow.{booted_admits}
 use Rattle.sim_induction.proofs.Routes.{Opens, Entering, entering, touches_parted, begins_entered, entered_event}
 use Rattle.sim_induction.proofs.StretchPiece.{stretch_advances}
 use Rattle.sim_induction.proofs.Traces.{lines_trace}
-use Rattle.sim_relation.specs.Build.{Build, HasFittingPlaces, start_level}
+use Rattle.sim_relation.specs.Build.{Build, HasFittingPlaces, with_passed, start_level}
 use Rattle.sim_relation.specs.Placed.{setting_of}
+use Rattle.sim_relation.specs.Progress.{progress_in, HasPassed}
 use Rattle.sim_relation.specs.Stands.{Stands}
 use Rattle.sim_relation.proofs.Arrive.{stands_arrived}
+use Rattle.sim_relation.proofs.Passed.{passed_arrived}
 use Rattle.sim_relation.proofs.Framing.{frames_below}
 use Rattle.sim_relation.proofs.Parts.{rests}
 use Rattle.sim_relation.proofs.Placed.{placed_in, code_behind}
@@ -54,6 +58,7 @@ use Rattle.sim_relation.proofs.Room.{first_room}
 use Rattle.sim_routines.specs.Range.{IsSane}
 use Rattle.sim_routines.specs.Entries.{StandsAlone, body_frame_words}
 use Rattle.sim_routines.specs.Codes.{PrologueStands}
+use Rattle.sim_routines.specs.EntrySteps.{IsBoundBehind}
 use Rattle.sim_routines.proofs.BootRoute.{none_early}
 use Rattle.sim_induction.proofs.Schedule.{owned_at}
 use Rattle.sim_routines.proofs.Enter as anew
@@ -65,8 +70,8 @@ none_touched : (o : Option ℕ) (rest : List ℕ) → lines_of o rest ≡ [] →
 none_touched None rest h = h
 none_touched (Some line) rest h = cc
 
-module _ (b : Build) (view : View) (arrivals : List Arrival) (setting : IsSetting (setting_of b view arrivals)) (fits : HasFittingPlaces b) (count : ℕ) (late_count : 0 < count)
-    (state : State) (s : System) (stands : Stands b state s) where
+module _ (b : Build) (passed : Passed) (view : View) (arrivals : List Arrival) (setting : IsSetting (setting_of b view arrivals)) (fits : HasFittingPlaces b) (count : ℕ) (late_count : 0 < count)
+    (state : State) (s : System) (stands : Stands b state s) (bound : IsBoundBehind b passed state s) where
   few : length b.config.tasks ≤ line_count
   few = let f = fits.few_tasks in omega arith
 
@@ -79,8 +84,12 @@ module _ (b : Build) (view : View) (arrivals : List Arrival) (setting : IsSettin
   k : Stands b now found
   k = stands_arrived b (lines_at arrivals count) state s fits.few_tasks (owned_at (setting_of b view arrivals) setting count) stands
 
+  -- what it preempts has passed what it had, whatever has arrived
+  ran : HasPassed b now found
+  ran = passed_arrived b state s (lines_at arrivals count) stands bound.ran
+
   abbrev Stretches : Type 0
-  Stretches = (next : State) × (trace : Trace) × (end : State) × StretchLaw (setting_of b view arrivals) (Stands b) count state s next trace end
+  Stretches = (next : State) × (trace : Trace) × (end : State) × StretchLaw (setting_of b view arrivals) (Stands b) (progress_in b) passed b.passed count state s next trace end
 
   module _ (sane : IsSane now) (t : ℕ) (declared : t < length b.config.tasks) (chosen : choose now.core ≡ Some t) where
     taken : line_to_take now ≡ Some t
@@ -97,7 +106,7 @@ module _ (b : Build) (view : View) (arrivals : List Arrival) (setting : IsSettin
     module _ (most : ℕ) (short : suc most ≤ stretch_limit b.config (Takes t)) (within : suc most ≤ stretch_counts b.config b.app found (event.Enter t)) (Effect : List ℕ → State → State → Type 0) (opens : Opens Effect)
         (quiet : (lines : List ℕ) (from last : State) → Effect lines from last → lines ≡ [])
         (masked : Masked (suc most) (offset_state (vector t) core) (WithArrivals Effect (offset_state (vector t) core)))
-        (law : (last : State) → Effect [] (take t now) last → OsekStep b.config b.app (event.Enter t) found after × Stands b last after) where
+        (law : (last : State) → Effect [] (take t now) last → OsekStep b.config b.app (event.Enter t) found after × Stands b last after × (word_at last.core.ram cur ≡ t + 1)) where
       at_vector : offset_state (vector t) core ≡ execution_state now
       at_vector =
           let e : memory_base + vector t ≡ vectors_base + 4 * t = omega arith in
@@ -123,7 +132,7 @@ module _ (b : Build) (view : View) (arrivals : List Arrival) (setting : IsSettin
           (subst (λ x. Effect [] (state_arrive x (execution_state now)) route.last) nothing_early
           (subst (λ x. Effect x (state_arrive (early_arrivals route.trace) (execution_state now)) route.last) untouched route.effect))
 
-      enters : OsekStep b.config b.app (event.Enter t) found after × Stands b route.last after
+      enters : OsekStep b.config b.app (event.Enter t) found after × Stands b route.last after × (word_at route.last.core.ram cur ≡ t + 1)
       enters = law route.last effect
 
       weight : suc route.more ≤ stretch_counts b.config b.app found (event.Enter t)
@@ -132,7 +141,7 @@ module _ (b : Build) (view : View) (arrivals : List Arrival) (setting : IsSettin
       touches : IfSome (touched (execution_state now)) (Contains []) × AllByRecursion (Contains []) (touched_lines route.trace)
       touches = touches_parted [] (touched (execution_state now)) (touched_lines route.trace) (subst (AllByRecursion (Contains [])) (sym untouched) tt)
 
-      stretch : StretchLaw (setting_of b view arrivals) (Stands b) count state s route.next route.trace route.end
+      stretch : StretchLaw (setting_of b view arrivals) (Stands b) (progress_in b) passed b.passed count state s route.next route.trace route.end
       stretch =
           let in_range = lines_trace (IsOwned (owners_in b.config)) route.more (count + 1) (lines_at arrivals) route.next route.trace route.end (owned_at (setting_of b view arrivals) setting) route.steps in
           record {
@@ -154,6 +163,7 @@ module _ (b : Build) (view : View) (arrivals : List Arrival) (setting : IsSettin
             within = subst (λ x. suc route.more ≤ stretch_counts b.config b.app (with_admits x found) (event.Enter t)) (sym nothing_early) weight;
             step_is = subst (λ x. OsekStep b.config b.app (event.Enter t) (with_admits x found) after) (sym nothing_early) enters.0;
             passes = λ past h. tt;
+            goes_on = (ap (λ (x : State). word_at x.core.ram 0) route.late_behind ∙ enters.2, bound.least);
             related = subst (λ x. Stands b x (with_admits (late_arrivals route.trace) after)) (sym route.late_behind)
                 (stands_arrived b (late_arrivals route.trace) route.last after fits.few_tasks in_range.1 enters.1);
           }
@@ -267,7 +277,9 @@ module _ (b : Build) (view : View) (arrivals : List Arrival) (setting : IsSettin
             enters = may_enter;
             kept_none = rests b now.core.ram t (task found t) (is_active (task found t).state) (task found t).frames fresh (k.words t declared).resumption;
           })))
-          (λ last e. anew.enter_law b now last found t place fits k sane declared chosen fresh prologue.has_item alone spot_is.1 e)
+          (λ last e.
+          let h = anew.enter_law b now last found t place fits k sane declared chosen fresh prologue.has_item alone spot_is.1 ran e in
+          (h.0, h.1, anew.entered_word b now last found t place fits k sane declared chosen fresh prologue.has_item alone spot_is.1 ran e))
 
       -- ---- behind a wait
 
@@ -299,7 +311,10 @@ module _ (b : Build) (view : View) (arrivals : List Arrival) (setting : IsSettin
         enters_again is =
             stretches 77 short_again (again_within (has_frames (task found t).frames) is) (ResumeEffect t (start_level b t) place has.place) (λ lines from last e. e.left.opened) (λ lines from last e. e.touches)
             ((subst (λ (x : Bool). IsPrologueCode x t (start_level b t) first frame words prologue.code) is prologue.enters).resumes prologue.offset place has.place core may_resume)
-            (λ last e. again.resume_law b now last found t place has.place fits k sane declared chosen some (anew.there b.app (body_of b.app.funcs t) prologue.has_item) spot_is.1 has.rested.link e)
+            (λ last e.
+            let there = anew.there b.app (body_of b.app.funcs t) prologue.has_item in
+            let h = again.resume_law b now last found t place has.place fits k sane declared chosen some there spot_is.1 has.rested.link ran e in
+            (h.0, h.1, again.resumed_word b now last found t place has.place fits k sane declared chosen some there spot_is.1 has.rested.link ran e))
 
     -- Where the task is to start anew, the stretch is the event Enter, and the states at its end are related.
     pub enter_stretch : (task found t).frames ≡ [] → StandsAlone b found t → PrologueStands b t → Stretches
@@ -322,8 +337,9 @@ module _ (b : Build) (view : View) (arrivals : List Arrival) (setting : IsSettin
       by_frames (frame ∷ outer) e = let some : (task found t).frames ≢ [] = λ z. cc in resume_stretch some (waited some) prologue
 
       -- the run goes on from the taken line to where the task runs
-      pub enter_advances : (progress : State → System → ℕ) → IsMeasure (setting_of b view arrivals) progress state s → Advances (setting_of b view arrivals) (Stands b) progress count state s
-      enter_advances progress measure =
+      pub enter_advances : IsMeasure (setting_of b view arrivals) (progress_in b) state s
+          → Advances (setting_of b view arrivals) (λ p. Stands (with_passed b p)) (progress_in b) passed count state s
+      enter_advances measure =
           let h = by_frames (task found t).frames refl in
-          stretch_advances (setting_of b view arrivals) setting (Stands b) progress count late_count state s h.0 h.1 h.2 h.3
+          stretch_advances (setting_of b view arrivals) setting (λ p. Stands (with_passed b p)) (progress_in b) passed b.passed count late_count state s h.0 h.1 h.2 h.3
           stands.tidy.booted (sym (booted_admits (late_arrivals h.1) h.3.after) ∙ h.3.related.tidy.booted) measure

@@ -1,5 +1,5 @@
 -- Where a service goes back to its caller, the task stands at the item behind it.
-use Rattle.std.proofs.Common.{◌≡◌, ℕ, ◌+◌, ◌<◌, List, [], ◌∷◌, length, set, refl, sym, ap, ◌∙◌, subst, false, true}
+use Rattle.std.proofs.Common.{◌≡◌, ℕ, ◌+◌, ◌<◌, List, [], ◌∷◌, length, set, refl, sym, ap, ◌∙◌, subst, false, true, inl, inr}
 use Rattle.std.specs.Prelude.{slice_index, Contains}
 use Rattle.std.specs.List.{AllByRecursion}
 use Rattle.sloth_base.specs.declared.app.Op.TheVariants as op
@@ -24,6 +24,7 @@ use Rattle.sim_relation.specs.Context.{RunsTask, RunsFirst}
 use Rattle.sim_relation.specs.DataStands.{DataStands}
 use Rattle.sim_relation.specs.Moves.{moved_system, TaskStep}
 use Rattle.sim_relation.specs.Position.{AreFrames, IsPosition, thread_of}
+use Rattle.sim_relation.specs.Progress.{HasPassed}
 use Rattle.sim_relation.specs.Stands.{Stands, IsActiveTask}
 use Rattle.sim_relation.proofs.AtItem.{position_first}
 use Rattle.sim_relation.proofs.Framing.{position_elim}
@@ -202,6 +203,7 @@ module _ (b : Build) (state : State) (s : System) (t : ℕ) (called : Task) (ser
           (sym (shows_call t served end (current ∙ opening.current) ∙ ap (λ (v : ℕ). event.Call t served v) status_is))
           (k.tidy.booted, (after, serves (GoesOn status after) answer_is, refl));
       stands = stands;
+      resumes = inl (current ∙ opening.current);
     }
 
     -- it answers this status and does nothing else
@@ -223,8 +225,8 @@ module _ (b : Build) (state : State) (s : System) (t : ℕ) (called : Task) (ser
 
     -- its caller leaves
     pub leaves_so : (after : System) → outcome b.config served opening.block.call.object opening.block.call.mask t s ≡ Leaves after → Stands b end (settled_state after)
-        → (word_at end.core.ram cur ≡ t + 1 → ⊥) → IsServiceAnswer b s t served touched end
-    leaves_so after answer_is stands gone = record {
+        → HasPassed b end (settled_state after) → (word_at end.core.ram cur ≡ t + 1 → ⊥) → IsServiceAnswer b s t served touched end
+    leaves_so after answer_is stands passed gone = record {
       one = one;
       other = other;
       touches = touches;
@@ -232,4 +234,5 @@ module _ (b : Build) (state : State) (s : System) (t : ℕ) (called : Task) (ser
       step_is = subst (λ what. OsekStep b.config b.app what s (settled_state after)) (sym (shows_left t served end gone))
           (k.tidy.booted, (after, serves (Leaves after) answer_is, refl));
       stands = stands;
+      resumes = inr passed;
     }

@@ -35,6 +35,7 @@ pub mod Acting
 pub mod Alarms
 pub mod Ticked
 pub mod Targets
+pub mod TickWord
 pub mod TickRoute
 pub mod AlarmKept
 pub mod AlarmServing

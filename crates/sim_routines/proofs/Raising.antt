@@ -1,6 +1,6 @@
 -- A task's line is raised: it is Ready where it was Suspended, and nothing else has changed.
-use Rattle.std.proofs.Common.{◌≡◌, ℕ, ◌<◌, ◌≤◌, [], ◌∷◌, length, refl, ap, subst, arith}
-use Rattle.std.specs.Prelude.{slice_index}
+use Rattle.std.proofs.Common.{◌≡◌, ℕ, ◌<◌, ◌≤◌, [], ◌∷◌, length, refl, sym, ap, ◌∙◌, subst, arith}
+use Rattle.std.specs.Prelude.{◌≢◌, slice_index}
 use Rattle.sloth_base.specs.Arrive.{state_arrive}
 use Rattle.sloth_base.specs.Machine.{State}
 use Rattle.sloth_base.specs.MemoryMap.{line_count}
@@ -13,9 +13,12 @@ use Rattle.osek_scheduler.specs.State.{System, task}
 use Rattle.osek_scheduler.specs.Services.{if_suspended, activated_state, ServiceOutcome}
 use Rattle.osek_scheduler.specs.Steps.{admitted_state, settled_state}
 use Rattle.sim_relation.specs.Build.{Build}
+use Rattle.sim_relation.specs.Progress.{passed_count_of, HasPassed}
 use Rattle.sim_relation.specs.ServiceWords.{active_word}
 use Rattle.sim_relation.specs.Stands.{Stands, AreLineBytes}
 use Rattle.sim_relation.proofs.Arrive.{arrived_one, not_suspended, stands_fresh}
+use Rattle.sim_relation.proofs.Parts.{other_task}
+use Rattle.sim_relation.proofs.Placed.{active_by_word}
 
 -- what the kernel's words say of a task
 looks_of : (m : TaskState) (word pending enabled : ℕ) → word ≡ active_word m → AreLineBytes m pending enabled → m ≡ mode.Suspended → (word ≡ 0) × (pending ≡ 0) × (enabled ≡ 1)
@@ -84,6 +87,13 @@ module _ (b : Build) (state : State) (s : System) (k : Stands b state s) (u : �
     readied e =
         stands_fresh b (state_arrive (u ∷ []) state) (record (activated_state s u) { fresh = u ∷ s.fresh }) []
         (subst (λ x. Stands b (state_arrive (u ∷ []) state) x) (ap (λ m. if_suspended m (record (activated_state s u) { fresh = u ∷ s.fresh }) s) e) one)
+
+    -- and what runs has passed what it had
+    pub readied_passed : (task s u).state ≡ mode.Suspended → HasPassed b state s → HasPassed b (state_arrive (u ∷ []) state) (settled_state (activated_state s u))
+    readied_passed e ran t named =
+        let active = (active_by_word b state s t k named).active in
+        let other : t ≢ u = λ same. let asleep : (task s t).state ≡ mode.Suspended = ap (λ x. (task s x).state) same ∙ e in cc in
+        subst (λ own. b.passed t ≤ passed_count_of b.app b.places state.pc own) (sym (other_task s u t (record (task s u) { state = mode.Ready }) other)) (ran t named)
 
     -- any other task stays as it was
     pub stayed : ((task s u).state ≡ mode.Suspended → ⊥) → Stands b (state_arrive (u ∷ []) state) s

@@ -7,7 +7,7 @@ use Rattle.sloth_base.specs.declared.event.Event.TheVariants as event
 use Rattle.sloth_base.specs.Machine.{State}
 use Rattle.sloth_base.specs.Choose.{choose}
 use Rattle.sloth_base.specs.Status.{E_OK}
-use Rattle.sloth_region.specs.Layout.{resume, idle_context}
+use Rattle.sloth_region.specs.Layout.{cur, resume, idle_context}
 use Rattle.rv32_instr.specs.Ram.{word_at, with_word}
 use Rattle.prologue_gen.specs.Fresh.{saved_registers}
 use Rattle.masked_code.proofs.Words.{word_at-same, get_or-with_word, length-with_word}
@@ -23,6 +23,7 @@ use Rattle.sim_relation.specs.Build.{Build, HasFittingPlaces}
 use Rattle.sim_relation.specs.Framing.{AreSameBytes}
 use Rattle.sim_relation.specs.Position.{thread_of}
 use Rattle.sim_relation.specs.Context.{IsContext, IsRested}
+use Rattle.sim_relation.specs.Progress.{HasPassed}
 use Rattle.sim_relation.specs.Stands.{Stands, IsAlive}
 use Rattle.sim_relation.specs.Entry.{EntryRam, TaskEntry}
 use Rattle.sim_relation.proofs.AtItem.{rested_context}
@@ -40,7 +41,7 @@ use Rattle.sim_routines.proofs.Saving.{preempted, cleared, saved, is_saved, entr
 module _ (b : Build) (state end : State) (s : System) (t place own : ℕ) (fits : HasFittingPlaces b) (k : Stands b state s) (sane : IsSane state)
     (declared : t < length b.config.tasks) (e : choose state.core ≡ Some t) (some : (task s t).frames ≢ []) (has_body : HasBody b.app t)
     (x2 : slice_index state.core.registers 2 ≡ memory_base + (place + 128)) (link : word_at state.core.ram (resume t) ≡ memory_base + own)
-    (effect : IsEntryBehindWait b t place own state end) where
+    (ran : HasPassed b state s) (effect : IsEntryBehindWait b t place own state end) where
   few : length b.config.tasks ≤ line_count
   few = let f = fits.few_tasks in omega arith
 
@@ -148,7 +149,11 @@ module _ (b : Build) (state end : State) (s : System) (t place own : ℕ) (fits 
     context = context;
   }
 
+  -- the task runs
+  pub resumed_word : word_at end.core.ram cur ≡ t + 1
+  resumed_word = entry.ram.current
+
   -- The entry is a step of the abstract machine, and the states stand.
   pub resume_law : OsekStep b.config b.app (event.Enter t) s (settled_state (entered_state b.config b.app t s)) × Stands b end (settled_state (entered_state b.config b.app t s))
   resume_law =
-      ((k.tidy.booted, taken_top b state s k few t declared e, ready, has_body, refl), subst (λ x. Stands b end x) is_next (entry_stands b state end s k fits t declared e after place entry))
+      ((k.tidy.booted, taken_top b state s k few t declared e, ready, has_body, refl), subst (λ x. Stands b end x) is_next (entry_stands b state end s k fits t declared e after place ran entry))

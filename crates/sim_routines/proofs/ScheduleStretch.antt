@@ -14,6 +14,7 @@ use Rattle.sloth_base.specs.Stretches.{later_beginning, stretch_limit}
 use Rattle.sloth_base.specs.declared.lines.Owners.{Owners}
 use Rattle.rv32_instr.specs.declared.InstrKind.{InstrKind}
 use Rattle.rv32_instr.specs.Execute.{touched, touched_line_by}
+use Rattle.rv32_instr.specs.Ram.{word_at}
 use Rattle.rv32_machine.specs.Run.{state_with_arrivals}
 use Rattle.masked_code.specs.Kernel as kernel
 use Rattle.masked_code.specs.Masked.{FromOpening}
@@ -35,6 +36,7 @@ use Rattle.sim_relation.specs.Build.{Build, HasFittingPlaces}
 use Rattle.sim_relation.specs.Context.{RunsTask, RunsFirst}
 use Rattle.sim_relation.specs.Placed.{setting_of}
 use Rattle.sim_relation.specs.Position.{IsOwing, IsPosition, thread_of}
+use Rattle.sim_relation.specs.Progress.{progress_in}
 use Rattle.sim_relation.specs.Stands.{Stands, IsActiveTask}
 use Rattle.sim_relation.proofs.Arrive.{stands_arrived}
 use Rattle.sim_relation.proofs.Choice.{running_top}
@@ -178,7 +180,7 @@ module _ (b : Build) (view : View) (arrivals : List Arrival) (count : ℕ) (stat
           })
           (subst (λ lines. WayBackEffect (touched_lines e.trace) (state_arrive lines n) e.last) no_early e.effect)
 
-      stretch : StretchLaw (setting_of b view arrivals) (Stands b) count state s e.next e.trace e.end
+      stretch : StretchLaw (setting_of b view arrivals) (Stands b) (progress_in b) b.passed b.passed count state s e.next e.trace e.end
       stretch = record {
         finds = stands.fixed.open_to_lines;
         goes = e.goes;
@@ -203,6 +205,7 @@ module _ (b : Build) (view : View) (arrivals : List Arrival) (count : ℕ) (stat
         within = let l = e.few in omega (arith, l);
         step_is = subst (λ lines. OsekStep b.config b.app (event.Back t) (with_admits lines s1) answer.after) (sym no_early) answer.step_is;
         passes = λ past h. tt;
+        goes_on = (ap (λ (x : State). word_at x.core.ram 0) e.late_behind ∙ ap (λ r. word_at r 0) e.effect.left.ram ∙ opens.current, refl);
         related = subst (λ (x : State). Stands b x (with_admits (late_arrivals e.trace) answer.after)) (sym e.late_behind)
             (stands_arrived b (late_arrivals e.trace) e.last answer.after fits.few_tasks in_range.1 answer.stands);
       }

@@ -1,5 +1,5 @@
 -- From its opening mark on, a service is a stretch of a run, whatever lines arrive: its contract, its own law and its weight are all that is asked.
-use Rattle.std.proofs.Common.{◌≡◌, ℕ, suc, ◌+◌, ◌*◌, ◌%◌, ◌<◌, ◌≤◌, List, [], ◌∷◌, length, sym, ap, ◌∙◌, subst, arith, None, cond}
+use Rattle.std.proofs.Common.{◌≡◌, ℕ, suc, ◌+◌, ◌*◌, ◌%◌, ◌<◌, ◌≤◌, List, [], ◌∷◌, length, sym, ap, ◌∙◌, subst, arith, None, cond, ◌⊎◌, ⊎_elim, inl, inr}
 use Rattle.std.specs.Prelude.{slice_index}
 use Rattle.sloth_base.specs.declared.event.Arrival.{Arrival}
 use Rattle.sloth_base.specs.declared.service.Service.{Service}
@@ -12,7 +12,9 @@ use Rattle.sloth_base.specs.Stretches.{Masks, stretch_limit}
 use Rattle.sloth_base.specs.declared.lines.Owners.{Owners}
 use Rattle.sloth_base.specs.MemoryMap.{memory_base, line_count}
 use Rattle.rv32_instr.specs.declared.InstrKind.{InstrKind}
+use Rattle.sloth_region.specs.Layout.{cur}
 use Rattle.rv32_instr.specs.Execute.{touched, touched_line_by}
+use Rattle.rv32_instr.specs.Ram.{word_at}
 use Rattle.rv32_machine.specs.Run.{state_with_arrivals}
 use Rattle.masked_code.specs.Kernel as kernel
 use Rattle.masked_code.specs.Masked.{FromOpening}
@@ -36,11 +38,13 @@ use Rattle.sim_induction.proofs.Traces.{lines_trace, early_touched}
 use Rattle.sim_relation.specs.Build.{Build, HasFittingPlaces}
 use Rattle.sim_relation.specs.Context.{RunsTask, RunsFirst}
 use Rattle.sim_relation.specs.Placed.{setting_of}
+use Rattle.sim_relation.specs.Progress.{progress_in, HasPassed}
 use Rattle.sim_relation.specs.Stands.{Stands, IsActiveTask, AreActive}
 use Rattle.sim_relation.proofs.Arrive.{stands_arrived}
 use Rattle.sim_relation.proofs.Below.{is_below}
 use Rattle.sim_relation.proofs.Choice.{running_top}
 use Rattle.sim_relation.proofs.Levels.{level_of-few}
+use Rattle.sim_relation.proofs.Passed.{passed_arrived, passed_measure}
 use Rattle.sim_relation.proofs.Placed.{placed_in, code_behind, first_by_word}
 use Rattle.sim_relation.proofs.Tops.{falling_head}
 use Rattle.sim_routines.specs.Opening.{AtOpening, OpensService}
@@ -187,9 +191,23 @@ module _ (b : Build) (view : View) (arrivals : List Arrival) (count : ℕ) (stat
           let weight = weighs (early_arrivals e.trace) (touched_lines e.trace) s2 e.last is_served e.effect a in
           omega (arith, few, weight)
 
-      stretch : StretchLaw (setting_of b view arrivals) (Stands b) count state s e.next e.trace e.end
+      abbrev HasResumed : State → Type 0
+      HasResumed x = (word_at x.core.ram 0 ≡ t + 1)
+          ⊎ ((u : ℕ) → word_at x.core.ram 0 ≡ u + 1 → b.passed u ≤ progress_in b x (with_admits (late_arrivals e.trace) a.after))
+
+      -- the caller goes on, or what was preempted where it stood
+      resumed : HasResumed e.end
+      resumed =
+          subst HasResumed (sym e.late_behind)
+          (⊎_elim (λ (same : word_at e.last.core.ram cur ≡ t + 1). inl same)
+          (λ (ran : HasPassed b e.last a.after).
+          inr (passed_measure b (state_arrive (late_arrivals e.trace) e.last) (with_admits (late_arrivals e.trace) a.after)
+          (passed_arrived b e.last a.after (late_arrivals e.trace) a.stands ran)))
+          a.resumes)
+
+      stretch : StretchLaw (setting_of b view arrivals) (Stands b) (progress_in b) b.passed b.passed count state s e.next e.trace e.end
       stretch =
-          service_law (setting_of b view arrivals) (Stands b) count state s t served most Effect e
+          service_law (setting_of b view arrivals) (Stands b) (progress_in b) b.passed count state s t served most Effect e
           (record {
             after_boot = after_boot;
             enabled = stands.fixed.open_to_lines;
@@ -215,6 +233,7 @@ module _ (b : Build) (view : View) (arrivals : List Arrival) (count : ℕ) (stat
             within = subst (λ (x : State). suc e.more ≤ stretch_counts b.config b.app s2 (served_event t served x)) (sym e.late_behind) within;
             step_is = subst (λ (x : State). OsekStep b.config b.app (served_event t served x) s2 a.after) (sym e.late_behind) a.step_is;
             related = stands_arrived b (late_arrivals e.trace) e.last a.after fits.few_tasks in_range.1 a.stands;
+            resumes = resumed;
           })
 
   -- the machine is as the service's contract asks

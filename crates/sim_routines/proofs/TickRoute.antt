@@ -1,5 +1,5 @@
 -- From the contract of the code of a tick to the stretch of the tick.
-use Rattle.std.proofs.Common.{◌≡◌, ℕ, suc, ◌+◌, ◌*◌, ◌<◌, ◌≤◌, List, [], ◌∷◌, length, get_or, refl, sym, ap, ◌∙◌, subst, arith, cond, Option, Some, None}
+use Rattle.std.proofs.Common.{◌≡◌, ℕ, zero, suc, ◌+◌, ◌*◌, ◌<◌, ◌≤◌, List, [], ◌∷◌, length, get_or, refl, sym, ap, ◌∙◌, subst, arith, cond, Option, Some, None}
 use Rattle.std.specs.Prelude.{IfSome, Contains, set}
 use Rattle.std.specs.List.{AllByRecursion}
 use Rattle.std.proofs.lemmas.Bool.{ne_eqb}
@@ -20,7 +20,9 @@ use Rattle.sloth_base.specs.Limits.{task_limit, counter_limit}
 use Rattle.sloth_base.specs.MemoryMap.{memory_base, vectors_base}
 use Rattle.sloth_base.proofs.Owners.{kind_of_counter, tasks_owned}
 use Rattle.sloth_base.proofs.Stretches.{counter_entry_limit, counter_touches}
+use Rattle.sloth_region.specs.Layout.{cur}
 use Rattle.rv32_instr.specs.Execute.{touched}
+use Rattle.rv32_instr.specs.Ram.{word_at}
 use Rattle.rv32_machine.specs.Advance.{observed_step}
 use Rattle.rv32_machine.specs.Run.{state_with_arrivals}
 use Rattle.masked_code.specs.Masked.{Masked, WithArrivals}
@@ -31,30 +33,36 @@ use Rattle.alarm_gen.specs.declared.alarms.NumberedAlarm.{NumberedAlarm}
 use Rattle.alarm_gen.specs.Alarms.{counter_alarms, targets}
 use Rattle.alarm_gen.proofs.Lengths.{tick_long, tick_few}
 use Rattle.alarm_gen.specs.Tick.{vector, ground, AreTaskBits, MayTick, TickEffect}
-use Rattle.osek_scheduler.specs.State.{Clock, System, no_counter}
+use Rattle.osek_scheduler.specs.declared.state.TaskState.TheVariants as mode
+use Rattle.osek_scheduler.specs.State.{Clock, Task, System, task, no_counter}
 use Rattle.osek_scheduler.specs.Priority.{IsNextTick}
 use Rattle.osek_scheduler.specs.Services.{ticked_state}
 use Rattle.osek_scheduler.specs.Steps.{settled_state}
+use Rattle.raised_sections.proofs.Frames.{SameFrames, ticked_frames}
 use Rattle.sim_induction.specs.Admits.{IsSetting, lines_at, with_admits}
 use Rattle.sim_induction.specs.Advances.{Advances}
 use Rattle.sim_induction.specs.PieceLaws.{StretchLaw, IsMeasure}
 use Rattle.sim_induction.proofs.Follow.{booted_admits}
-use Rattle.sim_induction.proofs.Passing.{same_clock}
+use Rattle.sim_induction.proofs.Passing.{not_suspended, kept_admits, same_clock}
 use Rattle.sim_induction.proofs.Routes.{Entering, entering, touches_parted, begins_entered}
 use Rattle.sim_induction.proofs.Schedule.{owned_at}
 use Rattle.sim_induction.proofs.StretchPiece.{stretch_advances}
 use Rattle.sim_induction.proofs.Traces.{lines_trace, early_touched}
-use Rattle.sim_relation.specs.Build.{Build, HasFittingPlaces}
+use Rattle.sim_relation.specs.Build.{Build, HasFittingPlaces, with_passed}
 use Rattle.sim_relation.specs.Placed.{setting_of}
+use Rattle.sim_relation.specs.Progress.{passed_count_of, passed_count_by, progress_in}
 use Rattle.sim_relation.specs.Stands.{Stands}
 use Rattle.sim_relation.proofs.Arrive.{stands_arrived}
 use Rattle.sim_relation.proofs.Choice.{taken_next}
-use Rattle.sim_relation.proofs.Placed.{placed_in, code_behind}
+use Rattle.sim_relation.proofs.Contexts.{passed_as}
+use Rattle.sim_relation.proofs.Passed.{passed_by_word}
+use Rattle.sim_relation.proofs.Placed.{placed_in, code_behind, active_by_word}
 use Rattle.sim_routines.proofs.Raising.{active_bit, enabled_bit}
 use Rattle.sim_routines.specs.TickSteps.{MayCount, HasTicked, TickStands}
 use Rattle.sim_routines.proofs.Acting.{ActsOn}
 use Rattle.sim_routines.proofs.Targets.{OnTarget, each_target, each_from, few_targets, length-alarms_from, target_acts}
 use Rattle.sim_routines.proofs.Ticked.{each_acts, ticked_stands}
+use Rattle.sim_routines.proofs.TickWord.{tick_stays}
 
 -- lines other than this one arrive before or after it is taken
 arrive_clear : (n line : ℕ) (lines pending : List ℕ) → n ≤ line → AllByRecursion (λ l. l < n) lines → arrive lines (set pending line 0) ≡ set (arrive lines pending) line 0
@@ -257,8 +265,56 @@ module _ (b : Build) (view : View) (arrivals : List Arrival) (setting : IsSettin
       touches_parted (targets alarms) (touched (execution_state now)) (touched_lines route.trace)
       (subst (AllByRecursion (Contains (targets alarms))) (sym touched_is) (contains_all (targets alarms)))
 
+  -- ---- what goes on
+
+  abbrev last_system : System
+  last_system = with_admits (late_arrivals route.trace) after
+
+  word_last : word_at route.last.core.ram cur ≡ word_at state.core.ram cur
+  word_last = ap (λ r. word_at r cur) effect.left.ram ∙ tick_stays c max alarms (ground (take line old).core)
+
+  word_end : word_at route.end.core.ram cur ≡ word_at state.core.ram cur
+  word_end = ap (λ (x : State). word_at x.core.ram cur) route.late_behind ∙ word_last
+
+  pc_end : route.end.pc ≡ state.pc
+  pc_end = ap (λ (x : State). x.pc) route.late_behind ∙ effect.pc
+
+  -- the task that runs stays where it stood in its code
+  module _ (t : ℕ) (named : word_at state.core.ram cur ≡ t + 1) where
+    active_first : (task s t).state ≡ mode.Active
+    active_first = (active_by_word b state s t stands named).active
+
+    same_found : task found t ≡ task s t
+    same_found = kept_admits (lines_at arrivals count) t s (not_suspended (task s t).state active_first)
+
+    same_then : task then t ≡ task found t
+    same_then = kept_admits (early_arrivals route.trace) t found (not_suspended (task found t).state (ap (λ (v : Task). v.state) same_found ∙ active_first))
+
+    ticked : SameFrames (task then t) (task after t)
+    ticked = ticked_frames b.config then c may.declared t
+
+    same_last : task last_system t ≡ task after t
+    same_last = kept_admits (late_arrivals route.trace) t after (not_suspended (task after t).state (active_by_word b route.last after t ticks (word_last ∙ named)).active)
+
+    measure_of : progress_in b state s ≤ progress_in b route.end last_system
+    measure_of =
+        let first = passed_by_word b state s t named in
+        let last = passed_by_word b route.end last_system t (word_end ∙ named) in
+        let owed = ap (λ (v : Task). v.owed) same_last ∙ ticked.owed ∙ ap (λ (v : Task). v.owed) (same_then ∙ same_found) in
+        let frames = ap (λ (v : Task). v.frames) same_last ∙ ticked.frames ∙ ap (λ (v : Task). v.frames) (same_then ∙ same_found) in
+        let same : passed_count_of b.app b.places route.end.pc (task last_system t) ≡ passed_count_of b.app b.places state.pc (task s t) =
+        ap (λ v. passed_count_of b.app b.places v (task last_system t)) pc_end ∙ passed_as b state.pc (task s t) (task last_system t) owed frames in
+        omega (arith, first, last, same)
+
+  measure_end : progress_in b state s ≤ progress_in b route.end last_system
+  measure_end = by (word_at state.core.ram cur) refl
+    where
+      by : (word : ℕ) → word_at state.core.ram cur ≡ word → progress_in b state s ≤ progress_in b route.end last_system
+      by zero is = let none : progress_in b state s ≡ 0 = ap (passed_count_by b.app b.places state.pc s) is in omega (arith, none)
+      by (suc t) is = measure_of t (omega (arith, is))
+
   -- It is the event Tick, and the states at its end are related.
-  stretch : StretchLaw (setting_of b view arrivals) (Stands b) count state s route.next route.trace route.end
+  stretch : StretchLaw (setting_of b view arrivals) (Stands b) (progress_in b) b.passed b.passed count state s route.next route.trace route.end
   stretch =
       let in_range = lines_trace (IsOwned (owners_in b.config)) route.more (count + 1) (lines_at arrivals) route.next route.trace route.end (owned_at (setting_of b view arrivals) setting) route.steps in
       record {
@@ -291,16 +347,18 @@ module _ (b : Build) (view : View) (arrivals : List Arrival) (setting : IsSettin
         within = let f = route.few in let size = tick.is_tick.size in omega (arith, f, size);
         step_is = (may_then.stands.tidy.booted, next_then, refl);
         passes = λ past h. tt;
+        goes_on = (word_end, measure_end, refl);
         related = subst (λ x. Stands b x (with_admits (late_arrivals route.trace) after)) (sym route.late_behind)
             (stands_arrived b (late_arrivals route.trace) route.last after fits.few_tasks in_range.1 ticks);
       }
 
-  pub stretches : (next : State) × (trace : Trace) × (end : State) × StretchLaw (setting_of b view arrivals) (Stands b) count state s next trace end
+  pub stretches : (next : State) × (trace : Trace) × (end : State) × StretchLaw (setting_of b view arrivals) (Stands b) (progress_in b) b.passed b.passed count state s next trace end
   stretches = (route.next, route.trace, route.end, stretch)
 
   -- the run goes on from the taken line to where interrupts are open again
-  pub tick_advances : (progress : State → System → ℕ) → IsMeasure (setting_of b view arrivals) progress state s → Advances (setting_of b view arrivals) (Stands b) progress count state s
-  tick_advances progress measure =
+  pub tick_advances : IsMeasure (setting_of b view arrivals) (progress_in b) state s
+      → Advances (setting_of b view arrivals) (λ p. Stands (with_passed b p)) (progress_in b) b.passed count state s
+  tick_advances measure =
       let h = stretches in
-      stretch_advances (setting_of b view arrivals) setting (Stands b) progress count late_count state s h.0 h.1 h.2 h.3
+      stretch_advances (setting_of b view arrivals) setting (λ p. Stands (with_passed b p)) (progress_in b) b.passed b.passed count late_count state s h.0 h.1 h.2 h.3
       stands.tidy.booted (sym (booted_admits (late_arrivals h.1) h.3.after) ∙ h.3.related.tidy.booted) measure

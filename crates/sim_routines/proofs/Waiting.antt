@@ -26,11 +26,12 @@ use Rattle.sim_relation.specs.Build.{Build, HasFittingPlaces}
 use Rattle.sim_relation.specs.Position.{AreFrames, thread_of}
 use Rattle.sim_relation.specs.Context.{RunsTask, RunsFirst, IsRested, HasOwnContext}
 use Rattle.sim_relation.specs.ServiceWords.{AreServiceWords, AreHeldWords, base_priority}
+use Rattle.sim_relation.specs.Progress.{HasPassed}
 use Rattle.sim_relation.specs.Stands.{Stands, IsActiveTask, AreLineBytes}
 use Rattle.sim_relation.specs.Moves.{TaskLeave}
 use Rattle.sim_relation.proofs.Contexts.{context_below}
 use Rattle.sim_relation.proofs.Framing.{frames_kept}
-use Rattle.sim_relation.proofs.Leaving.{leave_stands}
+use Rattle.sim_relation.proofs.Leaving.{leave_stands, still_passed}
 use Rattle.sim_relation.proofs.Machines.{left_whole}
 use Rattle.sim_relation.proofs.Parts.{this_task}
 use Rattle.sim_relation.proofs.Placed.{first_by_word, active_by_word}
@@ -213,8 +214,14 @@ module _ (b : Build) (state : State) (s : System) (t : ℕ) (own : Task) (object
       stands_behind : Stands b end (settled_state waiting)
       stands_behind = leave_stands b state end s k fits t below stack_is after place leave
 
+      passed_behind : HasPassed b end (settled_state waiting)
+      passed_behind = still_passed b state end s k fits t below stack_is after place leave
+
     stands_waiting : Stands b end (settled_state waiting)
     stands_waiting = let f = first_by_word b state s t k.stack k.running opening.current in stands_behind f.0 f.1
+
+    passed_waiting : HasPassed b end (settled_state waiting)
+    passed_waiting = let f = first_by_word b state s t k.stack k.running opening.current in passed_behind f.0 f.1
 
     inside : t < length s.tasks
     inside = let v = k.tidy.tasks in let d = here.declared in omega arith
@@ -230,7 +237,7 @@ module _ (b : Build) (state : State) (s : System) (t : ℕ) (own : Task) (object
     leaves =
         leaves_so b state s t own service.WaitEvent is fits touched end t t touches names waiting
         (ap (λ (c : Bool). cond c (Leaves waiting) (GoesOn E_OK (answered_state E_OK t s))) (eq-eqb (bit_and (task s t).events mask) 0 (sym set_is ∙ h.none_set)))
-        stands_waiting gone
+        stands_waiting passed_waiting gone
 
   pub wait_answers : IsServiceAnswer b s t service.WaitEvent touched end
   wait_answers = ⊎_elim stays leaves effect.done

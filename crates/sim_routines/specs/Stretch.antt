@@ -28,6 +28,7 @@ use Rattle.osek_scheduler.specs.Services.{is_there}
 use Rattle.sim_induction.specs.Admits.{IsSetting, lines_at, with_admits}
 use Rattle.sim_induction.specs.PieceLaws.{StretchLaw}
 use Rattle.sim_relation.specs.Build.{Build, HasFittingPlaces}
+use Rattle.sim_relation.specs.Progress.{progress_in}
 use Rattle.sim_relation.specs.Stands.{Stands}
 use Rattle.sim_relation.specs.Placed.{IsPlaced, setting_of}
 use Rattle.sim_routines.specs.ServiceSteps.{MayGiveWay, MayHaveResource}
@@ -36,7 +37,7 @@ use Rattle.sim_routines.specs.Opening.{IsFollowed, OpensService}
 -- a stretch begins at the count
 abbrev pub HasStretch : Build → View → List Arrival → ℕ → State → System → Type 0
 HasStretch b view arrivals count state s =
-    (next : State) × (trace : Trace) × (end : State) × StretchLaw (setting_of b view arrivals) (Stands b) count state s next trace end
+    (next : State) × (trace : Trace) × (end : State) × StretchLaw (setting_of b view arrivals) (Stands b) (progress_in b) b.passed b.passed count state s next trace end
 
 -- what holds at the opening mark of TerminateTask: the running task holds nothing
 pub record OpensTerminateTask (b : Build) (view : View) (state : State) (s : System) (t : ℕ) : Type 0 where

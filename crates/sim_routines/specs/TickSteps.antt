@@ -26,6 +26,7 @@ use Rattle.sim_induction.specs.PieceLaws.{StretchLaw}
 use Rattle.sim_relation.specs.Bounds.{AreBelow}
 use Rattle.sim_relation.specs.Build.{Build, HasFittingPlaces}
 use Rattle.sim_relation.specs.Placed.{IsPlaced, setting_of}
+use Rattle.sim_relation.specs.Progress.{progress_in}
 use Rattle.sim_relation.specs.Stands.{Stands}
 
 -- the counter's value is in range
@@ -70,4 +71,4 @@ abbrev pub TickStretch : Type 0
 TickStretch = (b : Build) (view : View) (arrivals : List Arrival) (count c : ℕ) (state : State) (s : System) → IsSetting (setting_of b view arrivals)
     → HasFittingPlaces b → 0 < count → Stands b state s → choose (state_with_arrivals arrivals count state).core ≡ Some (counter_line c)
     → MayCount b (state_with_arrivals arrivals count state) (with_admits (lines_at arrivals count) s) c → TickStands b c
-    → (next : State) × (trace : Trace) × (end : State) × StretchLaw (setting_of b view arrivals) (Stands b) count state s next trace end
+    → (next : State) × (trace : Trace) × (end : State) × StretchLaw (setting_of b view arrivals) (Stands b) (progress_in b) b.passed b.passed count state s next trace end

@@ -22,6 +22,7 @@ use Rattle.event_weights.specs.Items.{length_of}
 use Rattle.sim_induction.specs.Weighed.{Weighed}
 use Rattle.sim_induction.specs.Paced.{InPace}
 use Rattle.sim_induction.proofs.Pacing.{paced_wider}
+use Rattle.sim_induction.proofs.Wider.{spent_wider}
 use Rattle.sim_relation.specs.Placed.{item_words}
 use Rattle.sim_laws.proofs.Generated as kernels
 use Rattle.sim_laws.proofs.KernelRuns as runs
@@ -255,6 +256,10 @@ module _ (config : Config) (app : App) (levels : Levels) (map : Map) (may : MayG
         paced_wider config app (item_words (build_of config app map h.bounds way image.memory)) (length_of lengths)
         (words_fit (build_of config app map h.bounds way image.memory) (config, may.well_formed) may.planned.agree lengths are) image
         (runs.paced_kernel (build_of config app map h.bounds way image.memory) image kernel);
+    spent = λ lengths are.
+        spent_wider config app (item_words (build_of config app map h.bounds way image.memory)) (length_of lengths)
+        (words_fit (build_of config app map h.bounds way image.memory) (config, may.well_formed) may.planned.agree lengths are) image
+        (runs.spent_kernel (build_of config app map h.bounds way image.memory) image kernel);
   }
 
   pub shows : HasTaskStates config app image
