@@ -1,3 +1,5 @@
 pub mod Monotone
 pub mod Settling
 pub mod Greatest
+pub mod OneResponse
+pub mod Parts

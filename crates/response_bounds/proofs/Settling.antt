@@ -14,7 +14,7 @@ use Rattle.response_bounds.specs.Windows.{Numbers, none_made, numbers_of, rule_o
 use Rattle.response_bounds.specs.Settling.{most_made, AreBelow, capped_made, IsMet, TakeCounts}
 use Rattle.response_bounds.proofs.Monotone.{counted_more, made_more, window_more}
 
-at_most_both : {a b c : Made} → IsAtMost a b → IsAtMost b c → IsAtMost a c
+pub at_most_both : {a b c : Made} → IsAtMost a b → IsAtMost b c → IsAtMost a c
 at_most_both h k =
     let a = h.activations in
     let b = k.activations in
@@ -178,3 +178,30 @@ module _ (costs : Costs) (w : Window) where
           let all = filled_so in
           counted_exactly (rule_of costs w j) (activations costs w (numbers_of made) counts j) (settings costs w (numbers_of made) counts j) (numbers_of made j)
           (omega (arith, few, all, le, top)) (omega (arith, few, all, le, top)) (met j lt)
+
+  -- ---- beyond the limit
+
+  -- more comes than the limit within what each solution has at least: so each has more
+  pub above : (made : List Made) (counts limit : ℕ) → limit ≤ 4000000 → AreBelow costs w made counts → limit < window_counts costs w (numbers_of made) counts
+      → (m : Numbers) (more : ℕ) → IsSolution costs w m more → limit < more
+  above made counts limit top b over m more s =
+      let le = filled_below made counts b m more s in
+      omega (arith, le, over, top)
+
+  -- ---- the sum
+
+  -- the least solution has just so many counts as come within it
+  pub least_filled : (n : Numbers) (counts : ℕ) → IsLeast costs w n counts → counts ≡ window_counts costs w n counts
+  least_filled n counts l =
+      let le = l.solves.filled in
+      let more = l.least_counts n (window_counts costs w n counts) fewer in
+      omega (arith, le, more)
+    where
+      same : (j : ℕ) → IsAtMost (n j) (n j)
+      same j = record { activations = omega arith; settings = omega arith }
+
+      fewer : IsSolution costs w n (window_counts costs w n counts)
+      fewer = record {
+        made = λ j lt. at_most_both (made_more costs w n n (window_counts costs w n counts) counts same l.solves.filled j) (l.solves.made j lt);
+        filled = window_more costs w n n (window_counts costs w n counts) counts same l.solves.filled;
+      }

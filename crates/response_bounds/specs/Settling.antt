@@ -3,8 +3,10 @@ use Rattle.std.specs.Prelude.{ℕ, ◌+◌, ◌-◌, ◌<◌, ◌≤◌, ◌≡�
 use Rattle.response_bounds.specs.declared.costs.Costs.{Costs}
 use Rattle.response_bounds.specs.declared.window.Window.{Window}
 use Rattle.response_bounds.specs.declared.window.Made.{Made}
+use Rattle.response_bounds.specs.declared.settle.Reached.{Reached}
+use Rattle.response_bounds.specs.declared.settle.Reached.TheVariants as reached
 use Rattle.response_bounds.specs.Costs.{capped, reckoned, task}
-use Rattle.response_bounds.specs.Windows.{Numbers, numbers_of, rule_of, counted, activations, settings, IsAtMost, IsSolution, IsLeast}
+use Rattle.response_bounds.specs.Windows.{Numbers, numbers_of, rule_of, counted, activations, settings, window_counts, IsAtMost, IsSolution, IsLeast}
 
 -- no greater number is told apart
 abbrev pub most_made : Made
@@ -37,6 +39,16 @@ HasGrown costs w old new counts j false = (new ≡ old) × ((i : ℕ) → i < j 
 -- each round takes counts
 abbrev pub TakeCounts : Costs → Type 0
 TakeCounts costs = (t : ℕ) → t < length costs.tasks → (1 ≤ reckoned (task costs t).first) × (1 ≤ reckoned (task costs t).next)
+
+-- These are the numbers of the least solution, of so many counts up to the limit; or what each solution has at least, and so more comes than the limit.
+abbrev pub IsReached : (limit : ℕ) → Costs → Window → List Made → Reached → Type 0
+IsReached limit costs w made (reached.Least counts) = IsLeast costs w (numbers_of made) counts × (counts ≤ limit)
+IsReached limit costs w made (reached.Beyond counts) = AreBelow costs w made counts × (limit < window_counts costs w (numbers_of made) counts)
+
+-- the counts that are reached
+abbrev pub counts_of : Reached → ℕ
+counts_of (reached.Least counts) = counts
+counts_of (reached.Beyond counts) = counts
 
 -- What is found: the counts of the least solution with these numbers, or that none has counts up to the limit.
 abbrev pub IsFound : (limit : ℕ) → Costs → Window → List Made → Option ℕ → Type 0

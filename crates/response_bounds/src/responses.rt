@@ -3,7 +3,7 @@ ghost use Rattle.std.specs.Prelude.{◌≡◌, ◌≤◌, ◌<◌, length, IfOk}
 ghost use Rattle.response_bounds.specs.Windows.{numbers_of, is_made, is_target_made, IsBound};
 ghost use Rattle.response_bounds.specs.Settling.{TakeCounts};
 ghost use Rattle.response_bounds.specs.Starts.{window_of};
-ghost use Rattle.response_bounds.specs.Responses.{IsGreatest, IsResponse, demand_window, hundredths, IsDemand};
+ghost use Rattle.response_bounds.specs.Responses.{IsGreatest, longer, IsAttained, IsResponse, demand_window, hundredths, IsDemand};
 
 use crate::costs::Costs;
 use crate::rounds::number_of;
@@ -38,7 +38,8 @@ pub fn bound(costs: &Costs, window: &Window, limit: u32, numbers: &mut [Made]) -
     requires costs { TakeCounts costs.now }
     requires limit { limit ≤ 4000000 }
     requires count { length numbers.old ≡ length costs.now.tasks }
-    ensures { IsBound limit costs.now window.now result }
+    ensures bound { IsBound limit costs.now window.now result }
+    ensures count { length numbers.new ≡ length costs.now.tasks }
 {
     match settle(costs, window, limit, numbers) {
         Some(counts) => {
@@ -53,26 +54,63 @@ pub fn bound(costs: &Costs, window: &Window, limit: u32, numbers: &mut [Made]) -
     }
 }
 
-// The greatest bound of these starts of a task.
-fn greatest(costs: &Costs, h: usize, starts: &[Start], numbers: &mut [Made]) -> Option<u32>
+/// A start, and the bound of its window.
+#[derive(Clone, Copy)]
+pub struct StartBound {
+    pub start: Start,
+    pub bound: Option<u32>,
+}
+
+/// A start whose window has a bound.
+#[derive(Clone, Copy)]
+pub struct StartCounts {
+    pub start: Start,
+    pub counts: u32,
+}
+
+fn longer(most: StartCounts, start: Start, counts: u32) -> StartCounts
+    ensures { result ≡ longer most start counts }
+{
+    if most.counts < counts {
+        StartCounts { start, counts }
+    } else {
+        most
+    }
+}
+
+/// That of these starts of a task whose bound is the greatest.
+pub fn longest_start(costs: &Costs, h: usize, starts: &[Start], numbers: &mut [Made]) -> StartBound
     requires costs { TakeCounts costs.now }
     requires count { length numbers.old ≡ length costs.now.tasks }
     requires some { 0 < length starts.now }
-    ensures { IsGreatest costs.now h starts.now result }
+    ensures greatest { IsGreatest costs.now h starts.now result.bound }
+    ensures attained { IsAttained costs.now h starts.now result }
+    ensures count { length numbers.new ≡ length costs.now.tasks }
 {
-    let mut most: u32 = 0;
+    let mut most = StartCounts {
+        start: Start::Free,
+        counts: 0,
+    };
     for start in starts {
         let window = window_of(costs, h, *start);
         match bound(costs, &window, COUNT_LIMIT, numbers) {
-            Some(counts) => most = most.max(counts),
-            None => return None,
+            Some(counts) => most = longer(most, *start, counts),
+            None => {
+                return StartBound {
+                    start: *start,
+                    bound: None,
+                };
+            }
         }
     }
-    Some(most)
+    StartBound {
+        start: most.start,
+        bound: Some(most.counts),
+    }
 }
 
-// Numbers of so many tasks.
-fn room(alloc: Global, count: usize) -> Result<Vec<Made>, NoMemory>
+/// Numbers of so many tasks.
+pub fn room(alloc: Global, count: usize) -> Result<Vec<Made>, NoMemory>
     ensures { IfOk result (λ numbers. length numbers.items ≡ count) }
 {
     let mut numbers = Vec::new(alloc);
@@ -96,7 +134,7 @@ pub fn response(alloc: Global, costs: &Costs, h: usize) -> Result<Option<u32>, N
 {
     let starts = starts(alloc, costs, h)?;
     let mut numbers = room(alloc, costs.tasks.items().len())?;
-    Ok(greatest(costs, h, &starts, &mut numbers))
+    Ok(longest_start(costs, h, &starts, &mut numbers).bound)
 }
 
 fn hundredths(counts: u32) -> u32

@@ -1,10 +1,19 @@
 //! The least numbers and counts of a window: from zeros up, each made what is needed with those so far, until nothing grows.
 ghost use Rattle.std.specs.Prelude.{◌≡◌, ◌≤◌, ◌<◌, true, false, length};
-ghost use Rattle.response_bounds.specs.Settling.{AreBelow, slack, IsMet, HasGrown, TakeCounts, IsFound};
+ghost use Rattle.response_bounds.specs.Settling.{AreBelow, slack, IsMet, HasGrown, TakeCounts, IsReached, IsFound};
 
 use crate::costs::Costs;
 use crate::rounds::{made_within, window_counts};
 use crate::window::{Made, Window};
+
+/// How far numbers have grown.
+#[derive(Clone, Copy)]
+pub enum Reached {
+    /// They are those of the least solution, of so many counts.
+    Least(u32),
+    /// Within so many counts more comes than the limit.
+    Beyond(u32),
+}
 
 /// Makes the numbers of a task what comes of it, where that is more: whether one has grown.
 fn grow(costs: &Costs, window: &Window, numbers: &mut [Made], counts: u32, j: usize) -> bool
@@ -41,33 +50,34 @@ fn pass(costs: &Costs, window: &Window, numbers: &mut [Made], counts: u32) -> bo
     grown
 }
 
-/// From numbers that are below all solutions up: the counts of the least one, where they are within the limit.
-fn rise(costs: &Costs, window: &Window, limit: u32, numbers: &mut [Made]) -> Option<u32>
+/// From numbers that are below all solutions up: to those of the least one, or beyond the limit.
+fn rise(costs: &Costs, window: &Window, limit: u32, numbers: &mut [Made]) -> Reached
     requires costs { TakeCounts costs.now }
     requires limit { limit ≤ 4000000 }
     requires below { AreBelow costs.now window.now numbers.old 0 }
-    ensures { IsFound limit costs.now window.now numbers.new result }
+    ensures { IsReached limit costs.now window.now numbers.new result }
 {
     let mut counts = 0;
     loop {
         let grown = pass(costs, window, numbers, counts);
         let filled = window_counts(costs, window, numbers, counts);
         if limit < filled {
-            return None;
+            return Reached::Beyond(counts);
         }
         if !grown && filled <= counts {
-            return Some(counts);
+            return Reached::Least(counts);
         }
         counts = counts.max(filled);
     }
 }
 
-/// The counts of the least solution of a window, where they are within the limit, and its numbers.
-pub fn settle(costs: &Costs, window: &Window, limit: u32, numbers: &mut [Made]) -> Option<u32>
+/// From zeros up.
+pub fn reach(costs: &Costs, window: &Window, limit: u32, numbers: &mut [Made]) -> Reached
     requires costs { TakeCounts costs.now }
     requires limit { limit ≤ 4000000 }
     requires count { length numbers.old ≡ length costs.now.tasks }
-    ensures { IsFound limit costs.now window.now numbers.new result }
+    ensures reached { IsReached limit costs.now window.now numbers.new result }
+    ensures count { length numbers.new ≡ length costs.now.tasks }
 {
     for made in numbers.iter_mut() {
         *made = Made {
@@ -76,4 +86,18 @@ pub fn settle(costs: &Costs, window: &Window, limit: u32, numbers: &mut [Made]) 
         };
     }
     rise(costs, window, limit, numbers)
+}
+
+/// The counts of the least solution of a window, where they are within the limit, and its numbers.
+pub fn settle(costs: &Costs, window: &Window, limit: u32, numbers: &mut [Made]) -> Option<u32>
+    requires costs { TakeCounts costs.now }
+    requires limit { limit ≤ 4000000 }
+    requires count { length numbers.old ≡ length costs.now.tasks }
+    ensures found { IsFound limit costs.now window.now numbers.new result }
+    ensures count { length numbers.new ≡ length costs.now.tasks }
+{
+    match reach(costs, window, limit, numbers) {
+        Reached::Least(counts) => Some(counts),
+        Reached::Beyond(_) => None,
+    }
 }

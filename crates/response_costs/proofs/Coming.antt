@@ -1,5 +1,5 @@
 -- Where walks come to what counts, and the positions that they reach.
-use Rattle.std.proofs.Common.{◌≡◌, ℕ, ◌+◌, ◌<◌, true, max, List, [], ◌∷◌, ◌++◌, map, length, refl, ap, sym, ◌∙◌, subst, arith}
+use Rattle.std.proofs.Common.{◌≡◌, ℕ, ◌+◌, ◌<◌, true, max, List, [], ◌∷◌, ◌++◌, map, length, refl, ap, ◌∙◌, subst, arith}
 use Rattle.std.specs.Prelude.{ltb, Decides}
 use Rattle.std.proofs.lemmas.Bool.{lt-ltb, ltb-true}
 use Rattle.std.proofs.lemmas.List.{map-append}
@@ -10,12 +10,11 @@ use Rattle.sloth_base.specs.Named.{body_of}
 use Rattle.code_rules.specs.WellFormed.{held_list_before}
 use Rattle.osek_scheduler.specs.Priority.{greatest, ceiling}
 use Rattle.osek_scheduler.proofs.Facts.{Facts}
-use Rattle.osek_scheduler.proofs.Stacks.{has_body}
-use Rattle.raised_sections.specs.Walks.{Position, place, first_position, AreConsecutive, IsWalk}
+use Rattle.raised_sections.specs.Walks.{Position, place, IsWalk}
 use Rattle.raised_sections.specs.Sections.{held_list_along, operation_at}
 use Rattle.raised_sections.proofs.Reached.{IsReached, reached_next, reached_first}
-use Rattle.section_sizes.specs.Parts.{ceiling_before, ReachesItem, reaches_first, reaches_inside, reaches_behind}
-use Rattle.section_sizes.proofs.Decomposed.{AreCallers, Stands, stands_on}
+use Rattle.walk_sums.specs.Activations.{ceiling_before, ReachesItem, reaches_first, reaches_inside, reaches_behind}
+use Rattle.walk_sums.proofs.Standing.{AreCallers, Walked, walked_to}
 use Rattle.walk_sums.specs.declared.counted.Counted.{Counted}
 use Rattle.walk_sums.specs.Rounds.{Reaches}
 use Rattle.walk_sums.specs.Counted.{is_ending_counted}
@@ -41,24 +40,13 @@ along_is config app f i outer =
 -- ---- positions
 
 module _ (config : Config) (app : App) (w : Facts config app) (t : ℕ) (declared : t < length config.tasks) where
-  abbrev Standing : Position → Type 0
-  Standing = Stands config app 0 t []
-
-  lead : (at : Position) (before : List Position) (last : Position) → Standing at → AreConsecutive app (at ∷ (before ++ last ∷ [])) → Standing last
-  lead at [] last s c = stands_on config app 0 t [] w at last s c.0
-  lead at (x ∷ before) last s c = lead x before last (stands_on config app 0 t [] w at x s c.0) c.1
-
-  first_stands : Standing (first_position app t)
-  first_stands = ((has_body config app w t declared).0, reaches_first (body_of app.funcs t), refl)
-
   -- a position that a walk leads to stands where walks reach its items
-  pub reached_stands : (before : List Position) (at : Position) → IsWalk app t (before ++ at ∷ []) → Standing at
-  reached_stands [] at walk = subst Standing (sym walk.0) first_stands
-  reached_stands (x ∷ before) at walk = lead x before at (subst Standing (sym walk.0) first_stands) walk.1
+  pub reached_stands : (before : List Position) (at : Position) → IsWalk app t (before ++ at ∷ []) → Walked app t at
+  reached_stands before at walk = (walked_to config app w t declared before at [] walk).0
 
   module _ (c : Counted) where
     -- up to the body of the task
-    comes_up : (f ceiling : ℕ) (outer : Position) → AreCallers config app 0 t [] f outer → ComesTo config app c f ceiling
+    comes_up : (f ceiling : ℕ) (outer : Position) → AreCallers app t f outer → ComesTo config app c f ceiling
         → ComesTo config app c (body_of app.funcs t) (max ceiling (ceiling_along config app outer))
     comes_up f ceiling [] callers came =
         subst (λ n. ComesTo config app c (body_of app.funcs t) n) (let e : ceiling ≡ max ceiling 0 = omega arith in e) (subst (λ g. ComesTo config app c g ceiling) callers came)

@@ -11,16 +11,16 @@ use Rattle.sloth_base.specs.declared.app.Op.{Op}
 use Rattle.sloth_base.specs.Named.{no_function, no_item, item_of}
 use Rattle.osek_scheduler.specs.Apart.{static_priority}
 use Rattle.raised_sections.specs.Walks.{Position, AreConsecutive, IsWalk}
-use Rattle.raised_sections.specs.Sections.{operation_at, priority_at}
+use Rattle.raised_sections.specs.Sections.{IsSection, operation_at, priority_at}
 use Rattle.bound_rules.specs.Weights.{no_weights}
-use Rattle.section_sizes.specs.Weights.{sum_of, ending_at, going_at}
+use Rattle.walk_sums.specs.Weights.{sum_of, ending_at, going_at}
 use Rattle.walk_sums.specs.declared.counted.Counted.{Counted}
 use Rattle.walk_sums.specs.declared.counted.Counted.TheVariants as counts
 use Rattle.walk_sums.specs.declared.sum.Sum.TheVariants as sum
 use Rattle.walk_sums.specs.Rounds.{IsPart, Reaches}
 use Rattle.walk_sums.specs.Counted.{one_if, is_going_counted, is_ending_counted, body_counts, counted_weights}
 use Rattle.walk_sums.specs.Clears.{ReachesCounted}
-use Rattle.walk_sums.specs.Told.{NoneIsAbove, IsToldSum, are_limited, IsRaisedPart}
+use Rattle.walk_sums.specs.Told.{NoneIsAbove, IsToldSum, are_limited}
 use Rattle.response_costs.specs.Rounds.{AreRounds}
 use Rattle.response_costs.specs.Sections.{DoesRaised}
 use Rattle.response_costs.specs.Tables.{no_sums}
@@ -138,9 +138,15 @@ module _ (c : Counted) where
 
     -- ---- sections
 
-    pub section_none : (config : Config) (h k : ℕ) → ¬ (DoesRaised config app h k c) → IsToldSum (IsRaisedPart config app h k) (counted_weights c app) (sum.Counts 0)
-    section_none config h k free = told_none k _ (λ at. static_priority config h ≤ priority_at config app k at) _ (λ at r s. by at r s (is_ending_counted c (operation_at app at)) refl)
+    pub section_none : (config : Config) (h k : ℕ) → ¬ (DoesRaised config app h k c) → IsToldSum (IsSection config app h k) (counted_weights c app) (sum.Counts 0)
+    section_none config h k free = (record { none_above = none; attained = inl refl }, omega arith)
       where
         by : (at : Position) → Reaches app k at → static_priority config h ≤ priority_at config app k at → (b : Bool) → is_ending_counted c (operation_at app at) ≡ b → b ≡ false
         by at r s true e = absurd (free (at, (r, s), e))
         by at r s false e = refl
+
+        none : NoneIsAbove (IsSection config app h k) (counted_weights c app) 0
+        none positions part =
+            let uncounted = all_none k (λ at. static_priority config h ≤ priority_at config app k at) part.before positions part.of_walk part.raised
+            (λ at r s. by at r s (is_ending_counted c (operation_at app at)) refl) in
+            let e = none_sum positions uncounted in omega (arith, e)

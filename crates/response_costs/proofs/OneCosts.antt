@@ -11,7 +11,7 @@ use Rattle.sloth_base.specs.Named.{declaration}
 use Rattle.load_text.specs.declared.entry.Entry.{Entry}
 use Rattle.load_text.specs.Loads.{work}
 use Rattle.osek_scheduler.specs.Apart.{static_priority}
-use Rattle.raised_sections.specs.Sections.{IsLower}
+use Rattle.raised_sections.specs.Sections.{IsSection, IsLower}
 use Rattle.bound_rules.specs.declared.weights.BodyWeights.{BodyWeights}
 use Rattle.walk_sums.specs.declared.sum.Sum.{Sum}
 use Rattle.walk_sums.specs.declared.tasks.RoundSums.{RoundSums}
@@ -19,7 +19,6 @@ use Rattle.walk_sums.specs.declared.counted.Counted.{Counted}
 use Rattle.walk_sums.specs.declared.counted.Counted.TheVariants as counts
 use Rattle.walk_sums.specs.Rounds.{IsTurn, IsFirstRound, IsLaterRound}
 use Rattle.walk_sums.specs.Counted.{one_if, counted_weights}
-use Rattle.walk_sums.specs.Told.{IsRaisedPart}
 use Rattle.response_bounds.specs.declared.costs.TaskCosts.{TaskCosts}
 use Rattle.response_bounds.specs.declared.costs.AlarmCosts.{AlarmCosts}
 use Rattle.response_bounds.specs.declared.costs.Makings.{Makings}
@@ -32,8 +31,9 @@ use Rattle.response_bounds.specs.Costs.{no_task, no_makings, no_services, no_lev
 use Rattle.response_bounds.specs.Starts.{may_join}
 use Rattle.response_costs.specs.Rounds.{AreRounds, round_entry, round_cost, activations_of, made, many}
 use Rattle.response_costs.specs.Sections.{section_counts}
-use Rattle.response_costs.specs.CostsOf.{AreEach, ReachesService, service_path, left_path, IsGreatest, AreServices, AreTaskCosts, AreMade, AreSettings, AreMakings, IsSectionCosts, IsSection, IsSectionMade, AreSectionMakings, IsSectionMaking, IsLevel, no_counter, no_alarm, IsCounter, IsAlarm, AreCosts}
-use Rattle.response_costs.proofs.OneSums.{same_sum, same_both, same_rounds}
+use Rattle.response_costs.specs.CostsOf.{AreEach, ReachesService, service_path, left_path, IsGreatest, AreServices, AreTaskCosts, AreMade, AreSettings, AreMakings, IsSectionCosts, IsTaskSection, IsSectionMade, AreSectionMakings, IsSectionMaking, IsLevel, no_counter, no_alarm, IsCounter, IsAlarm, AreCosts}
+use Rattle.walk_sums.proofs.OneTold.{one_told}
+use Rattle.response_costs.proofs.OneSums.{same_both, same_rounds}
 use Rattle.response_costs.proofs.SameCosts.{same_task, same_alarm, same_makings, same_services, same_section, same_section_makings, same_level, same_costs}
 use Rattle.response_costs.proofs.OneWeights.{same_weights}
 
@@ -82,7 +82,7 @@ module _ (config : Config) (app : App) (load : List Entry) where
       (same_rounds weights (IsFirstRound app t) (IsLaterRound app t) (record { first = x.first; later = a.0 }) (record { first = y.first; later = b.0 }) a.1 b.1) in
       same_both x y first (a.2 ∙ (first ∙ sym b.2))
   one_rounds false extended t weights x y a b =
-      let first = same_sum weights (IsTurn app t) x.first y.first a.0 b.0 in
+      let first = one_told (IsTurn app t) weights x.first y.first a.0 b.0 in
       same_both x y first (a.1 ∙ (first ∙ sym b.1))
 
   -- of one that is clean just where the other is
@@ -134,13 +134,13 @@ module _ (config : Config) (app : App) (load : List Entry) where
 
   -- ---- sections
 
-  one_section : (weights : List BodyWeights) (h k : ℕ) (x y : SectionCosts) → k < length config.tasks → IsSection config app load weights h k x → IsSection config app load weights h k y → x ≡ y
+  one_section : (weights : List BodyWeights) (h k : ℕ) (x y : SectionCosts) → k < length config.tasks → IsTaskSection config app load weights h k x → IsTaskSection config app load weights h k y → x ≡ y
   one_section weights h k x y there a b = by (cases_lt (static_priority config k) (static_priority config h))
     where
       lower : IsSectionCosts config app load weights h k x → IsSectionCosts config app load weights h k y → x ≡ y
       lower a b =
           same_section x y (same_from_decides x.exists y.exists a.exists b.exists)
-          (a.counts ∙ (ap (λ s. section_counts (work load k) s) (same_sum weights (IsRaisedPart config app h k) a.told b.told a.is_told b.is_told) ∙ sym b.counts))
+          (a.counts ∙ (ap (λ s. section_counts (work load k) s) (one_told (IsSection config app h k) weights a.told b.told a.is_told b.is_told) ∙ sym b.counts))
 
       by : (static_priority config k < static_priority config h) ⊎ (static_priority config h ≤ static_priority config k) → x ≡ y
       by (inl lt) = lower (a.0 (there, lt)) (b.0 (there, lt))
@@ -151,7 +151,7 @@ module _ (config : Config) (app : App) (load : List Entry) where
   one_section_made : (h k : ℕ) (once : Bool) (c : Counted) (m n : Option ℕ) → IsSectionMade config app load h k once c m → IsSectionMade config app load h k once c n → m ≡ n
   one_section_made h k true c m n a b = a.2 ∙ (ap (λ d. Some (one_if d)) (same_from_decides a.0 b.0 a.1 b.1) ∙ sym b.2)
   one_section_made h k false c m n a b =
-      a.2 ∙ (ap (λ s. many (work load k) s) (same_sum (counted_weights c app) (IsRaisedPart config app h k) a.0 b.0 a.1 b.1) ∙ sym b.2)
+      a.2 ∙ (ap (λ s. many (work load k) s) (one_told (IsSection config app h k) (counted_weights c app) a.0 b.0 a.1 b.1) ∙ sym b.2)
 
   one_section_making : (tasks : List TaskCosts) (h j k : ℕ) (x y : SectionMakings) → IsSectionMaking config app load tasks h j k x → IsSectionMaking config app load tasks h j k y → x ≡ y
   one_section_making tasks h j k x y a b =
@@ -170,7 +170,7 @@ module _ (config : Config) (app : App) (load : List Entry) where
   one_level : (weights : List BodyWeights) (tasks : List TaskCosts) (h : ℕ) (x y : Level) → IsLevel config app load weights tasks h x → IsLevel config app load weights tasks h y → x ≡ y
   one_level weights tasks h x y a b =
       let n = length config.tasks in
-      same_level x y (same_each n no_section (IsSection config app load weights h) (λ k s t lt p q. one_section weights h k s t lt p q) x.sections y.sections a.sections b.sections)
+      same_level x y (same_each n no_section (IsTaskSection config app load weights h) (λ k s t lt p q. one_section weights h k s t lt p q) x.sections y.sections a.sections b.sections)
       (same_each n [] (λ j. AreEach n no_section_makings (IsSectionMaking config app load tasks h j))
       (λ j s t lt p q. same_each n no_section_makings (IsSectionMaking config app load tasks h j) (λ k u v below f g. one_section_making tasks h j k u v f g) s t p q)
       x.makings y.makings a.makings b.makings)

@@ -1,12 +1,12 @@
 -- One thing is told of greatest sums.
 use Rattle.std.proofs.Common.{◌≡◌, ◌∙◌, ◌⊎◌, inl, inr, ℕ, ◌+◌, ◌<◌, ◌≤◌, List, refl, ap, arith}
-use Rattle.sloth_base.specs.Limits.{count_limit}
 use Rattle.raised_sections.specs.Walks.{Position}
 use Rattle.bound_rules.specs.declared.weights.BodyWeights.{BodyWeights}
 use Rattle.walk_sums.specs.declared.sum.Sum.{Sum}
 use Rattle.walk_sums.specs.declared.sum.Sum.TheVariants as sum
 use Rattle.walk_sums.specs.declared.tasks.RoundSums.{RoundSums}
-use Rattle.walk_sums.specs.Told.{NoneIsAbove, SomeReaches, IsToldSum, AreToldSums, are_limited, are_endless}
+use Rattle.walk_sums.specs.Told.{NoneIsAbove, SomeReaches, IsToldSum, AreToldBoth, are_limited, are_endless}
+use Rattle.walk_sums.proofs.OneTold.{one_told}
 
 pub same_both : (a b : RoundSums) → a.first ≡ b.first → a.later ≡ b.later → a ≡ b
 same_both a b f l = ap (λ s. record { first = s; later = a.later }) f ∙ ap (λ s. record { first = b.first; later = s }) l
@@ -29,24 +29,6 @@ module _ (weights : List BodyWeights) where
     limited sum.Huge finite h = (h.most, h.none_above)
     limited sum.Endless finite h = absurd (finite refl)
 
-    endless_clash : (m : ℕ) → NoneIsAbove Part weights m → ((n : ℕ) → SomeReaches Part weights n) → ⊥
-    endless_clash m none all = clash (m + 1) m (all (m + 1)) none (omega arith)
-
-    pub same_sum : (one other : Sum) → IsToldSum Part weights one → IsToldSum Part weights other → one ≡ other
-    same_sum (sum.Counts n) (sum.Counts m) a b =
-        let le = below n m a.0.attained b.0.none_above in
-        let ge = below m n b.0.attained a.0.none_above in
-        let same : n ≡ m = omega (arith, le, ge) in
-        ap sum.Counts same
-    same_sum (sum.Counts n) sum.Huge a b = absurd (clash count_limit n b.some_reaches a.0.none_above a.1)
-    same_sum (sum.Counts n) sum.Endless a b = absurd (endless_clash n a.0.none_above b)
-    same_sum sum.Huge (sum.Counts m) a b = absurd (clash count_limit m a.some_reaches b.0.none_above b.1)
-    same_sum sum.Huge sum.Huge a b = refl
-    same_sum sum.Huge sum.Endless a b = absurd (endless_clash a.most a.none_above b)
-    same_sum sum.Endless (sum.Counts m) a b = absurd (endless_clash m b.0.none_above a)
-    same_sum sum.Endless sum.Huge a b = absurd (endless_clash b.most b.none_above a)
-    same_sum sum.Endless sum.Endless a b = refl
-
   module _ (First Later : List Position → Type 0) where
     -- where both have a limit, not all numbers are reached
     both_clash : (told : RoundSums) → (told.first ≡ sum.Endless → ⊥) → (told.later ≡ sum.Endless → ⊥) → IsToldSum First weights told.first → IsToldSum Later weights told.later
@@ -60,9 +42,9 @@ module _ (weights : List BodyWeights) where
         by m k p q (inl some) = clash First (m + k + 1) m some p (omega arith)
         by m k p q (inr some) = clash Later (m + k + 1) k some q (omega arith)
 
-    pub same_rounds : (one other : RoundSums) → AreToldSums First Later weights one → AreToldSums First Later weights other → one ≡ other
+    pub same_rounds : (one other : RoundSums) → AreToldBoth First Later weights one → AreToldBoth First Later weights other → one ≡ other
     same_rounds one other (are_limited a nf nl f l) (are_limited b mf ml g k) =
-        same_both a b (same_sum First a.first b.first f g) (same_sum Later a.later b.later l k)
+        same_both a b (one_told First weights a.first b.first f g) (one_told Later weights a.later b.later l k)
     same_rounds one other (are_limited a nf nl f l) (are_endless all) = absurd (both_clash a nf nl f l all)
     same_rounds one other (are_endless all) (are_limited b mf ml g k) = absurd (both_clash b mf ml g k all)
     same_rounds one other (are_endless all) (are_endless any) = refl

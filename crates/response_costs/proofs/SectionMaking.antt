@@ -9,13 +9,13 @@ use Rattle.load_text.specs.declared.entry.Entry.{Entry}
 use Rattle.load_text.specs.Loads.{work}
 use Rattle.osek_scheduler.specs.Apart.{static_priority}
 use Rattle.osek_scheduler.proofs.Facts.{Facts}
-use Rattle.raised_sections.specs.Sections.{IsLower}
+use Rattle.raised_sections.specs.Sections.{IsSection, IsLower}
 use Rattle.walk_sums.specs.declared.sum.Sum.{Sum}
 use Rattle.walk_sums.specs.declared.sum.Sum.TheVariants as told
 use Rattle.walk_sums.specs.declared.counted.Counted.{Counted}
 use Rattle.walk_sums.specs.declared.counted.Counted.TheVariants as counts
 use Rattle.walk_sums.specs.Counted.{one_if, counted_weights}
-use Rattle.walk_sums.specs.Told.{IsToldSum, IsRaisedPart}
+use Rattle.walk_sums.specs.Told.{IsToldSum}
 use Rattle.response_bounds.specs.declared.costs.TaskCosts.{TaskCosts}
 use Rattle.response_bounds.specs.declared.costs.SectionMakings.{SectionMakings}
 use Rattle.response_bounds.specs.Costs.{no_section_makings}
@@ -33,7 +33,7 @@ module _ (config : Config) (app : App) (load : List Entry) (tasks : List TaskCos
 
   -- what is found of one task
   pub made_by : Facts config app → h < length config.tasks → (k : ℕ) → k < length config.tasks → (c : Counted) (top : ℕ) → IsTop config app c (body_of app.funcs k) top → (s : Sum)
-      → (is_summed config tasks h j k top ≡ true → IsToldSum (IsRaisedPart config app h k) (counted_weights c app) s) → (m : Option ℕ)
+      → (is_summed config tasks h j k top ≡ true → IsToldSum (IsSection config app h k) (counted_weights c app) s) → (m : Option ℕ)
       → m ≡ part_made (takes_part config tasks h j k) (is_once config h j k) (does config h k top) (work load k) s → AreMadeBy config app load tasks h j c k m
   made_by w there k declared c top is s summed m e = by (takes_part config tasks h j k) refl
     where

@@ -11,23 +11,23 @@ use Rattle.osek_scheduler.proofs.Facts.{Facts}
 use Rattle.raised_sections.specs.Walks.{Position}
 use Rattle.bound_rules.specs.declared.weights.BodyWeights.{BodyWeights}
 use Rattle.bound_rules.specs.Weights.{ending_weight}
-use Rattle.section_sizes.specs.Weights.{sum_of, ending_at}
-use Rattle.section_sizes.proofs.Reaching.{reached_inside}
+use Rattle.walk_sums.specs.Weights.{sum_of, ending_at}
+use Rattle.walk_sums.proofs.Reached.{reached_inside}
 use Rattle.code_rules.specs.Code.{IsItem}
 use Rattle.sloth_base.specs.declared.app.Op.{Op}
 use Rattle.walk_sums.specs.declared.sum.Sum.{Sum}
 use Rattle.walk_sums.specs.declared.sum.Sum.TheVariants as sum
 use Rattle.walk_sums.specs.Rounds.{Reaches}
-use Rattle.walk_sums.specs.Told.{IsToldSum, IsRaisedPart, SomeReaches}
+use Rattle.walk_sums.specs.Told.{IsToldSum, SomeReaches}
 use Rattle.code_rules.specs.WellFormed.{WellFormed}
 use Rattle.load_text.specs.declared.entry.Entry.{Entry}
 use Rattle.load_text.specs.Loads.{work}
-use Rattle.raised_sections.specs.Sections.{IsLower}
-use Rattle.section_sizes.proofs.Bodily.{facts_of}
+use Rattle.raised_sections.specs.Sections.{IsSection, IsLower}
+use Rattle.walk_sums.proofs.Bodily.{facts_of}
 use Rattle.event_weights.proofs.BodyLengths.{short}
 use Rattle.response_bounds.specs.declared.costs.SectionCosts.{SectionCosts}
 use Rattle.response_bounds.specs.Costs.{no_section}
-use Rattle.response_costs.specs.CostsOf.{IsSection}
+use Rattle.response_costs.specs.CostsOf.{IsTaskSection}
 use Rattle.response_costs.specs.PathWeights.{ArePathWeights}
 use Rattle.response_costs.specs.Sections.{IsRaised, IsRaisedAt, section_counts}
 use Rattle.response_costs.specs.SectionSums.{is_lower, has_some}
@@ -38,16 +38,16 @@ use Rattle.response_costs.proofs.WeightsFit.{weighs}
 module _ (config : Config) (app : App) (w : Facts config app) (h k : ℕ) (declared : k < length config.tasks) (weights : List BodyWeights)
     (weighs : (f i : ℕ) (o : Op) → IsItem app f i o → 0 < ending_weight weights f i) where
   -- a section with a sum has a position
-  raised_in : (n : ℕ) → 0 < n → (positions : List Position) → IsRaisedPart config app h k positions → n ≤ sum_of weights positions → IsRaised config app h k
+  raised_in : (n : ℕ) → 0 < n → (positions : List Position) → IsSection config app h k positions → n ≤ sum_of weights positions → IsRaised config app h k
   raised_in n lt [] part le = absurd (omega (arith, lt, le))
-  raised_in n lt (at ∷ further) part le = (at, ((part.before, walk_front app k part.before further at part.of_walk), part.stands.0))
+  raised_in n lt (at ∷ further) part le = (at, ((part.before, walk_front app k part.before further at part.of_walk), part.raised.0))
 
-  raised_of : (n : ℕ) → 0 < n → SomeReaches (IsRaisedPart config app h k) weights n → IsRaised config app h k
+  raised_of : (n : ℕ) → 0 < n → SomeReaches (IsSection config app h k) weights n → IsRaised config app h k
   raised_of n lt s = raised_in n lt s.0 s.1 s.2
 
   -- a position is a section, with a sum
-  part_of : (at : Position) → IsRaisedAt config app h k at → IsRaisedPart config app h k (at ∷ [])
-  part_of at ((before, walk), le) = record { before = before; of_walk = walk; begins = tt; stands = (le, tt); unbroken = (λ more. absurd (more refl), tt) }
+  part_of : (at : Position) → IsRaisedAt config app h k at → IsSection config app h k (at ∷ [])
+  part_of at ((before, walk), le) = record { before = before; of_walk = walk; raised = (le, tt); unbroken = (λ more. absurd (more refl), tt) }
 
   some_weight : (at : Position) → Reaches app k at → 0 < ending_at weights at
   some_weight [] (before, walk) = absurd (reached_stands config app w k declared before [] walk)
@@ -55,10 +55,10 @@ module _ (config : Config) (app : App) (w : Facts config app) (h k : ℕ) (decla
       let s = reached_stands config app w k declared before (here ∷ outer) walk in
       weighs here.func here.item (operation app here.func here.item) (record { known = s.0; inside = reached_inside config app w here.func here.item s.0 s.1; is = refl })
 
-  pub exists_decided : (s : Sum) → IsToldSum (IsRaisedPart config app h k) weights s → Decides (has_some s) (IsRaised config app h k)
+  pub exists_decided : (s : Sum) → IsToldSum (IsSection config app h k) weights s → Decides (has_some s) (IsRaised config app h k)
   exists_decided (sum.Counts n) (g, lt) = (some g.attained, λ r. ap not (ne_eqb n 0 (λ e. let le = g.none_above (r.0 ∷ []) (part_of r.0 r.1) in let more = some_weight r.0 r.1.0 in omega (arith, e, le, more))))
     where
-      some : (n ≡ 0) ⊎ SomeReaches (IsRaisedPart config app h k) weights n → not (n == 0) ≡ true → IsRaised config app h k
+      some : (n ≡ 0) ⊎ SomeReaches (IsSection config app h k) weights n → not (n == 0) ≡ true → IsRaised config app h k
       some (inl z) e = absurd (true≢false (sym e ∙ ap not (eq-eqb n 0 z)))
       some (inr s) e = raised_of n (positive (cases_eq n 0)) s
         where
@@ -76,7 +76,7 @@ path_weighs config app well weights (lengths, are, by) = weighs app lengths are 
 
 -- of a lower task
 pub section_is : (config : Config) (app : App) (load : List Entry) (weights : List BodyWeights) (h k : ℕ) → WellFormed config app → ArePathWeights app weights → (s : Sum) → IsLower config h k
-    → IsToldSum (IsRaisedPart config app h k) weights s → (c : SectionCosts) → c.exists ≡ has_some s → c.counts ≡ section_counts (work load k) s → IsSection config app load weights h k c
+    → IsToldSum (IsSection config app h k) weights s → (c : SectionCosts) → c.exists ≡ has_some s → c.counts ≡ section_counts (work load k) s → IsTaskSection config app load weights h k c
 section_is config app load weights h k well are s low told c e n = (
   λ l. record {
     exists = subst (λ b. Decides b (IsRaised config app h k)) (sym e)
@@ -90,6 +90,6 @@ section_is config app load weights h k well are s low told c e n = (
 
 -- of any other
 pub no_section_is : (config : Config) (app : App) (load : List Entry) (weights : List BodyWeights) (h k : ℕ) → is_lower config h k ≡ false → (c : SectionCosts) → c ≡ no_section
-    → IsSection config app load weights h k c
+    → IsTaskSection config app load weights h k c
 no_section_is config app load weights h k other c e =
     (λ low. absurd (true≢false (sym (lt-ltb (static_priority config k) (static_priority config h) low.1) ∙ other)), λ higher. e)

@@ -5,7 +5,7 @@ use Rattle.sloth_base.specs.declared.app.Op.{Op}
 use Rattle.sloth_base.specs.declared.app.Op.TheVariants as op
 use Rattle.sloth_base.specs.Named.{function}
 use Rattle.raised_sections.specs.Walks.{Position, place, GoesOnInside, LeadsTo, IsPositionStep, chains_itself}
-use Rattle.section_sizes.specs.Parts.{is_plain, IsInnerStep}
+use Rattle.walk_sums.specs.Activations.{is_plain, IsInnerStep}
 
 plain_leads : (app : App) (o : Op) (f i : ℕ) (outer next : Position) → is_plain o ≡ true → GoesOnInside app f i outer next → LeadsTo app o f i outer next
 plain_leads app (op.Invoke g) f i outer next p l = absurd cc

@@ -11,10 +11,10 @@ use Rattle.code_rules.specs.Code.{IsItem, HasCall, is_in}
 use Rattle.osek_scheduler.proofs.Facts.{Facts}
 use Rattle.stack_bounds.proofs.Below.{max_below-at, max_below-some}
 use Rattle.bound_rules.specs.declared.bodies.Body.{Body}
-use Rattle.section_sizes.specs.CallOrder.{IsCallOrder}
-use Rattle.section_sizes.specs.Known.{IsKnownBody}
-use Rattle.section_sizes.specs.Parts.{ReachesItem, ReachesCall, ceiling_before}
-use Rattle.section_sizes.proofs.Reaching.{reached_inside}
+use Rattle.walk_sums.specs.CallOrder.{IsCallOrder}
+use Rattle.walk_sums.specs.KnownBodies.{IsKnownBody}
+use Rattle.walk_sums.specs.Activations.{ReachesItem, ReachesCall, ceiling_before}
+use Rattle.walk_sums.proofs.Reached.{reached_inside}
 use Rattle.walk_sums.specs.declared.counted.Counted.{Counted}
 use Rattle.walk_sums.specs.declared.counted.Counted.TheVariants as counts
 use Rattle.walk_sums.specs.Counted.{is_ending_counted}

@@ -17,8 +17,8 @@ use Rattle.raised_sections.specs.Walks.{chains_itself}
 use Rattle.event_weights.specs.Items.{length_of, AreLengths}
 use Rattle.bound_rules.specs.declared.weights.BodyWeights.{BodyWeights}
 use Rattle.bound_rules.specs.Weights.{no_weights, going_weight, ending_weight}
-use Rattle.section_sizes.specs.Parts.{is_plain}
-use Rattle.walk_sums.specs.Weights.{AreSumWeights}
+use Rattle.walk_sums.specs.Activations.{is_plain}
+use Rattle.walk_sums.specs.Weights.{AreWeights}
 use Rattle.response_costs.specs.PathWeights.{going_path_of, ending_path_of, AreWeightsBy}
 
 -- ---- services
@@ -106,7 +106,7 @@ module _ (app : App) (lengths : List (List ℕ)) (are : AreLengths app lengths) 
       let some = some_size app (shortest.long i) (item_of (function app f) i).op in
       omega (arith, going, length, some)
 
-  pub weights_fit : AreSumWeights app weights
+  pub weights_fit : AreWeights app weights
   weights_fit = record {
     count = by.count;
     small = λ f i. let le = small f i (weight_is f i) in omega (arith, le);

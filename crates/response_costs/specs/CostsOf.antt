@@ -12,7 +12,7 @@ use Rattle.load_text.specs.declared.entry.Entry.{Entry}
 use Rattle.load_text.specs.Loads.{distance, work}
 use Rattle.code_lengths.specs.LongestPaths.{going_path, leaving_path, tick_path, boot_path}
 use Rattle.osek_scheduler.specs.Apart.{static_priority}
-use Rattle.raised_sections.specs.Sections.{IsLower}
+use Rattle.raised_sections.specs.Sections.{IsSection, IsLower}
 use Rattle.bound_rules.specs.declared.weights.BodyWeights.{BodyWeights}
 use Rattle.walk_sums.specs.declared.sum.Sum.{Sum}
 use Rattle.walk_sums.specs.declared.tasks.RoundSums.{RoundSums}
@@ -21,7 +21,7 @@ use Rattle.walk_sums.specs.declared.counted.Counted.TheVariants as counts
 use Rattle.walk_sums.specs.Rounds.{IsClean, IsSteady}
 use Rattle.walk_sums.specs.Counted.{one_if, counted_weights, calls_for}
 use Rattle.walk_sums.specs.Clears.{ReachesCounted}
-use Rattle.walk_sums.specs.Told.{IsToldSum, IsRaisedPart}
+use Rattle.walk_sums.specs.Told.{IsToldSum}
 use Rattle.response_bounds.specs.declared.costs.TaskCosts.{TaskCosts}
 use Rattle.response_bounds.specs.declared.costs.CounterCosts.{CounterCosts}
 use Rattle.response_bounds.specs.declared.costs.AlarmCosts.{AlarmCosts}
@@ -116,19 +116,19 @@ pub record AreMakings (config : Config) (app : App) (load : List Entry) (j k : �
 pub record IsSectionCosts (config : Config) (app : App) (load : List Entry) (weights : List BodyWeights) (h k : ℕ) (s : SectionCosts) : Type 0 where
   pub exists : Decides s.exists (IsRaised config app h k)
   pub told : Sum
-  pub is_told : IsToldSum (IsRaisedPart config app h k) weights told
+  pub is_told : IsToldSum (IsSection config app h k) weights told
   pub counts : s.counts ≡ section_counts (work load k) told
 
 -- of any task: one that is not lower has none
-abbrev pub IsSection : Config → App → List Entry → List BodyWeights → (h k : ℕ) → SectionCosts → Type 0
-IsSection config app load weights h k s =
+abbrev pub IsTaskSection : Config → App → List Entry → List BodyWeights → (h k : ℕ) → SectionCosts → Type 0
+IsTaskSection config app load weights h k s =
     (IsLower config h k → IsSectionCosts config app load weights h k s) × (¬ (IsLower config h k) → s ≡ no_section)
 
 -- How often a section of a lower task k for h does what counts: once at most where k is not preemptable, and for h itself.
 abbrev pub IsSectionMade : Config → App → List Entry → (h k : ℕ) → (once : Bool) → Counted → Option ℕ → Type 0
 IsSectionMade config app load h k true c m = (does : Bool) × Decides does (DoesRaised config app h k c) × (m ≡ Some (one_if does))
 IsSectionMade config app load h k false c m =
-    (told : Sum) × IsToldSum (IsRaisedPart config app h k) (counted_weights c app) told × (m ≡ many (work load k) told)
+    (told : Sum) × IsToldSum (IsSection config app h k) (counted_weights c app) told × (m ≡ many (work load k) told)
 
 -- how often sections of task k for h make task j Ready
 pub record AreSectionMakings (config : Config) (app : App) (load : List Entry) (h j k : ℕ) (m : SectionMakings) : Type 0 where
@@ -144,7 +144,7 @@ IsSectionMaking config app load tasks h j k m =
 
 -- those for task h
 pub record IsLevel (config : Config) (app : App) (load : List Entry) (weights : List BodyWeights) (tasks : List TaskCosts) (h : ℕ) (l : Level) : Type 0 where
-  pub sections : AreEach (length config.tasks) no_section (IsSection config app load weights h) l.sections
+  pub sections : AreEach (length config.tasks) no_section (IsTaskSection config app load weights h) l.sections
   pub makings : AreEach (length config.tasks) [] (λ j. AreEach (length config.tasks) no_section_makings (IsSectionMaking config app load tasks h j)) l.makings
 
 -- ---- counters and alarms

@@ -6,10 +6,11 @@ use Rattle.sloth_base.specs.Named.{declaration}
 use Rattle.load_text.specs.declared.entry.Entry.{Entry}
 use Rattle.osek_scheduler.specs.Apart.{static_priority}
 use Rattle.bound_rules.specs.declared.weights.BodyWeights.{BodyWeights}
+use Rattle.raised_sections.specs.Sections.{IsSection}
 use Rattle.walk_sums.specs.declared.sum.Sum.{Sum}
 use Rattle.walk_sums.specs.declared.sum.Sum.TheVariants as sum
 use Rattle.walk_sums.specs.declared.counted.Counted.{Counted}
-use Rattle.walk_sums.specs.Told.{IsToldSum, IsRaisedPart}
+use Rattle.walk_sums.specs.Told.{IsToldSum}
 use Rattle.response_bounds.specs.declared.costs.TaskCosts.{TaskCosts}
 use Rattle.response_bounds.specs.Costs.{no_task}
 use Rattle.response_bounds.specs.Starts.{may_join}
@@ -47,7 +48,7 @@ part_made part once does work s = cond (part && does) (cond once (Some 1) (many 
 -- the sums of the sections for h of the tasks that are asked for
 abbrev pub AreSummed : Config → App → List BodyWeights → (h : ℕ) → (asked : List Bool) → List Sum → Type 0
 AreSummed config app weights h asked sums =
-    (k : ℕ) → k < length config.tasks → get_or asked k false ≡ true → IsToldSum (IsRaisedPart config app h k) weights (get_or sums k (sum.Counts 0))
+    (k : ℕ) → k < length config.tasks → get_or asked k false ≡ true → IsToldSum (IsSection config app h k) weights (get_or sums k (sum.Counts 0))
 
 -- how often sections of task k for h do what counts, where they make task j Ready
 abbrev pub AreMadeBy : Config → App → List Entry → List TaskCosts → (h j : ℕ) → Counted → (k : ℕ) → Option ℕ → Type 0

@@ -1,11 +1,11 @@
 //! The sections for each task, and what they make.
 ghost use Rattle.std.specs.Prelude.{◌≡◌, ◌<◌, None, [], length, IfOk};
 ghost use Rattle.code_rules.specs.WellFormed.{WellFormed};
-ghost use Rattle.section_sizes.specs.CallOrder.{IsCallOrder};
-ghost use Rattle.section_sizes.specs.Known.{AreKnownBodies};
+ghost use Rattle.walk_sums.specs.CallOrder.{IsCallOrder};
+ghost use Rattle.walk_sums.specs.KnownBodies.{AreKnownBodies};
 ghost use Rattle.walk_sums.specs.declared.kinds.Kind.TheVariants as kinds;
 ghost use Rattle.walk_sums.specs.Known.{AreSums};
-ghost use Rattle.walk_sums.specs.Weights.{AreSumWeights};
+ghost use Rattle.walk_sums.specs.Weights.{AreWeights};
 ghost use Rattle.response_bounds.specs.Costs.{no_level, no_section_makings};
 ghost use Rattle.response_costs.specs.CostsOf.{AreEach, IsSectionMaking, IsLevel};
 ghost use Rattle.response_costs.specs.PathWeights.{ArePathWeights};
@@ -74,7 +74,7 @@ fn level(
 ) -> Result<Level, NoMemory>
     requires well_formed { WellFormed config.now app.now }
     requires are { ArePathWeights app.now weights.now }
-    requires fit { AreSumWeights app.now weights.now }
+    requires fit { AreWeights app.now weights.now }
     requires whole { AreSums config.now app.now weights.now kinds.Sections None whole.now }
     requires bodies { AreKnownBodies config.now app.now bodies.now }
     requires order { IsCallOrder app.now order.now }
@@ -107,7 +107,7 @@ fn levels_by(
 ) -> Result<Vec<Level>, NoMemory>
     requires well_formed { WellFormed config.now app.now }
     requires are { ArePathWeights app.now weights.now }
-    requires fit { AreSumWeights app.now weights.now }
+    requires fit { AreWeights app.now weights.now }
     requires whole { AreSums config.now app.now weights.now kinds.Sections None whole.now }
     requires bodies { AreKnownBodies config.now app.now bodies.now }
     requires order { IsCallOrder app.now order.now }
@@ -139,7 +139,7 @@ pub fn levels(
 ) -> Result<Vec<Level>, NoMemory>
     requires well_formed { WellFormed config.now app.now }
     requires are { ArePathWeights app.now weights.now }
-    requires fit { AreSumWeights app.now weights.now }
+    requires fit { AreWeights app.now weights.now }
     requires bodies { AreKnownBodies config.now app.now bodies.now }
     requires order { IsCallOrder app.now order.now }
     requires count { length tasks.now ≡ length config.now.tasks }

@@ -1,11 +1,10 @@
 //! How often rounds make tasks Ready.
-ghost use Rattle.std.specs.Prelude.{◌≡◌, ◌<◌, ◌≤◌, ◌⊎◌, ◌||◌, ◌&&◌, not, ℕ, leb, cond, false, [], length, get_or, min, Decides, IfOk};
-ghost use Rattle.sloth_base.specs.Named.{declaration};
+ghost use Rattle.std.specs.Prelude.{◌≡◌, ◌<◌, ◌||◌, ◌&&◌, not, ℕ, leb, cond, false, [], length, get_or, min, Decides, IfOk};
 ghost use Rattle.load_text.specs.Loads.{work};
 ghost use Rattle.code_rules.specs.WellFormed.{WellFormed};
 ghost use Rattle.osek_scheduler.specs.Apart.{static_priority};
-ghost use Rattle.section_sizes.specs.CallOrder.{IsCallOrder};
-ghost use Rattle.section_sizes.specs.Known.{AreKnownBodies};
+ghost use Rattle.walk_sums.specs.CallOrder.{IsCallOrder};
+ghost use Rattle.walk_sums.specs.KnownBodies.{AreKnownBodies};
 ghost use Rattle.walk_sums.specs.Rounds.{IsClean, IsSteady};
 ghost use Rattle.response_bounds.specs.Costs.{no_makings};
 ghost use Rattle.response_costs.specs.CostsOf.{AreEach, AreMakings};

@@ -1,7 +1,7 @@
 //! What the ticks of counters cost, and the alarms.
-ghost use Rattle.std.specs.Prelude.{◌≡◌, ◌<◌, ◌≤◌, ◌↔◌, ◌⊎◌, ℕ, true, IsTrue, length, get_or, Decides, IfOk};
+ghost use Rattle.std.specs.Prelude.{◌≡◌, ◌<◌, ◌≤◌, ◌⊎◌, ℕ, true, length, Decides, IfOk};
 ghost use Rattle.sloth_base.specs.Limits.{alarm_limit, counter_limit};
-ghost use Rattle.sloth_base.specs.Named.{operation, item_of, function};
+ghost use Rattle.sloth_base.specs.Named.{item_of};
 ghost use Rattle.sloth_base.specs.declared.service.Service.TheVariants as service;
 ghost use Rattle.walk_sums.specs.Counted.{calls_for};
 ghost use Rattle.response_costs.specs.CostsOf.{AreEach, no_counter, IsCounter, Names, task_of, sets_events, no_alarm, IsAlarm};
@@ -10,13 +10,13 @@ use crate::sought::calls_for;
 use code_lengths::tick_path;
 use load_text::{Entry, distance_of};
 use response_bounds::costs::{AlarmCosts, CounterCosts};
-use section_sizes::bodies::function_at;
 use sloth_base::app::{App, Func};
 use sloth_base::config::{Action, Config};
 use sloth_base::memory::NoMemory;
 use sloth_base::service::Service;
 use std::alloc::Global;
 use text_pieces::growth::push;
+use walk_sums::bodies::function_at;
 
 /// The line of the first counter.
 const FIRST_COUNTER_LINE: u8 = 30;

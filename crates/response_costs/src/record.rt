@@ -1,16 +1,16 @@
 //! The whole record.
-ghost use Rattle.std.specs.Prelude.{◌≡◌, ◌<◌, ℕ, [], false, length, get_or, Decides, IfOk};
+ghost use Rattle.std.specs.Prelude.{◌≡◌, ◌<◌, ℕ, false, length, get_or, Decides, IfOk};
 ghost use Rattle.code_rules.specs.WellFormed.{WellFormed};
 ghost use Rattle.call_graph.specs.Ranks.{RanksOf};
-ghost use Rattle.section_sizes.specs.CallOrder.{IsCallOrder};
-ghost use Rattle.section_sizes.specs.Known.{AreKnownBodies};
-ghost use Rattle.walk_sums.specs.Rounds.{IsClean, IsSteady};
-ghost use Rattle.walk_sums.specs.Weights.{AreSumWeights};
+ghost use Rattle.walk_sums.specs.CallOrder.{IsCallOrder};
+ghost use Rattle.walk_sums.specs.KnownBodies.{AreKnownBodies};
+ghost use Rattle.walk_sums.specs.Rounds.{IsClean};
+ghost use Rattle.walk_sums.specs.Weights.{AreWeights};
 ghost use Rattle.response_bounds.specs.Costs.{no_task};
 ghost use Rattle.response_bounds.specs.Settling.{TakeCounts};
 ghost use Rattle.response_costs.specs.CostsOf.{AreEach, AreTaskCosts, AreCosts};
 ghost use Rattle.response_costs.specs.PathWeights.{ArePathWeights};
-ghost use Rattle.response_costs.specs.Services.{AreAllNamingTops, AreServiceTops};
+ghost use Rattle.response_costs.specs.Services.{AreAllNamingTops};
 
 use crate::levels::levels;
 use crate::makings::makings;
@@ -24,14 +24,14 @@ use call_graph::ranking::Ranks;
 use code_lengths::boot_path;
 use load_text::Entry;
 use response_bounds::costs::{Costs, TaskCosts};
-use section_sizes::bodies::bodies;
-use section_sizes::order::callees_first;
 use sloth_base::app::App;
 use sloth_base::config::Config;
 use sloth_base::list::List;
 use sloth_base::memory::NoMemory;
 use std::alloc::Global;
+use walk_sums::bodies::bodies;
 use walk_sums::clean::clean_tasks;
+use walk_sums::order::callees_first;
 use walk_sums::steady::steady_tasks;
 
 // By what is known of walks.
@@ -49,7 +49,7 @@ fn record_by(
 ) -> Result<Costs, NoMemory>
     requires well_formed { WellFormed config.now app.now }
     requires are { ArePathWeights app.now weights.now }
-    requires fit { AreSumWeights app.now weights.now }
+    requires fit { AreWeights app.now weights.now }
     requires bodies { AreKnownBodies config.now app.now bodies.now }
     requires order { IsCallOrder app.now order.now }
     requires clean { (t : ℕ) → t < length config.now.tasks → Decides (get_or clean.now t false) (IsClean app.now t) }
@@ -97,7 +97,7 @@ fn record_of(
 ) -> Result<Costs, NoMemory>
     requires well_formed { WellFormed config.now app.now }
     requires are { ArePathWeights app.now weights.now }
-    requires fit { AreSumWeights app.now weights.now }
+    requires fit { AreWeights app.now weights.now }
     requires bodies { AreKnownBodies config.now app.now bodies.now }
     requires order { IsCallOrder app.now order.now }
     ensures { IfOk result (AreCosts config.now app.now load.now) }

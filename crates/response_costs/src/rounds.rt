@@ -1,12 +1,12 @@
 //! The greatest sums of rounds.
-ghost use Rattle.std.specs.Prelude.{◌≡◌, ◌<◌, ℕ, None, true, false, length, get_or, Decides, IfOk};
+ghost use Rattle.std.specs.Prelude.{◌≡◌, ◌<◌, ℕ, None, true, false, length, get_or, IfOk};
 ghost use Rattle.sloth_base.specs.Named.{declaration};
 ghost use Rattle.code_rules.specs.WellFormed.{WellFormed};
-ghost use Rattle.section_sizes.specs.CallOrder.{IsCallOrder};
-ghost use Rattle.section_sizes.specs.Known.{AreKnownBodies};
+ghost use Rattle.walk_sums.specs.CallOrder.{IsCallOrder};
+ghost use Rattle.walk_sums.specs.KnownBodies.{AreKnownBodies};
 ghost use Rattle.walk_sums.specs.declared.kinds.Kind.TheVariants as kinds;
 ghost use Rattle.walk_sums.specs.Counted.{counted_weights};
-ghost use Rattle.walk_sums.specs.Weights.{AreSumWeights};
+ghost use Rattle.walk_sums.specs.Weights.{AreWeights};
 ghost use Rattle.walk_sums.specs.Known.{AreSums};
 ghost use Rattle.response_costs.specs.Makings.{AreCountedSums};
 ghost use Rattle.response_costs.specs.Rounds.{AreRounds};
@@ -63,7 +63,7 @@ fn turns(
     clean: &[bool],
 ) -> Result<Vec<Summary>, NoMemory>
     requires well_formed { WellFormed config.now app.now }
-    requires weights { AreSumWeights app.now weights.now }
+    requires weights { AreWeights app.now weights.now }
     requires bodies { AreKnownBodies config.now app.now bodies.now }
     requires order { IsCallOrder app.now order.now }
     ensures { IfOk result (λ turns. (t : ℕ) → t < length config.now.tasks → get_or clean.now t false ≡ false
@@ -87,7 +87,7 @@ pub fn round_tables(
     clean: &[bool],
 ) -> Result<RoundTables, NoMemory>
     requires well_formed { WellFormed config.now app.now }
-    requires weights { AreSumWeights app.now weights.now }
+    requires weights { AreWeights app.now weights.now }
     requires bodies { AreKnownBodies config.now app.now bodies.now }
     requires order { IsCallOrder app.now order.now }
     ensures { IfOk result (AreRoundTables config.now app.now weights.now clean.now) }
@@ -132,7 +132,7 @@ fn clean_sums(
     task: usize,
 ) -> RoundSums
     requires well_formed { WellFormed config.now app.now }
-    requires weights { AreSumWeights app.now weights.now }
+    requires weights { AreWeights app.now weights.now }
     requires table { AreSums config.now app.now weights.now kinds.Rounds None table.now }
     requires inside { task < length config.now.tasks }
     ensures { AreRounds app.now true (declaration config.now task).extended task weights.now result }
@@ -151,7 +151,7 @@ pub fn sums_of(
     task: usize,
 ) -> RoundSums
     requires well_formed { WellFormed config.now app.now }
-    requires weights { AreSumWeights app.now weights.now }
+    requires weights { AreWeights app.now weights.now }
     requires tables { AreRoundTables config.now app.now weights.now clean.now tables.now }
     requires inside { task < length config.now.tasks }
     ensures { AreRounds app.now (get_or clean.now task false) (declaration config.now task).extended task weights.now result }
@@ -208,7 +208,7 @@ fn counted_sums_by(
 ) -> Result<Vec<RoundSums>, NoMemory>
     requires well_formed { WellFormed config.now app.now }
     requires is { weights.now ≡ counted_weights counted app.now }
-    requires fit { AreSumWeights app.now weights.now }
+    requires fit { AreWeights app.now weights.now }
     requires bodies { AreKnownBodies config.now app.now bodies.now }
     requires order { IsCallOrder app.now order.now }
     ensures { IfOk result (λ sums. AreCountedSums config.now app.now clean.now counted sums.items) }

@@ -1,23 +1,23 @@
 //! How often raised sections make tasks Ready.
-ghost use Rattle.std.specs.Prelude.{◌≡◌, ◌<◌, ◌≤◌, ℕ, None, Some, true, false, [], length, get_or, IfOk};
+ghost use Rattle.std.specs.Prelude.{◌≡◌, ◌<◌, ◌≤◌, ℕ, None, Some, true, false, length, get_or, IfOk};
 ghost use Rattle.sloth_base.specs.Limits.{task_limit};
 ghost use Rattle.load_text.specs.Loads.{work};
 ghost use Rattle.code_rules.specs.WellFormed.{WellFormed};
 ghost use Rattle.osek_scheduler.specs.Apart.{static_priority};
-ghost use Rattle.raised_sections.specs.Sections.{IsLower};
-ghost use Rattle.section_sizes.specs.CallOrder.{IsCallOrder};
-ghost use Rattle.section_sizes.specs.Known.{AreKnownBodies};
+ghost use Rattle.raised_sections.specs.Sections.{IsSection, IsLower};
+ghost use Rattle.walk_sums.specs.CallOrder.{IsCallOrder};
+ghost use Rattle.walk_sums.specs.KnownBodies.{AreKnownBodies};
 ghost use Rattle.walk_sums.specs.declared.kinds.Kind.TheVariants as kinds;
 ghost use Rattle.walk_sums.specs.declared.sum.Sum.TheVariants as told;
 ghost use Rattle.walk_sums.specs.declared.counted.Counted.TheVariants as counts;
 ghost use Rattle.walk_sums.specs.Counted.{counted_weights};
 ghost use Rattle.walk_sums.specs.Known.{AreSums};
-ghost use Rattle.walk_sums.specs.Told.{IsToldSum, IsRaisedPart};
-ghost use Rattle.walk_sums.specs.Weights.{AreSumWeights};
+ghost use Rattle.walk_sums.specs.Told.{IsToldSum};
+ghost use Rattle.walk_sums.specs.Weights.{AreWeights};
 ghost use Rattle.response_bounds.specs.Costs.{no_task, no_section_makings};
 ghost use Rattle.response_bounds.specs.Starts.{may_join};
 ghost use Rattle.response_costs.specs.CostsOf.{AreEach, IsSectionMaking};
-ghost use Rattle.response_costs.specs.Services.{AreNamingTops, AreAllNamingTops};
+ghost use Rattle.response_costs.specs.Services.{AreNamingTops};
 ghost use Rattle.response_costs.specs.SectionSums.{is_lower, takes_part, is_once, does, is_summed, part_made, AreMadeBy, AreSummed};
 ghost use Rattle.response_costs.specs.Tops.{AreTaskTops};
 
@@ -33,7 +33,6 @@ use load_text::{Entry, work_of};
 use response_bounds::costs::{SectionMakings, TaskCosts};
 use sloth_base::app::App;
 use sloth_base::config::Config;
-use sloth_base::list::List;
 use sloth_base::memory::NoMemory;
 use std::alloc::Global;
 use text_pieces::growth::push;
@@ -146,12 +145,12 @@ fn sum_of(
     task: usize,
 ) -> Sum
     requires well_formed { WellFormed config.now app.now }
-    requires fit { AreSumWeights app.now weights.now }
+    requires fit { AreWeights app.now weights.now }
     requires whole { AreSums config.now app.now weights.now kinds.Sections None whole.now }
     requires own { AreSums config.now app.now weights.now kinds.Sections (Some (static_priority config.now above)) own.now }
     requires above { above < length config.now.tasks }
     requires lower { asked ≡ true → IsLower config.now above task }
-    ensures { asked ≡ true → IsToldSum (IsRaisedPart config.now app.now above task) weights.now result }
+    ensures { asked ≡ true → IsToldSum (IsSection config.now app.now above task) weights.now result }
 {
     if asked {
         section_sum(config, app, weights, whole, own, above, task)
@@ -171,7 +170,7 @@ fn sums_by(
     asked: &[bool],
 ) -> Result<Vec<Sum>, NoMemory>
     requires well_formed { WellFormed config.now app.now }
-    requires fit { AreSumWeights app.now weights.now }
+    requires fit { AreWeights app.now weights.now }
     requires whole { AreSums config.now app.now weights.now kinds.Sections None whole.now }
     requires own { AreSums config.now app.now weights.now kinds.Sections (Some (static_priority config.now above)) own.now }
     requires above { above < length config.now.tasks }
@@ -199,7 +198,7 @@ fn sums_at(
     whole: &[Summary],
 ) -> Result<Vec<Sum>, NoMemory>
     requires well_formed { WellFormed config.now app.now }
-    requires fit { AreSumWeights app.now weights.now }
+    requires fit { AreWeights app.now weights.now }
     requires bodies { AreKnownBodies config.now app.now bodies.now }
     requires order { IsCallOrder app.now order.now }
     requires above { above < length config.now.tasks }
@@ -223,7 +222,7 @@ fn whole_counted(
     asked: &[bool],
 ) -> Result<Vec<Sum>, NoMemory>
     requires well_formed { WellFormed config.now app.now }
-    requires fit { AreSumWeights app.now weights.now }
+    requires fit { AreWeights app.now weights.now }
     requires bodies { AreKnownBodies config.now app.now bodies.now }
     requires order { IsCallOrder app.now order.now }
     requires above { above < length config.now.tasks }

@@ -1,19 +1,16 @@
 //! The raised sections of lower tasks.
-ghost use Rattle.std.specs.Prelude.{◌≡◌, ◌<◌, ◌≤◌, ◌||◌, ◌&&◌, ◌==◌, ℕ, nat_lt, not, None, Some, true, false, [], length, get_or, IfOk};
-ghost use Rattle.sloth_base.specs.Named.{declaration};
+ghost use Rattle.std.specs.Prelude.{◌≡◌, ◌<◌, None, Some, true, false, length, IfOk};
 ghost use Rattle.load_text.specs.Loads.{work};
 ghost use Rattle.code_rules.specs.WellFormed.{WellFormed};
 ghost use Rattle.osek_scheduler.specs.Apart.{static_priority};
 ghost use Rattle.raised_sections.specs.Sections.{IsLower};
-ghost use Rattle.section_sizes.specs.CallOrder.{IsCallOrder};
-ghost use Rattle.section_sizes.specs.Known.{AreKnownBodies};
+ghost use Rattle.walk_sums.specs.CallOrder.{IsCallOrder};
+ghost use Rattle.walk_sums.specs.KnownBodies.{AreKnownBodies};
 ghost use Rattle.walk_sums.specs.declared.kinds.Kind.TheVariants as kinds;
-ghost use Rattle.walk_sums.specs.Counted.{counted_weights};
 ghost use Rattle.walk_sums.specs.Known.{AreSums};
-ghost use Rattle.walk_sums.specs.Told.{IsToldSum, IsRaisedPart};
-ghost use Rattle.walk_sums.specs.Weights.{AreSumWeights};
+ghost use Rattle.walk_sums.specs.Weights.{AreWeights};
 ghost use Rattle.response_bounds.specs.Costs.{no_section};
-ghost use Rattle.response_costs.specs.CostsOf.{AreEach, IsSection};
+ghost use Rattle.response_costs.specs.CostsOf.{AreEach, IsTaskSection};
 ghost use Rattle.response_costs.specs.PathWeights.{ArePathWeights};
 ghost use Rattle.response_costs.specs.Sections.{section_counts};
 ghost use Rattle.response_costs.specs.SectionSums.{is_lower, has_some};
@@ -81,12 +78,12 @@ fn lower_section(
 ) -> SectionCosts
     requires well_formed { WellFormed config.now app.now }
     requires are { ArePathWeights app.now weights.now }
-    requires fit { AreSumWeights app.now weights.now }
+    requires fit { AreWeights app.now weights.now }
     requires whole { AreSums config.now app.now weights.now kinds.Sections None whole.now }
     requires own { AreSums config.now app.now weights.now kinds.Sections (Some (static_priority config.now above)) own.now }
     requires above { above < length config.now.tasks }
     requires lower { IsLower config.now above task }
-    ensures { IsSection config.now app.now load.now weights.now above task result }
+    ensures { IsTaskSection config.now app.now load.now weights.now above task result }
 {
     let sum = section_sum(config, app, weights, whole, own, above, task);
     SectionCosts {
@@ -108,12 +105,12 @@ fn section_of(
 ) -> SectionCosts
     requires well_formed { WellFormed config.now app.now }
     requires are { ArePathWeights app.now weights.now }
-    requires fit { AreSumWeights app.now weights.now }
+    requires fit { AreWeights app.now weights.now }
     requires whole { AreSums config.now app.now weights.now kinds.Sections None whole.now }
     requires own { AreSums config.now app.now weights.now kinds.Sections (Some (static_priority config.now above)) own.now }
     requires above { above < length config.now.tasks }
     requires task { task < length config.now.tasks }
-    ensures { IsSection config.now app.now load.now weights.now above task result }
+    ensures { IsTaskSection config.now app.now load.now weights.now above task result }
 {
     if is_lower(config, above, task) {
         lower_section(config, app, load, weights, whole, own, above, task)
@@ -137,11 +134,11 @@ fn sections_by(
 ) -> Result<Vec<SectionCosts>, NoMemory>
     requires well_formed { WellFormed config.now app.now }
     requires are { ArePathWeights app.now weights.now }
-    requires fit { AreSumWeights app.now weights.now }
+    requires fit { AreWeights app.now weights.now }
     requires whole { AreSums config.now app.now weights.now kinds.Sections None whole.now }
     requires own { AreSums config.now app.now weights.now kinds.Sections (Some (static_priority config.now above)) own.now }
     requires above { above < length config.now.tasks }
-    ensures { IfOk result (λ list. AreEach (length config.now.tasks) no_section (IsSection config.now app.now load.now weights.now above) list.items) }
+    ensures { IfOk result (λ list. AreEach (length config.now.tasks) no_section (IsTaskSection config.now app.now load.now weights.now above) list.items) }
 {
     let mut list = Vec::new(alloc);
     for task in 0..config.tasks.items().len() {
@@ -165,12 +162,12 @@ pub fn sections(
 ) -> Result<Vec<SectionCosts>, NoMemory>
     requires well_formed { WellFormed config.now app.now }
     requires are { ArePathWeights app.now weights.now }
-    requires fit { AreSumWeights app.now weights.now }
+    requires fit { AreWeights app.now weights.now }
     requires whole { AreSums config.now app.now weights.now kinds.Sections None whole.now }
     requires bodies { AreKnownBodies config.now app.now bodies.now }
     requires order { IsCallOrder app.now order.now }
     requires above { above < length config.now.tasks }
-    ensures { IfOk result (λ list. AreEach (length config.now.tasks) no_section (IsSection config.now app.now load.now weights.now above) list.items) }
+    ensures { IfOk result (λ list. AreEach (length config.now.tasks) no_section (IsTaskSection config.now app.now load.now weights.now above) list.items) }
 {
     let priority = priority_of(config, above);
     let own = own_sums(alloc, config, app, weights, bodies, order, priority, whole)?;

@@ -2,11 +2,10 @@
 ghost use Rattle.std.specs.Prelude.{◌≡◌, ◌<◌, [], length, get_or, IfOk};
 ghost use Rattle.sloth_base.specs.ServiceCodes.{service_of};
 ghost use Rattle.code_rules.specs.WellFormed.{WellFormed};
-ghost use Rattle.section_sizes.specs.CallOrder.{IsCallOrder};
-ghost use Rattle.section_sizes.specs.Known.{AreKnownBodies};
+ghost use Rattle.walk_sums.specs.CallOrder.{IsCallOrder};
+ghost use Rattle.walk_sums.specs.KnownBodies.{AreKnownBodies};
 ghost use Rattle.walk_sums.specs.declared.counted.Counted.TheVariants as counts;
 ghost use Rattle.response_bounds.specs.Costs.{no_services};
-ghost use Rattle.response_costs.specs.Tops.{AreTaskTops};
 ghost use Rattle.response_costs.specs.Services.{no_tops, AreNamingTops, AreAllNamingTops, AreServiceTops, services_by, reaches, path_of, reached_path};
 ghost use Rattle.response_costs.specs.CostsOf.{AreEach, AreServices, IsGreatest};
 

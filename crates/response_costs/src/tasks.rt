@@ -6,10 +6,10 @@ ghost use Rattle.load_text.specs.Loads.{work};
 ghost use Rattle.code_lengths.specs.LongestPaths.{enter_path};
 ghost use Rattle.code_rules.specs.WellFormed.{WellFormed};
 ghost use Rattle.call_graph.specs.Tables.{HasTaskBody};
-ghost use Rattle.section_sizes.specs.CallOrder.{IsCallOrder};
-ghost use Rattle.section_sizes.specs.Known.{AreKnownBodies};
+ghost use Rattle.walk_sums.specs.CallOrder.{IsCallOrder};
+ghost use Rattle.walk_sums.specs.KnownBodies.{AreKnownBodies};
 ghost use Rattle.walk_sums.specs.Rounds.{IsClean};
-ghost use Rattle.walk_sums.specs.Weights.{AreSumWeights};
+ghost use Rattle.walk_sums.specs.Weights.{AreWeights};
 ghost use Rattle.response_bounds.specs.Costs.{no_task};
 ghost use Rattle.response_costs.specs.CostsOf.{AreEach, AreTaskCosts};
 ghost use Rattle.response_costs.specs.Rounds.{longer_entry, round_entry, round_cost};
@@ -128,7 +128,7 @@ fn task_costs(
     task: usize,
 ) -> TaskCosts
     requires well_formed { WellFormed config.now app.now }
-    requires weights { AreSumWeights app.now weights.now }
+    requires weights { AreWeights app.now weights.now }
     requires tables { AreRoundTables config.now app.now weights.now clean.now tables.now }
     requires clean { (t : ℕ) → t < length config.now.tasks → Decides (get_or clean.now t false) (IsClean app.now t) }
     requires services { AreEach 16 [] (AreServiceTops config.now app.now) services.now }
@@ -165,7 +165,7 @@ fn tasks_by(
     services: &[List<u64>],
 ) -> Result<Vec<TaskCosts>, NoMemory>
     requires well_formed { WellFormed config.now app.now }
-    requires weights { AreSumWeights app.now weights.now }
+    requires weights { AreWeights app.now weights.now }
     requires tables { AreRoundTables config.now app.now weights.now clean.now tables.now }
     requires clean { (t : ℕ) → t < length config.now.tasks → Decides (get_or clean.now t false) (IsClean app.now t) }
     requires services { AreEach 16 [] (AreServiceTops config.now app.now) services.now }
@@ -192,7 +192,7 @@ pub fn tasks(
     services: &[List<u64>],
 ) -> Result<Vec<TaskCosts>, NoMemory>
     requires well_formed { WellFormed config.now app.now }
-    requires weights { AreSumWeights app.now weights.now }
+    requires weights { AreWeights app.now weights.now }
     requires bodies { AreKnownBodies config.now app.now bodies.now }
     requires order { IsCallOrder app.now order.now }
     requires clean { (t : ℕ) → t < length config.now.tasks → Decides (get_or clean.now t false) (IsClean app.now t) }

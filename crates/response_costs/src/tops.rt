@@ -1,22 +1,22 @@
 //! Whether walks come to what is counted, and the greatest ceiling under which they do.
-ghost use Rattle.std.specs.Prelude.{◌≡◌, ◌<◌, ◌+◌, ℕ, cond, length, get_or, IfOk};
-ghost use Rattle.sloth_base.specs.Named.{item_of, body_of};
+ghost use Rattle.std.specs.Prelude.{◌≡◌, ◌<◌, ◌+◌, length, get_or, IfOk};
+ghost use Rattle.sloth_base.specs.Named.{body_of};
 ghost use Rattle.code_rules.specs.WellFormed.{WellFormed};
 ghost use Rattle.call_graph.specs.Tables.{HasTaskBody};
-ghost use Rattle.section_sizes.specs.CallOrder.{IsCallOrder};
-ghost use Rattle.section_sizes.specs.Known.{no_body, AreKnownBodies};
+ghost use Rattle.walk_sums.specs.CallOrder.{IsCallOrder};
+ghost use Rattle.walk_sums.specs.KnownBodies.{no_body, AreKnownBodies};
 ghost use Rattle.response_costs.specs.Tops.{under, op_top, item_top, body_top, AreTops, AreTaskTops};
 
 use crate::sought::is_counted;
 use bound_rules::bodies::Body;
 use bound_rules::marks::{is_marked, number_at};
-use section_sizes::bodies::function_at;
 use sloth_base::app::{App, Func, Op};
 use sloth_base::config::Config;
 use sloth_base::memory::NoMemory;
 use stack_bounds::task_bodies::body_of;
 use std::alloc::Global;
 use text_pieces::growth::push;
+use walk_sums::bodies::function_at;
 use walk_sums::counted::Counted;
 
 /// The top of this number; 0 behind the last one.

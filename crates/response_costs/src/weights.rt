@@ -3,19 +3,19 @@ ghost use Rattle.std.specs.Prelude.{◌≡◌, ◌≤◌, ◌<◌, ◌+◌, ℕ,
 ghost use Rattle.sloth_base.specs.Named.{item_of};
 ghost use Rattle.code_rules.specs.AppRange.{IsTaskCode};
 ghost use Rattle.event_weights.specs.Items.{length_of, AreLengths};
-ghost use Rattle.walk_sums.specs.Weights.{AreSumWeights};
+ghost use Rattle.walk_sums.specs.Weights.{AreWeights};
 ghost use Rattle.response_costs.specs.PathWeights.{going_path_of, leaving_path_of, ending_path_of, IsBodyOf, AreWeightsBy, ArePathWeights};
 
 use bound_rules::items::chains_itself;
 use bound_rules::weights::BodyWeights;
 use code_lengths::{leaving_path, served_path};
 use event_weights::{ItemLengths, length_of, lengths};
-use section_sizes::bodies::function_at;
 use sloth_base::app::{App, Func, Op};
 use sloth_base::list::List;
 use sloth_base::memory::NoMemory;
 use std::alloc::Global;
 use text_pieces::growth::push;
+use walk_sums::bodies::function_at;
 
 fn going_path_of(op: &Op) -> u32
     ensures is { result ≡ going_path_of op.now }
@@ -133,7 +133,7 @@ fn weights_by(alloc: Global, app: &App, lengths: &ItemLengths) -> Result<Vec<Bod
     requires lengths { AreLengths app.now lengths.now.bodies }
     requires short { (f i : ℕ) → length_of lengths.now.bodies f i ≤ 36 }
     ensures are { IfOk result (λ weights. AreWeightsBy app.now lengths.now.bodies weights.items) }
-    ensures fit { IfOk result (λ weights. AreSumWeights app.now weights.items) }
+    ensures fit { IfOk result (λ weights. AreWeights app.now weights.items) }
 {
     counts_by(alloc, app, lengths)
 }
@@ -142,7 +142,7 @@ fn weights_by(alloc: Global, app: &App, lengths: &ItemLengths) -> Result<Vec<Bod
 pub fn path_weights(alloc: Global, app: &App) -> Result<Vec<BodyWeights>, NoMemory>
     requires { IsTaskCode app.now }
     ensures are { IfOk result (λ weights. ArePathWeights app.now weights.items) }
-    ensures fit { IfOk result (λ weights. AreSumWeights app.now weights.items) }
+    ensures fit { IfOk result (λ weights. AreWeights app.now weights.items) }
 {
     let lengths = lengths(alloc, app)?;
     weights_by(alloc, app, &lengths)

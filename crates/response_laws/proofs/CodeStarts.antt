@@ -38,7 +38,7 @@ use Rattle.raised_sections.proofs.FrameEffects.{frame_effect}
 use Rattle.raised_sections.proofs.Placed.{Placed, step_placed, opening_placed}
 use Rattle.raised_sections.proofs.Reached.{IsReached}
 use Rattle.bound_rules.specs.declared.weights.BodyWeights.{BodyWeights}
-use Rattle.section_sizes.specs.Weights.{going_at, ending_at}
+use Rattle.walk_sums.specs.Weights.{going_at, ending_at}
 use Rattle.walk_sums.specs.Rounds.{Reaches}
 use Rattle.walk_sums.specs.declared.counted.Counted.{Counted}
 use Rattle.walk_sums.specs.declared.counted.Counted.TheVariants as counts

@@ -9,7 +9,7 @@ use Rattle.sloth_base.specs.Named.{no_function, no_item}
 use Rattle.raised_sections.specs.Walks.{Position}
 use Rattle.raised_sections.specs.Sections.{operation_at}
 use Rattle.bound_rules.specs.Weights.{no_weights}
-use Rattle.section_sizes.specs.Weights.{going_at, ending_at}
+use Rattle.walk_sums.specs.Weights.{going_at, ending_at}
 use Rattle.walk_sums.specs.declared.counted.Counted.{Counted}
 use Rattle.walk_sums.specs.declared.counted.Counted.TheVariants as counts
 use Rattle.walk_sums.specs.Counted.{one_if, is_going_counted, is_ending_counted, body_counts, counted_weights}

@@ -17,10 +17,9 @@ use Rattle.run_counts.specs.Stages.{Stage, end_of, is_entry}
 use Rattle.run_counts.specs.Rounds.{is_left, total}
 use Rattle.response_laws.specs.Sums.{count}
 use Rattle.response_laws.specs.Turns.{at_entry}
-use Rattle.response_laws.proofs.Awake.{stays_active}
+use Rattle.run_counts.proofs.Awake.{stays_active, entry_active}
 use Rattle.response_laws.proofs.Linked.{Known, Linked, last_state, linked_front, linked_behind, each_append}
 use Rattle.response_laws.proofs.Sums.{total-append}
-use Rattle.response_laws.proofs.Walked.{entry_active}
 
 module _ (config : Config) (app : App) (w : Facts config app) (h : ℕ) where
   abbrev pub active_count : System → ℕ
@@ -42,7 +41,7 @@ module _ (config : Config) (app : App) (w : Facts config app) (h : ℕ) where
       by (inl entry) a l =
           let idle = ap {B = ℕ} (λ b. cond b 1 0) (entry_idle x.stamped.event x.found x.next k.step entry) in
           let one = ap {B = ℕ} (λ b. cond b 1 0) entry in
-          let on = entry_active config app w h x.stamped.event x.found x.next k.step k.valid entry in
+          let on = entry_active config app h x.stamped.event x.found x.next k.step k.valid entry in
           let active = ap {B = ℕ} (λ m. cond (is_active m) 1 0) on in
           omega (arith, idle, one, active)
       by (inr away) (inr idle) l =

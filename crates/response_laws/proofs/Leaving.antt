@@ -34,7 +34,7 @@ use Rattle.response_laws.specs.Sums.{count, is_over}
 use Rattle.response_laws.specs.Turns.{is_other_event, is_other}
 use Rattle.response_laws.specs.Busy.{is_quiet_but, LeavesFirst}
 use Rattle.response_laws.specs.Response.{EntersOnce}
-use Rattle.response_laws.proofs.States.{not_ready}
+use Rattle.run_counts.proofs.States.{not_ready}
 use Rattle.response_laws.proofs.Booted.{HasStarted, has_started}
 use Rattle.response_laws.proofs.Linked.{Known, Linked}
 use Rattle.response_laws.proofs.Lower.{all_so, rank_due, admit_active, admit_ticks, settles, from_same, late, no_section, pressed_next, started_next, admit_is_none}

@@ -1,7 +1,7 @@
 pub mod Sums
 pub mod Linked
-pub mod States
 pub mod Steps
+pub mod Shares
 pub mod RoundSums
 pub mod Attributed
 pub mod EnteredOnce
@@ -17,11 +17,11 @@ pub mod Responding
 pub mod Windows
 pub mod Arriving
 pub mod Loaded
-pub mod Awake
 pub mod Walked
 pub mod Counting
 pub mod Making
 pub mod RoundEnds
+pub mod OwnShares
 pub mod Once
 pub mod SectionWalks
 pub mod CodeStarts

@@ -54,7 +54,7 @@ use Rattle.response_laws.proofs.Attributed.{IsDeclared, declared_by_step}
 use Rattle.response_laws.proofs.Linked.{last_state, last_end, linked_front, linked_behind, each_append, stages_linked, stages_known}
 use Rattle.response_laws.proofs.Linked.{Known, Linked}
 use Rattle.response_laws.proofs.Booted.{HasStarted, has_started}
-use Rattle.response_laws.proofs.States.{not_suspended, not_ready}
+use Rattle.run_counts.proofs.States.{not_suspended, not_ready}
 use Rattle.response_laws.proofs.Raising.{called_no_higher}
 use Rattle.response_laws.proofs.Starting.{IsBusy}
 

@@ -46,7 +46,7 @@ use Rattle.osek_blocking.proofs.Ordering.{opening_ordered}
 use Rattle.raised_sections.specs.Walks.{Position}
 use Rattle.raised_sections.specs.Sections.{operation_at}
 use Rattle.bound_rules.specs.declared.weights.BodyWeights.{BodyWeights}
-use Rattle.section_sizes.specs.Weights.{going_at, ending_at}
+use Rattle.walk_sums.specs.Weights.{going_at, ending_at}
 use Rattle.walk_sums.specs.declared.counted.Counted.{Counted}
 use Rattle.walk_sums.specs.declared.counted.Counted.TheVariants as counts
 use Rattle.walk_sums.specs.Counted.{one_if, calls_for, is_going_counted, is_ending_counted, counted_weights}
@@ -57,7 +57,7 @@ use Rattle.response_laws.specs.Turns.{is_ready_for, has_grown, activated, was_se
 use Rattle.response_laws.specs.Walked.{standing, is_executed, is_back, FitsItem}
 use Rattle.response_laws.specs.Makers.{activation_weights, setting_weights, ItemsActivate, ItemsSet}
 use Rattle.response_laws.proofs.Counting.{counted_going, counted_ending}
-use Rattle.response_laws.proofs.States.{not_suspended, not_waiting}
+use Rattle.run_counts.proofs.States.{not_suspended, not_waiting}
 use Rattle.response_laws.proofs.Linked.{Known, each_so, stages_known}
 use Rattle.response_laws.proofs.Steps.{activated_between, set_between, not_activated, not_set, at_most_one, active_declared}
 

@@ -41,13 +41,12 @@ use Rattle.response_laws.specs.Turns.{in_turn, at_entry, begins_first, begins_ne
 use Rattle.response_laws.specs.Bounded.{EachFirst, EachNext}
 use Rattle.response_laws.specs.Once.{StaysOut, RoundsMakeOnce}
 use Rattle.run_counts.proofs.Owing.{entered_owes, ran_owes, came_back_owes, called_owes}
-use Rattle.response_laws.proofs.States.{not_ready}
-use Rattle.response_laws.proofs.Awake.{stays_active}
+use Rattle.run_counts.proofs.States.{not_ready}
+use Rattle.run_counts.proofs.Awake.{stays_active, entry_active}
 use Rattle.response_laws.proofs.Linked.{Known, Linked, linked_behind, each_append, stages_linked, stages_known}
 use Rattle.response_laws.proofs.RoundEnds.{within_round, no_acts}
 use Rattle.response_laws.proofs.RoundSums.{waiting_turn}
 use Rattle.response_laws.proofs.Steps.{ready_count, turn_active}
-use Rattle.response_laws.proofs.Walked.{entry_active}
 
 module _ (config : Config) (app : App) (w : Facts config app) (k j : ℕ) (declared : k < length config.tasks) (Out : System → Type 0)
     (apart : (s : System) → IsValid config app s → Out s → IsActive s k → j < length config.tasks → static_priority config j ≤ priority_of config k (task s k)) where
@@ -295,7 +294,7 @@ rounds_make_once config app events k j cuts wf osek declared out = (
     entered : (before behind : List Stage) (opens : Stage) → run_stages config app events ≡ before ++ opens ∷ behind → at_entry k opens ≡ true → IsActive opens.next k
     entered before behind opens is entry =
         let own = (here before behind opens is).0 in
-        entry_active config app w k opens.stamped.event opens.found opens.next own.step own.valid entry
+        entry_active config app k opens.stamped.event opens.found opens.next own.step own.valid entry
 
     which : (before behind : List Stage) (opens : Stage) → run_stages config app events ≡ before ++ opens ∷ behind → begins_next cuts k opens ≡ true
         → (at_entry k opens ≡ true) ⊎ (at_entry k opens ≡ false) → IsActive opens.next k

@@ -374,7 +374,7 @@ module _ (config : Config) (app : App) (h : ℕ) (cuts : ℕ → Bool) (costs : 
         let arrived = counted.arrivals j in
         let alarms = sum_below-le (length config.counters) (λ c. total_where (at_tick c) (activated j) q) (λ c. start.inflow.alarm_acts c j)
         (λ c lt. counted.alarm_acts c j (ticks c lt)) in
-        let turns = turns_of (activated j) (λ k. costs.first_acts k j) (λ k. costs.next_acts k j) (λ k. bounds.first_acts k j) (λ k. bounds.next_acts k j)
+        let turns = turns_of (activated j) (λ k. costs.first_acts k j) (λ k. costs.next_acts k j) (λ k there above. bounds.first_acts k j (there, above) (lt, over)) (λ k there above. bounds.next_acts k j (there, above) (lt, over))
         (λ is. (enough.entered is).acts j) in
         omega (arith, parts_all, other, admits, arrived, alarms, turns)
 
@@ -386,7 +386,7 @@ module _ (config : Config) (app : App) (h : ℕ) (cuts : ℕ → Bool) (costs : 
         (each_so (Known config app) (λ y. cond (is_admit y.stamped) (was_set j y) 0 ≤ 0) (sets_by_admission config app j) q ks) in
         let alarms = sum_below-le (length config.counters) (λ c. total_where (at_tick c) (was_set j) q) (λ c. start.inflow.alarm_sets c j)
         (λ c lt. counted.alarm_sets c j (ticks c lt)) in
-        let turns = turns_of (was_set j) (λ k. costs.first_sets k j) (λ k. costs.next_sets k j) (λ k. bounds.first_sets k j) (λ k. bounds.next_sets k j)
+        let turns = turns_of (was_set j) (λ k. costs.first_sets k j) (λ k. costs.next_sets k j) (λ k there above. bounds.first_sets k j (there, above) (lt, over)) (λ k there above. bounds.next_sets k j (there, above) (lt, over))
         (λ is. (enough.entered is).sets j) in
         omega (arith, parts_all, other, admits, alarms, turns)
 

@@ -1,7 +1,7 @@
 -- What a round has up to its end, and that entries make nothing.
 use Rattle.std.proofs.Common.{◌≡◌, ℕ, ◌+◌, ◌≤◌, ◌==◌, ◌&&◌, ◌||◌, List, [], ◌∷◌, ◌++◌, Bool, true, false, cond, refl, sym, ap, ◌∙◌, subst, arith}
 use Rattle.std.specs.List.{AllByRecursion}
-use Rattle.std.proofs.lemmas.Bool.{false≢true, eqb-true}
+use Rattle.std.proofs.lemmas.Bool.{false≢true}
 use Rattle.sloth_base.specs.declared.config.Config.{Config}
 use Rattle.sloth_base.specs.declared.app.App.{App}
 use Rattle.sloth_base.specs.declared.event.Event.{Event}
@@ -15,60 +15,34 @@ use Rattle.osek_scheduler.specs.Next.{is_ready}
 use Rattle.osek_scheduler.specs.Services.{started_task}
 use Rattle.osek_scheduler.specs.Steps.{OsekStep}
 use Rattle.osek_scheduler.specs.Runs.{OsekRun}
-use Rattle.osek_scheduler.specs.Apart.{IsActive}
 use Rattle.osek_scheduler.proofs.Apart.{at_task}
 use Rattle.osek_scheduler.proofs.Facts.{Facts, facts}
 use Rattle.osek_scheduler.proofs.Leading.{follows_leads}
 use Rattle.osek_scheduler.proofs.Steps.{opening_valid}
 use Rattle.osek_blocking.proofs.Ordering.{opening_ordered}
-use Rattle.section_sizes.specs.Weights.{going_at, ending_at}
+use Rattle.walk_sums.specs.Weights.{going_at, ending_at}
 use Rattle.walk_sums.specs.declared.counted.Counted.{Counted}
 use Rattle.walk_sums.specs.declared.counted.Counted.TheVariants as counts
 use Rattle.walk_sums.specs.Counted.{counted_weights}
-use Rattle.raised_sections.proofs.FrameEffects.{frame_effect}
 use Rattle.run_counts.specs.Stages.{Stage, end_of, is_entry, run_stages}
-use Rattle.run_counts.specs.Rounds.{goes_on_waiting, is_left, round_of, total}
+use Rattle.run_counts.specs.Rounds.{round_of, total}
 use Rattle.response_laws.specs.Turns.{at_entry, round_behind, if_turn, if_entry, activated, was_set}
 use Rattle.response_laws.specs.Bounded.{EachFirst, EachNext}
 use Rattle.response_laws.specs.Walked.{FirstRoundsSum, LaterRoundsSum, FitsItem}
 use Rattle.response_laws.specs.Makers.{RoundsMakeWithin}
 use Rattle.response_laws.proofs.Counting.{counted_lighter}
 use Rattle.response_laws.proofs.Linked.{Known, Linked, linked_behind, each_append, stages_linked, stages_known}
-use Rattle.response_laws.proofs.RoundSums.{no_round}
+use Rattle.response_laws.proofs.Shares as shares
+pub use Rattle.response_laws.proofs.Shares.{left_inactive}
+use Rattle.response_laws.proofs.RoundSums.{turn_rests}
 use Rattle.response_laws.proofs.Steps.{activated_between, set_between, not_activated, not_set}
 use Rattle.response_laws.proofs.Walked.{rounds_follow_walks}
 use Rattle.response_laws.proofs.Making.{unready_acts, unready_sets, items_activate, items_set}
 
--- a task that leaves is not Active behind it
-pub left_inactive : (config : Config) (app : App) → Facts config app → (t : ℕ) (x : Stage) → Known config app x → is_left t x.stamped.event ≡ true → IsActive x.next t → ⊥
-left_inactive config app w t x k is = by x.stamped.event k.step is
-  where
-    by : (e : Event) → OsekStep config app e x.found x.next → is_left t e ≡ true → IsActive x.next t → ⊥
-    by (event.Left u served) step is active =
-        (frame_effect config app w x.found x.next k.valid (event.Left u served) step).gone (subst (IsActive x.next) (sym (eqb-true u t is)) active)
-    by event.Boot step is active = false≢true is
-    by e step is active = absurd (false≢true is)
-
 -- up to where the next round begins a task has no more than up to where the round ends
-module _ (config : Config) (app : App) (w : Facts config app) (cuts : Bool) (t : ℕ) (f : Stage → ℕ) where
-  pub within_round : (at : ℕ) (s : System) (xs : List Stage) → Linked at s xs → AllByRecursion (Known config app) xs
-      → total (if_turn t f) (round_behind cuts t xs) ≤ total (if_turn t f) (round_of cuts t xs)
-  within_round at s [] l k = omega arith
-  within_round at s (x ∷ xs) l k =
-      by (at_entry t x) (cuts && goes_on_waiting t x.stamped.event) (is_left t x.stamped.event) refl (within_round (end_of x) x.next xs l.2 k.1)
-    where
-      gone : is_left t x.stamped.event ≡ true → total (if_turn t f) (round_behind cuts t xs) ≤ 0
-      gone is = no_round cuts t f config app (end_of x) x.next xs l.2 k.1 (left_inactive config app w t x k.0 is)
-
-      by : (entry waits leaves : Bool) → is_left t x.stamped.event ≡ leaves
-          → total (if_turn t f) (round_behind cuts t xs) ≤ total (if_turn t f) (round_of cuts t xs)
-          → total (if_turn t f) (cond entry [] (x ∷ cond waits [] (round_behind cuts t xs)))
-          ≤ if_turn t f x + total (if_turn t f) (cond (leaves || waits) [] (round_of cuts t xs))
-      by true waits leaves is rest = omega arith
-      by false true true is rest = omega arith
-      by false true false is rest = omega arith
-      by false false true is rest = let none = gone is in omega (arith, none)
-      by false false false is rest = omega (arith, rest)
+pub within_round : (config : Config) (app : App) → Facts config app → (cuts : Bool) (t : ℕ) (f : Stage → ℕ) (at : ℕ) (s : System) (xs : List Stage) → Linked at s xs
+    → AllByRecursion (Known config app) xs → total (if_turn t f) (round_behind cuts t xs) ≤ total (if_turn t f) (round_of cuts t xs)
+within_round config app w cuts t f = shares.within_round cuts t f (if_turn t f) config app w (turn_rests t f config app)
 
 -- an entry makes no task Ready and sets no event
 module _ (config : Config) (app : App) (j : ℕ) (x : Stage) (k : Known config app x) where

@@ -61,9 +61,9 @@ use Rattle.response_laws.proofs.Linked.{Known, Linked, last_state, last_end, lin
 use Rattle.response_laws.proofs.Steps.{turn_active, stays_inactive}
 use Rattle.response_laws.proofs.RoundSums.{waiting_turn}
 use Rattle.response_laws.proofs.RoundEnds.{left_inactive}
-use Rattle.response_laws.proofs.Awake.{stays_active}
+use Rattle.run_counts.proofs.Awake.{stays_active, entry_active}
 use Rattle.response_laws.proofs.Masks.{same_mask, others_grow, own_grows, own_clears, own_runs, own_back}
-use Rattle.response_laws.proofs.Walked.{Stands, frames_same, entry_active, all_stand, behind_wait, runs_no_wait}
+use Rattle.response_laws.proofs.Walked.{Stands, frames_same, all_stand, behind_wait, runs_no_wait}
 
 -- ---- masks
 
@@ -393,7 +393,7 @@ module _ (config : Config) (app : App) (w : Facts config app) (t : ℕ) (clean :
             which (inl is) turn entry = inr (left_empty config app t x k is ready)
             which (inr stays) (inl turn) entry =
                 absurd (ready_active ready (stays_active config app t x.stamped.event x.found x.next k.step k.valid stays (turn_active config app t x k turn)))
-            which (inr stays) (inr away) (inl entry) = absurd (ready_active ready (entry_active config app w t x.stamped.event x.found x.next k.step k.valid entry))
+            which (inr stays) (inr away) (inl entry) = absurd (ready_active ready (entry_active config app t x.stamped.event x.found x.next k.step k.valid entry))
             which (inr stays) (inr away) (inr out) = within (cases_lt t (length x.found.tasks)) (task x.found t).state refl away out stays
 
         -- ---- it is Active
@@ -590,7 +590,7 @@ module _ (config : Config) (app : App) (w : Facts config app) (t : ℕ) (clean :
             stays e is = absurd (false≢true is)
 
             active_then : ((at_entry t x && has_frames (task x.found t).frames) ≡ true) ⊎ ((at_entry t x && has_frames (task x.found t).frames) ≡ false) → IsActive x.next t
-            active_then (inl entry) = entry_active config app w t x.stamped.event x.found x.next k.step k.valid (and_parts (at_entry t x) (has_frames (task x.found t).frames) entry).0
+            active_then (inl entry) = entry_active config app t x.stamped.event x.found x.next k.step k.valid (and_parts (at_entry t x) (has_frames (task x.found t).frames) entry).0
             active_then (inr other) =
                 let waits = sym (ap (λ b. b || (true && goes_on_waiting t x.stamped.event)) other) ∙ is in
                 stays_active config app t x.stamped.event x.found x.next k.step k.valid (stays x.stamped.event waits)

@@ -41,7 +41,7 @@ use Rattle.response_laws.specs.Once.{StaysOut}
 use Rattle.response_laws.proofs.Once.{rounds_make_once}
 use Rattle.response_laws.specs.Arrivals.{AreCharged}
 use Rattle.response_laws.specs.SoundRuns.{NoStretchIsAbove, KeepsWork, WorksWithin, FitsRounds}
-use Rattle.section_sizes.specs.Weights.{going_at, ending_at}
+use Rattle.walk_sums.specs.Weights.{going_at, ending_at}
 use Rattle.raised_sections.specs.Walks.{Position}
 use Rattle.response_laws.specs.Walked.{standing, is_executed, is_back, FitsItem, FirstRoundsSum, LaterRoundsSum}
 use Rattle.response_laws.proofs.Walked.{rounds_follow_walks}
@@ -268,10 +268,10 @@ module _ (config : Config) (app : App) (size : ItemSizes) (longest n : ℕ) (wei
         let le = tick_charged config app size longest most positive c x weight is in
         let whole = fits.tick c in
         omega (arith, le, whole)) run within;
-    first_acts = λ k j lt over. first_makes k j lt (fits.first_acts k j lt over);
-    next_acts = λ k j lt over. next_makes k j lt (fits.next_acts k j lt over);
-    first_sets = λ k j lt over. (rounds_make_within config app events k j (cuts k) (costs.first_sets k j) wf osek).first_sets (fits.first_sets k j lt over);
-    next_sets = λ k j lt over. (rounds_make_within config app events k j (cuts k) (costs.next_sets k j) wf osek).next_sets (fits.next_sets k j lt over);
+    first_acts = λ k j over made. first_makes k j over.0 (fits.first_acts k j over made);
+    next_acts = λ k j over made. next_makes k j over.0 (fits.next_acts k j over made);
+    first_sets = λ k j over made. (rounds_make_within config app events k j (cuts k) (costs.first_sets k j) wf osek).first_sets (fits.first_sets k j over made);
+    next_sets = λ k j over made. (rounds_make_within config app events k j (cuts k) (costs.next_sets k j) wf osek).next_sets (fits.next_sets k j over made);
     settings = λ t lt over is. clean_tasks_have_settings config app events t wf osek (fits.clean t lt over is);
   }
     where

@@ -48,7 +48,7 @@ use Rattle.sloth_base.proofs.Services.{same_service}
 use Rattle.sloth_base.specs.declared.service.Service.{Service}
 use Rattle.raised_sections.proofs.Frames.{Served, served_frames}
 use Rattle.response_laws.specs.Turns.{in_turn}
-use Rattle.response_laws.proofs.Awake.{stays_active}
+use Rattle.run_counts.proofs.Awake.{stays_active, entry_active}
 use Rattle.response_laws.proofs.RoundSums.{waiting_turn}
 use Rattle.response_laws.proofs.Steps.{turn_active, active_declared}
 use Rattle.response_laws.proofs.Linked.{Known, Linked, linked_behind, each_append, stages_linked, stages_known}
@@ -433,17 +433,6 @@ module _ (config : Config) (app : App) (w : Facts config app) (t : ℕ) where
       by (inr waits) (inl none) = inl none
       by (inr waits) (inr moves) = inr (behind_own served s (Leaves step.1.0) next h v p waits.1 moves)
 
-  -- an entry leaves it Active
-  pub entry_active : (e : Event) (s next : System) → OsekStep config app e s next → IsValid config app s → is_entry t e ≡ true → IsActive next t
-  entry_active (event.Enter u) s next step v is =
-      let there : OsekStep config app (event.Enter t) s next = subst (λ k. OsekStep config app (event.Enter k) s next) (eqb-true u t is) step in
-      let new = record (started_task app t (task s t).frames (task s t)) { state = mode.Active; raised = (declaration config t).non } in
-      let placed_new : task next t ≡ new =
-      ap (λ (y : System). task y t) there.4 ∙ get_or-set_same s.tasks t new sleeping_task (subst (λ n. t < n) (sym v.count) there.1.declared) in
-      ap (λ (k : Task). k.state) placed_new
-  entry_active event.Boot s next step v is = absurd (false≢true is)
-  entry_active e s next step v is = absurd (false≢true is)
-
   next_stands : (x : Stage) → Known config app x → Placed app x.found → Stands x.found → Stands x.next
   next_stands x k p stands = by (cases_Bool (is_left t x.stamped.event)) stands
     where
@@ -455,7 +444,7 @@ module _ (config : Config) (app : App) (w : Facts config app) (t : ℕ) where
 
       resting : ((task x.found t).frames ≡ []) ⊎ BehindWait app t (standing (task x.found t).frames)
           → (at_entry t x ≡ true) ⊎ (at_entry t x ≡ false) → (in_turn t x ≡ true) ⊎ (in_turn t x ≡ false) → is_left t x.stamped.event ≡ false → Stands x.next
-      resting rest (inl entry) turn away = inl (entry_active x.stamped.event x.found x.next k.step k.valid entry)
+      resting rest (inl entry) turn away = inl (entry_active config app t x.stamped.event x.found x.next k.step k.valid entry)
       resting rest (inr out) (inl turn) away =
           inl (stays_active config app t x.stamped.event x.found x.next k.step k.valid away (turn_active config app t x k turn))
       resting rest (inr out) (inr idle) away =

@@ -32,15 +32,19 @@ HasSettings run t =
     (before further behind : List Stage) (first last : Stage) → run ≡ before ++ ((first ∷ (further ++ last ∷ [])) ++ behind) → is_due first.found t ≡ false
     → count (begins_next true t) (first ∷ (further ++ last ∷ [])) ≤ total (was_set t) (first ∷ further)
 
--- the costs bound the rounds and ticks of a run
+-- a task of the configuration, of at least the static priority of h
+abbrev pub IsOfLevel : Config → (h t : ℕ) → Type 0
+IsOfLevel config h t = (t < length config.tasks) × (is_over config h t ≡ true)
+
+-- the costs bound the rounds and ticks of a run, and how often rounds of tasks of at least the static priority of h make such tasks Ready
 pub record BoundsRounds (config : Config) (h : ℕ) (cuts : ℕ → Bool) (costs : Costs) (run : List Stage) : Type 0 where
   pub firsts : (t : ℕ) → t < length config.tasks → is_over config h t ≡ true → EachFirst run (cuts t) t charged (costs.first t)
   pub nexts : (t : ℕ) → t < length config.tasks → is_over config h t ≡ true → EachNext run (cuts t) t charged (costs.next t)
   pub ticks : (c : ℕ) → AllByRecursion (λ x. at_tick c x ≡ true → charged x ≤ costs.tick c) run
-  pub first_acts : (k j : ℕ) → k < length config.tasks → is_over config h k ≡ true → EachFirst run (cuts k) k (activated j) (costs.first_acts k j)
-  pub next_acts : (k j : ℕ) → k < length config.tasks → is_over config h k ≡ true → EachNext run (cuts k) k (activated j) (costs.next_acts k j)
-  pub first_sets : (k j : ℕ) → k < length config.tasks → is_over config h k ≡ true → EachFirst run (cuts k) k (was_set j) (costs.first_sets k j)
-  pub next_sets : (k j : ℕ) → k < length config.tasks → is_over config h k ≡ true → EachNext run (cuts k) k (was_set j) (costs.next_sets k j)
+  pub first_acts : (k j : ℕ) → IsOfLevel config h k → IsOfLevel config h j → EachFirst run (cuts k) k (activated j) (costs.first_acts k j)
+  pub next_acts : (k j : ℕ) → IsOfLevel config h k → IsOfLevel config h j → EachNext run (cuts k) k (activated j) (costs.next_acts k j)
+  pub first_sets : (k j : ℕ) → IsOfLevel config h k → IsOfLevel config h j → EachFirst run (cuts k) k (was_set j) (costs.first_sets k j)
+  pub next_sets : (k j : ℕ) → IsOfLevel config h k → IsOfLevel config h j → EachNext run (cuts k) k (was_set j) (costs.next_sets k j)
   pub settings : (t : ℕ) → t < length config.tasks → is_over config h t ≡ true → cuts t ≡ true → HasSettings run t
 
 -- ---- busy periods

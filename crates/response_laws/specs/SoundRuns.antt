@@ -26,6 +26,7 @@ use Rattle.response_laws.specs.Sums.{is_over}
 use Rattle.walk_sums.specs.Rounds.{IsClean}
 use Rattle.response_laws.specs.Walked.{FirstRoundsSum, LaterRoundsSum}
 use Rattle.response_laws.specs.Demand.{Costs, Start, IsEnough}
+use Rattle.response_laws.specs.Bounded.{IsOfLevel}
 use Rattle.response_laws.specs.Makers.{activation_weights, setting_weights}
 use Rattle.response_laws.specs.Once.{StaysOut}
 use Rattle.response_laws.specs.Arrivals.{HasDistances}
@@ -71,14 +72,14 @@ pub record FitsRounds (config : Config) (app : App) (longest : ℕ) (weights : L
   pub first : (t : ℕ) → longest + enter_counts config app false t + first_round t ≤ costs.first t
   pub next : (t : ℕ) → longest + enter_counts config app true t + next_round t ≤ costs.next t
   pub tick : (c : ℕ) → longest + tick_path config c ≤ costs.tick c
-  -- what rounds make, by walks; or once, where the task cannot be entered meanwhile
-  pub first_acts : (k j : ℕ) → k < length config.tasks → is_over config h k ≡ true
+  -- what rounds make of tasks of this level, by walks; or once, where the task cannot be entered meanwhile
+  pub first_acts : (k j : ℕ) → IsOfLevel config h k → IsOfLevel config h j
       → FirstRoundsSum app (cuts k) k (activation_weights app k j) (costs.first_acts k j) ⊎ (StaysOut config app k j × (1 ≤ costs.first_acts k j))
-  pub next_acts : (k j : ℕ) → k < length config.tasks → is_over config h k ≡ true
+  pub next_acts : (k j : ℕ) → IsOfLevel config h k → IsOfLevel config h j
       → LaterRoundsSum app (cuts k) k (activation_weights app k j) (costs.next_acts k j) ⊎ (StaysOut config app k j × (1 ≤ costs.next_acts k j))
-  pub first_sets : (k j : ℕ) → k < length config.tasks → is_over config h k ≡ true
+  pub first_sets : (k j : ℕ) → IsOfLevel config h k → IsOfLevel config h j
       → FirstRoundsSum app (cuts k) k (setting_weights app j) (costs.first_sets k j)
-  pub next_sets : (k j : ℕ) → k < length config.tasks → is_over config h k ≡ true
+  pub next_sets : (k j : ℕ) → IsOfLevel config h k → IsOfLevel config h j
       → LaterRoundsSum app (cuts k) k (setting_weights app j) (costs.next_sets k j)
   -- a task whose turns WaitEvents cut into rounds clears what it waits for
   pub clean : (t : ℕ) → t < length config.tasks → is_over config h t ≡ true → cuts t ≡ true → IsClean app t

@@ -13,7 +13,7 @@ use Rattle.osek_scheduler.specs.Runs.{OsekRun}
 use Rattle.raised_sections.specs.Walks.{Position, place}
 use Rattle.raised_sections.specs.Sections.{IsSection}
 use Rattle.bound_rules.specs.declared.weights.BodyWeights.{BodyWeights}
-use Rattle.section_sizes.specs.Weights.{going_at, ending_at}
+use Rattle.walk_sums.specs.Weights.{going_at, ending_at}
 use Rattle.walk_sums.specs.Rounds.{is_wait, IsPart, IsFirst, IsBehindWait, Anywhere}
 use Rattle.walk_sums.specs.Told.{NoneIsAbove}
 use Rattle.run_counts.specs.Stages.{Stage, run_stages}

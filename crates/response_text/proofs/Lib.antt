@@ -1,4 +1,5 @@
-pub mod OneResponse
+pub mod FirstTasks
+mod PartLines
 pub mod OneText
 pub mod Refused
 mod Unread

@@ -2,18 +2,16 @@
 use Rattle.std.proofs.Common.{◌≡◌, ◌∙◌, ℕ, ◌<◌, List, ◌++◌, length, Option, sym, ap, subst, arith}
 use Rattle.sloth_base.specs.declared.config.Config.{Config}
 use Rattle.sloth_base.specs.declared.app.App.{App}
-use Rattle.sloth_base.specs.DeclaredNames.{task_names, counter_names}
 use Rattle.sloth_source.proofs.Unique.{one_meaning}
 use Rattle.load_text.specs.declared.entry.Entry.{Entry}
-use Rattle.load_text.specs.LoadText.{load_in}
 use Rattle.response_bounds.specs.declared.costs.Costs.{Costs}
-use Rattle.response_bounds.specs.Responses.{IsResponse, IsDemand}
+use Rattle.response_bounds.specs.Responses.{IsDemand}
 use Rattle.response_costs.proofs.OneCosts.{one_costs}
 use Rattle.response_text.specs.declared.told.Told.{Told}
-use Rattle.response_lines.specs.Lines.{response_at, response_lines, demand_line, has_open}
+use Rattle.response_text.specs.Lines.{response_at, response_lines, demand_line, has_open}
 use Rattle.response_text.specs.ResponseText.{AreResponses, told_of, HasResponses, HasLoadResponses, OneText}
-use Rattle.response_lines.proofs.FirstTasks.{same_lines, same_open}
-use Rattle.response_text.proofs.OneResponse.{one_response, one_demand}
+use Rattle.response_text.proofs.FirstTasks.{same_lines, same_open}
+use Rattle.response_bounds.proofs.OneResponse.{one_response, one_demand}
 
 module _ (config : Config) (app : App) (load : List Entry) where
   -- the same is told of the same responses and demand

@@ -1,2 +1,6 @@
 pub mod Inputs
+pub mod Made
+pub mod Lines
+pub mod Parts
 pub mod ResponseText
+pub mod TaskText

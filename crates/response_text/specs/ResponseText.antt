@@ -9,7 +9,7 @@ use Rattle.response_bounds.specs.Responses.{IsResponse, IsDemand}
 use Rattle.response_costs.specs.CostsOf.{AreCosts}
 use Rattle.response_text.specs.declared.told.Told.{Told}
 use Rattle.response_text.specs.Inputs.{IsLoadOf}
-use Rattle.response_lines.specs.Lines.{response_at, response_lines, demand_line, has_open}
+use Rattle.response_text.specs.Lines.{response_at, response_lines, demand_line, has_open}
 
 -- these are the responses of all tasks
 pub record AreResponses (costs : Costs) (count : ℕ) (responses : List (Option ℕ)) : Type 0 where

@@ -11,6 +11,7 @@ ghost use Rattle.response_text.specs.Inputs.{InputsErrorIs};
 ghost use Rattle.response_text.specs.ResponseText.{AreResponses, told_of, HasResponses, HasLoadResponses, IsResponseText};
 
 use crate::inputs::load_of;
+use crate::lines::{has_open, push_demand, response_lines};
 use crate::told::Told;
 use call_graph::ranking::Ranks;
 use checked_source::read_checked;
@@ -18,7 +19,6 @@ use load_text::Entry;
 use response_bounds::costs::Costs;
 use response_bounds::{demand, response};
 use response_costs::response_costs;
-use response_lines::{has_open, push_demand, response_lines};
 use sloth_base::app::App;
 use sloth_base::config::Config;
 use sloth_base::list::List;

@@ -1,15 +1,15 @@
 use Rattle.std.proofs.Common.{ℕ, ◌<◌, List, length, sym, subst, arith}
 use Rattle.response_bounds.specs.declared.window.Made.{Made}
 use Rattle.response_bounds.specs.Settling.{IsMet}
-use Rattle.response_bounds.proofs.Settling.{filled_below, settled, risen}
+use Rattle.response_bounds.proofs.Settling.{settled, risen}
 use Rattle.response_bounds.proofs.settle.rise.Goals as goal
 
 pub returns-then-limit-filled : goal.returns-then-limit-filled
-returns-then-limit-filled c = λ m more s.
-    let le = filled_below c.args.costs.now c.args.window.now c.pass-grown.new.numbers c.loop-limit.counts c.pass-grown.ensures.below m more s in
+returns-then-limit-filled c =
     let e = c.window_counts-filled.ensures in
     let lt = c.if-limit-filled.true in
-    omega (arith, le, e, lt)
+    let top = c.requires.limit in
+    (c.pass-grown.ensures.below, omega (arith, e, lt, top))
 
 pub returns-then-filled-counts : goal.returns-then-filled-counts
 returns-then-filled-counts c =

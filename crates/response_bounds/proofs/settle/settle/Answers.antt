@@ -1,9 +1,7 @@
-use Rattle.std.proofs.Common.{arith}
-use Rattle.response_bounds.proofs.Settling.{zeros_below}
+use Rattle.response_bounds.proofs.Settling.{above}
 use Rattle.response_bounds.proofs.settle.settle.Goals as goal
 
-pub rise-requires-clause-below : goal.rise-requires-clause-below
-rise-requires-clause-below c =
-    let count = c.requires.count in
-    let same = c.loop-made.auto.numbers in
-    zeros_below c.args.costs.now c.args.window.now c.loop-made.numbers (omega (arith, count, same)) (λ k lt. c.loop-made.invariant k (omega (arith, lt, same)))
+pub returns-in-Beyond-clause-found : goal.returns-in-Beyond-clause-found
+returns-in-Beyond-clause-found c =
+    let h = c.in-Beyond.ensures.reached in
+    above c.args.costs.now c.args.window.now c.reach.new.numbers c.in-Beyond.field-0 c.args.limit c.requires.limit h.0 h.1

@@ -1,6 +1,6 @@
 use Rattle.std.proofs.Common.{◌≡◌, length, sym, subst}
 use Rattle.std.proofs.lemmas.Result.{IfOk-weaker}
-use Rattle.section_sizes.specs.CallOrder.{IsCallOrder}
+use Rattle.walk_sums.specs.CallOrder.{IsCallOrder}
 use Rattle.response_bounds.specs.declared.costs.Costs.{Costs}
 use Rattle.response_bounds.specs.Settling.{TakeCounts}
 use Rattle.response_costs.specs.CostsOf.{AreCosts}

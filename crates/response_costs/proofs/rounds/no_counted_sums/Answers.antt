@@ -1,6 +1,6 @@
 use Rattle.sloth_base.specs.declared.config.TaskDecl.{TaskDecl}
 use Rattle.std.proofs.Common.{List, arith, false, get_or, length, refl, subst, sym, ◌≡◌, ◌≤◌}
-use Rattle.section_sizes.proofs.Bodily.{facts_of}
+use Rattle.walk_sums.proofs.Bodily.{facts_of}
 use Rattle.sloth_base.specs.Named.{declaration}
 use Rattle.walk_sums.specs.declared.tasks.RoundSums.{RoundSums}
 use Rattle.walk_sums.specs.Counted.{counted_weights}

@@ -2,16 +2,16 @@ use Rattle.sloth_base.specs.declared.config.TaskDecl.{TaskDecl}
 use Rattle.std.proofs.Common.{List, arith, length, subst, ◌≤◌}
 use Rattle.response_bounds.specs.declared.costs.SectionCosts.{SectionCosts}
 use Rattle.response_bounds.specs.Costs.{no_section}
-use Rattle.response_costs.specs.CostsOf.{IsSection}
+use Rattle.response_costs.specs.CostsOf.{IsTaskSection}
 use Rattle.response_costs.proofs.Growing.{each_more, each_of}
 use Rattle.response_costs.proofs.sections.sections_by.Goals as goal
 
 pub loop-task-preserved : goal.loop-task-preserved
 loop-task-preserved c =
-    each_more (SectionCosts) (IsSection c.args.config.now c.args.app.now c.args.load.now c.args.weights.now c.args.above) c.loop-task.list.items c.push.new.list.items c.section_of-section.result (no_section) c.loop-task.task c.loop-task.invariant c.in_ok-push.ensures c.section_of-section.ensures
+    each_more (SectionCosts) (IsTaskSection c.args.config.now c.args.app.now c.args.load.now c.args.weights.now c.args.above) c.loop-task.list.items c.push.new.list.items c.section_of-section.result (no_section) c.loop-task.task c.loop-task.invariant c.in_ok-push.ensures c.section_of-section.ensures
 
 pub returns : goal.returns
 returns c =
     let over = subst (λ (x : List TaskDecl). length x ≤ c.loop-task.task) c.items-task-end.ensures c.loop-task-test.false in
     let most = subst (λ (x : List TaskDecl). c.loop-task.task ≤ length x) c.items-task-end.ensures c.loop-task.auto.task-end in
-    each_of (SectionCosts) (IsSection c.args.config.now c.args.app.now c.args.load.now c.args.weights.now c.args.above) c.loop-task.list.items (no_section) c.loop-task.task (length c.args.config.now.tasks) (omega (arith, over, most)) c.loop-task.invariant
+    each_of (SectionCosts) (IsTaskSection c.args.config.now c.args.app.now c.args.load.now c.args.weights.now c.args.above) c.loop-task.list.items (no_section) c.loop-task.task (length c.args.config.now.tasks) (omega (arith, over, most)) c.loop-task.invariant

@@ -1,5 +1,5 @@
 use Rattle.std.proofs.Common.{max, ap, ◌∙◌, arith}
-use Rattle.section_sizes.proofs.Bodily.{facts_of}
+use Rattle.walk_sums.proofs.Bodily.{facts_of}
 use Rattle.response_costs.proofs.Greatest.{greatest_none, greatest_more, greatest_all}
 use Rattle.response_costs.proofs.services.longest.Goals as goal
 

@@ -1,6 +1,6 @@
 use Rattle.sloth_base.specs.declared.config.TaskDecl.{TaskDecl}
 use Rattle.std.proofs.Common.{List, arith, length, subst, sym, ◌<◌, ◌≤◌}
-use Rattle.section_sizes.proofs.Bodily.{facts_of}
+use Rattle.walk_sums.proofs.Bodily.{facts_of}
 use Rattle.response_costs.proofs.Serving.{services_are}
 use Rattle.response_bounds.specs.declared.costs.Services.{Services}
 use Rattle.response_bounds.specs.Costs.{no_services}

@@ -2,7 +2,7 @@ use Rattle.std.proofs.Common.{Bool, sym, subst}
 use Rattle.std.specs.Prelude.{Decides}
 use Rattle.sloth_base.specs.declared.service.Service.TheVariants as service
 use Rattle.sloth_base.specs.Named.{declaration}
-use Rattle.section_sizes.proofs.Bodily.{facts_of}
+use Rattle.walk_sums.proofs.Bodily.{facts_of}
 use Rattle.walk_sums.specs.Rounds.{IsClean}
 use Rattle.response_costs.specs.CostsOf.{ReachesService}
 use Rattle.response_costs.specs.Rounds.{AreRounds}

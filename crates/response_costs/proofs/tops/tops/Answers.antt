@@ -2,8 +2,8 @@ use Rattle.std.proofs.Common.{ℕ, List, get_or, sym, ◌∙◌, subst, ap, arit
 use Rattle.sloth_base.specs.declared.app.Func.{Func}
 use Rattle.sloth_base.specs.Named.{function}
 use Rattle.bound_rules.specs.declared.bodies.Body.{Body}
-use Rattle.section_sizes.specs.Known.{no_body}
-use Rattle.section_sizes.proofs.Bodily.{facts_of}
+use Rattle.walk_sums.specs.KnownBodies.{no_body}
+use Rattle.walk_sums.proofs.Bodily.{facts_of}
 use Rattle.response_costs.specs.Tops.{IsTop, body_top}
 use Rattle.response_costs.proofs.Topping.{is_top, next_known, next_inside, called_topped, one_topped}
 use Rattle.response_costs.proofs.tops.tops.Goals as goal

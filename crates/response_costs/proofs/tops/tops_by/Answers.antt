@@ -1,6 +1,6 @@
 use Rattle.sloth_base.specs.declared.config.TaskDecl.{TaskDecl}
 use Rattle.std.proofs.Common.{List, arith, length, subst, ℕ, ◌<◌, ◌≤◌}
-use Rattle.section_sizes.proofs.Bodily.{facts_of}
+use Rattle.walk_sums.proofs.Bodily.{facts_of}
 use Rattle.response_costs.proofs.Serving.{task_top}
 use Rattle.sloth_base.specs.Named.{body_of}
 use Rattle.response_costs.specs.Tops.{IsTop}

@@ -1,4 +1,4 @@
-use Rattle.std.proofs.Common.{ℕ, List, ◌∙◌}
+use Rattle.std.proofs.Common.{ℕ}
 use Rattle.std.specs.Prelude.{Option, None}
 use Rattle.call_graph.proofs.Growing.{held_more}
 use Rattle.response_bounds.specs.Responses.{IsResponse}

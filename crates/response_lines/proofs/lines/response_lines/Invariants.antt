@@ -1,6 +1,0 @@
-use Rattle.std.proofs.Common.{◌≡◌}
-use Rattle.response_lines.specs.Lines.{response_lines}
-use Rattle.response_lines.proofs.lines.response_lines.Given as goal
-
-abbrev pub invariant-loop-task : goal.invariant-loop-task
-invariant-loop-task l = l.text.items ≡ response_lines l.config l.app l.load l.responses l.task

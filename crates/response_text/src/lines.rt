@@ -1,0 +1,211 @@
+//! The lines of responses.
+ghost use Rattle.std.specs.Prelude.{◌≡◌, ◌<◌, ◌≤◌, ◌++◌, [], cond, length, codes, decimal, OnOk, IfOk};
+ghost use Rattle.sloth_base.specs.Limits.{task_limit};
+ghost use Rattle.load_text.specs.Loads.{deadline, distance};
+ghost use Rattle.response_text.specs.Lines.{number_words, is_within, is_within_limit, is_open, deadline_words, keeps_arrivals, kept_words, response_words, response_at, response_line, response_lines, demand_line, has_open};
+
+use crate::made::is_made_by_arrivals;
+use itoa::Buffer;
+use load_text::{Entry, deadline_of, distance_of};
+use sloth_base::app::App;
+use sloth_base::config::Config;
+use sloth_base::memory::NoMemory;
+use std::alloc::Global;
+
+// A word, and a number behind it.
+fn push_number(text: &mut Vec<u8>, word: &[u8], number: u32) -> Result<(), NoMemory>
+    ensures { OnOk result (text.new.items ≡ text.old.items ++ (word.now ++ decimal number)) }
+{
+    let mut buffer = Buffer::new();
+    text.extend_from_slice(word)?;
+    text.extend_from_slice(buffer.format(number).as_bytes())?;
+    Ok(())
+}
+
+/// A number behind a space.
+pub fn push_response(text: &mut Vec<u8>, response: Option<u32>) -> Result<(), NoMemory>
+    ensures { OnOk result (text.new.items ≡ text.old.items ++ number_words response) }
+{
+    match response {
+        Some(counts) => push_number(text, b" ", counts),
+        None => {
+            text.extend_from_slice(b" endless")?;
+            Ok(())
+        }
+    }
+}
+
+fn is_within(response: Option<u32>, limit: u32) -> bool
+    ensures { result ≡ is_within response limit }
+{
+    match response {
+        Some(counts) => counts <= limit,
+        None => false,
+    }
+}
+
+fn is_within_limit(response: Option<u32>, limit: Option<u32>) -> bool
+    ensures { result ≡ is_within_limit response limit }
+{
+    match limit {
+        Some(limit) => is_within(response, limit),
+        None => false,
+    }
+}
+
+/// Whether there is a deadline that the response is not within.
+pub fn is_open(response: Option<u32>, deadline: Option<u32>) -> bool
+    ensures { result ≡ is_open response deadline }
+{
+    match deadline {
+        Some(limit) => !is_within(response, limit),
+        None => false,
+    }
+}
+
+fn verdict_word(met: bool) -> &'static [u8]
+    ensures { result.now ≡ cond met (codes " met ") (codes " open ") }
+{
+    if met { b" met " } else { b" open " }
+}
+
+// Whether the deadline is met, if there is one.
+fn push_deadline(
+    text: &mut Vec<u8>,
+    response: Option<u32>,
+    deadline: Option<u32>,
+) -> Result<(), NoMemory>
+    ensures { OnOk result (text.new.items ≡ text.old.items ++ deadline_words response deadline) }
+{
+    match deadline {
+        Some(limit) => push_number(text, verdict_word(is_within(response, limit)), limit),
+        None => Ok(()),
+    }
+}
+
+fn push_kept(text: &mut Vec<u8>, kept: bool) -> Result<(), NoMemory>
+    ensures { OnOk result (text.new.items ≡ text.old.items ++ kept_words kept) }
+{
+    if kept {
+        text.extend_from_slice(b" kept")?;
+    }
+    Ok(())
+}
+
+fn keeps_arrivals(
+    config: &Config,
+    app: &App,
+    load: &[Entry],
+    task: u32,
+    response: Option<u32>,
+) -> bool
+    requires few { length config.now.tasks ≤ task_limit }
+    requires there { task < length config.now.tasks }
+    ensures { result ≡ keeps_arrivals config.now app.now load.now task response }
+{
+    is_made_by_arrivals(config, app, task)
+        && is_within_limit(response, distance_of(load, task as u8))
+}
+
+// What stands behind the name of a task.
+fn push_words(
+    text: &mut Vec<u8>,
+    config: &Config,
+    app: &App,
+    load: &[Entry],
+    task: u32,
+    response: Option<u32>,
+) -> Result<(), NoMemory>
+    requires few { length config.now.tasks ≤ task_limit }
+    requires there { task < length config.now.tasks }
+    ensures { OnOk result (text.new.items ≡ text.old.items ++ response_words config.now app.now load.now task response) }
+{
+    push_response(text, response)?;
+    push_deadline(text, response, deadline_of(load, task as u8))?;
+    push_kept(text, keeps_arrivals(config, app, load, task, response))?;
+    Ok(())
+}
+
+fn response_at(responses: &[Option<u32>], task: u32) -> Option<u32>
+    ensures { result ≡ response_at responses.now task }
+{
+    match responses.get(task as usize) {
+        Some(response) => *response,
+        None => None,
+    }
+}
+
+/// The line of a task.
+#[tactic(auto, unfolding(crate::specs::Lines::response_line))]
+pub fn push_line(
+    text: &mut Vec<u8>,
+    config: &Config,
+    app: &App,
+    load: &[Entry],
+    task: u32,
+    response: Option<u32>,
+) -> Result<(), NoMemory>
+    requires few { length config.now.tasks ≤ task_limit }
+    requires there { task < length config.now.tasks }
+    ensures { OnOk result (text.new.items ≡ text.old.items ++ response_line config.now app.now load.now task response) }
+{
+    text.extend_from_slice(config.tasks.items()[task as usize].name.bytes())?;
+    push_words(text, config, app, load, task, response)?;
+    text.extend_from_slice(b"\n")?;
+    Ok(())
+}
+
+/// The lines of all tasks.
+pub fn response_lines(
+    alloc: Global,
+    config: &Config,
+    app: &App,
+    load: &[Entry],
+    responses: &[Option<u32>],
+) -> Result<Vec<u8>, NoMemory>
+    requires few { length config.now.tasks ≤ task_limit }
+    ensures { IfOk result (λ text. text.items ≡ response_lines config.now app.now load.now responses.now (length config.now.tasks)) }
+{
+    let mut text = Vec::new(alloc);
+    for task in 0..config.tasks.items().len() as u32 {
+        push_line(
+            &mut text,
+            config,
+            app,
+            load,
+            task,
+            response_at(responses, task),
+        )?;
+    }
+    Ok(text)
+}
+
+/// The line of the demand, at the end.
+pub fn push_demand(text: &mut Vec<u8>, demand: Option<u32>) -> Result<(), NoMemory>
+    ensures { OnOk result (text.new.items ≡ text.old.items ++ demand_line demand) }
+{
+    text.extend_from_slice(b"demand")?;
+    push_response(text, demand)?;
+    text.extend_from_slice(b"\n")?;
+    Ok(())
+}
+
+// Whether the deadline of a task is open.
+fn is_open_at(load: &[Entry], responses: &[Option<u32>], task: u32) -> bool
+    requires { task < 256 }
+    ensures { result ≡ is_open (response_at responses.now task) (deadline load.now task) }
+{
+    is_open(response_at(responses, task), deadline_of(load, task as u8))
+}
+
+/// Whether that of one of the first tasks is, so many of them.
+pub fn has_open(load: &[Entry], responses: &[Option<u32>], count: u32) -> bool
+    requires { count ≤ 256 }
+    ensures { result ≡ has_open load.now responses.now count }
+{
+    let mut found = false;
+    for task in 0..count {
+        found = found || is_open_at(load, responses, task);
+    }
+    found
+}

@@ -1,0 +1,9 @@
+pub mod Numbers
+pub mod Sums
+pub mod Alarms
+pub mod Reaching
+pub mod Rounds
+pub mod StartLists
+pub mod Windows
+pub mod Fronts
+pub mod Meeting

@@ -1,0 +1,122 @@
+-- Runs of images meet the bounds of computed costs.
+use Rattle.std.proofs.Common.{◌≡◌, ℕ, ◌+◌, ◌<◌, ◌≤◌, ◌⊎◌, inl, inr, sym, ◌∙◌, false, Bool, List, [], ◌∷◌, length, arith, Some, cond, true}
+use Rattle.std.proofs.lemmas.Bool.{cases_eq, cases_lt}
+use Rattle.std.specs.Prelude.{All}
+use Rattle.std.proofs.lemmas.List.Elements.{All-head, All-tail}
+use Rattle.sloth_base.specs.declared.config.Config.{Config}
+use Rattle.sloth_base.specs.declared.app.App.{App}
+use Rattle.sloth_base.specs.Named.{undeclared_task}
+use Rattle.code_rules.specs.WellFormed.{WellFormed}
+use Rattle.osek_scheduler.specs.Apart.{static_priority}
+use Rattle.osek_scheduler.proofs.Facts.{Facts, facts}
+use Rattle.load_text.specs.declared.entry.Entry.{Entry}
+use Rattle.load_text.specs.declared.entry.Form.{Form}
+use Rattle.load_text.specs.declared.entry.Form.TheVariants as form
+use Rattle.load_text.specs.LoadText.{is_of}
+use Rattle.load_text.specs.Loads.{said, IsNumber}
+use Rattle.response_bounds.specs.declared.costs.Costs.{Costs}
+use Rattle.response_bounds.specs.declared.window.Start.{Start}
+use Rattle.response_bounds.specs.Costs.{task}
+use Rattle.response_bounds.specs.Windows.{Numbers, joins, IsSolution}
+use Rattle.response_bounds.specs.Responses.{start_at}
+use Rattle.response_laws.specs.Demand
+use Rattle.response_laws.specs.Response.{EntersOnce}
+use Rattle.response_laws.specs.SoundRuns.{IsLongestItem, IsCodeStart}
+use Rattle.response_laws.proofs.Images.{images_respond_by_code}
+use Rattle.run_responses.specs.RunCosts.{AreRunCosts}
+use Rattle.run_windows.specs.RunWindows.{run_starts, run_window, IsBoundWithin, AreRunBounds, AreTold}
+use Rattle.run_responses.specs.Meeting.{AreCutTasks, ImagesMeetBounds}
+use Rattle.run_responses.proofs.StartLists.{by_place, joins_none}
+use Rattle.run_responses.proofs.Alarms.{is_set, marks}
+use Rattle.run_responses.proofs.Rounds.{law_costs, fits_rounds, cut_as, is_full, is_whole}
+use Rattle.run_responses.proofs.Windows.{enough, has_arrivals, has_expiries, lasts}
+use Rattle.run_responses.proofs.Fronts.{begins, fits_starts}
+
+-- a number of a load is none of 0
+some_said : (f : Form) (owner : ℕ) (load : List Entry) → All IsNumber load → (said f owner load ≡ Some 0) → ⊥
+some_said f owner [] all is = cc
+some_said f owner (entry ∷ load) all is = by (is_of f owner entry) (some_said f owner load (All-tail IsNumber entry load all)) is
+  where
+    by : (b : Bool) → ((said f owner load ≡ Some 0) → ⊥) → (cond b (Some entry.number) (said f owner load)) ≡ Some 0 → ⊥
+    by true none e = let some = (All-head IsNumber entry load all).0 in let zero : entry.number ≡ 0 = cc in omega (arith, some, zero)
+    by false none e = none e
+
+module _ (config : Config) (app : App) (wf : WellFormed config app) (load : List Entry) (late longest h r : ℕ) (cuts : ℕ → Bool) (costs : Costs) (item : IsLongestItem app longest)
+    (cut : AreCutTasks config app cuts) (are : AreRunCosts config app load longest costs) (there : h < length config.tasks) (told : AreTold costs h)
+    (bounds : AreRunBounds longest late costs h r) where
+  abbrev w : Facts config app
+  w = facts config app wf
+
+  abbrev set : ℕ → Bool
+  set = is_set config app costs.alarms are.alarms
+
+  abbrev law : Demand.Costs
+  law = law_costs config app w load longest costs are h there
+
+  abbrev once : Bool
+  once = (task costs h).is_preemptable
+
+  abbrev at : ℕ → Start
+  at i = start_at (run_starts costs h) i
+
+  abbrev Bound : Start → Type 0
+  Bound s = IsBoundWithin longest late costs h (r + (longest + late)) s
+
+  bound : (i : ℕ) → Bound (at i)
+  bound = by_place costs h Bound bounds
+
+  abbrev numbers : ℕ → Numbers
+  numbers i = (bound i).1.0
+
+  abbrev lasting : ℕ → ℕ
+  lasting i = (bound i).1.1
+
+  abbrev starting : ℕ → Demand.Start
+  starting = begins config app w load longest late costs are h there told numbers lasting
+
+  solves : (i : ℕ) → IsSolution costs (run_window longest late costs h (at i)) (numbers i) (lasting i)
+  solves i = (bound i).1.2.solves
+
+  apart : (i j : ℕ) → joins (at i) j ≡ false
+  apart i = joins_none costs h i
+
+  code_start : (i : ℕ) → i < length (run_starts costs h) → IsCodeStart config set load late (longest + late) h r once law (starting i)
+  code_start i lt = record {
+    arrivals = has_arrivals config app w load longest late costs are h there told cuts cut (at i) (numbers i) (lasting i) (apart i) (solves i);
+    expiries = has_expiries config app w load longest late costs are h there told cuts cut (at i) (numbers i) (lasting i) (apart i) (solves i);
+    enough = enough config app w load longest late costs are h there told cuts cut (at i) (numbers i) (lasting i) (apart i) (solves i);
+    lasts = lasts config app w load longest late costs are h there told cuts cut (at i) (numbers i) (lasting i) (apart i) (solves i)
+        (bound i).0 r (bound i).1.4 (bound i).2;
+  }
+
+  -- no other task has the priority of h
+  alone : (t : ℕ) → t < length config.tasks → static_priority config t ≡ static_priority config h → t ≡ h
+  alone t lt same = by (cases_eq t h)
+    where
+      by : (t ≡ h) ⊎ (t ≡ h → ⊥) → t ≡ h
+      by (inl e) = e
+      by (inr other) = absurd (which (cases_lt t h))
+        where
+          which : (t < h) ⊎ (h ≤ t) → ⊥
+          which (inl less) = w.in_range.configuration.priorities_differ t h undeclared_task less there same
+          which (inr most) = w.in_range.configuration.priorities_differ h t undeclared_task (omega (arith, other, most)) lt (sym same)
+
+  enters : once ≡ true → EntersOnce config h cuts
+  enters is = record {
+    preemptable = is_full config app load longest costs are h there is;
+    alone = alone;
+    whole = sym (cut_as config app w load longest costs are h there told cuts cut h there (are.tasks.each h there).clean (are.tasks.each h there).clears)
+        ∙ is_whole config app load longest costs are h there is;
+  }
+
+pub images_meet_bounds : ImagesMeetBounds
+images_meet_bounds config app image load arrivals n late longest h r cuts costs wf code sound weighed pace item above come few in_load keeps cut works are there told bounds =
+    images_respond_by_code config app image are.weights load arrivals n late longest h r cuts
+    (set config app wf load late longest h r cuts costs item cut are there told bounds) (law config app wf load late longest h r cuts costs item cut are there told bounds)
+    (task costs h).is_preemptable (length (run_starts costs h)) (starting config app wf load late longest h r cuts costs item cut are there told bounds)
+    (enters config app wf load late longest h r cuts costs item cut are there told bounds)
+    wf code sound weighed pace are.are_counts (marks config app costs.alarms are.alarms) item come few above (λ line. some_said form.Every line load in_load.numbers) keeps works
+    (fits_rounds config app (facts config app wf) load longest costs are h there told cuts cut)
+    (fits_starts config app (facts config app wf) load longest late costs are h there told (numbers config app wf load late longest h r cuts costs item cut are there told bounds)
+    (lasting config app wf load late longest h r cuts costs item cut are there told bounds))
+    (code_start config app wf load late longest h r cuts costs item cut are there told bounds)

@@ -1,0 +1,241 @@
+-- A solution of a window is enough for a start of the law.
+use Rattle.std.proofs.Common.{◌≡◌, ℕ, ◌+◌, ◌-◌, ◌*◌, ◌<◌, ◌≤◌, ◌==◌, ◌&&◌, not, Bool, true, false, cond, min, List, length, get_or, refl, sym, ap, ◌∙◌, subst, arith, Some, None, Option}
+use Rattle.std.proofs.lemmas.Bool.{eqb-true, eq-eqb, le-leb}
+use Rattle.sloth_base.specs.declared.config.Config.{Config}
+use Rattle.sloth_base.specs.declared.app.App.{App}
+use Rattle.sloth_base.specs.Owners.{counter_line}
+use Rattle.load_text.specs.declared.entry.Entry.{Entry}
+use Rattle.load_text.specs.Loads.{distance, filling}
+use Rattle.osek_scheduler.specs.Apart.{static_priority}
+use Rattle.osek_scheduler.proofs.Facts.{Facts}
+use Rattle.code_lengths.specs.LongestPaths.{tick_path}
+use Rattle.response_bounds.specs.declared.costs.CounterCosts.{CounterCosts}
+use Rattle.response_bounds.specs.declared.costs.Costs.{Costs}
+use Rattle.response_bounds.specs.declared.window.Start.{Start}
+use Rattle.response_bounds.specs.declared.window.Window.{Window}
+use Rattle.response_bounds.specs.declared.window.Rule.TheVariants as rule
+use Rattle.response_bounds.specs.Costs.{reckoned, task, makers, making, no_task, no_makings}
+use Rattle.response_bounds.specs.Arrivals.{arrivals}
+use Rattle.response_bounds.specs.Arrivals
+use Rattle.response_bounds.specs.Windows.{Numbers, joins, rule_of, level_rule, counted, begun_by, is_boot, shared, of_makings, round_makings, activations, settings, round_counts, IsAtMost, IsSolution, is_target_made}
+use Rattle.response_costs.specs.CostsOf.{no_counter}
+use Rattle.response_laws.specs.Sums.{is_over, sum_over, sum_counters}
+use Rattle.response_laws.specs.Demand
+use Rattle.response_laws.specs.Demand.{acts_due, sets_due, counts_due, IsEnteredOnce, IsEnough}
+use Rattle.response_laws.specs.Bounded.{IsOfLevel}
+use Rattle.response_laws.specs.Response.{LastsWithin}
+use Rattle.response_laws.specs.Arrivals.{admission_window}
+use Rattle.response_laws.specs.Loaded.{HasArrivals}
+use Rattle.response_laws.specs.Expiries.{HasExpiries}
+use Rattle.run_responses.specs.RunCosts.{AreRunCosts}
+use Rattle.run_windows.specs.RunWindows.{margin, run_front, run_window, AreTold}
+use Rattle.run_responses.specs.Meeting.{AreCutTasks}
+use Rattle.run_responses.proofs.Sums.{below_list, makings_sum, rounds_sum, ticking_sum, ticks_sum}
+use Rattle.run_responses.proofs.Alarms.{is_set, expire}
+use Rattle.run_responses.proofs.Rounds.{law_costs, level_upper, counted_task, first_same, next_same, costs_alike, acts_alike, sets_alike}
+
+-- ---- the start of a window
+
+module _ (config : Config) (load : List Entry) (longest late : ℕ) (costs : Costs) (h : ℕ) where
+  -- with so many rounds, and so many counts, the margin among them
+  abbrev pub start_by : Start → Numbers → (counts : ℕ) → Demand.Start
+  start_by s n counts = record {
+    is_boot = is_boot s;
+    inflow = record {
+      arrivals = λ line. arrivals counts (distance load line);
+      alarm_acts = λ c j. min (arrivals counts (distance load (counter_line c)))
+          (Arrivals.expiring (is_boot s) false c j (arrivals counts (distance load (counter_line c))) costs.alarms);
+      alarm_sets = λ c j. min (arrivals counts (distance load (counter_line c)))
+          (Arrivals.expiring (is_boot s) true c j (arrivals counts (distance load (counter_line c))) costs.alarms);
+      front = run_front costs h s;
+      acts = λ j. (begun_by costs h s j).activations;
+      sets = λ j. (begun_by costs h s j).settings;
+    };
+    counts = counts - margin longest late;
+    firsts = λ j. (n j).activations;
+    nexts = λ j. (n j).settings;
+  }
+
+-- ---- arrivals
+
+arrivals_same : (counts : ℕ) (o : Option ℕ) → filling counts o ≡ arrivals counts o
+arrivals_same counts None = refl
+arrivals_same counts (Some d) = refl
+
+cond_few : (b : Bool) (n : ℕ) → cond b n 0 ≤ n
+cond_few true n = omega arith
+cond_few false n = omega arith
+
+made_some : (a b : ℕ) → 1 ≤ a + b → not ((a == 0) && (b == 0)) ≡ true
+made_some a b some = by (a == 0) refl (b == 0) refl
+  where
+    by : (x : Bool) → (a == 0) ≡ x → (y : Bool) → (b == 0) ≡ y → not (x && y) ≡ true
+    by true e true f = let none = eqb-true a 0 e in let zero = eqb-true b 0 f in absurd (omega (arith, none, zero, some))
+    by true e false f = refl
+    by false e y f = refl
+
+module _ (config : Config) (app : App) (w : Facts config app) (load : List Entry) (longest late : ℕ) (costs : Costs) (are : AreRunCosts config app load longest costs) (h : ℕ)
+    (there : h < length config.tasks) (told : AreTold costs h) (cuts : ℕ → Bool) (cut : AreCutTasks config app cuts)
+    (s : Start) (n : Numbers) (counts : ℕ) (no_join : (j : ℕ) → joins s j ≡ false) (solves : IsSolution costs (run_window longest late costs h s) n counts) where
+  abbrev begins : Demand.Start
+  begins = start_by config load longest late costs h s n counts
+
+  abbrev law : Demand.Costs
+  law = law_costs config app w load longest costs are h there
+
+  -- what fills the window
+  filled : margin longest late + run_front costs h s + round_counts n 0 costs.tasks + Arrivals.tick_counts counts costs.counters ≤ counts
+  filled = solves.filled
+
+  room : margin longest late ≤ counts
+  room = let all = filled in omega (arith, all)
+
+  counter_is : (c : ℕ) → c < length config.counters → get_or costs.counters c no_counter ≡ record { distance = distance load (counter_line c); tick = longest + tick_path config c }
+  counter_is c lt = are.counters.each c lt
+
+  -- the sums of the law are at most those of the window
+  by_rounds : (f : ℕ → ℕ) (sets : Bool) (j : ℕ) → j < length config.tasks → ((k : ℕ) → k < length config.tasks → f k ≤ of_makings sets (n k) (making costs k j))
+      → sum_over config h f ≤ round_makings sets n 0 (makers costs j)
+  by_rounds f sets j lt each =
+      let sum = below_list no_makings (λ k m. of_makings sets (n k) m) (λ k. cond (is_over config h k) (f k) 0) (length config.tasks) (makers costs j) (are.makings.each j lt).count
+      (λ k there. let le = each k there in let few = cond_few (is_over config h k) (f k) in omega (arith, le, few)) in
+      let same = makings_sum sets n 0 (makers costs j) in
+      omega (arith, sum, same)
+
+  by_ticks : (boot sets : Bool) (j : ℕ)
+      → sum_counters config (λ c. min (arrivals counts (distance load (counter_line c))) (Arrivals.expiring boot sets c j (arrivals counts (distance load (counter_line c))) costs.alarms))
+      ≤ Arrivals.ticking boot sets j counts costs.alarms 0 costs.counters
+  by_ticks boot sets j =
+      let sum = below_list no_counter (λ c counter. min (arrivals counts counter.distance) (Arrivals.expiring boot sets c j (arrivals counts counter.distance) costs.alarms))
+      (λ c. min (arrivals counts (distance load (counter_line c))) (Arrivals.expiring boot sets c j (arrivals counts (distance load (counter_line c))) costs.alarms))
+      (length config.counters) costs.counters are.counters.count
+      (λ c lt. let same = ap (λ (v : CounterCosts). min (arrivals counts v.distance) (Arrivals.expiring boot sets c j (arrivals counts v.distance) costs.alarms)) (counter_is c lt) in omega (arith, same)) in
+      let same = ticking_sum boot sets j counts costs.alarms 0 costs.counters in
+      omega (arith, sum, same)
+
+  -- ---- which makings count
+
+  abbrev window : Window
+  window = run_window longest late costs h s
+
+  abbrev acts_of : ℕ → ℕ
+  acts_of j = activations costs window n counts j
+
+  abbrev sets_of : ℕ → ℕ
+  sets_of j = settings costs window n counts j
+
+  rule_is : (j : ℕ) → IsOfLevel config h j → (b : Bool) → ((j == h) && (task costs h).is_preemptable) ≡ b → rule_of costs window j ≡ cond b rule.Once rule.Each
+  rule_is j over b e =
+      ap (λ x. cond x rule.Joined (level_rule costs h j)) (no_join j)
+      ∙ ap (λ x. cond x rule.Lower (cond ((j == h) && (task costs h).is_preemptable) (cond (task costs h).is_clean rule.Entered rule.Once) rule.Each)) (level_upper config app w load longest costs are h there j over)
+      ∙ ap (λ x. cond x (cond (task costs h).is_clean rule.Entered rule.Once) rule.Each) e
+      ∙ ap (λ x. cond b (cond x rule.Entered rule.Once) rule.Each) (are.tasks.each h there).is_clean
+
+  made : (j : ℕ) (over : IsOfLevel config h j) (b : Bool) → ((j == h) && (task costs h).is_preemptable) ≡ b → IsAtMost (counted (cond b rule.Once rule.Each) (acts_of j) (sets_of j)) (n j)
+  made j over b e =
+      subst (λ r. IsAtMost (counted r (acts_of j) (sets_of j)) (n j)) (rule_is j over b e) (solves.made j (counted_task config app w load longest costs are h there j over.0))
+
+  acts_few : (j : ℕ) → IsOfLevel config h j → acts_due config h law begins j ≤ acts_of j
+  acts_few j over =
+      let arrive = ap (arrivals counts) (are.tasks.each j over.0).distance in
+      let ticks = by_ticks (is_boot s) false j in
+      let rounds = by_rounds (λ k. (n k).activations * reckoned (making costs k j).first_activations + (n k).settings * reckoned (making costs k j).next_activations) false j over.0
+      (λ k lt. omega arith) in
+      omega (arith, arrive, ticks, rounds)
+
+  sets_few : (j : ℕ) → IsOfLevel config h j → sets_due config h law begins j ≤ sets_of j
+  sets_few j over =
+      let ticks = by_ticks (is_boot s) true j in
+      let rounds = by_rounds (λ k. (n k).activations * reckoned (making costs k j).first_settings + (n k).settings * reckoned (making costs k j).next_settings) true j over.0
+      (λ k lt. omega arith) in
+      omega (arith, ticks, rounds)
+
+  swapped : (a b c : Bool) → (a && b) ≡ c → (b && a) ≡ c
+  swapped true true c e = e
+  swapped true false c e = e
+  swapped false true c e = e
+  swapped false false c e = e
+
+  firsts_few : (j : ℕ) → IsOfLevel config h j → ((task costs h).is_preemptable && (j == h)) ≡ false → acts_due config h law begins j ≤ (n j).activations
+  firsts_few j over other =
+      let most = (made j over false (swapped (task costs h).is_preemptable (j == h) false other)).activations in
+      let few = acts_few j over in
+      omega (arith, most, few)
+
+  nexts_few : (j : ℕ) → IsOfLevel config h j → ((task costs h).is_preemptable && (j == h)) ≡ false → sets_due config h law begins j ≤ (n j).settings
+  nexts_few j over other =
+      let most = (made j over false (swapped (task costs h).is_preemptable (j == h) false other)).settings in
+      let few = sets_few j over in
+      omega (arith, most, few)
+
+  of_own_level : IsOfLevel config h h
+  of_own_level = (there, le-leb (static_priority config h) (static_priority config h) (omega arith))
+
+  entered : (task costs h).is_preemptable ≡ true → IsEnteredOnce config h law begins
+  entered once = record {
+    number =
+        let most = (made h of_own_level true (ap (λ b. b && (task costs h).is_preemptable) (eq-eqb h h refl) ∙ once)).activations in
+        let acts = acts_few h of_own_level in
+        let sets = sets_few h of_own_level in
+        omega (arith, most, acts, sets);
+    cost =
+        next_same config app w load longest costs are h there told cuts cut h of_own_level ∙ ap reckoned (costs_alike config app load longest costs are h there once)
+        ∙ sym (first_same config app w load longest costs are h there told cuts cut h of_own_level);
+    acts = acts_alike config app load longest costs are h there once;
+    sets = sets_alike config app load longest costs are h there once;
+  }
+
+  -- the counts of rounds, and of ticks
+  rounds_few : sum_over config h (λ k. (n k).activations * law.first k + (n k).settings * law.next k) ≤ round_counts n 0 costs.tasks
+  rounds_few =
+      let sum = below_list no_task (λ k t. shared (n k) t.first t.next) (λ k. cond (is_over config h k) ((n k).activations * law.first k + (n k).settings * law.next k) 0)
+      (length config.tasks) costs.tasks are.tasks.count (λ k lt. by k lt (is_over config h k) refl) in
+      let same = rounds_sum n 0 costs.tasks in
+      omega (arith, sum, same)
+    where
+      by : (k : ℕ) → k < length config.tasks → (b : Bool) → is_over config h k ≡ b
+          → cond b ((n k).activations * law.first k + (n k).settings * law.next k) 0 ≤ shared (n k) (task costs k).first (task costs k).next
+      by k lt false e = omega arith
+      by k lt true e =
+          let firsts = ap (λ v. (n k).activations * v) (first_same config app w load longest costs are h there told cuts cut k (lt, e)) in
+          let nexts = ap (λ v. (n k).settings * v) (next_same config app w load longest costs are h there told cuts cut k (lt, e)) in
+          omega (arith, firsts, nexts)
+
+  ticks_few : sum_counters config (λ c. arrivals counts (distance load (counter_line c)) * law.tick c) ≤ Arrivals.tick_counts counts costs.counters
+  ticks_few =
+      let sum = below_list no_counter (λ c counter. arrivals counts counter.distance * counter.tick) (λ c. arrivals counts (distance load (counter_line c)) * law.tick c)
+      (length config.counters) costs.counters are.counters.count
+      (λ c lt. let same = ap (λ (v : CounterCosts). arrivals counts v.distance * v.tick) (counter_is c lt) in omega (arith, same)) in
+      let same = ticks_sum counts 0 costs.counters in
+      omega (arith, sum, same)
+
+  pub enough : IsEnough config h (task costs h).is_preemptable law begins
+  enough = record {
+    firsts = λ j lt over other. firsts_few j (lt, over) other;
+    nexts = λ j lt over other. nexts_few j (lt, over) other;
+    entered = entered;
+    enough = let all = filled in let rounds = rounds_few in let ticks = ticks_few in omega (arith, all, rounds, ticks);
+  }
+
+  -- ---- what comes in
+
+  pub has_arrivals : HasArrivals load late (longest + late) begins
+  has_arrivals line =
+      let le = room in
+      let e : admission_window late (longest + late) (counts - margin longest late) ≡ counts = omega (arith, le) in
+      let same = ap (λ m. filling m (distance load line)) e ∙ arrivals_same counts (distance load line) in
+      omega (arith, same)
+
+  pub has_expiries : HasExpiries config (is_set config app costs.alarms are.alarms) begins
+  has_expiries = record {
+    acts = λ c j. let same = expire config app costs.alarms are.alarms (is_boot s) false c j (arrivals counts (distance load (counter_line c))) in omega (arith, same);
+    sets = λ c j. let same = expire config app costs.alarms are.alarms (is_boot s) true c j (arrivals counts (distance load (counter_line c))) in omega (arith, same);
+  }
+
+  -- ---- how long it lasts
+
+  pub lasts : (l r : ℕ) → l ≡ cond (is_target_made (Some h) n) counts 0 → l ≤ r + (longest + late) → LastsWithin h late r begins
+  lasts l r is le some =
+      let made = ap (λ b. cond b counts 0) (made_some (n h).activations (n h).settings some) in
+      let enough = room in
+      omega (arith, is, le, made, enough)

@@ -1,0 +1,2 @@
+pub mod RunCosts
+pub mod Meeting

@@ -1,0 +1,147 @@
+-- Windows that hold what comes into a run of a start, with the longest item and two stretches in front of all; and the numbers that they tell.
+use Rattle.std.specs.Prelude.{ℕ, ◌+◌, ◌<◌, ◌≤◌, ◌≡◌, ◌==◌, ◌&&◌, ◌||◌, not, max, cond, Bool, true, false, List, [], ◌∷◌, ◌++◌, length, Option, Some, None}
+use Rattle.sloth_base.specs.declared.service.Service.{Service}
+use Rattle.sloth_base.specs.declared.service.Service.TheVariants as service
+use Rattle.sloth_base.specs.ServiceCodes.{has_mask}
+use Rattle.sloth_base.specs.Limits.{count_limit}
+use Rattle.code_lengths.specs.LongestPaths.{leaving_path, served_path}
+use Rattle.response_bounds.specs.declared.costs.TaskCosts.{TaskCosts}
+use Rattle.response_bounds.specs.declared.costs.Services.{Services}
+use Rattle.response_bounds.specs.declared.costs.Makings.{Makings}
+use Rattle.response_bounds.specs.declared.costs.SectionMakings.{SectionMakings}
+use Rattle.run_windows.specs.declared.fronts.Way.{Way}
+use Rattle.run_windows.specs.declared.fronts.Way.TheVariants as way
+use Rattle.response_bounds.specs.declared.costs.Costs.{Costs}
+use Rattle.response_bounds.specs.declared.window.Start.{Start}
+use Rattle.response_bounds.specs.declared.window.Start.TheVariants as start
+use Rattle.response_bounds.specs.declared.window.Window.{Window}
+use Rattle.response_bounds.specs.Costs.{reckoned, task, making, section, section_making}
+use Rattle.response_bounds.specs.Windows.{is_lower, IsBound}
+use Rattle.response_bounds.specs.Starts.{services_of, start_if}
+use Rattle.response_bounds.specs.Responses.{start_at}
+
+-- ---- services
+
+-- the instructions of the item of a call
+abbrev pub call_words : Service → ℕ
+call_words s = cond (has_mask s) 3 1
+
+-- the longest way of a service, with the item of its call
+abbrev pub call_path : Service → ℕ
+call_path s = call_words s + max (served_path s) (leaving_path s false)
+
+-- ---- fronts
+
+-- a service of task k may stand in front of a window of h: of a lower one, or with which h leaves where it is entered once
+abbrev pub may_serve : Costs → (h k : ℕ) → Bool
+may_serve costs h k = is_lower costs h k || ((k == h) && (task costs h).is_preemptable)
+
+-- the longest service that such a task reaches; they are those from task k on
+abbrev pub services_front : Costs → (h k : ℕ) → List TaskCosts → ℕ
+services_front costs h k [] = 0
+services_front costs h k (t ∷ ts) = max (cond (may_serve costs h k) t.service 0) (services_front costs h (k + 1) ts)
+
+-- one of these services makes the task that they name Ready in this way
+abbrev pub makes : Way → Services → Bool
+makes way.Activation s = s.activates
+makes way.Chain s = s.chains
+makes way.Setting s = s.sets_events
+
+-- Such a task reaches a service that makes one Ready, of the services that name it: those of these tasks, from task k on.
+abbrev pub is_made_in_front : Way → Costs → (h k : ℕ) → List Services → Bool
+is_made_in_front w costs h k [] = false
+is_made_in_front w costs h k (s ∷ ss) = (may_serve costs h k && makes w s) || is_made_in_front w costs h (k + 1) ss
+
+-- the longest service by which they activate j; 0 where none does
+abbrev pub activation_front : Costs → (h j : ℕ) → ℕ
+activation_front costs h j =
+    cond (is_made_in_front way.Chain costs h 0 (services_of costs j)) (call_path service.ChainTask)
+    (cond (is_made_in_front way.Activation costs h 0 (services_of costs j)) (call_path service.ActivateTask) 0)
+
+-- that by which they set its events
+abbrev pub setting_front : Costs → (h j : ℕ) → ℕ
+setting_front costs h j = cond (is_made_in_front way.Setting costs h 0 (services_of costs j)) (call_path service.SetEvent) 0
+
+-- The counts of other tasks behind the event with which the window begins: those of a service, or of a section with what raises its task.
+abbrev pub run_front : Costs → (h : ℕ) → Start → ℕ
+run_front costs h start.Free = services_front costs h 0 costs.tasks
+run_front costs h start.Boot = 0
+run_front costs h (start.Activation j) = activation_front costs h j
+run_front costs h (start.Setting j) = setting_front costs h j
+run_front costs h (start.Section k) = reckoned (section costs h k).counts + (task costs k).entry
+run_front costs h (start.Joining k) = 0
+
+-- ---- starts
+
+-- a task of the level of h is made in front, if that takes anything
+abbrev pub made_start : Costs → (h j front : ℕ) → Start → List Start
+made_start costs h j front s = start_if (not (is_lower costs h j) && not (front == 0)) s
+
+-- task j is made, or raised
+abbrev pub task_starts : Costs → (h j : ℕ) → List Start
+task_starts costs h j =
+    made_start costs h j (activation_front costs h j) (start.Activation j)
+    ++ (made_start costs h j (setting_front costs h j) (start.Setting j) ++ start_if (is_lower costs h j && (section costs h j).exists) (start.Section j))
+
+-- those of these tasks, from task j on
+abbrev pub run_task_starts : Costs → (h j : ℕ) → List TaskCosts → List Start
+run_task_starts costs h j [] = []
+run_task_starts costs h j (t ∷ ts) = task_starts costs h j ++ run_task_starts costs h (j + 1) ts
+
+-- all starts of h
+abbrev pub run_starts : Costs → (h : ℕ) → List Start
+run_starts costs h = start.Free ∷ start.Boot ∷ run_task_starts costs h 0 costs.tasks
+
+-- ---- windows
+
+-- An item and a stretch end behind the window, and a stretch stands in front of it: what arrives meanwhile comes into it too.
+abbrev pub margin : (longest late : ℕ) → ℕ
+margin longest late = longest + (late + late)
+
+abbrev pub run_window : (longest late : ℕ) → Costs → (h : ℕ) → Start → Window
+run_window longest late costs h s = record { target = Some h; start = s; front = margin longest late + run_front costs h s; span = None }
+
+-- the bound of a start is at most this
+abbrev pub IsBoundWithin : (longest late : ℕ) → Costs → (h most : ℕ) → Start → Type 0
+IsBoundWithin longest late costs h most s = (l : ℕ) × IsBound count_limit costs (run_window longest late costs h s) (Some l) × (l ≤ most)
+
+-- The bounds of all starts of h are at most r, with an item and a stretch more.
+abbrev pub AreRunBounds : (longest late : ℕ) → Costs → (h r : ℕ) → Type 0
+AreRunBounds longest late costs h r =
+    (i : ℕ) → i < length (run_starts costs h) → IsBoundWithin longest late costs h (r + (longest + late)) (start_at (run_starts costs h) i)
+
+-- ---- numbers that are told
+
+-- less than what stands for endless
+abbrev pub IsTold : Option ℕ → Type 0
+IsTold number = reckoned number < reckoned None
+
+pub record AreRoundsTold (c : TaskCosts) : Type 0 where
+  pub first : IsTold c.first
+  pub next : IsTold c.next
+
+pub record AreMakingsTold (m : Makings) : Type 0 where
+  pub first_activations : IsTold m.first_activations
+  pub first_settings : IsTold m.first_settings
+  pub next_activations : IsTold m.next_activations
+  pub next_settings : IsTold m.next_settings
+
+pub record AreSectionMakingsTold (m : SectionMakings) : Type 0 where
+  pub activations : IsTold m.activations
+  pub settings : IsTold m.settings
+
+-- All that the level of h is computed from has a number: rounds of its tasks, and sections of lower ones, and how often they make its tasks Ready.
+pub record AreTold (costs : Costs) (h : ℕ) : Type 0 where
+  pub rounds : (t : ℕ) → t < length costs.tasks → is_lower costs h t ≡ false → AreRoundsTold (task costs t)
+  pub makings : (j : ℕ) → j < length costs.tasks → (k : ℕ) → k < length costs.tasks → is_lower costs h j ≡ false → is_lower costs h k ≡ false
+      → AreMakingsTold (making costs k j)
+  pub sections : (k : ℕ) → k < length costs.tasks → is_lower costs h k ≡ true → IsTold (section costs h k).counts
+  pub section_makings : (j : ℕ) → j < length costs.tasks → (k : ℕ) → k < length costs.tasks → is_lower costs h j ≡ false → is_lower costs h k ≡ true
+      → AreSectionMakingsTold (section_making costs h k j)
+
+-- ---- response times
+
+-- what is told of h: a number within which its bounds are, where all has one
+abbrev pub IsRunResponse : (longest late : ℕ) → Costs → (h : ℕ) → Option ℕ → Type 0
+IsRunResponse longest late costs h None = Unit {0}
+IsRunResponse longest late costs h (Some r) = AreTold costs h × AreRunBounds longest late costs h r

@@ -1,0 +1,158 @@
+//! The counts in front of windows.
+ghost use Rattle.std.specs.Prelude.{◌≡◌, ◌&&◌};
+ghost use Rattle.response_bounds.specs.declared.window.Start.TheVariants as start;
+ghost use Rattle.response_bounds.specs.Costs.{section};
+ghost use Rattle.response_bounds.specs.Starts.{services_of};
+ghost use Rattle.run_windows.specs.RunWindows.{call_words, call_path, may_serve, services_front, makes, is_made_in_front, activation_front, setting_front, run_front};
+
+use code_lengths::{leaving_path, served_path};
+use response_bounds::costs::{Costs, SectionCosts, Services};
+use response_bounds::level::{is_lower, task};
+use response_bounds::numbers::reckoned;
+use response_bounds::window::Start;
+use sloth_base::service::Service;
+
+/// How a task may be made Ready in front of a window.
+#[derive(Clone, Copy)]
+pub enum Way {
+    /// By ActivateTask.
+    Activation,
+    /// By ChainTask.
+    Chain,
+    /// By SetEvent.
+    Setting,
+}
+
+fn may_serve(costs: &Costs, h: usize, k: usize) -> bool
+    ensures { result ≡ may_serve costs.now h k }
+{
+    is_lower(costs, h, k) || (k == h && task(costs, h).is_preemptable)
+}
+
+fn call_words(service: Service) -> u32
+    ensures { result ≡ call_words service }
+{
+    if service.has_mask() { 3 } else { 1 }
+}
+
+/// The counts of the longest way of a service, with the item of its call.
+pub fn call_path(service: Service) -> u32
+    ensures { result ≡ call_path service }
+{
+    call_words(service) + served_path(service).max(leaving_path(service, false))
+}
+
+// The longest service of a task that may serve.
+fn services_front(costs: &Costs, h: usize) -> u32
+    ensures { result ≡ services_front costs.now h 0 costs.now.tasks }
+{
+    let mut most: u32 = 0;
+    for (k, task) in costs.tasks.items().iter().enumerate() {
+        if may_serve(costs, h, k) {
+            most = most.max(task.service);
+        }
+    }
+    most
+}
+
+fn services_of(costs: &Costs, j: usize) -> &[Services]
+    ensures { result.now ≡ services_of costs.now j }
+{
+    match costs.services.items().get(j) {
+        Some(services) => services.items(),
+        None => &[],
+    }
+}
+
+fn makes(way: Way, services: &Services) -> bool
+    ensures { result ≡ makes way services.now }
+{
+    match way {
+        Way::Activation => services.activates,
+        Way::Chain => services.chains,
+        Way::Setting => services.sets_events,
+    }
+}
+
+// Whether task k does, which reaches these services.
+fn makes_in_front(way: Way, costs: &Costs, h: usize, k: usize, services: &Services) -> bool
+    ensures { result ≡ (may_serve costs.now h k && makes way services.now) }
+{
+    may_serve(costs, h, k) && makes(way, services)
+}
+
+// Whether some task that may serve makes a task Ready in a way, which these services name.
+fn is_made_in_front(way: Way, costs: &Costs, h: usize, services: &[Services]) -> bool
+    ensures { result ≡ is_made_in_front way costs.now h 0 services.now }
+{
+    for (k, service) in services.iter().enumerate() {
+        if makes_in_front(way, costs, h, k, service) {
+            return true;
+        }
+    }
+    false
+}
+
+/// The longest service by which a task is activated in front of a window of h; 0 where it is not.
+pub fn activation_front(costs: &Costs, h: usize, j: usize) -> u32
+    ensures { result ≡ activation_front costs.now h j }
+{
+    if is_made_in_front(Way::Chain, costs, h, services_of(costs, j)) {
+        call_path(Service::ChainTask)
+    } else if is_made_in_front(Way::Activation, costs, h, services_of(costs, j)) {
+        call_path(Service::ActivateTask)
+    } else {
+        0
+    }
+}
+
+/// That by which its events are set.
+pub fn setting_front(costs: &Costs, h: usize, j: usize) -> u32
+    ensures { result ≡ setting_front costs.now h j }
+{
+    if is_made_in_front(Way::Setting, costs, h, services_of(costs, j)) {
+        call_path(Service::SetEvent)
+    } else {
+        0
+    }
+}
+
+/// The sections of task k for task h.
+pub fn section(costs: &Costs, h: usize, k: usize) -> SectionCosts
+    ensures { result ≡ section costs.now h k }
+{
+    match costs.levels.items().get(h) {
+        Some(level) => match level.sections.items().get(k) {
+            Some(section) => *section,
+            None => SectionCosts {
+                exists: false,
+                counts: Some(0),
+            },
+        },
+        None => SectionCosts {
+            exists: false,
+            counts: Some(0),
+        },
+    }
+}
+
+// The section of a task, with what raises it.
+fn section_front(costs: &Costs, h: usize, k: usize) -> u64
+    ensures { result ≡ run_front costs.now h (start.Section k) }
+{
+    let counts = reckoned(section(costs, h, k).counts);
+    u64::from(counts) + u64::from(task(costs, k).entry)
+}
+
+/// The counts of other tasks in front of a window of h, behind the event with which it begins.
+pub fn run_front(costs: &Costs, h: usize, start: Start) -> u64
+    ensures { result ≡ run_front costs.now h start }
+{
+    match start {
+        Start::Free => u64::from(services_front(costs, h)),
+        Start::Activation(j) => u64::from(activation_front(costs, h, j)),
+        Start::Setting(j) => u64::from(setting_front(costs, h, j)),
+        Start::Section(k) => section_front(costs, h, k),
+        Start::Boot | Start::Joining(_) => 0,
+    }
+}

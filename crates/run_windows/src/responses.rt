@@ -1,0 +1,143 @@
+//! Response times by windows of runs.
+ghost use Rattle.std.specs.Prelude.{◌≡◌, ◌≤◌, ◌<◌, ◌+◌, ℕ, Some, length, IfOk, IfSome};
+ghost use Rattle.sloth_base.specs.Limits.{count_limit};
+ghost use Rattle.response_bounds.specs.Settling.{TakeCounts};
+ghost use Rattle.response_bounds.specs.Windows.{IsBound};
+ghost use Rattle.response_bounds.specs.Responses.{start_at};
+ghost use Rattle.run_windows.specs.RunWindows.{margin, run_front, run_window, run_starts, IsBoundWithin, IsRunResponse};
+
+use crate::fronts::run_front;
+use crate::starts::run_starts;
+use crate::told::are_told;
+use response_bounds::costs::Costs;
+use response_bounds::responses::bound;
+use response_bounds::window::{Made, Start, Window};
+use sloth_base::limits::COUNT_LIMIT;
+use sloth_base::memory::NoMemory;
+use std::alloc::Global;
+use text_pieces::growth::push;
+
+// These counts in front, with the margin.
+fn with_margin(longest: u32, late: u32, front: u64) -> u64
+    requires { front ≤ count_limit }
+    ensures { result ≡ margin longest late + front }
+{
+    let stretches = u64::from(late) + u64::from(late);
+    u64::from(longest) + stretches + front
+}
+
+// The bound of a start.
+fn start_bound(
+    longest: u32,
+    late: u32,
+    costs: &Costs,
+    h: usize,
+    start: Start,
+    numbers: &mut [Made],
+) -> Option<u32>
+    requires costs { TakeCounts costs.now }
+    requires count { length numbers.old ≡ length costs.now.tasks }
+    ensures { IfSome result (λ l. IsBound count_limit costs.now (run_window longest late costs.now h start) (Some l)) }
+{
+    let front = run_front(costs, h, start);
+    if front > u64::from(COUNT_LIMIT) {
+        return None;
+    }
+    let front = with_margin(longest, late, front);
+    if front > u64::from(COUNT_LIMIT) {
+        return None;
+    }
+    let window = Window {
+        target: Some(h),
+        start,
+        front: front as u32,
+        span: None,
+    };
+    bound(costs, &window, COUNT_LIMIT, numbers)
+}
+
+// The greatest bound of these starts.
+fn greatest(
+    longest: u32,
+    late: u32,
+    costs: &Costs,
+    h: usize,
+    starts: &[Start],
+    numbers: &mut [Made],
+) -> Option<u32>
+    requires costs { TakeCounts costs.now }
+    requires count { length numbers.old ≡ length costs.now.tasks }
+    ensures { IfSome result (λ most. (i : ℕ) → i < length starts.now → IsBoundWithin longest late costs.now h most (start_at starts.now i)) }
+{
+    let mut most: u32 = 0;
+    for start in starts {
+        match start_bound(longest, late, costs, h, *start, numbers) {
+            Some(counts) => most = most.max(counts),
+            None => return None,
+        }
+    }
+    Some(most)
+}
+
+fn room(alloc: Global, count: usize) -> Result<Vec<Made>, NoMemory>
+    ensures { IfOk result (λ numbers. length numbers.items ≡ count) }
+{
+    let mut numbers = Vec::new(alloc);
+    for i in 0..count {
+        push(
+            &mut numbers,
+            Made {
+                activations: 0,
+                settings: 0,
+            },
+        )?;
+    }
+    Ok(numbers)
+}
+
+// Less the longest item and a stretch.
+fn less(longest: u32, late: u32, most: u32) -> u32
+    ensures { most ≤ result + (longest + late) }
+{
+    most.saturating_sub(longest).saturating_sub(late)
+}
+
+fn told_response(
+    longest: u32,
+    late: u32,
+    costs: &Costs,
+    h: usize,
+    starts: &[Start],
+    numbers: &mut [Made],
+) -> Option<u32>
+    requires costs { TakeCounts costs.now }
+    requires count { length numbers.old ≡ length costs.now.tasks }
+    requires starts { starts.now ≡ run_starts costs.now h }
+    ensures { IsRunResponse longest late costs.now h result }
+{
+    if !are_told(costs, h) {
+        return None;
+    }
+    match greatest(longest, late, costs, h, starts, numbers) {
+        Some(most) => Some(less(longest, late, most)),
+        None => None,
+    }
+}
+
+/// Within how many counts a task, less than their number, leaves the processor behind what makes it Ready, in runs that keep these costs, where no item has more
+/// instructions than the longest, and no stretch takes more counts than `late`; none where something that it is computed from has no number, or it would be
+/// about 1,000,000 or more.
+pub fn run_response(
+    alloc: Global,
+    longest: u32,
+    late: u32,
+    costs: &Costs,
+    h: usize,
+) -> Result<Option<u32>, NoMemory>
+    requires { TakeCounts costs.now }
+    ensures { IfOk result (λ r. IsRunResponse longest late costs.now h r) }
+{
+    let starts = run_starts(alloc, costs, h)?;
+    let mut numbers = room(alloc, costs.tasks.items().len())?;
+    Ok(told_response(longest, late, costs, h, &starts, &mut numbers))
+}

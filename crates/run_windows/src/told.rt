@@ -1,0 +1,146 @@
+//! Whether all that a response time is computed from has a number.
+ghost use Rattle.std.specs.Prelude.{◌≡◌, ◌<◌, ℕ, true, false, length};
+ghost use Rattle.response_bounds.specs.Costs.{task, making, section, section_making};
+ghost use Rattle.response_bounds.specs.Windows.{is_lower};
+ghost use Rattle.run_windows.specs.RunWindows.{IsTold, AreRoundsTold, AreMakingsTold, AreSectionMakingsTold, AreTold};
+
+use crate::fronts::section;
+use response_bounds::costs::{Costs, Makings, SectionMakings, TaskCosts};
+use response_bounds::level::{is_lower, making, section_making, task};
+use response_bounds::numbers::{ENDLESS, reckoned};
+
+fn is_told(number: Option<u32>) -> bool
+    ensures { result ≡ true → IsTold number }
+{
+    reckoned(number) < ENDLESS
+}
+
+// ---- rounds
+
+fn are_rounds_told(costs: &TaskCosts) -> bool
+    ensures { result ≡ true → AreRoundsTold costs.now }
+{
+    is_told(costs.first) && is_told(costs.next)
+}
+
+fn is_task_told(costs: &Costs, h: usize, t: usize) -> bool
+    ensures { result ≡ true → is_lower costs.now h t ≡ false → AreRoundsTold (task costs.now t) }
+{
+    is_lower(costs, h, t) || are_rounds_told(&task(costs, t))
+}
+
+fn are_tasks_told(costs: &Costs, h: usize) -> bool
+    ensures { result ≡ true → (t : ℕ) → t < length costs.now.tasks → is_lower costs.now h t ≡ false → AreRoundsTold (task costs.now t) }
+{
+    for t in 0..costs.tasks.items().len() {
+        if !is_task_told(costs, h, t) {
+            return false;
+        }
+    }
+    true
+}
+
+// ---- makings
+
+fn are_makings_told(makings: &Makings) -> bool
+    ensures { result ≡ true → AreMakingsTold makings.now }
+{
+    is_told(makings.first_activations)
+        && (is_told(makings.first_settings)
+            && (is_told(makings.next_activations) && is_told(makings.next_settings)))
+}
+
+fn is_making_told(costs: &Costs, h: usize, j: usize, k: usize) -> bool
+    ensures { result ≡ true → is_lower costs.now h j ≡ false → is_lower costs.now h k ≡ false → AreMakingsTold (making costs.now k j) }
+{
+    is_lower(costs, h, j) || (is_lower(costs, h, k) || are_makings_told(&making(costs, k, j)))
+}
+
+fn are_makers_told(costs: &Costs, h: usize, j: usize) -> bool
+    ensures { result ≡ true → (k : ℕ) → k < length costs.now.tasks → is_lower costs.now h j ≡ false → is_lower costs.now h k ≡ false
+        → AreMakingsTold (making costs.now k j) }
+{
+    for k in 0..costs.tasks.items().len() {
+        if !is_making_told(costs, h, j, k) {
+            return false;
+        }
+    }
+    true
+}
+
+fn are_all_makings_told(costs: &Costs, h: usize) -> bool
+    ensures { result ≡ true → (j : ℕ) → j < length costs.now.tasks → (k : ℕ) → k < length costs.now.tasks → is_lower costs.now h j ≡ false
+        → is_lower costs.now h k ≡ false → AreMakingsTold (making costs.now k j) }
+{
+    for j in 0..costs.tasks.items().len() {
+        if !are_makers_told(costs, h, j) {
+            return false;
+        }
+    }
+    true
+}
+
+// ---- sections
+
+fn is_section_told(costs: &Costs, h: usize, k: usize) -> bool
+    ensures { result ≡ true → is_lower costs.now h k ≡ true → IsTold (section costs.now h k).counts }
+{
+    !is_lower(costs, h, k) || is_told(section(costs, h, k).counts)
+}
+
+fn are_sections_told(costs: &Costs, h: usize) -> bool
+    ensures { result ≡ true → (k : ℕ) → k < length costs.now.tasks → is_lower costs.now h k ≡ true → IsTold (section costs.now h k).counts }
+{
+    for k in 0..costs.tasks.items().len() {
+        if !is_section_told(costs, h, k) {
+            return false;
+        }
+    }
+    true
+}
+
+fn are_section_makings_told(makings: &SectionMakings) -> bool
+    ensures { result ≡ true → AreSectionMakingsTold makings.now }
+{
+    is_told(makings.activations) && is_told(makings.settings)
+}
+
+fn is_section_making_told(costs: &Costs, h: usize, j: usize, k: usize) -> bool
+    ensures { result ≡ true → is_lower costs.now h j ≡ false → is_lower costs.now h k ≡ true → AreSectionMakingsTold (section_making costs.now h k j) }
+{
+    is_lower(costs, h, j)
+        || (!is_lower(costs, h, k) || are_section_makings_told(&section_making(costs, h, k, j)))
+}
+
+fn are_section_makers_told(costs: &Costs, h: usize, j: usize) -> bool
+    ensures { result ≡ true → (k : ℕ) → k < length costs.now.tasks → is_lower costs.now h j ≡ false → is_lower costs.now h k ≡ true
+        → AreSectionMakingsTold (section_making costs.now h k j) }
+{
+    for k in 0..costs.tasks.items().len() {
+        if !is_section_making_told(costs, h, j, k) {
+            return false;
+        }
+    }
+    true
+}
+
+fn are_all_section_makings_told(costs: &Costs, h: usize) -> bool
+    ensures { result ≡ true → (j : ℕ) → j < length costs.now.tasks → (k : ℕ) → k < length costs.now.tasks → is_lower costs.now h j ≡ false
+        → is_lower costs.now h k ≡ true → AreSectionMakingsTold (section_making costs.now h k j) }
+{
+    for j in 0..costs.tasks.items().len() {
+        if !are_section_makers_told(costs, h, j) {
+            return false;
+        }
+    }
+    true
+}
+
+/// Whether all has, for a task.
+pub fn are_told(costs: &Costs, h: usize) -> bool
+    ensures { result ≡ true → AreTold costs.now h }
+{
+    are_tasks_told(costs, h)
+        && (are_all_makings_told(costs, h)
+            && (are_sections_told(costs, h) && are_all_section_makings_told(costs, h)))
+}
