@@ -39,16 +39,19 @@ look_height look.Waiting = 2
 look_height look.Tick = 16
 look_height look.Kernel = 12
 
--- a bar in the lane of a name whose middle is so many pixels from the top
-unfoldable pub bar_line : Scale → (name : List ℕ) (middle : ℕ) → Bar → List ℕ
-bar_line scale name middle bar =
+-- a bar in the lane of a name whose middle is so many pixels from the top, up to the counts in its title
+unfoldable pub bar_front : Scale → (name : List ℕ) (middle : ℕ) → Bar → List ℕ
+bar_front scale name middle bar =
     codes "<rect class=\"" ++ look_class bar.look
     ++ codes "\" x=\"" ++ pixels (place scale bar.from)
     ++ codes "\" y=\"" ++ decimal (middle - look_height bar.look / 2)
     ++ codes "\" width=\"" ++ pixels (place scale bar.to - place scale bar.from)
     ++ codes "\" height=\"" ++ decimal (look_height bar.look)
     ++ codes "\"><title>" ++ name ++ codes " " ++ look_word bar.look ++ codes ", " ++ decimal bar.from ++ codes " to " ++ decimal (bar.to - 1)
-    ++ codes "</title></rect>\n"
+
+-- the whole, with further words in its title
+unfoldable pub bar_line : Scale → (name : List ℕ) (middle : ℕ) (words : List ℕ) → Bar → List ℕ
+bar_line scale name middle words bar = bar_front scale name middle bar ++ words ++ codes "</title></rect>\n"
 
 -- ---- lanes
 
@@ -84,7 +87,7 @@ head_line scale rows =
 abbrev pub all_lines : List (List ℕ) → List ℕ
 all_lines lines = flat_map (λ line. line) lines
 
--- how each class looks, on light and on dark screens, what is behind all, and the unit of the axis, above its end
+-- how each class looks, on light and on dark screens, that paper has the whole width, what is behind all, and the unit of the axis, above its end
 abbrev pub style_lines : List ℕ
 style_lines = all_lines (
     codes "<style>\n"
@@ -96,7 +99,7 @@ style_lines = all_lines (
     ∷ codes ".pre,.ser{fill:#9dbfe0;stroke:#2266aa;stroke-width:.6}\n"
     ∷ codes ".ready{fill:none;stroke:#2266aa;stroke-width:1.4;stroke-dasharray:4 3}\n"
     ∷ codes ".wait{fill:#8a94a3}\n"
-    ∷ codes ".l{fill:none;stroke:#1a2433}\n"
+    ∷ codes ".l{fill:none;stroke:#c2241a}\n"
     ∷ codes ".t{fill:#1a2433;stroke:#1a2433}\n"
     ∷ codes ".k{fill:#c2571a}\n"
     ∷ codes "@media screen and (prefers-color-scheme:dark){\n"
@@ -107,10 +110,11 @@ style_lines = all_lines (
     ∷ codes ".pre,.ser{fill:#2f4d6e;stroke:#5aa2e6}\n"
     ∷ codes ".ready{stroke:#5aa2e6}\n"
     ∷ codes ".wait{fill:#7b8796}\n"
-    ∷ codes ".l{stroke:#e6ebf2}\n"
+    ∷ codes ".l{stroke:#ff8a7a}\n"
     ∷ codes ".t{fill:#e6ebf2;stroke:#e6ebf2}\n"
     ∷ codes ".k{fill:#e08a4d}\n"
     ∷ codes "}\n"
+    ∷ codes "@media print{svg{width:100%;height:auto}}\n"
     ∷ codes "</style>\n"
     ∷ codes "<rect class=\"p\" width=\"100%\" height=\"100%\"/>\n"
     ∷ codes "<text x=\"100%\" y=\"16\" dx=\"-32\" text-anchor=\"end\" font-size=\"11\">instructions</text>\n"

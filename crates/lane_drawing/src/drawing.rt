@@ -1,10 +1,10 @@
 //! The lanes of a picture, a line for each bar.
-ghost use Rattle.std.specs.Prelude.{◌≡◌, ◌≤◌, ◌++◌, OnOk, All, length};
+ghost use Rattle.std.specs.Prelude.{◌≡◌, ◌≤◌, ◌++◌, [], OnOk, All, length};
 ghost use Rattle.std.specs.List.{flat_map};
 ghost use Rattle.sloth_base.specs.Limits.{name_limit};
 ghost use Rattle.lane_drawing.specs.Bars.{IsBarInside};
 ghost use Rattle.lane_drawing.specs.Scale.{IsScale};
-ghost use Rattle.lane_drawing.specs.Drawing.{look_class, look_word, look_height, bar_line, lane_line};
+ghost use Rattle.lane_drawing.specs.Drawing.{look_class, look_word, look_height, bar_front, bar_line, lane_line};
 
 use crate::bars::{Bar, Look};
 use crate::scale::{Scale, push_pixels};
@@ -53,14 +53,14 @@ fn look_height(look: Look) -> u32
     }
 }
 
-// A bar in the lane of a name whose middle is so many pixels from the top.
-#[tactic(auto, unfolding(crate::specs::Drawing::bar_line))]
-fn bar_line(scale: Scale, name: &[u8], middle: u32, bar: Bar) -> LineText
+// A bar in the lane of a name whose middle is so many pixels from the top, up to the counts in its title.
+#[tactic(auto, unfolding(crate::specs::Drawing::bar_front))]
+fn bar_front(scale: Scale, name: &[u8], middle: u32, bar: Bar) -> LineText
     requires scale { IsScale scale }
     requires name { length name.now ≤ name_limit }
     requires low { 12 ≤ middle }
     requires inside { IsBarInside scale.from scale.to bar }
-    ensures { result ≡ bar_line scale name.now middle bar }
+    ensures { result ≡ bar_front scale name.now middle bar }
 {
     let left = scale.place(bar.from);
     let width = scale.place(bar.to) - left;
@@ -86,8 +86,29 @@ fn bar_line(scale: Scale, name: &[u8], middle: u32, bar: Bar) -> LineText
     line.push_number(bar.from);
     line.push(b" to ");
     line.push_number(last);
-    line.push(b"</title></rect>\n");
     line
+}
+
+/// Appends a bar in the lane of a name, with further words in its title.
+#[tactic(auto, unfolding(crate::specs::Drawing::bar_line))]
+pub fn push_bar(
+    text: &mut Vec<u8>,
+    scale: Scale,
+    name: &[u8],
+    middle: u32,
+    words: &[u8],
+    bar: Bar,
+) -> Result<(), NoMemory>
+    requires scale { IsScale scale }
+    requires name { length name.now ≤ name_limit }
+    requires low { 12 ≤ middle }
+    requires inside { IsBarInside scale.from scale.to bar }
+    ensures { OnOk result (text.new.items ≡ text.old.items ++ bar_line scale name.now middle words.now bar) }
+{
+    text.extend_from_slice(bar_front(scale, name, middle, bar).bytes())?;
+    text.extend_from_slice(words)?;
+    text.extend_from_slice(b"</title></rect>\n")?;
+    Ok(())
 }
 
 // The name of a lane, and the line below it.
@@ -114,6 +135,17 @@ fn lane_line(scale: Scale, name: &[u8], middle: u32) -> LineText
     line
 }
 
+/// Appends the name of a lane, and the line below it.
+pub fn push_name(text: &mut Vec<u8>, scale: Scale, name: &[u8], middle: u32) -> Result<(), NoMemory>
+    requires scale { IsScale scale }
+    requires name { length name.now ≤ name_limit }
+    requires low { middle ≤ 2000 }
+    ensures { OnOk result (text.new.items ≡ text.old.items ++ lane_line scale name.now middle) }
+{
+    text.extend_from_slice(lane_line(scale, name, middle).bytes())?;
+    Ok(())
+}
+
 /// Appends a lane with its bars.
 pub fn push_lane(
     text: &mut Vec<u8>,
@@ -127,11 +159,11 @@ pub fn push_lane(
     requires high { 12 ≤ middle }
     requires low { middle ≤ 2000 }
     requires inside { All (IsBarInside scale.from scale.to) bars.now }
-    ensures { OnOk result (text.new.items ≡ text.old.items ++ (lane_line scale name.now middle ++ flat_map (bar_line scale name.now middle) bars.now)) }
+    ensures { OnOk result (text.new.items ≡ text.old.items ++ (lane_line scale name.now middle ++ flat_map (bar_line scale name.now middle []) bars.now)) }
 {
-    text.extend_from_slice(lane_line(scale, name, middle).bytes())?;
+    push_name(text, scale, name, middle)?;
     for bar in bars {
-        text.extend_from_slice(bar_line(scale, name, middle, *bar).bytes())?;
+        push_bar(text, scale, name, middle, b"", *bar)?;
     }
     Ok(())
 }

@@ -28,8 +28,8 @@ fn head_line(scale: Scale, rows: u32) -> LineText
     line
 }
 
-// How each class looks, on light and on dark screens, what is behind all, and the unit of the axis, above its end.
-const STYLE: [&[u8]; 27] = [
+// How each class looks, on light and on dark screens, that paper has the whole width, what is behind all, and the unit of the axis, above its end.
+const STYLE: [&[u8]; 28] = [
     b"<style>\n",
     b"text,.a{fill:#1a2433}\n",
     b".n{font-family:ui-monospace,monospace}\n",
@@ -39,7 +39,7 @@ const STYLE: [&[u8]; 27] = [
     b".pre,.ser{fill:#9dbfe0;stroke:#2266aa;stroke-width:.6}\n",
     b".ready{fill:none;stroke:#2266aa;stroke-width:1.4;stroke-dasharray:4 3}\n",
     b".wait{fill:#8a94a3}\n",
-    b".l{fill:none;stroke:#1a2433}\n",
+    b".l{fill:none;stroke:#c2241a}\n",
     b".t{fill:#1a2433;stroke:#1a2433}\n",
     b".k{fill:#c2571a}\n",
     b"@media screen and (prefers-color-scheme:dark){\n",
@@ -50,10 +50,11 @@ const STYLE: [&[u8]; 27] = [
     b".pre,.ser{fill:#2f4d6e;stroke:#5aa2e6}\n",
     b".ready{stroke:#5aa2e6}\n",
     b".wait{fill:#7b8796}\n",
-    b".l{stroke:#e6ebf2}\n",
+    b".l{stroke:#ff8a7a}\n",
     b".t{fill:#e6ebf2;stroke:#e6ebf2}\n",
     b".k{fill:#e08a4d}\n",
     b"}\n",
+    b"@media print{svg{width:100%;height:auto}}\n",
     b"</style>\n",
     b"<rect class=\"p\" width=\"100%\" height=\"100%\"/>\n",
     b"<text x=\"100%\" y=\"16\" dx=\"-32\" text-anchor=\"end\" font-size=\"11\">instructions</text>\n",

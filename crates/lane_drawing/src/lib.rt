@@ -1,6 +1,6 @@
 //! Lanes of bars over counts, drawn as SVG 1.1.
 //!
-//! Each line of the drawing is as defined (`push_lane`, `push_axis`, `push_head`, `push_legend`; `specs/Drawing`). The bars of a
+//! Each line of the drawing is as defined (`push_lane`, `push_name`, `push_bar`, `push_axis`, `push_head`, `push_legend`; `specs/Drawing`). The bars of a
 //! lane are its longest stretches of counts that show the same, and no others, as its counts come; places in hundredths of a pixel, the axis' step
 //! and multiples, and the lines of arrivals, wakings and expiries are as defined (`Strip`, `Scale`, `push_pixels`, `arrival_line`, `wake_line`, `expiry_line`; `specs/Bars`, `specs/Strips`,
 //! `specs/Scale`, `specs/Arrivals`, `specs/Marks`); and so is what a bar shows of a task's state (`task_look`; `specs/TaskLooks`),
@@ -22,5 +22,5 @@ pub use crate::bars::{Bar, Look};
 pub use crate::marks::{expiry_line, wake_line};
 pub use crate::scale::Scale;
 pub use crate::strip::Strip;
-pub use drawing::push_lane;
+pub use drawing::{push_bar, push_lane, push_name};
 pub use frame::{push_axis, push_head, push_legend};

@@ -49,11 +49,11 @@ eight a b c e k m l z t1 t2 t3 t4 t5 t6 t7 t8 h1 h2 h3 h4 h5 h6 h7 h8 =
 pub whole_text : (d : Drawing) (n m middle : ℕ) (bars : List Bar) (t1 t2 t3 t4 t5 t6 t7 t8 : List ℕ) → n ≡ length d.image.tasks → m ≡ length d.image.counters
     → middle ≡ row_middle (n + m) → bars ≡ d.bars (n + m) → t1 ≡ head_line d.scale (n + m + 1) ++ style_lines → t2 ≡ t1 ++ axis_lines d.scale (n + m + 1)
     → t3 ≡ t2 ++ task_lanes d n → t4 ≡ t3 ++ counter_lanes d m
-    → t5 ≡ t4 ++ (lane_line d.scale (codes "kernel") middle ++ flat_map (bar_line d.scale (codes "kernel") middle) bars)
+    → t5 ≡ t4 ++ (lane_line d.scale (codes "kernel") middle ++ flat_map (bar_line d.scale (codes "kernel") middle []) bars)
     → t6 ≡ t5 ++ mark_lines d.image d.levels d.scale d.marks → t7 ≡ t6 ++ legend_lines d.scale (n + m + 1) → t8 ≡ t7 ++ codes "</svg>\n" → t8 ≡ picture_text d
 whole_text d n m middle bars t1 t2 t3 t4 t5 t6 t7 t8 tasks counters low shown h1 h2 h3 h4 h5 h6 h7 h8 =
     let M : List ℕ = mark_lines d.image d.levels d.scale d.marks in
-    let K : ℕ → List Bar → List ℕ = λ y x. lane_line d.scale (codes "kernel") y ++ flat_map (bar_line d.scale (codes "kernel") y) x in
+    let K : ℕ → List Bar → List ℕ = λ y x. lane_line d.scale (codes "kernel") y ++ flat_map (bar_line d.scale (codes "kernel") y []) x in
     let W : ℕ → ℕ → List ℕ = λ a b.
     (head_line d.scale (a + b + 1) ++ style_lines) ++ axis_lines d.scale (a + b + 1) ++ task_lanes d a ++ counter_lanes d b ++ K (row_middle (a + b)) (d.bars (a + b))
     ++ M ++ legend_lines d.scale (a + b + 1) ++ codes "</svg>\n" in

@@ -5,3 +5,5 @@ pub mod OnePicture
 pub mod Sampling
 pub mod Shown
 pub mod Watched
+mod Itemized
+mod ToldOnce

@@ -19,7 +19,8 @@ use Rattle.lane_drawing.specs.Drawing.{head_line, style_lines, axis_lines, lane_
 use Rattle.lane_drawing.proofs.Growing.{one_bars}
 use Rattle.schedule_picture.specs.LaneLooks.{owned_lanes, look_of}
 use Rattle.schedule_picture.specs.Picture.{Drawing, IsPictureOf, scale_of, lane_text, shown_arrivals, tasks_above, task_lane, task_lanes, counter_lane, counter_lanes, mark_lines, picture_text}
-use Rattle.schedule_picture.specs.Marks.{run_marks}
+use Rattle.schedule_picture.specs.Items.{bar_words}
+use Rattle.schedule_picture.specs.Marks.{run_marks, run_addresses}
 use Rattle.schedule_picture.specs.declared.marks.Mark.{Mark}
 
 -- the levels of a count
@@ -29,16 +30,16 @@ one_levels image A k xs ys h i =
     let state : h.state ≡ i.state = cc in
     h.are ∙ ap (λ (s : State). task_levels image s) state ∙ sym i.are
 
-module _ (image : Image) (A : List Admission) (marks : List Mark) (levels : List ℕ) (scale : Scale) where
+module _ (image : Image) (A : List Admission) (marks : List Mark) (addresses levels : List ℕ) (scale : Scale) where
   -- the drawing with these bars in its lanes
   abbrev drawing : ((lane : ℕ) → List Bar) → Drawing
-  drawing bars = record { image = image; admissions = A; marks = marks; levels = levels; scale = scale; bars = bars }
+  drawing bars = record { image = image; admissions = A; marks = marks; addresses = addresses; levels = levels; scale = scale; bars = bars }
 
   -- a lane of a task is told by its own bars
   same_task : (b c : (lane : ℕ) → List Bar) (task : ℕ) → b task ≡ c task → task_lane (drawing b) task ≡ task_lane (drawing c) task
   unfolding task_lane
   same_task b c task e =
-      ap (λ bars. lane_text scale (get_or image.tasks task []) (row_middle (tasks_above levels task (length image.tasks))) bars (shown_arrivals scale A task)) e
+      ap (λ bars. lane_text scale (get_or image.tasks task []) (row_middle (tasks_above levels task (length image.tasks))) (bar_words image addresses scale.from) bars (shown_arrivals scale A task)) e
 
   same_lanes : (b c : (lane : ℕ) → List Bar) (k : ℕ) → ((lane : ℕ) → lane < k → b lane ≡ c lane) → task_lanes (drawing b) k ≡ task_lanes (drawing c) k
   unfolding task_lanes
@@ -52,7 +53,7 @@ module _ (image : Image) (A : List Admission) (marks : List Mark) (levels : List
       → counter_lane (drawing b) counter ≡ counter_lane (drawing c) counter
   unfolding counter_lane
   same_counter b c counter e =
-      ap (λ bars. lane_text scale (get_or image.counters counter []) (row_middle (length image.tasks + counter)) bars (shown_arrivals scale A (counter_line counter))) e
+      ap (λ bars. lane_text scale (get_or image.counters counter []) (row_middle (length image.tasks + counter)) (λ bar. []) bars (shown_arrivals scale A (counter_line counter))) e
 
   same_counters : (b c : (lane : ℕ) → List Bar) (k : ℕ) → ((lane : ℕ) → lane < length image.tasks + k → b lane ≡ c lane)
       → counter_lanes (drawing b) k ≡ counter_lanes (drawing c) k
@@ -71,7 +72,7 @@ module _ (image : Image) (A : List Admission) (marks : List Mark) (levels : List
       let counters : counter_lanes (drawing b) m ≡ counter_lanes (drawing c) m = same_counters b c m (λ lane below. same lane (omega (arith, below))) in
       let T : List ℕ → List ℕ → List Bar → List ℕ = λ tasks counted bars.
       (head_line scale (n + m + 1) ++ style_lines) ++ axis_lines scale (n + m + 1) ++ tasks ++ counted
-      ++ (lane_line scale (codes "kernel") (row_middle (n + m)) ++ flat_map (bar_line scale (codes "kernel") (row_middle (n + m))) bars)
+      ++ (lane_line scale (codes "kernel") (row_middle (n + m)) ++ flat_map (bar_line scale (codes "kernel") (row_middle (n + m)) []) bars)
       ++ mark_lines image levels scale marks ++ legend_lines scale (n + m + 1) ++ codes "</svg>\n" in
       ap (λ l. T l (counter_lanes (drawing b) m) (b (n + m))) lanes ∙ ap (λ l. T (task_lanes (drawing c) n) l (b (n + m))) counters
       ∙ ap (T (task_lanes (drawing c) n) (counter_lanes (drawing c) m)) (same (n + m) (omega arith))
@@ -88,6 +89,7 @@ one_picture image A from to text other h i =
     one_bars (look_of image i.samples lane) from to (h.bars lane) (i.bars lane) (subst B samples (h.are_bars lane few)) (i.are_bars lane few) in
     let shown : List Sample → List Admission = λ xs. run_admissions image A xs from (to - from) in
     let marked : List Sample → List Mark = λ xs. run_marks image A xs from (to - from) in
-    h.is ∙ ap (λ l. picture_text (drawing image (shown h.samples) (marked h.samples) l scale h.bars)) levels
-    ∙ ap (λ xs. picture_text (drawing image (shown xs) (marked xs) i.levels scale h.bars)) samples
-    ∙ same_text image (shown i.samples) (marked i.samples) i.levels scale h.bars i.bars same ∙ sym i.is
+    let stands : List Sample → List ℕ = λ xs. run_addresses image A xs from (to - from) in
+    h.is ∙ ap (λ l. picture_text (drawing image (shown h.samples) (marked h.samples) (stands h.samples) l scale h.bars)) levels
+    ∙ ap (λ xs. picture_text (drawing image (shown xs) (marked xs) (stands xs) i.levels scale h.bars)) samples
+    ∙ same_text image (shown i.samples) (marked i.samples) (stands i.samples) i.levels scale h.bars i.bars same ∙ sym i.is

@@ -20,11 +20,12 @@ use Rattle.sloth_runner.specs.declared.samples.Sampler.{Sampler}
 use Rattle.sloth_runner.specs.Admissions.{Notes, no_notes, run_admissions, with_accesses, with_sample, settled}
 use Rattle.sloth_runner.specs.Samples.{AreSampledLevels, IsSample, IsSampling, StopsAt, no_sample, seen_behind, sampled_image, sampled_arrivals, sampled_count}
 use Rattle.sloth_inspect.specs.declared.service_words.ServiceWords.{ServiceWords}
+use Rattle.sloth_runner.specs.Addresses.{address_behind}
 use Rattle.sloth_runner.specs.ServiceWords.{words_behind}
 use Rattle.sloth_runner.proofs.Noted.{found_at, notes_none, notes_more}
-use Rattle.schedule_picture.specs.Marks.{Watch, no_watch, watched}
+use Rattle.schedule_picture.specs.Marks.{Watch, no_watch, watched, run_marks}
 use Rattle.schedule_picture.specs.declared.marks.Mark.{Mark}
-use Rattle.schedule_picture.proofs.Watched.{watch_none, watch_more}
+use Rattle.schedule_picture.proofs.Watched.{watch_none, watch_more, addresses_counted}
 use Rattle.sloth_runner.proofs.OneSample.{samples-more}
 use Rattle.lane_drawing.specs.declared.bars.Bar.{Bar}
 use Rattle.lane_drawing.specs.declared.bars.Look.{Look}
@@ -117,13 +118,14 @@ module _ (image : Image) (A : List Arrival) where
 
   -- one count more
   pub shown_more : (from k tasks counters : ℕ) (r s t : Sampler) (x : Sample) (old new : List Lane) (notes between behind : Notes)
-      (words : ServiceWords) (seen more : Watch) → HasShown image A from k r old notes seen → from ≤ k → tasks ≡ length image.tasks → counters ≡ length image.counters → s ≡ r → IsSampling t
+      (words : ServiceWords) (address : ℕ) (seen more : Watch) → HasShown image A from k r old notes seen → from ≤ k → tasks ≡ length image.tasks → counters ≡ length image.counters → s ≡ r → IsSampling t
       → IsSample (sampled_image s) (sampled_arrivals s) (sampled_count s) x → sampled_image t ≡ sampled_image s → sampled_arrivals t ≡ sampled_arrivals s
       → sampled_count t ≡ sampled_count s + 1 → HaveChanged (λ lane. ShowsMore k (lane_look tasks counters x lane)) (tasks + counters + 1) old new
       → between ≡ with_accesses notes (found_at (sampled_image r) (sampled_arrivals r) (sampled_count r)) → behind ≡ with_sample between x
-      → words ≡ words_behind (sampled_image s) (sampled_arrivals s) (sampled_count s) → more ≡ watched seen x words.alarms
+      → words ≡ words_behind (sampled_image s) (sampled_arrivals s) (sampled_count s) → address ≡ address_behind (sampled_image s) (sampled_arrivals s) (sampled_count s)
+      → more ≡ watched seen x words.alarms address
       → HasShown image A from (k + 1) t new behind more
-  shown_more from k tasks counters r s t x old new notes between behind words seen more shown past same counted noted sampling sample i a count changed finds tells reads marks =
+  shown_more from k tasks counters r s t x old new notes between behind words address seen more shown past same counted noted sampling sample i a count changed finds tells reads stood marks =
       let S : Sampler → Type 0 = λ y. HasShown image A from k y old notes seen in
       let h : HasShown image A from k s old notes seen = subst S (sym noted) shown in
       let H : ℕ → Type 0 = λ n. HaveChanged (λ lane. ShowsMore k (lane_look n counters x lane)) (n + counters + 1) old new in
@@ -143,14 +145,14 @@ module _ (image : Image) (A : List Arrival) where
             (last_look h.samples x lane k h.counted);
         noted = notes_more image A from k s h.samples x notes between behind past h.given.image_is h.given.arrivals_are (h.given.count ∙ h.counted) h.counted h.noted
             (finds ∙ ap (λ (y : Sampler). with_accesses notes (found_at (sampled_image y) (sampled_arrivals y) (sampled_count y))) (sym noted)) tells;
-        watched = watch_more image A from k s h.samples x words seen more past h.given.image_is h.given.arrivals_are (h.given.count ∙ h.counted) h.counted h.watched
-            reads marks;
+        watched = watch_more image A from k s h.samples x words address seen more past h.given.image_is h.given.arrivals_are (h.given.count ∙ h.counted) h.counted
+            h.watched reads stood marks;
       }
 
   -- the bars are those of all counts where what was shown last has its own
   pub shown_all : (from to : ℕ) (s : Sampler) (old new : List Lane) (notes behind : Notes) (seen : Watch) → from ≤ to → HasShown image A from to s old notes seen
       → HaveChanged (λ lane before after. after.bars ≡ before.bars ++ last_bar before to) (length old) old new
-      → behind ≡ settled notes (seen_behind (sampled_image s) (sampled_arrivals s) (sampled_count s)) → HasBars image A from to s new behind.admissions seen.marks
+      → behind ≡ settled notes (seen_behind (sampled_image s) (sampled_arrivals s) (sampled_count s)) → HasBars image A from to s new behind.admissions seen.marks seen.addresses
   shown_all from to s old new notes behind seen ordered h changed told =
       let l = h.lanes in
       let S : Option Seen → Notes → List Admission = λ o n. (settled n o).admissions in
@@ -169,6 +171,7 @@ module _ (image : Image) (A : List Arrival) where
             strip_bars_of (look_of image h.samples lane) from to (get_or old lane empty_lane) (get_or new lane empty_lane) is more;
         noted = ap (λ (n : Notes). n.admissions) told ∙ ap (λ o. S o notes) tasks ∙ ap (S (seen_behind image A (from + (to - from)))) h.noted;
         marked = ap (λ (w : Watch). w.marks) h.watched;
+        addressed = ap (λ (w : Watch). w.addresses) h.watched;
       }
 
   -- ---- the picture
@@ -182,16 +185,25 @@ module _ (image : Image) (A : List Arrival) where
       let whole : E (sampled_count s) (sampled_arrivals s) = ap end_of (stop_none (sampled_count s) (sampled_arrivals s) 0 (start image) (sloth_state s.runner.machine) ran.after) in
       subst (λ k. E k A) (h.count ∙ counted) (subst (E (sampled_count s)) h.arrivals_are whole)
 
-  pub picture_of : (from to : ℕ) (s : Sampler) (strips : List Lane) (admissions : List Admission) (marks : List Mark) (levels : List ℕ) (scale : Scale) (text : List ℕ)
-      → HasBars image A from to s strips admissions marks → AreSampledLevels (sampled_image s) (sampled_arrivals s) (sampled_count s) levels → scale ≡ scale_of image from to
-      → text ≡ picture_text (record { image = image; admissions = admissions; marks = marks; levels = levels; scale = scale; bars = λ lane. (get_or strips lane empty_lane).bars })
+  pub picture_of : (from to : ℕ) (s : Sampler) (strips : List Lane) (admissions : List Admission) (marks : List Mark) (addresses levels : List ℕ) (scale : Scale) (text : List ℕ)
+      → HasBars image A from to s strips admissions marks addresses → AreSampledLevels (sampled_image s) (sampled_arrivals s) (sampled_count s) levels → scale ≡ scale_of image from to
+      → text ≡ picture_text (record {
+        image = image;
+        admissions = admissions;
+        marks = marks;
+        addresses = addresses;
+        levels = levels;
+        scale = scale;
+        bars = λ lane. (get_or strips lane empty_lane).bars;
+      })
       → IsPictureOf image A from to text
-  picture_of from to s strips admissions marks levels scale text h are at is =
+  picture_of from to s strips admissions marks addresses levels scale text h are at is =
       let L : Image → Type 0 = λ i. AreSampledLevels i (sampled_arrivals s) (sampled_count s) levels in
       let M : List Arrival → Type 0 = λ B. AreSampledLevels image B (sampled_count s) levels in
       let N : ℕ → Type 0 = λ n. AreSampledLevels image A n levels in
-      let D : List Admission → List Mark → Scale → List ℕ =
-      λ a m x. picture_text (record { image = image; admissions = a; marks = m; levels = levels; scale = x; bars = λ lane. (get_or strips lane empty_lane).bars }) in
+      let D : List Admission → List Mark → List ℕ → Scale → List ℕ =
+      λ a m p x.
+      picture_text (record { image = image; admissions = a; marks = m; addresses = p; levels = levels; scale = x; bars = λ lane. (get_or strips lane empty_lane).bars }) in
       record {
         whole = whole_run to h.samples s h.given h.counted;
         samples = h.samples;
@@ -201,9 +213,17 @@ module _ (image : Image) (A : List Arrival) where
         are_levels = subst N (h.given.count ∙ h.counted) (subst M h.given.arrivals_are (subst L h.given.image_is are));
         bars = λ lane. (get_or strips lane empty_lane).bars;
         are_bars = h.are_bars;
-        is = is ∙ ap (D admissions marks) at ∙ ap (λ a. D a marks (scale_of image from to)) h.noted
-            ∙ ap (λ m. D (run_admissions image A h.samples from (to - from)) m (scale_of image from to)) h.marked;
+        is = is ∙ ap (D admissions marks addresses) at ∙ ap (λ a. D a marks addresses (scale_of image from to)) h.noted
+            ∙ ap (λ m. D (run_admissions image A h.samples from (to - from)) m addresses (scale_of image from to)) h.marked
+            ∙ ap (λ p. D (run_admissions image A h.samples from (to - from)) (run_marks image A h.samples from (to - from)) p (scale_of image from to)) h.addressed;
       }
+
+  -- there is an address for each count of the picture
+  pub addresses_there : (from to : ℕ) (s : Sampler) (strips : List Lane) (admissions : List Admission) (marks : List Mark) (addresses : List ℕ)
+      → HasBars image A from to s strips admissions marks addresses → from ≤ to → to ≡ from + length addresses
+  addresses_there from to s strips admissions marks addresses h ordered =
+      let counted : length addresses ≡ to - from = ap (λ (l : List ℕ). length l) h.addressed ∙ addresses_counted image A from h.samples (to - from) in
+      omega (arith, ordered, counted)
 
 -- ---- bars within the counts
 

@@ -14,15 +14,17 @@ drawing_of drawn = record {
   image = drawn.image.now;
   admissions = drawn.admissions.now;
   marks = drawn.marks.now;
+  addresses = drawn.addresses.now;
   levels = drawn.levels;
   scale = drawn.scale;
   bars = λ lane. (get_or drawn.strips.now lane empty_lane).bars;
 }
 
--- it can be drawn: a lane for each task and each counter of the image and one more, and bars within the counts of the picture
+-- it can be drawn: an address for each count of the picture, a lane for each task and each counter of the image and one more, and bars within the counts
 pub record IsDrawable (drawn : Drawn) : Type 0 where
   pub format : InFormat drawn.image.now
   pub scale : IsScale drawn.scale
+  pub addresses : drawn.scale.to ≡ drawn.scale.from + length drawn.addresses.now
   pub lanes : length drawn.strips.now ≡ owned_lanes drawn.image.now + 1
   pub inside : (lane : ℕ) → lane ≤ owned_lanes drawn.image.now
       → All (IsBarInside drawn.scale.from drawn.scale.to) (get_or drawn.strips.now lane empty_lane).bars

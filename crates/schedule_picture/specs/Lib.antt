@@ -4,3 +4,4 @@ pub mod LaneLooks
 pub mod Marks
 pub mod Picture
 pub mod Samples
+pub mod Items

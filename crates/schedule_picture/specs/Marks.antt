@@ -7,6 +7,7 @@ use Rattle.sloth_base.specs.declared.image.Image.{Image}
 use Rattle.osek_scheduler.specs.declared.state.TaskState.{TaskState}
 use Rattle.osek_scheduler.specs.declared.state.TaskState.TheVariants as mode
 use Rattle.lane_drawing.specs.Signs.{is_woken, is_over}
+use Rattle.sloth_runner.specs.Addresses.{address_behind}
 use Rattle.sloth_runner.specs.Samples.{no_sample}
 use Rattle.sloth_runner.specs.ServiceWords.{words_behind}
 use Rattle.sloth_runner.specs.declared.machine_states.Seen.{Seen}
@@ -79,21 +80,24 @@ marks_at None sample before now = []
 marks_at (Some last) sample before now =
     if sample.interrupts.masked then marks_when_masked last.taken last.seen before now else marks_when_open last.taken last.seen sample.seen
 
--- a run that is watched: the last sample that found interrupts open, the ticks that alarms had left at the last count, and the marks so far
+-- a run that is watched: the last sample that found interrupts open, the ticks that alarms had left at the last count, and the marks and the
+-- addresses so far
 pub record Watch : Type 0 where
   pub last : Option Sample
   pub alarms : List ℕ
   pub marks : List Mark
+  pub addresses : List ℕ
 
 abbrev pub no_watch : Watch
-no_watch = record { last = None; alarms = replicate alarm_limit 0; marks = [] }
+no_watch = record { last = None; alarms = replicate alarm_limit 0; marks = []; addresses = [] }
 
 -- one count more
-abbrev pub watched : Watch → Sample → (alarms : List ℕ) → Watch
-watched watch sample alarms = record {
+abbrev pub watched : Watch → Sample → (alarms : List ℕ) → (address : ℕ) → Watch
+watched watch sample alarms address = record {
   last = if sample.interrupts.masked then watch.last else Some sample;
   alarms = alarms;
   marks = watch.marks ++ marks_at watch.last sample watch.alarms alarms;
+  addresses = watch.addresses ++ address ∷ [];
 }
 
 -- so many counts of a run from one on, of which these are the samples from its first count on
@@ -101,7 +105,12 @@ unfoldable pub run_watch : Image → List Arrival → List Sample → (from : �
 run_watch image arrivals samples from zero = no_watch
 run_watch image arrivals samples from (suc k) =
     watched (run_watch image arrivals samples from k) (get_or samples (from + k) no_sample) (words_behind image arrivals (from + k)).alarms
+    (address_behind image arrivals (from + k))
 
 -- the marks of these counts
 abbrev pub run_marks : Image → List Arrival → List Sample → (from : ℕ) → ℕ → List Mark
 run_marks image arrivals samples from k = (run_watch image arrivals samples from k).marks
+
+-- and the address of each of them
+abbrev pub run_addresses : Image → List Arrival → List Sample → (from : ℕ) → ℕ → List ℕ
+run_addresses image arrivals samples from k = (run_watch image arrivals samples from k).addresses

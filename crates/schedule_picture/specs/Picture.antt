@@ -19,7 +19,8 @@ use Rattle.lane_drawing.specs.Arrivals.{arrival_line}
 use Rattle.sloth_runner.specs.declared.admissions.Admission.{Admission}
 use Rattle.sloth_runner.specs.Admissions.{run_admissions}
 use Rattle.lane_drawing.specs.Marks.{wake_line, expiry_line}
-use Rattle.schedule_picture.specs.Marks.{run_marks}
+use Rattle.schedule_picture.specs.Items.{bar_words}
+use Rattle.schedule_picture.specs.Marks.{run_marks, run_addresses}
 use Rattle.schedule_picture.specs.declared.marks.Actor.{Actor}
 use Rattle.schedule_picture.specs.declared.marks.Actor.TheVariants as actor
 use Rattle.schedule_picture.specs.declared.marks.Mark.{Mark}
@@ -44,12 +45,13 @@ unfoldable pub tasks_above : (levels : List ℕ) (task : ℕ) → ℕ → ℕ
 tasks_above levels task zero = 0
 tasks_above levels task (suc k) = tasks_above levels task k + cond (is_above levels k task) 1 0
 
--- what is drawn: an image's run with its arrivals and what came of them, its marks, the levels of the tasks' lines, where the counts stand, and the
--- bars of each lane
+-- what is drawn: an image's run with its arrivals and what came of them, its marks, the address of each count, the levels of the tasks' lines, where
+-- the counts stand, and the bars of each lane
 pub record Drawing : Type 0 where
   pub image : Image
   pub admissions : List Admission
   pub marks : List Mark
+  pub addresses : List ℕ
   pub levels : List ℕ
   pub scale : Scale
   pub bars : (lane : ℕ) → List Bar
@@ -66,15 +68,20 @@ shown_arrivals scale admissions line = filter (is_shown scale line) admissions
 abbrev pub admission_line : Scale → (name : List ℕ) (middle : ℕ) → Admission → List ℕ
 admission_line scale name middle a = arrival_line scale name middle a.arrival a.lost
 
--- a lane with its bars and arrivals
-abbrev pub lane_text : Scale → (name : List ℕ) (middle : ℕ) → List Bar → List Admission → List ℕ
-lane_text scale name middle bars admissions =
-    lane_line scale name middle ++ flat_map (bar_line scale name middle) bars ++ flat_map (admission_line scale name middle) admissions
+-- bars, with further words in the title of each
+abbrev pub bar_lines : Scale → (name : List ℕ) (middle : ℕ) → (words : Bar → List ℕ) → List Bar → List ℕ
+bar_lines scale name middle words bars = flat_map (λ bar. bar_line scale name middle (words bar) bar) bars
 
--- the lane of a task, in the row behind all that stand above it
+-- a lane with its bars and arrivals
+abbrev pub lane_text : Scale → (name : List ℕ) (middle : ℕ) → (words : Bar → List ℕ) → List Bar → List Admission → List ℕ
+lane_text scale name middle words bars admissions =
+    lane_line scale name middle ++ bar_lines scale name middle words bars ++ flat_map (admission_line scale name middle) admissions
+
+-- the lane of a task, in the row behind all that stand above it; the bars of its own code name the first and the last item in them
 unfoldable pub task_lane : Drawing → (task : ℕ) → List ℕ
 task_lane d task =
-    lane_text d.scale (get_or d.image.tasks task []) (row_middle (tasks_above d.levels task (length d.image.tasks))) (d.bars task)
+    lane_text d.scale (get_or d.image.tasks task []) (row_middle (tasks_above d.levels task (length d.image.tasks)))
+    (bar_words d.image d.addresses d.scale.from) (d.bars task)
     (shown_arrivals d.scale d.admissions task)
 
 -- those of the first tasks, so many of them
@@ -85,7 +92,7 @@ task_lanes d (suc task) = task_lanes d task ++ task_lane d task
 -- the lane of a counter, in the row behind those of all tasks and of the counters before it
 unfoldable pub counter_lane : Drawing → (counter : ℕ) → List ℕ
 counter_lane d counter =
-    lane_text d.scale (get_or d.image.counters counter []) (row_middle (length d.image.tasks + counter)) (d.bars (length d.image.tasks + counter))
+    lane_text d.scale (get_or d.image.counters counter []) (row_middle (length d.image.tasks + counter)) (λ bar. []) (d.bars (length d.image.tasks + counter))
     (shown_arrivals d.scale d.admissions (counter_line counter))
 
 -- those of the first counters, so many of them
@@ -97,7 +104,7 @@ counter_lanes d (suc counter) = counter_lanes d counter ++ counter_lane d counte
 abbrev pub kernel_lane : Drawing → List ℕ
 kernel_lane d =
     lane_line d.scale (codes "kernel") (row_middle (owned_lanes d.image))
-    ++ flat_map (bar_line d.scale (codes "kernel") (row_middle (owned_lanes d.image))) (d.bars (owned_lanes d.image))
+    ++ flat_map (bar_line d.scale (codes "kernel") (row_middle (owned_lanes d.image)) []) (d.bars (owned_lanes d.image))
 
 -- the name and the row of who acts
 abbrev pub actor_name : Image → Actor → List ℕ
@@ -158,6 +165,7 @@ pub record IsPictureOf (image : Image) (arrivals : List Arrival) (from to : ℕ)
     image = image;
     admissions = run_admissions image arrivals samples from (to - from);
     marks = run_marks image arrivals samples from (to - from);
+    addresses = run_addresses image arrivals samples from (to - from);
     levels = levels;
     scale = scale_of image from to;
     bars = bars;

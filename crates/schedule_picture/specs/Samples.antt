@@ -10,7 +10,7 @@ use Rattle.sloth_runner.specs.declared.samples.Sample.{Sample}
 use Rattle.sloth_runner.specs.declared.samples.Sampler.{Sampler}
 use Rattle.sloth_runner.specs.Samples.{AreSamples, IsSampling, sampled_image, sampled_arrivals, sampled_count}
 use Rattle.sloth_runner.specs.Admissions.{run_admissions}
-use Rattle.schedule_picture.specs.Marks.{run_marks}
+use Rattle.schedule_picture.specs.Marks.{run_marks, run_addresses}
 use Rattle.schedule_picture.specs.declared.marks.Mark.{Mark}
 use Rattle.lane_drawing.specs.Bars.{AreBars}
 use Rattle.lane_drawing.specs.Strips.{Lane, empty_lane}
@@ -30,8 +30,9 @@ pub record HasGivenFirst (image : Image) (arrivals : List Arrival) (count : ℕ)
   pub counted : length samples ≡ count
   pub given : HasGiven image arrivals samples sampler
 
--- and strips whose bars are those of what they show from a count to below another, what became of the arrivals of these counts, and their marks
-pub record HasBars (image : Image) (arrivals : List Arrival) (from to : ℕ) (sampler : Sampler) (strips : List Lane) (admissions : List Admission) (marks : List Mark) : Type 0 where
+-- and strips whose bars are those of what they show from a count to below another, what became of the arrivals of these counts, their marks and addresses
+pub record HasBars (image : Image) (arrivals : List Arrival) (from to : ℕ) (sampler : Sampler) (strips : List Lane) (admissions : List Admission) (marks : List Mark)
+    (addresses : List ℕ) : Type 0 where
   pub samples : List Sample
   pub counted : length samples ≡ to
   pub given : HasGiven image arrivals samples sampler
@@ -39,6 +40,7 @@ pub record HasBars (image : Image) (arrivals : List Arrival) (from to : ℕ) (sa
   pub are_bars : (lane : ℕ) → lane ≤ owned_lanes image → AreBars (look_of image samples lane) from to (get_or strips lane empty_lane).bars
   pub noted : admissions ≡ run_admissions image arrivals samples from (to - from)
   pub marked : marks ≡ run_marks image arrivals samples from (to - from)
+  pub addressed : addresses ≡ run_addresses image arrivals samples from (to - from)
 
 -- a run stops in front of a count, there and so
 abbrev pub StopsBefore : Image → List Arrival → ℕ → Halt → Type 0

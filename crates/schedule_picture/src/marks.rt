@@ -217,12 +217,14 @@ fn push_marks(
     }
 }
 
-/// A run that is watched: the last sample that found interrupts open, the ticks that alarms had left at the last count, and the marks so far.
+/// A run that is watched: the last sample that found interrupts open, the ticks that alarms had left at the last count, and the marks and the
+/// addresses so far.
 #[derive(Drop)]
 pub struct Watching {
     last: Option<Sample>,
     alarms: [u32; ALARM_LIMIT],
     marks: Vec<Mark>,
+    addresses: Vec<u32>,
 }
 
 impl Model for Watching {
@@ -230,7 +232,7 @@ impl Model for Watching {
 
     ghost Value = { Watch };
 
-    ghost view = { λ watching. record { last = watching.last; alarms = watching.alarms; marks = watching.marks.items } };
+    ghost view = { λ watching. record { last = watching.last; alarms = watching.alarms; marks = watching.marks.items; addresses = watching.addresses.items } };
 }
 
 impl Watching {
@@ -242,18 +244,25 @@ impl Watching {
             last: None,
             alarms: [0; ALARM_LIMIT],
             marks: Vec::new(alloc),
+            addresses: Vec::new(alloc),
         }
     }
 
-    /// What a count shows, and the ticks that each alarm has left there.
-    pub fn watch(&mut self, sample: &Sample, alarms: &[u32; ALARM_LIMIT]) -> Result<(), NoMemory>
-        ensures { OnOk result (self.new ≡ watched self.old sample.now alarms.now) }
+    /// What a count shows, the ticks that each alarm has left there, and the address.
+    pub fn watch(
+        &mut self,
+        sample: &Sample,
+        alarms: &[u32; ALARM_LIMIT],
+        address: u32,
+    ) -> Result<(), NoMemory>
+        ensures { OnOk result (self.new ≡ watched self.old sample.now alarms.now address) }
     {
         push_marks(&mut self.marks, &self.last, sample, &self.alarms, alarms)?;
         if !sample.interrupts.masked {
             self.last = Some(*sample);
         }
         self.alarms = *alarms;
+        self.addresses.push(address).map_err(|_| NoMemory)?;
         Ok(())
     }
 
@@ -262,5 +271,12 @@ impl Watching {
         ensures { result.now ≡ self.now.marks }
     {
         self.marks.as_slice()
+    }
+
+    /// The address of each count so far.
+    pub fn addresses(&self) -> &[u32]
+        ensures { result.now ≡ self.now.addresses }
+    {
+        self.addresses.as_slice()
     }
 }

@@ -58,6 +58,7 @@ fn show_count(
     count: u32,
     sample: &Sample,
     words: &ServiceWords,
+    address: u32,
 ) -> Result<(), NoMemory>
     requires tasks { tasks ≤ task_limit }
     requires counters { counters ≤ counter_limit }
@@ -65,11 +66,11 @@ fn show_count(
     ensures shows { OnOk result
         (HaveChanged (λ lane. ShowsMore count (lane_look tasks counters sample.now lane)) (tasks + counters + 1) strips.old.items strips.new.items) }
     ensures tells { OnOk result (noting.new ≡ with_sample noting.old sample.now) }
-    ensures marks { OnOk result (watching.new ≡ watched watching.old sample.now words.now.alarms) }
+    ensures marks { OnOk result (watching.new ≡ watched watching.old sample.now words.now.alarms address) }
 {
     show(strips, tasks, counters, count, sample)?;
     noting.show(sample)?;
-    watching.watch(sample, &words.alarms)
+    watching.watch(sample, &words.alarms, address)
 }
 
 // What the lanes show from one count to below another, or where and why the run stops.
@@ -96,14 +97,15 @@ fn show_all(
     requires few { to ≤ count_limit }
     ensures stops { IfOk result (λ end. IfSome end (StopsBefore (sampled_image sampler.old) (sampled_arrivals sampler.old) to)) }
     ensures bars { IfOk result (λ end. IfNone end
-        (HasBars (sampled_image sampler.old) (sampled_arrivals sampler.old) from to sampler.new strips.new.items noting.new.admissions watching.new.marks)) }
+        (HasBars (sampled_image sampler.old) (sampled_arrivals sampler.old) from to sampler.new strips.new.items noting.new.admissions watching.new.marks watching.new.addresses)) }
 {
     for count in from..to {
         noting.note(sampler)?;
         let words = sampler.service_words();
+        let address = sampler.address();
         match sampler.next() {
             Ok(sample) => show_count(
-                strips, noting, watching, tasks, counters, count, &sample, &words,
+                strips, noting, watching, tasks, counters, count, &sample, &words, address,
             )?,
             Err(halt) => return Ok(Some(halt)),
         }
@@ -129,13 +131,14 @@ fn text_with(
     requires ordered { from ≤ to }
     requires short { to ≤ from + picture_limit }
     requires few { to ≤ count_limit }
-    requires bars { HasBars image.now arrivals.now from to sampler.old strips.now noting.now.admissions watching.now.marks }
+    requires bars { HasBars image.now arrivals.now from to sampler.old strips.now noting.now.admissions watching.now.marks watching.now.addresses }
     ensures { IfOk result (λ text. IsPictureOf image.now arrivals.now from to text.items) }
 {
     let drawn = Drawn {
         image,
         admissions: noting.admissions(),
         marks: watching.marks(),
+        addresses: watching.addresses(),
         levels: sampler.levels(),
         scale: scale_of(image, from, to),
         strips,

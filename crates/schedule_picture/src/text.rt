@@ -1,5 +1,6 @@
 //! The text of a picture.
 ghost use Rattle.std.specs.Prelude.{◌≡◌, ◌≤◌, ◌<◌, ◌+◌, ◌*◌, ◌++◌, IfOk, OnOk, All, length};
+ghost use Rattle.schedule_picture.specs.Items.{bar_words};
 ghost use Rattle.sloth_base.specs.ImageRange.{InFormat};
 ghost use Rattle.sloth_base.specs.Limits.{task_limit, counter_limit, name_limit, picture_limit, count_limit};
 ghost use Rattle.lane_drawing.specs.Bars.{IsBarInside};
@@ -7,12 +8,15 @@ ghost use Rattle.lane_drawing.specs.Drawing.{is_above};
 ghost use Rattle.lane_drawing.specs.Scale.{IsScale};
 ghost use Rattle.schedule_picture.specs.Drawn.{IsDrawable, drawing_of};
 ghost use Rattle.schedule_picture.specs.LaneLooks.{owned_lanes};
-ghost use Rattle.schedule_picture.specs.Picture.{longest_of, longest_name, scale_of, tasks_above, task_lane, task_lanes, counter_lane, counter_lanes, picture_text};
+ghost use Rattle.schedule_picture.specs.Picture.{longest_of, longest_name, scale_of, tasks_above, bar_lines, task_lane, task_lanes, counter_lane, counter_lanes, picture_text};
 
 use crate::arrivals::push_arrivals;
+use crate::items::bar_words;
 use crate::mark_lines::push_marks;
 use crate::marks::Mark;
-use lane_drawing::{Bar, Scale, Strip, push_axis, push_head, push_lane, push_legend};
+use lane_drawing::{
+    Bar, Scale, Strip, push_axis, push_bar, push_head, push_lane, push_legend, push_name,
+};
 use sloth_base::image::Image;
 use sloth_base::limits::TASK_LIMIT;
 use sloth_base::lines::FIRST_COUNTER_LINE;
@@ -27,6 +31,7 @@ pub struct Drawn<'a> {
     pub image: &'a Image,
     pub admissions: &'a [Admission],
     pub marks: &'a [Mark],
+    pub addresses: &'a [u32],
     pub levels: [u8; TASK_LIMIT],
     pub scale: Scale,
     pub strips: &'a [Strip],
@@ -117,6 +122,28 @@ fn lane_bars<'a>(drawn: &Drawn<'a>, lane: usize) -> &'a [Bar]
     drawn.strips[lane].bars()
 }
 
+// Appends a task's bars.
+fn push_bars(
+    text: &mut Vec<u8>,
+    drawn: &Drawn,
+    name: &[u8],
+    middle: u32,
+    bars: &[Bar],
+) -> Result<(), NoMemory>
+    requires drawable { IsDrawable drawn.now }
+    requires name { length name.now ≤ name_limit }
+    requires high { 12 ≤ middle }
+    requires inside { All (IsBarInside drawn.now.scale.from drawn.now.scale.to) bars.now }
+    ensures { OnOk result (text.new.items ≡ text.old.items
+        ++ bar_lines drawn.now.scale name.now middle (bar_words drawn.now.image.now drawn.now.addresses.now drawn.now.scale.from) bars.now) }
+{
+    for bar in bars {
+        let words = bar_words(drawn.image, drawn.addresses, drawn.scale, *bar);
+        push_bar(text, drawn.scale, name, middle, words.bytes(), *bar)?;
+    }
+    Ok(())
+}
+
 // Appends the lane of a task.
 #[tactic(auto, unfolding(crate::specs::Picture::task_lane))]
 fn push_task(text: &mut Vec<u8>, drawn: &Drawn, task: usize) -> Result<(), NoMemory>
@@ -127,7 +154,8 @@ fn push_task(text: &mut Vec<u8>, drawn: &Drawn, task: usize) -> Result<(), NoMem
     let names = drawn.image.tasks.items();
     let name = names[task].bytes();
     let middle = row_middle(tasks_above(&drawn.levels, names.len(), task));
-    push_lane(text, drawn.scale, name, middle, lane_bars(drawn, task))?;
+    push_name(text, drawn.scale, name, middle)?;
+    push_bars(text, drawn, name, middle, lane_bars(drawn, task))?;
     push_arrivals(
         text,
         drawn.scale,

@@ -12,13 +12,15 @@
 //! The sample of each count in turn: the tasks and the running one as of the last count up to it that finds interrupts open; the pending lines, the
 //! level and the mask as they are; the line that is taken; or exactly where the run stops (`Sampler::new`, `Sampler::next`; `specs/Samples`).
 //!
-//! What the service words say of events, counters and alarms at a count (`Sampler::service_words`, `words_at`; `specs/ServiceWords`).
+//! What the service words say of events, counters and alarms at a count (`Sampler::service_words`, `words_at`; `specs/ServiceWords`), and the address of
+//! its instruction (`Sampler::address`; `specs/Addresses`).
 //!
 //! Which arrivals are lost: what the arrivals of a count do and what masked code does behind them (`Runner::note_arrivals`, `Runner::code_access`;
 //! `specs/Accesses`), and what the next count shows that finds interrupts open (`Noting`, `told_run`; `specs/Admissions`).
 #![tactic(auto)]
 
 pub mod accesses;
+mod addresses;
 mod admissions;
 pub mod arrivals;
 pub mod counting;

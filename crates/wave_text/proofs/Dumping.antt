@@ -4,7 +4,7 @@ use Rattle.std.specs.Prelude.{Bool, true, false, if◌then◌else◌}
 use Rattle.std.proofs.lemmas.Bool.Decides.{eqb_tells}
 use Rattle.std.proofs.lemmas.List.{flat_map_more}
 use Rattle.std.proofs.Math.Numerals.{add-one}
-use Rattle.sloth_runner.specs.declared.samples.Sample.{Sample}
+use Rattle.wave_text.specs.declared.moments.Moment.{Moment}
 use Rattle.wave_text.specs.declared.dump.Dump.{Dump}
 use Rattle.wave_text.specs.declared.signals.Scope.{Scope}
 use Rattle.wave_text.specs.declared.signals.Width.{Width}
@@ -80,16 +80,16 @@ gets-values b c code w x y v z e d h =
 
 -- ---- a scope
 
-pub gets-no-tasks : (d : Dump) (s : Scope) (old new : Option Sample) → HasNewEntries d d (scope_changes s old new 0)
+pub gets-no-tasks : (d : Dump) (s : Scope) (old new : Option Moment) → HasNewEntries d d (scope_changes s old new 0)
 unfolding scope_changes
 gets-no-tasks d s old new = gets-none d
 
-task-more : (s : Scope) (old new : Option Sample) (k : ℕ)
+task-more : (s : Scope) (old new : Option Moment) (k : ℕ)
     → scope_changes s old new (k + 1) ≡ scope_changes s old new k ++ change_entries (first_code s + k) (width_of s) (value_of s old k) (value_of s new k)
 unfolding scope_changes
 task-more s old new k = ap (scope_changes s old new) (add-one k)
 
-pub gets-task : (a b c : Dump) (s : Scope) (old new : Option Sample) (k code : ℕ) (w : Width) (x y : Option ℕ) → HasNewEntries a b (scope_changes s old new k)
+pub gets-task : (a b c : Dump) (s : Scope) (old new : Option Moment) (k code : ℕ) (w : Width) (x y : Option ℕ) → HasNewEntries a b (scope_changes s old new k)
     → code ≡ first_code s → w ≡ width_of s → x ≡ value_of s old k → y ≡ value_of s new k → HasNewEntries b c (change_entries (code + k) w x y) → HasNewEntries a c (scope_changes s old new (k + 1))
 gets-task a b c s old new k code w x y h at wide from to i =
     let P : List DumpEntry → Type 0 = HasNewEntries a c in
@@ -104,7 +104,7 @@ same-value : (x : Option ℕ) → same_value x x ≡ true
 same-value None = refl
 same-value (Some n) = ⊎_elim (λ h. h.0) (λ h. absurd (h.1 refl)) (eqb_tells n n)
 
-no-changes : (s : Scope) (old new : Option Sample) (k : ℕ) → KeepValues s k old new → scope_changes s old new k ≡ []
+no-changes : (s : Scope) (old new : Option Moment) (k : ℕ) → KeepValues s k old new → scope_changes s old new k ≡ []
 unfolding scope_changes
 no-changes s old new zero keeps = refl
 no-changes s old new (suc k) keeps =
@@ -113,5 +113,5 @@ no-changes s old new (suc k) keeps =
     ap (λ l. l ++ change_entries (first_code s + k) (width_of s) (value_of s old k) (value_of s new k)) (no-changes s old new k (λ t l. keeps t (omega arith)))
     ∙ ap (λ b. if b then [] else DumpEntry.change (first_code s + k) (width_of s) (value_of s new k) ∷ []) same
 
-pub gets-kept : (d : Dump) (s : Scope) (old new : Option Sample) (k : ℕ) → KeepValues s k old new → HasNewEntries d d (scope_changes s old new k)
+pub gets-kept : (d : Dump) (s : Scope) (old new : Option Moment) (k : ℕ) → KeepValues s k old new → HasNewEntries d d (scope_changes s old new k)
 gets-kept d s old new k keeps = let P : List DumpEntry → Type 0 = HasNewEntries d d in subst P (sym (no-changes s old new k keeps)) (gets-none d)

@@ -1,3 +1,4 @@
+mod Codes
 mod Declaring
 mod Dumping
 pub mod ReadBack

@@ -5,14 +5,14 @@ use Rattle.std.proofs.lemmas.Bool.{cases_lt, false≢true}
 use Rattle.std.proofs.lemmas.Bool.Decides.{eqb_tells, leb_tells}
 use Rattle.sloth_base.specs.declared.lines.Owners.{Owners}
 use Rattle.sloth_base.specs.Limits.{task_limit, counter_limit}
-use Rattle.sloth_runner.specs.declared.samples.Sample.{Sample}
+use Rattle.wave_text.specs.declared.moments.Moment.{Moment}
 use Rattle.wave_text.specs.declared.signals.Scope.{Scope}
 use Rattle.wave_text.specs.declared.signals.Scope.TheVariants as scope
 use Rattle.wave_text.specs.declared.signals.Width.{Width}
 use Rattle.wave_text.specs.declared.signals.Width.TheVariants as width
-use Rattle.wave_text.specs.Changes.{DumpEntry, same_value, change_entries, changes, scope_changes, with_moment, entries, entries_from}
+use Rattle.wave_text.specs.Changes.{DumpEntry, same_value, change_entries, kernel_changes, clock_changes, changes, scope_changes, with_moment, entries, entries_from}
 use Rattle.wave_text.specs.Reading.{value_behind, value_at, ReadsBack}
-use Rattle.wave_text.specs.Signals.{first_code, level_signal, masked_code, signal_count, width_of, value_of, level_value, masked_value}
+use Rattle.wave_text.specs.Signals.{first_code, level_signal, masked_code, signal_count, alarm_count, width_of, value_of, level_value, masked_value}
 
 -- ---- tests
 
@@ -58,16 +58,16 @@ module _ (code at : ℕ) where
 
   -- ---- a scope
 
-  task-more : (s : Scope) (old new : Option Sample) (n : ℕ) (rest : List DumpEntry) → scope_changes s old new (suc n) ++ rest
+  task-more : (s : Scope) (old new : Option Moment) (n : ℕ) (rest : List DumpEntry) → scope_changes s old new (suc n) ++ rest
       ≡ scope_changes s old new n ++ (change_entries (first_code s + n) (width_of s) (value_of s old n) (value_of s new n) ++ rest)
   unfolding scope_changes
   task-more s old new n rest = append_assoc (scope_changes s old new n) (change_entries (first_code s + n) (width_of s) (value_of s old n) (value_of s new n)) rest
 
-  no-task : (s : Scope) (old new : Option Sample) (rest : List DumpEntry) → scope_changes s old new 0 ++ rest ≡ rest
+  no-task : (s : Scope) (old new : Option Moment) (rest : List DumpEntry) → scope_changes s old new 0 ++ rest ≡ rest
   unfolding scope_changes
   no-task s old new rest = refl
 
-  other-scope : (s : Scope) (old new : Option Sample) (n : ℕ) (v : Option ℕ) (rest : List DumpEntry) → ((t : ℕ) → t < n → first_code s + t ≡ code → ⊥)
+  other-scope : (s : Scope) (old new : Option Moment) (n : ℕ) (v : Option ℕ) (rest : List DumpEntry) → ((t : ℕ) → t < n → first_code s + t ≡ code → ⊥)
       → V v (scope_changes s old new n ++ rest) ≡ V v rest
   other-scope s old new zero v rest apart = ap (V v) (no-task s old new rest)
   other-scope s old new (suc n) v rest apart =
@@ -76,7 +76,7 @@ module _ (code at : ℕ) where
       ∙ other-change (first_code s + n) (width_of s) (value_of s old n) (value_of s new n) v rest (apart n (omega arith))
 
 -- the signal of a task
-own-scope : (s : Scope) (old new : Option Sample) (n task at : ℕ) (rest : List DumpEntry) → task < n
+own-scope : (s : Scope) (old new : Option Moment) (n task at : ℕ) (rest : List DumpEntry) → task < n
     → value_behind (first_code s + task) at (value_of s old task) (scope_changes s old new n ++ rest) ≡ value_behind (first_code s + task) at (value_of s new task) rest
 own-scope s old new zero task at rest below = absurd (omega arith)
 own-scope s old new (suc n) task at rest below =
@@ -98,14 +98,14 @@ own-scope s old new (suc n) task at rest below =
 -- ---- all signals
 
 -- a signal whose value this is: the changes from one sample to the next bring it from the one value to the other
-pub record IsFollowed (owners : Owners) (code : ℕ) (val : Option Sample → Option ℕ) : Type 0 where
-  pub follows : (at : ℕ) (old new : Option Sample) (rest : List DumpEntry) → value_behind code at (val old) (changes owners old new ++ rest) ≡ value_behind code at (val new) rest
+pub record IsFollowed (owners : Owners) (code : ℕ) (val : Option Moment → Option ℕ) : Type 0 where
+  pub follows : (at : ℕ) (old new : Option Moment) (rest : List DumpEntry) → value_behind code at (val old) (changes owners old new ++ rest) ≡ value_behind code at (val new) rest
   pub unknown : val None ≡ None
 
 parts : (a b c f d e rest : List DumpEntry) → (a ++ b ++ c ++ f ++ d ++ e) ++ rest ≡ a ++ (b ++ (c ++ (f ++ (d ++ (e ++ rest)))))
 parts a b c f d e rest = simp append_assoc
 
-module _ (owners : Owners) (few : owners.tasks ≤ task_limit) (at : ℕ) (old new : Option Sample) (rest : List DumpEntry) where
+module _ (owners : Owners) (few : owners.tasks ≤ task_limit) (at : ℕ) (old new : Option Moment) (rest : List DumpEntry) where
   abbrev A : List DumpEntry
   A = scope_changes scope.State old new owners.tasks
 
@@ -132,7 +132,7 @@ module _ (owners : Owners) (few : owners.tasks ≤ task_limit) (at : ℕ) (old n
       ∙ other-change code at masked_code width.One (masked_value old) (masked_value new) v rest (λ (e : 124 ≡ code). omega arith)
 
   of-state : (task : ℕ) → task < owners.tasks
-      → value_behind (33 + task) at (value_of scope.State old task) (changes owners old new ++ rest) ≡ value_behind (33 + task) at (value_of scope.State new task) rest
+      → value_behind (33 + task) at (value_of scope.State old task) (kernel_changes owners old new ++ rest) ≡ value_behind (33 + task) at (value_of scope.State new task) rest
   of-state task l =
       let v : Option ℕ = value_of scope.State new task in
       ap (value_behind (33 + task) at (value_of scope.State old task)) (parts A B C F D E rest)
@@ -142,7 +142,7 @@ module _ (owners : Owners) (few : owners.tasks ≤ task_limit) (at : ℕ) (old n
       ∙ behind-tasks (33 + task) v (omega arith)
 
   of-runs : (task : ℕ) → task < owners.tasks
-      → value_behind (63 + task) at (value_of scope.Runs old task) (changes owners old new ++ rest) ≡ value_behind (63 + task) at (value_of scope.Runs new task) rest
+      → value_behind (63 + task) at (value_of scope.Runs old task) (kernel_changes owners old new ++ rest) ≡ value_behind (63 + task) at (value_of scope.Runs new task) rest
   of-runs task l =
       let v : Option ℕ = value_of scope.Runs new task in
       ap (value_behind (63 + task) at (value_of scope.Runs old task)) (parts A B C F D E rest)
@@ -152,7 +152,7 @@ module _ (owners : Owners) (few : owners.tasks ≤ task_limit) (at : ℕ) (old n
       ∙ behind-tasks (63 + task) v (omega arith)
 
   of-pending : (task : ℕ) → task < owners.tasks
-      → value_behind (93 + task) at (value_of scope.Pending old task) (changes owners old new ++ rest) ≡ value_behind (93 + task) at (value_of scope.Pending new task) rest
+      → value_behind (93 + task) at (value_of scope.Pending old task) (kernel_changes owners old new ++ rest) ≡ value_behind (93 + task) at (value_of scope.Pending new task) rest
   of-pending task l =
       let v : Option ℕ = value_of scope.Pending old task in
       ap (value_behind (93 + task) at v) (parts A B C F D E rest)
@@ -169,7 +169,7 @@ module _ (owners : Owners) (few : owners.tasks ≤ task_limit) (at : ℕ) (old n
       ∙ other-scope code at scope.Pending old new owners.tasks v more (λ t b (e : 93 + t ≡ code). omega arith)
 
   of-counter : (counter : ℕ) → counter < owners.counters
-      → value_behind (125 + counter) at (value_of scope.Counters old counter) (changes owners old new ++ rest) ≡ value_behind (125 + counter) at (value_of scope.Counters new counter) rest
+      → value_behind (125 + counter) at (value_of scope.Counters old counter) (kernel_changes owners old new ++ rest) ≡ value_behind (125 + counter) at (value_of scope.Counters new counter) rest
   of-counter counter l =
       let v : Option ℕ = value_of scope.Counters new counter in
       ap (value_behind (125 + counter) at (value_of scope.Counters old counter)) (parts A B C F D E rest)
@@ -183,24 +183,119 @@ module _ (owners : Owners) (few : owners.tasks ≤ task_limit) (at : ℕ) (old n
   behind-counters code v more above below =
       behind-scopes code v (F ++ more) above ∙ other-scope code at scope.Counters old new owners.counters v more (λ t b (e : 125 + t ≡ code). omega arith)
 
-  of-level : value_behind level_signal at (level_value old) (changes owners old new ++ rest) ≡ value_behind level_signal at (level_value new) rest
+  of-level : value_behind level_signal at (level_value old) (kernel_changes owners old new ++ rest) ≡ value_behind level_signal at (level_value new) rest
   of-level =
       ap (value_behind level_signal at (level_value old)) (parts A B C F D E rest) ∙ behind-counters level_signal (level_value old) (D ++ (E ++ rest)) (omega arith) (omega arith)
       ∙ own-change level_signal at width.Eight (level_value old) (level_value new) (E ++ rest)
       ∙ other-change level_signal at masked_code width.One (masked_value old) (masked_value new) (level_value new) rest (λ (e : 124 ≡ 123). omega arith)
 
-  of-masked : value_behind masked_code at (masked_value old) (changes owners old new ++ rest) ≡ value_behind masked_code at (masked_value new) rest
+  of-masked : value_behind masked_code at (masked_value old) (kernel_changes owners old new ++ rest) ≡ value_behind masked_code at (masked_value new) rest
   of-masked =
       ap (value_behind masked_code at (masked_value old)) (parts A B C F D E rest) ∙ behind-counters masked_code (masked_value old) (D ++ (E ++ rest)) (omega arith) (omega arith)
       ∙ other-change masked_code at level_signal width.Eight (level_value old) (level_value new) (masked_value old) (E ++ rest) (λ (e : 123 ≡ 124). omega arith)
       ∙ own-change masked_code at width.One (masked_value old) (masked_value new) rest
 
-scope-followed : (owners : Owners) → owners.tasks ≤ task_limit → (s : Scope) (place : ℕ) → place < signal_count owners s
-    → IsFollowed owners (first_code s + place) (λ sample. value_of s sample place)
-scope-followed owners few scope.State task l = record { follows = λ at old new rest. of-state owners few at old new rest task l; unknown = refl }
-scope-followed owners few scope.Runs task l = record { follows = λ at old new rest. of-runs owners few at old new rest task l; unknown = refl }
-scope-followed owners few scope.Pending task l = record { follows = λ at old new rest. of-pending owners few at old new rest task l; unknown = refl }
-scope-followed owners few scope.Counters counter l = record { follows = λ at old new rest. of-counter owners few at old new rest counter l; unknown = refl }
+  -- all of them, for a signal of a counter or alarm
+  behind-kernel : (code : ℕ) (v : Option ℕ) → owners.counters ≤ counter_limit → 127 ≤ code → value_behind code at v (kernel_changes owners old new ++ rest) ≡ value_behind code at v rest
+  behind-kernel code v counters above =
+      ap (value_behind code at v) (parts A B C F D E rest) ∙ behind-scopes code v (F ++ (D ++ (E ++ rest))) (omega arith)
+      ∙ other-scope code at scope.Counters old new owners.counters v (D ++ (E ++ rest)) (λ t b (e : 125 + t ≡ code). omega arith)
+      ∙ other-change code at level_signal width.Eight (level_value old) (level_value new) v (E ++ rest) (λ (e : 123 ≡ code). omega arith)
+      ∙ other-change code at masked_code width.One (masked_value old) (masked_value new) v rest (λ (e : 124 ≡ code). omega arith)
+
+module _ (owners : Owners) (at : ℕ) (old new : Option Moment) (rest : List DumpEntry) where
+  abbrev K : List DumpEntry
+  K = kernel_changes owners old new
+
+  abbrev G : List DumpEntry
+  G = scope_changes scope.Values old new owners.counters
+
+  abbrev H : List DumpEntry
+  H = scope_changes scope.Alarms old new (alarm_count owners.counters)
+
+  all-parts : (K ++ (G ++ H)) ++ rest ≡ K ++ (G ++ (H ++ rest))
+  all-parts = append_assoc K (G ++ H) rest ∙ ap (λ l. K ++ l) (append_assoc G H rest)
+
+  -- those of counters and alarms, for another signal
+  behind-clock : (code : ℕ) (v : Option ℕ) → code < 127 → value_behind code at v (G ++ (H ++ rest)) ≡ value_behind code at v rest
+  behind-clock code v below =
+      other-scope code at scope.Values old new owners.counters v (H ++ rest) (λ t b (e : 127 + t ≡ code). omega arith)
+      ∙ other-scope code at scope.Alarms old new (alarm_count owners.counters) v rest (λ t b (e : 129 + t ≡ code). omega arith)
+
+  -- a signal of the kernel's
+  of-kernel : (code : ℕ) (v w : Option ℕ) → code < 127 → value_behind code at v (K ++ (G ++ (H ++ rest))) ≡ value_behind code at w (G ++ (H ++ rest))
+      → value_behind code at v (changes owners old new ++ rest) ≡ value_behind code at w rest
+  of-kernel code v w below follows = ap (value_behind code at v) all-parts ∙ follows ∙ behind-clock code w below
+
+  of-value : owners.tasks ≤ task_limit → owners.counters ≤ counter_limit → (counter : ℕ) → counter < owners.counters
+      → value_behind (127 + counter) at (value_of scope.Values old counter) (changes owners old new ++ rest) ≡ value_behind (127 + counter) at (value_of scope.Values new counter) rest
+  of-value few counters counter l =
+      ap (value_behind (127 + counter) at (value_of scope.Values old counter)) all-parts
+      ∙ behind-kernel owners few at old new (G ++ (H ++ rest)) (127 + counter) (value_of scope.Values old counter) counters (omega arith)
+      ∙ own-scope scope.Values old new owners.counters counter at (H ++ rest) l
+      ∙ other-scope (127 + counter) at scope.Alarms old new (alarm_count owners.counters) (value_of scope.Values new counter) rest (λ t b (e : 129 + t ≡ 127 + counter). omega arith)
+
+  of-alarm : owners.tasks ≤ task_limit → owners.counters ≤ counter_limit → (alarm : ℕ) → alarm < alarm_count owners.counters
+      → value_behind (129 + alarm) at (value_of scope.Alarms old alarm) (changes owners old new ++ rest) ≡ value_behind (129 + alarm) at (value_of scope.Alarms new alarm) rest
+  of-alarm few counters alarm l =
+      ap (value_behind (129 + alarm) at (value_of scope.Alarms old alarm)) all-parts
+      ∙ behind-kernel owners few at old new (G ++ (H ++ rest)) (129 + alarm) (value_of scope.Alarms old alarm) counters (omega arith)
+      ∙ other-scope (129 + alarm) at scope.Values old new owners.counters (value_of scope.Alarms old alarm) (H ++ rest) (λ t b (e : 127 + t ≡ 129 + alarm). omega arith)
+      ∙ own-scope scope.Alarms old new (alarm_count owners.counters) alarm at rest l
+
+-- the changes that stand behind those of the kernel's signals
+abbrev clock-and : Owners → (old new : Option Moment) → List DumpEntry → List DumpEntry
+clock-and owners old new rest =
+    scope_changes scope.Values old new owners.counters ++ (scope_changes scope.Alarms old new (alarm_count owners.counters) ++ rest)
+
+scope-followed : (owners : Owners) → owners.tasks ≤ task_limit → owners.counters ≤ counter_limit → (s : Scope) (place : ℕ) → place < signal_count owners s
+    → IsFollowed owners (first_code s + place) (λ moment. value_of s moment place)
+scope-followed owners few counters scope.State task l = record {
+  follows = λ at old new rest.
+      of-kernel owners at old new rest (33 + task) (value_of scope.State old task) (value_of scope.State new task) (omega arith)
+      (of-state owners few at old new (clock-and owners old new rest) task l);
+  unknown = refl;
+}
+scope-followed owners few counters scope.Runs task l = record {
+  follows = λ at old new rest.
+      of-kernel owners at old new rest (63 + task) (value_of scope.Runs old task) (value_of scope.Runs new task) (omega arith)
+      (of-runs owners few at old new (clock-and owners old new rest) task l);
+  unknown = refl;
+}
+scope-followed owners few counters scope.Pending task l = record {
+  follows = λ at old new rest.
+      of-kernel owners at old new rest (93 + task) (value_of scope.Pending old task) (value_of scope.Pending new task) (omega arith)
+      (of-pending owners few at old new (clock-and owners old new rest) task l);
+  unknown = refl;
+}
+scope-followed owners few counters scope.Counters counter l = record {
+  follows = λ at old new rest.
+      of-kernel owners at old new rest (125 + counter) (value_of scope.Counters old counter) (value_of scope.Counters new counter) (omega arith)
+      (of-counter owners few at old new (clock-and owners old new rest) counter l);
+  unknown = refl;
+}
+scope-followed owners few counters scope.Values counter l = record {
+  follows = λ at old new rest. of-value owners at old new rest few counters counter l;
+  unknown = refl;
+}
+scope-followed owners few counters scope.Alarms alarm l = record {
+  follows = λ at old new rest. of-alarm owners at old new rest few counters alarm l;
+  unknown = refl;
+}
+
+level-followed : (owners : Owners) → owners.tasks ≤ task_limit → IsFollowed owners level_signal level_value
+level-followed owners few = record {
+  follows = λ at old new rest.
+      of-kernel owners at old new rest level_signal (level_value old) (level_value new) (omega arith) (of-level owners few at old new (clock-and owners old new rest));
+  unknown = refl;
+}
+
+masked-followed : (owners : Owners) → owners.tasks ≤ task_limit → IsFollowed owners masked_code masked_value
+masked-followed owners few = record {
+  follows = λ at old new rest.
+      of-kernel owners at old new rest masked_code (masked_value old) (masked_value new) (omega arith) (of-masked owners few at old new (clock-and owners old new rest));
+  unknown = refl;
+}
 
 -- ---- moments
 
@@ -219,7 +314,7 @@ module _ (code at : ℕ) where
   last n = DumpEntry.moment n ∷ []
 
   -- all samples of later counts
-  all-beyond : (owners : Owners) (n count : ℕ) (v : Option ℕ) (old : Option Sample) (xs : List Sample) → at < count → at < n → value_behind code at v (entries_from owners count old xs ++ last n) ≡ v
+  all-beyond : (owners : Owners) (n count : ℕ) (v : Option ℕ) (old : Option Moment) (xs : List Moment) → at < count → at < n → value_behind code at v (entries_from owners count old xs ++ last n) ≡ v
   all-beyond owners n count v old [] lt ends = ap (λ b. if b then v else v) (is-beyond n at ends)
   all-beyond owners n count v old (x ∷ xs) lt ends =
       let es : List DumpEntry = changes owners old (Some x) in
@@ -228,7 +323,7 @@ module _ (code at : ℕ) where
       ∙ moment-beyond count v es (rest ++ last n) lt (all-beyond owners n (count + 1) v (Some x) xs (omega arith) ends)
 
 -- the value of a signal that is followed, at a count
-pub value-at : (owners : Owners) (n code : ℕ) (val : Option Sample → Option ℕ) → IsFollowed owners code val → (xs : List Sample) (count k : ℕ) (old : Option Sample) → k < length xs → count + k < n
+pub value-at : (owners : Owners) (n code : ℕ) (val : Option Moment → Option ℕ) → IsFollowed owners code val → (xs : List Moment) (count k : ℕ) (old : Option Moment) → k < length xs → count + k < n
     → value_behind code (count + k) (val old) (entries_from owners count old xs ++ DumpEntry.moment n ∷ []) ≡ val (slice_get xs k)
 value-at owners n code val follow [] count k old below ends = absurd (omega arith)
 value-at owners n code val follow (x ∷ xs) count zero old below ends =
@@ -250,7 +345,7 @@ value-at owners n code val follow (x ∷ xs) count (suc k) old below ends =
     ∙ follow.follows at old (Some x) (rest ++ last code at n)
     ∙ subst P same (value-at owners n code val follow xs (count + 1) k (Some x) (omega arith) (omega arith))
 
-signal-reads : (owners : Owners) (code : ℕ) (val : Option Sample → Option ℕ) → IsFollowed owners code val → (xs : List Sample) (k : ℕ) → k < length xs
+signal-reads : (owners : Owners) (code : ℕ) (val : Option Moment → Option ℕ) → IsFollowed owners code val → (xs : List Moment) (k : ℕ) → k < length xs
     → value_at code k (entries owners xs) ≡ val (slice_get xs k)
 signal-reads owners code val follow xs k below =
     let es : List DumpEntry = entries_from owners 0 None xs ++ DumpEntry.moment (length xs) ∷ [] in
@@ -258,9 +353,9 @@ signal-reads owners code val follow xs k below =
     let same : 0 + k ≡ k = omega arith in
     ap (λ v. value_behind code k v es) (sym follow.unknown) ∙ subst P same (value-at owners (length xs) code val follow xs 0 k None below (omega (arith, below)))
 
-pub reads-back : (owners : Owners) (samples : List Sample) (k : ℕ) → owners.tasks ≤ task_limit → owners.counters ≤ counter_limit → k < length samples → ReadsBack owners samples k
-reads-back owners samples k few counters below = record {
-  of_scope = λ s place l. signal-reads owners (first_code s + place) (λ sample. value_of s sample place) (scope-followed owners few s place l) samples k below;
-  of_level = signal-reads owners level_signal level_value (record { follows = λ at old new rest. of-level owners few at old new rest; unknown = refl }) samples k below;
-  of_masked = signal-reads owners masked_code masked_value (record { follows = λ at old new rest. of-masked owners few at old new rest; unknown = refl }) samples k below;
+pub reads-back : (owners : Owners) (moments : List Moment) (k : ℕ) → owners.tasks ≤ task_limit → owners.counters ≤ counter_limit → k < length moments → ReadsBack owners moments k
+reads-back owners moments k few counters below = record {
+  of_scope = λ s place l. signal-reads owners (first_code s + place) (λ moment. value_of s moment place) (scope-followed owners few counters s place l) moments k below;
+  of_level = signal-reads owners level_signal level_value (level-followed owners few) moments k below;
+  of_masked = signal-reads owners masked_code masked_value (masked-followed owners few) moments k below;
 }

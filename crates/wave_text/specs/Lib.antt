@@ -4,3 +4,4 @@ pub mod Reading
 pub mod Text
 pub mod Waves
 pub mod Signals
+pub mod Moments

@@ -8,23 +8,25 @@ use Rattle.sloth_runner.specs.Samples.{AreSamples}
 use Rattle.sloth_runner.specs.Runner.{run_end}
 use Rattle.sloth_runner.specs.declared.runner.RunEnd.TheVariants as ends
 use Rattle.wave_text.specs.declared.dump.Dump.{Dump}
+use Rattle.wave_text.specs.declared.moments.Moment.{Moment}
 use Rattle.wave_text.specs.declared.recording.Recorded.{Recorded}
 use Rattle.wave_text.specs.declared.recording.Recorded.TheVariants as recorded
 use Rattle.wave_text.specs.Changes.{DumpEntry, entries, with_moment, stands_behind}
 use Rattle.wave_text.specs.Header.{header}
+use Rattle.wave_text.specs.Moments.{moments_of}
 use Rattle.wave_text.specs.Text.{entry_lines}
 
--- the waves of samples, with the names of an image
-abbrev pub waves_text : Image → List Sample → List ℕ
-waves_text image samples = header image ++ entry_lines (entries (owners_named image) samples)
+-- the waves of moments, with the names of an image
+abbrev pub waves_text : Image → List Moment → List ℕ
+waves_text image moments = header image ++ entry_lines (entries (owners_named image) moments)
 
--- a text is the waves of n instructions of a run: the run has them all, and the text is that of its samples
+-- a text is the waves of n instructions of a run: the run has them all, and the text is that of its samples, with the service words that go with them
 pub record AreWavesOf (image : Image) (arrivals : List Arrival) (n : ℕ) (text : List ℕ) : Type 0 where
   pub whole : run_end image arrivals n ≡ ends.Whole
   pub samples : List Sample
   pub counted : length samples ≡ n
   pub are_samples : AreSamples image arrivals 0 samples
-  pub is : text ≡ waves_text image samples
+  pub is : text ≡ waves_text image (moments_of image arrivals samples)
 
 -- the waves of a run, or where and why it stops
 abbrev pub AreWaves : Image → List Arrival → ℕ → Recorded → Type 0

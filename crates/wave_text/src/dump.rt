@@ -1,22 +1,24 @@
 //! The changes of signals, written as they come.
-ghost use Rattle.std.specs.Prelude.{◌≡◌, ◌≤◌, ◌++◌, true, false, Some, None, OnOk};
-ghost use Rattle.sloth_base.specs.Limits.{task_limit, counter_limit};
-ghost use Rattle.wave_text.specs.Changes.{DumpEntry, same_value, change_entries, changes, scope_changes, moment_entries, with_moment};
-ghost use Rattle.wave_text.specs.Text.{digit, entry_line, entry_lines};
-ghost use Rattle.wave_text.specs.Signals.{most_signals};
+ghost use Rattle.std.specs.Prelude.{◌≡◌, ◌≤◌, ◌++◌, ◌+◌, true, false, Some, None, OnOk, length};
+ghost use Rattle.sloth_base.specs.Limits.{task_limit, counter_limit, alarm_limit};
+ghost use Rattle.wave_text.specs.Changes.{DumpEntry, same_value, change_entries, kernel_changes, changes, scope_changes, moment_entries, with_moment};
+ghost use Rattle.wave_text.specs.Text.{digit, byte_digits, word_digits, value_text, signal_end, entry_line, entry_lines};
+ghost use Rattle.wave_text.specs.Signals.{most_signals, alarm_count};
+ghost use Rattle.wave_text.specs.declared.signals.Scope.TheVariants.{Values, Alarms};
 ghost use Rattle.wave_text.specs.Waves.{HasNewEntries};
 
 use crate::keeping::keeps;
+use crate::moments::Moment;
 use crate::signals::{
-    LEVEL, MASKED, Scope, Width, first_code, level_value, masked_value, value_of, width_of,
+    LEVEL, MASKED, Scope, Width, alarm_count, first_code, level_value, masked_value, value_of,
+    width_of,
 };
 use itoa::Buffer;
 use sloth_base::lines::Owners;
 use sloth_base::memory::NoMemory;
-use sloth_runner::Sample;
 
 // Whether two values are the same.
-fn same_value(one: Option<u8>, other: Option<u8>) -> bool
+fn same_value(one: Option<u32>, other: Option<u32>) -> bool
     ensures { result ≡ same_value one other }
 {
     match one {
@@ -29,22 +31,48 @@ fn same_value(one: Option<u8>, other: Option<u8>) -> bool
 }
 
 // The digit of a number's last binary place.
-fn digit(number: u8) -> u8
+fn digit(number: u32) -> u8
     ensures { result ≡ digit number }
 {
-    b'0' + number % 2
+    b'0' + (number % 2) as u8
 }
 
-// Appends the line of a signal with a value.
-#[tactic(auto, unfolding(crate::specs::Text::value_text, crate::specs::Text::entry_line))]
-fn push_number(text: &mut Vec<u8>, code: u8, width: Width, n: u8) -> Result<(), NoMemory>
-    ensures { OnOk result (text.new.items ≡ text.old.items ++ entry_line (DumpEntry.change code width (Some n))) }
+// Appends the eight last digits of a number.
+fn push_byte(text: &mut Vec<u8>, n: u32) -> Result<(), NoMemory>
+    ensures { OnOk result (text.new.items ≡ text.old.items ++ byte_digits n) }
+{
+    text.extend_from_slice(&[
+        digit(n / 128),
+        digit(n / 64),
+        digit(n / 32),
+        digit(n / 16),
+        digit(n / 8),
+        digit(n / 4),
+        digit(n / 2),
+        digit(n),
+    ])?;
+    Ok(())
+}
+
+// Appends all digits of a word.
+#[tactic(auto, unfolding(crate::specs::Text::word_digits))]
+fn push_word(text: &mut Vec<u8>, n: u32) -> Result<(), NoMemory>
+    ensures { OnOk result (text.new.items ≡ text.old.items ++ word_digits n) }
+{
+    push_byte(text, n / 16_777_216)?;
+    push_byte(text, n / 65_536)?;
+    push_byte(text, n / 256)?;
+    push_byte(text, n)
+}
+
+// Appends a value.
+#[tactic(auto, unfolding(crate::specs::Text::value_text))]
+fn push_number(text: &mut Vec<u8>, width: Width, n: u32) -> Result<(), NoMemory>
+    ensures { OnOk result (text.new.items ≡ text.old.items ++ value_text width (Some n)) }
 {
     match width {
-        Width::One => text.extend_from_slice(&[digit(n), code, b'\n'])?,
-        Width::Two => {
-            text.extend_from_slice(&[b'b', digit(n / 2), digit(n), b' ', code, b'\n'])?;
-        }
+        Width::One => text.extend_from_slice(&[digit(n)])?,
+        Width::Two => text.extend_from_slice(&[b'b', digit(n / 2), digit(n), b' '])?,
         Width::Eight => text.extend_from_slice(&[
             b'b',
             digit(n / 128),
@@ -56,39 +84,65 @@ fn push_number(text: &mut Vec<u8>, code: u8, width: Width, n: u8) -> Result<(), 
             digit(n / 2),
             digit(n),
             b' ',
-            code,
-            b'\n',
         ])?,
+        Width::ThirtyTwo => {
+            text.extend_from_slice(b"b")?;
+            push_word(text, n)?;
+            text.extend_from_slice(b" ")?;
+        }
     }
     Ok(())
 }
 
-// Appends the line of a signal whose value is unknown.
-#[tactic(auto, unfolding(crate::specs::Text::value_text, crate::specs::Text::entry_line))]
-fn push_unknown(text: &mut Vec<u8>, code: u8, width: Width) -> Result<(), NoMemory>
-    ensures { OnOk result (text.new.items ≡ text.old.items ++ entry_line (DumpEntry.change code width None)) }
+// Appends the value that is unknown.
+#[tactic(auto, unfolding(crate::specs::Text::value_text))]
+fn push_unknown(text: &mut Vec<u8>, width: Width) -> Result<(), NoMemory>
+    ensures { OnOk result (text.new.items ≡ text.old.items ++ value_text width None) }
 {
     match width {
-        Width::One => text.extend_from_slice(&[b'x', code, b'\n'])?,
-        Width::Two => text.extend_from_slice(&[b'b', b'x', b' ', code, b'\n'])?,
-        Width::Eight => text.extend_from_slice(&[b'b', b'x', b' ', code, b'\n'])?,
+        Width::One => text.extend_from_slice(b"x")?,
+        Width::Two => text.extend_from_slice(b"bx ")?,
+        Width::Eight => text.extend_from_slice(b"bx ")?,
+        Width::ThirtyTwo => text.extend_from_slice(b"bx ")?,
+    }
+    Ok(())
+}
+
+// Appends a value, or the one that is unknown.
+fn push_value(text: &mut Vec<u8>, width: Width, value: Option<u32>) -> Result<(), NoMemory>
+    ensures { OnOk result (text.new.items ≡ text.old.items ++ value_text width value) }
+{
+    match value {
+        Some(n) => push_number(text, width, n),
+        None => push_unknown(text, width),
+    }
+}
+
+// Appends the end of a signal's line.
+#[tactic(auto, unfolding(crate::specs::Text::signal_end, crate::specs::Signals::code_text))]
+fn push_end(text: &mut Vec<u8>, code: u8) -> Result<(), NoMemory>
+    ensures { OnOk result (text.new.items ≡ text.old.items ++ signal_end code) }
+{
+    if code < 127 {
+        text.extend_from_slice(&[code, b'\n'])?;
+    } else {
+        text.extend_from_slice(&[b'!', code - 94, b'\n'])?;
     }
     Ok(())
 }
 
 // Appends the line of a signal that changes.
+#[tactic(auto, unfolding(crate::specs::Text::entry_line))]
 fn push_change(
     text: &mut Vec<u8>,
     code: u8,
     width: Width,
-    value: Option<u8>,
+    value: Option<u32>,
 ) -> Result<(), NoMemory>
     ensures { OnOk result (text.new.items ≡ text.old.items ++ entry_line (DumpEntry.change code width value)) }
 {
-    match value {
-        Some(n) => push_number(text, code, width, n),
-        None => push_unknown(text, code, width),
-    }
+    push_value(text, width, value)?;
+    push_end(text, code)
 }
 
 // Appends the line of a moment.
@@ -140,8 +194,8 @@ impl Dump {
         &mut self,
         code: u8,
         width: Width,
-        before: Option<u8>,
-        after: Option<u8>,
+        before: Option<u32>,
+        after: Option<u32>,
     ) -> Result<(), NoMemory>
         ensures { OnOk result (HasNewEntries self.old self.new (change_entries code width before after)) }
     {
@@ -157,10 +211,10 @@ impl Dump {
         &mut self,
         scope: Scope,
         count: usize,
-        before: &Option<Sample>,
-        after: &Option<Sample>,
+        before: &Option<Moment>,
+        after: &Option<Moment>,
     ) -> Result<(), NoMemory>
-        requires small { count ≤ task_limit }
+        requires small { count ≤ alarm_limit }
         requires few { count ≤ most_signals scope }
         ensures { OnOk result (HasNewEntries self.old self.new (scope_changes scope before.now after.now count)) }
     {
@@ -178,21 +232,17 @@ impl Dump {
         Ok(())
     }
 
-    /// Appends the changes from one sample to the next, whose count it is.
-    pub fn sample(
+    // Appends the changes of the signals of tasks, lines and the kernel.
+    fn kernel(
         &mut self,
-        count: u32,
         owners: &Owners,
-        before: &Option<Sample>,
-        after: &Option<Sample>,
+        before: &Option<Moment>,
+        after: &Option<Moment>,
     ) -> Result<(), NoMemory>
         requires tasks { owners.now.tasks ≤ task_limit }
         requires counters { owners.now.counters ≤ counter_limit }
-        ensures { OnOk result
-            (self.new.text.items ≡ self.old.text.items ++ entry_lines (with_moment count false (changes owners.now before.now after.now))) }
+        ensures { OnOk result (HasNewEntries self.old self.new (kernel_changes owners.now before.now after.now)) }
     {
-        self.count = count;
-        self.stamped = false;
         self.scope(Scope::State, owners.tasks, before, after)?;
         self.scope(Scope::Runs, owners.tasks, before, after)?;
         self.scope(Scope::Pending, owners.tasks, before, after)?;
@@ -204,6 +254,42 @@ impl Dump {
             masked_value(before),
             masked_value(after),
         )?;
+        Ok(())
+    }
+
+    // Appends those of the signals of counters and alarms.
+    fn clock(
+        &mut self,
+        counters: usize,
+        before: &Option<Moment>,
+        after: &Option<Moment>,
+    ) -> Result<(), NoMemory>
+        requires { counters ≤ counter_limit }
+        ensures { OnOk result (HasNewEntries self.old self.new
+            (scope_changes Values before.now after.now counters ++ scope_changes Alarms before.now after.now (alarm_count counters))) }
+    {
+        self.scope(Scope::Values, counters, before, after)?;
+        self.scope(Scope::Alarms, alarm_count(counters), before, after)?;
+        Ok(())
+    }
+
+    /// Appends the changes from one moment to the next, whose count it is.
+    pub fn moment(
+        &mut self,
+        count: u32,
+        owners: &Owners,
+        before: &Option<Moment>,
+        after: &Option<Moment>,
+    ) -> Result<(), NoMemory>
+        requires tasks { owners.now.tasks ≤ task_limit }
+        requires counters { owners.now.counters ≤ counter_limit }
+        ensures { OnOk result
+            (self.new.text.items ≡ self.old.text.items ++ entry_lines (with_moment count false (changes owners.now before.now after.now))) }
+    {
+        self.count = count;
+        self.stamped = false;
+        self.kernel(owners, before, after)?;
+        self.clock(owners.counters, before, after)?;
         Ok(())
     }
 

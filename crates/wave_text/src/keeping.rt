@@ -1,15 +1,15 @@
-//! Whether signals keep their values: told by one look at the parts of two samples, since most counts change nothing.
+//! Whether signals keep their values: told by one look at the parts of two moments, since most counts change nothing.
 ghost use Rattle.std.specs.Prelude.{ℕ, ◌≡◌, ◌<◌, ◌≤◌, IsTrue, false, get_or};
-ghost use Rattle.sloth_base.specs.Limits.{task_limit, counter_limit};
+ghost use Rattle.sloth_base.specs.Limits.{task_limit, counter_limit, alarm_limit};
 ghost use Rattle.osek_scheduler.specs.declared.state.TaskState.TheVariants as mode;
 ghost use Rattle.sloth_inspect.specs.StateNumbers.{state_number};
-ghost use Rattle.wave_text.specs.Signals.{KeepValues, most_signals, state_value, running_value, value_in};
+ghost use Rattle.wave_text.specs.Signals.{KeepValues, most_signals, state_value, running_value, number_seen, value_in};
 
+use crate::moments::Moment;
 use crate::signals::Scope;
 use osek_scheduler::state::TaskState;
-use sloth_base::limits::{COUNTER_LIMIT, TASK_LIMIT};
+use sloth_base::limits::{ALARM_LIMIT, COUNTER_LIMIT, TASK_LIMIT};
 use sloth_inspect::state_numbers::state_number;
-use sloth_runner::Sample;
 use sloth_runner::task_states::Seen;
 
 // Whether the states of the tasks have the same numbers.
@@ -55,6 +55,39 @@ fn same_counters(
     true
 }
 
+// Whether the counters have the same values.
+fn same_values(counters: usize, one: &[u32; COUNTER_LIMIT], other: &[u32; COUNTER_LIMIT]) -> bool
+    requires { counters ≤ counter_limit }
+    ensures { IsTrue result → (t : ℕ) → t < counters → get_or one.now t 0 ≡ get_or other.now t 0 }
+{
+    for counter in 0..counters {
+        if one[counter] != other[counter] {
+            return false;
+        }
+    }
+    true
+}
+
+// Whether the alarms have the same ticks left.
+fn same_alarms(alarms: usize, one: &[u32; ALARM_LIMIT], other: &[u32; ALARM_LIMIT]) -> bool
+    requires { alarms ≤ alarm_limit }
+    ensures { IsTrue result → (t : ℕ) → t < alarms → get_or one.now t 0 ≡ get_or other.now t 0 }
+{
+    for alarm in 0..alarms {
+        if one[alarm] != other[alarm] {
+            return false;
+        }
+    }
+    true
+}
+
+// Whether the tasks were seen before and are seen, whatever they are.
+fn both_seen(before: &Option<Seen>, after: &Option<Seen>) -> bool
+    ensures { IsTrue result → (m n : ℕ) → m ≡ n → number_seen before.now m ≡ number_seen after.now n }
+{
+    before.is_some() && after.is_some()
+}
+
 // Whether the tasks were seen before and are seen in the same states.
 fn keeps_states(tasks: usize, before: &Option<Seen>, after: &Option<Seen>) -> bool
     requires { tasks ≤ task_limit }
@@ -82,29 +115,51 @@ fn keeps_running(before: &Option<Seen>, after: &Option<Seen>) -> bool
     }
 }
 
-// The same of two samples, for the first signals.
-fn keeps_values(scope: Scope, count: usize, before: &Sample, after: &Sample) -> bool
+// Whether the first counters have the values that they had, and the tasks were seen.
+fn keeps_words(counters: usize, before: &Moment, after: &Moment) -> bool
+    requires { counters ≤ counter_limit }
+    ensures { IsTrue result → (t : ℕ) → t < counters
+        → number_seen before.now.sample.seen (get_or before.now.words.counters t 0) ≡ number_seen after.now.sample.seen (get_or after.now.words.counters t 0) }
+{
+    both_seen(&before.sample.seen, &after.sample.seen)
+        && same_values(counters, &before.words.counters, &after.words.counters)
+}
+
+// The same of the first alarms.
+fn keeps_alarms(alarms: usize, before: &Moment, after: &Moment) -> bool
+    requires { alarms ≤ alarm_limit }
+    ensures { IsTrue result → (t : ℕ) → t < alarms
+        → number_seen before.now.sample.seen (get_or before.now.words.alarms t 0) ≡ number_seen after.now.sample.seen (get_or after.now.words.alarms t 0) }
+{
+    both_seen(&before.sample.seen, &after.sample.seen)
+        && same_alarms(alarms, &before.words.alarms, &after.words.alarms)
+}
+
+// The same of two moments, for the first signals.
+fn keeps_values(scope: Scope, count: usize, before: &Moment, after: &Moment) -> bool
     requires { count ≤ most_signals scope }
     ensures { IsTrue result → (t : ℕ) → t < count → value_in scope before.now t ≡ value_in scope after.now t }
 {
     match scope {
-        Scope::State => keeps_states(count, &before.seen, &after.seen),
-        Scope::Runs => keeps_running(&before.seen, &after.seen),
+        Scope::State => keeps_states(count, &before.sample.seen, &after.sample.seen),
+        Scope::Runs => keeps_running(&before.sample.seen, &after.sample.seen),
         Scope::Pending => same_pending(
             count,
-            &before.interrupts.pending,
-            &after.interrupts.pending,
+            &before.sample.interrupts.pending,
+            &after.sample.interrupts.pending,
         ),
         Scope::Counters => same_counters(
             count,
-            &before.interrupts.counters_pending,
-            &after.interrupts.counters_pending,
+            &before.sample.interrupts.counters_pending,
+            &after.sample.interrupts.counters_pending,
         ),
+        Scope::Values => keeps_words(count, before, after),
+        Scope::Alarms => keeps_alarms(count, before, after),
     }
 }
 
-/// Whether the signals of a scope are known to keep their values from one sample to the next.
-pub fn keeps(scope: Scope, count: usize, before: &Option<Sample>, after: &Option<Sample>) -> bool
+/// Whether the signals of a scope are known to keep their values from one moment to the next.
+pub fn keeps(scope: Scope, count: usize, before: &Option<Moment>, after: &Option<Moment>) -> bool
     requires { count ≤ most_signals scope }
     ensures { IsTrue result → KeepValues scope count before.now after.now }
 {

@@ -8,6 +8,7 @@ ghost use Rattle.wave_text.specs.Waves.{AreWaves};
 
 use crate::dump::Dump;
 use crate::header::header;
+use crate::moments::{Moment, no_words, words_behind_look};
 use sloth_base::event::Arrival;
 use sloth_base::image::Image;
 use sloth_base::lines::Owners;
@@ -45,12 +46,15 @@ pub fn waves(
         stamped: false,
     };
     let mut sampler = Sampler::new(alloc, image, arrivals)?;
+    let mut words = no_words();
     let mut old = None;
     for count in 0..n {
+        let now = sampler.service_words();
         match sampler.next() {
             Ok(sample) => {
-                let new = Some(sample);
-                dump.sample(count, &owners, &old, &new)?;
+                words = words_behind_look(&sample, count, &words, &now);
+                let new = Some(Moment { sample, words });
+                dump.moment(count, &owners, &old, &new)?;
                 old = new;
             }
             Err(halt) => return Ok(Recorded::Stopped(halt)),

@@ -1,9 +1,12 @@
 //! The signals of waves, and their values.
-ghost use Rattle.std.specs.Prelude.{◌≡◌, ◌<◌};
-ghost use Rattle.wave_text.specs.Signals.{first_code, width_of, most_signals, value_in, value_of, level_value, masked_value};
+ghost use Rattle.std.specs.Prelude.{◌≡◌, ◌≤◌, ◌<◌};
+ghost use Rattle.sloth_base.specs.Limits.{alarm_limit};
+ghost use Rattle.wave_text.specs.Signals.{first_code, width_of, most_signals, alarm_count, number_seen, value_in, value_of, level_value, masked_value};
 
+use crate::moments::Moment;
+use sloth_base::limits::ALARM_LIMIT;
 use sloth_inspect::state_numbers::state_number;
-use sloth_runner::Sample;
+use sloth_runner::task_states::Seen;
 
 /// How many binary digits a signal has.
 #[derive(Clone, Copy)]
@@ -11,9 +14,10 @@ pub enum Width {
     One,
     Two,
     Eight,
+    ThirtyTwo,
 }
 
-/// Signals of one kind: one for each task, or for each counter.
+/// Signals of one kind: one for each task, counter or alarm.
 #[derive(Clone, Copy)]
 pub enum Scope {
     State,
@@ -21,6 +25,10 @@ pub enum Scope {
     Pending,
     /// The counters' lines, which stand in the scope of pending lines.
     Counters,
+    /// The counters' values.
+    Values,
+    /// The ticks that alarms have left.
+    Alarms,
 }
 
 /// The code of the signal `level`.
@@ -32,13 +40,15 @@ pub const MASKED: u8 = b'|';
 /// The code of the first signal. The others follow.
 pub fn first_code(scope: Scope) -> u8
     ensures is { result ≡ first_code scope }
-    ensures small { result < 126 }
+    ensures small { result ≤ 129 }
 {
     match scope {
         Scope::State => b'!',
         Scope::Runs => b'?',
         Scope::Pending => b']',
         Scope::Counters => b'}',
+        Scope::Values => 127,
+        Scope::Alarms => 129,
     }
 }
 
@@ -51,55 +61,77 @@ pub fn width_of(scope: Scope) -> Width
         Scope::Runs => Width::One,
         Scope::Pending => Width::One,
         Scope::Counters => Width::One,
+        Scope::Values => Width::ThirtyTwo,
+        Scope::Alarms => Width::ThirtyTwo,
     }
 }
 
-// The value of a signal in a sample, by its place in the scope.
-fn value_in(scope: Scope, sample: &Sample, place: usize) -> Option<u8>
+/// How many signals of alarms there are beside so many counters: those of all alarms that there may be, or none where no counter ticks.
+pub fn alarm_count(counters: usize) -> usize
+    ensures is { result ≡ alarm_count counters }
+    ensures few { result ≤ alarm_limit }
+{
+    if counters == 0 { 0 } else { ALARM_LIMIT }
+}
+
+// This number, where the tasks were seen.
+fn number_seen(seen: &Option<Seen>, number: u32) -> Option<u32>
+    ensures { result ≡ number_seen seen.now number }
+{
+    match seen {
+        Some(_) => Some(number),
+        None => None,
+    }
+}
+
+// The value of a signal at a moment, by its place in the scope.
+fn value_in(scope: Scope, moment: &Moment, place: usize) -> Option<u32>
     requires { place < most_signals scope }
-    ensures { result ≡ value_in scope sample.now place }
+    ensures { result ≡ value_in scope moment.now place }
 {
     match scope {
-        Scope::State => match &sample.seen {
-            Some(seen) => Some(state_number(seen.tasks[place])),
+        Scope::State => match &moment.sample.seen {
+            Some(seen) => Some(u32::from(state_number(seen.tasks[place]))),
             None => None,
         },
-        Scope::Runs => match &sample.seen {
-            Some(seen) => Some(u8::from(seen.running == place as u32 + 1)),
+        Scope::Runs => match &moment.sample.seen {
+            Some(seen) => Some(u32::from(seen.running == place as u32 + 1)),
             None => None,
         },
-        Scope::Pending => Some(u8::from(sample.interrupts.pending[place])),
-        Scope::Counters => Some(u8::from(sample.interrupts.counters_pending[place])),
+        Scope::Pending => Some(u32::from(moment.sample.interrupts.pending[place])),
+        Scope::Counters => Some(u32::from(moment.sample.interrupts.counters_pending[place])),
+        Scope::Values => number_seen(&moment.sample.seen, moment.words.counters[place]),
+        Scope::Alarms => number_seen(&moment.sample.seen, moment.words.alarms[place]),
     }
 }
 
-/// The same; before the first sample it has none.
-pub fn value_of(scope: Scope, sample: &Option<Sample>, place: usize) -> Option<u8>
+/// The same; before the first moment it has none.
+pub fn value_of(scope: Scope, moment: &Option<Moment>, place: usize) -> Option<u32>
     requires { place < most_signals scope }
-    ensures { result ≡ value_of scope sample.now place }
+    ensures { result ≡ value_of scope moment.now place }
 {
-    match sample {
-        Some(sample) => value_in(scope, sample, place),
+    match moment {
+        Some(moment) => value_in(scope, moment, place),
         None => None,
     }
 }
 
 /// The value of `level`.
-pub fn level_value(sample: &Option<Sample>) -> Option<u8>
-    ensures { result ≡ level_value sample.now }
+pub fn level_value(moment: &Option<Moment>) -> Option<u32>
+    ensures { result ≡ level_value moment.now }
 {
-    match sample {
-        Some(sample) => Some(sample.interrupts.level),
+    match moment {
+        Some(moment) => Some(u32::from(moment.sample.interrupts.level)),
         None => None,
     }
 }
 
 /// The value of `masked`.
-pub fn masked_value(sample: &Option<Sample>) -> Option<u8>
-    ensures { result ≡ masked_value sample.now }
+pub fn masked_value(moment: &Option<Moment>) -> Option<u32>
+    ensures { result ≡ masked_value moment.now }
 {
-    match sample {
-        Some(sample) => Some(u8::from(sample.interrupts.masked)),
+    match moment {
+        Some(moment) => Some(u32::from(moment.sample.interrupts.masked)),
         None => None,
     }
 }

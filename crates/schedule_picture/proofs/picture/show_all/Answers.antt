@@ -1,5 +1,6 @@
 use Rattle.std.proofs.Common.{◌+◌, ◌≡◌, ◌∙◌, ℕ, sym, subst, arith}
 use Rattle.sloth_runner.specs.Samples.{sampled_image, sampled_arrivals, sampled_count}
+use Rattle.sloth_runner.specs.Addresses.{address_behind}
 use Rattle.sloth_runner.specs.ServiceWords.{words_behind}
 use Rattle.sloth_runner.specs.declared.samples.Sampler.{Sampler}
 use Rattle.schedule_picture.specs.Samples.{HasBars}
@@ -26,9 +27,9 @@ loop-count-preserved c =
     let R : Sampler → Type 0 = λ s. c.service_words-words.result ≡ words_behind (sampled_image s) (sampled_arrivals s) (sampled_count s) in
     shown_more image arrivals c.args.from c.loop-count.count c.args.tasks c.args.counters c.loop-count.sampler c.service_words-words.new.self c.next.new.self c.in-Ok.sample
     c.loop-count.strips.items c.show_count.new.strips.items c.loop-count.noting c.note.new.self c.show_count.new.noting
-    c.service_words-words.result c.loop-count.watching c.show_count.new.watching c.loop-count.invariant past
+    c.service_words-words.result c.address-address.result c.loop-count.watching c.show_count.new.watching c.loop-count.invariant past
     c.requires.tasks c.requires.counters same is.sampling is.sample is.image is.arrivals is.count tells.shows c.in_ok-note.ensures.noted tells.tells
-    (subst R (sym c.service_words-words.ensures.same) c.service_words-words.ensures.words) tells.marks
+    (subst R (sym c.service_words-words.ensures.same) c.service_words-words.ensures.words) c.address-address.ensures tells.marks
 
 pub returns-clause-bars : goal.returns-clause-bars
 returns-clause-bars c =
@@ -40,7 +41,7 @@ returns-clause-bars c =
     let ordered = c.requires.ordered in
     let all : l.count ≡ c.args.to = omega (arith, past, few, ordered) in
     let H : ℕ → Type 0 = λ k. HasShown image arrivals c.args.from k l.sampler l.strips.items l.noting l.watching in
-    let B : Sampler → Type 0 = λ s. HasBars image arrivals c.args.from c.args.to s c.close.new.strips.items c.end.new.self.admissions l.watching.marks in
+    let B : Sampler → Type 0 = λ s. HasBars image arrivals c.args.from c.args.to s c.close.new.strips.items c.end.new.self.admissions l.watching.marks l.watching.addresses in
     subst B (sym c.in_ok-end.ensures.same)
     (shown_all image arrivals c.args.from c.args.to l.sampler l.strips.items c.close.new.strips.items l.noting c.end.new.self l.watching ordered (subst H all l.invariant)
     c.in_ok-close.ensures c.in_ok-end.ensures.ended)

@@ -17,10 +17,10 @@ loop-task-preserved c =
     let k = c.loop-task.task in
     let front = c.args.text.now.items in
     let line : c.variable_line-line.result ≡ variable_line (width_of s) (first_code s + k) (get_or names k []) =
-    c.variable_line-line.ensures ∙ ap (λ w. variable_line w (c.first_code.result + k) c.index-names-task.result) c.width_of.ensures
-    ∙ ap (λ n. variable_line (width_of s) (n + k) c.index-names-task.result) c.first_code.ensures.is
-    ∙ ap (variable_line (width_of s) (first_code s + k)) (c.index-names-task.is ∙ get_or_default names k c.index-names-task.result [] c.loop-task-test.true) in
-    c.in_ok-extend_from_slice.ensures.items ∙ ap (λ l. c.loop-task.text.items ++ l) (c.bytes.ensures ∙ line)
+    c.variable_line-line.ensures ∙ ap (λ w. variable_line w (c.first_code.result + k) c.bytes.result.now) c.width_of.ensures
+    ∙ ap (λ n. variable_line (width_of s) (n + k) c.bytes.result.now) c.first_code.ensures.is
+    ∙ ap (variable_line (width_of s) (first_code s + k)) (c.bytes.ensures ∙ c.index-names-task.is ∙ get_or_default names k c.index-names-task.result [] c.loop-task-test.true) in
+    c.in_ok-extend_from_slice.ensures.items ∙ ap (λ l. c.loop-task.text.items ++ l) (c.bytes-in-loop-task.ensures ∙ line)
     ∙ ap (λ t. t ++ variable_line (width_of s) (first_code s + k) (get_or names k [])) c.loop-task.invariant
     ∙ append_assoc front (variable_lines s names k) (variable_line (width_of s) (first_code s + k) (get_or names k []))
     ∙ ap (λ l. front ++ l) (sym (variables-more s names k))

@@ -1,5 +1,4 @@
 use Rattle.std.proofs.Common.{◌++◌, List}
-use Rattle.std.specs.Prelude.{false}
 use Rattle.wave_text.specs.declared.dump.Dump.{Dump}
 use Rattle.wave_text.specs.declared.signals.Scope.TheVariants as scope
 use Rattle.wave_text.specs.declared.signals.Width.TheVariants as width
@@ -7,13 +6,13 @@ use Rattle.wave_text.specs.Changes.{DumpEntry, change_entries, scope_changes}
 use Rattle.wave_text.specs.Signals.{level_signal, masked_code, level_value, masked_value}
 use Rattle.wave_text.specs.Waves.{HasNewEntries}
 use Rattle.wave_text.proofs.Dumping.{gets-both, gets-values}
-use Rattle.wave_text.proofs.dump.Dump.sample.Goals as goal
+use Rattle.wave_text.proofs.dump.Dump.kernel.Goals as goal
 
 pub returns : goal.returns
 returns c =
     let before = c.args.before.now in
     let after = c.args.after.now in
-    let start : Dump = record c.args.self.now { count = c.args.count; stamped = false } in
+    let start : Dump = c.args.self.now in
     let one : Dump = c.scope.new.self in
     let two : Dump = c.scope-2.new.self in
     let three : Dump = c.scope-3.new.self in
@@ -34,5 +33,5 @@ returns c =
     c.level_value.ensures c.level_value-2.ensures c.in_ok-change.ensures in
     let fifth : HasNewEntries four five E = gets-values four five masked_code width.One c.masked_value.result c.masked_value-2.result (masked_value before) (masked_value after)
     c.masked_value.ensures c.masked_value-2.ensures c.in_ok-change-2.ensures in
-    (gets-both start four five (A ++ B ++ C ++ F ++ D) E (gets-both start lined four (A ++ B ++ C ++ F) D
-    (gets-both start three lined (A ++ B ++ C) F (gets-both start two three (A ++ B) C (gets-both start one two A B first second) third) counters) fourth) fifth).text
+    gets-both start four five (A ++ B ++ C ++ F ++ D) E (gets-both start lined four (A ++ B ++ C ++ F) D
+    (gets-both start three lined (A ++ B ++ C) F (gets-both start two three (A ++ B) C (gets-both start one two A B first second) third) counters) fourth) fifth
