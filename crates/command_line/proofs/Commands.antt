@@ -98,6 +98,8 @@ tool-apart tool.LowerCounts = refl
 tool-apart tool.Map = refl
 tool-apart tool.Shares = refl
 tool-apart tool.Response = refl
+tool-apart tool.Why = refl
+tool-apart tool.TaskResponse = refl
 tool-apart tool.Symbols = refl
 
 apart : (t : Tool) (word : List ℕ) → stands word ≡ true → tool_word t ≡ word → ⊥

@@ -4,7 +4,7 @@ use Rattle.std.specs.Prelude.{decimal, Bool, true, false, not, ◌&&◌, ◌==�
 use Rattle.std.specs.Str.{bytes_eq}
 use Rattle.std.proofs.Math.Seq.{take-append_seam, drop-append_seam}
 use Rattle.std.proofs.lemmas.Bool.{true≢false, false≢true}
-use Rattle.std.proofs.lemmas.List.{length-append, length-map, drop-map}
+use Rattle.std.proofs.lemmas.List.{length-append, length-map, length-take-le, drop-map, take-map}
 use Rattle.std.proofs.Math.Numerals.{add-one}
 use Rattle.std.proofs.lemmas.Fmt.{decimal_injective}
 use Rattle.command_line.specs.declared.counts.Counts.{Counts}
@@ -15,11 +15,11 @@ use Rattle.command_line.specs.declared.counts.Window.{Window}
 use Rattle.command_line.specs.declared.tool.Tool.{Tool}
 use Rattle.command_line.specs.declared.tool.Tool.TheVariants as tool
 use Rattle.command_line.specs.Command.{IsCommand, NoTool, Uses, words_of}
-use Rattle.command_line.specs.Tools.{ToolUse, asks_counts, IsAskedFor, tool_word, tool_words, input_count, further_word, closing_word, word_count, counts_limit, writes_file, counts_words, output_words, last_words, AreCounts, IsOutput, IsToolUse, IsWindow}
+use Rattle.command_line.specs.Tools.{ToolUse, asks_counts, IsAskedFor, tool_word, tool_words, input_count, file_count, file_names, further_word, closing_word, word_count, counts_limit, writes_file, counts_words, output_words, last_words, AreCounts, IsOutput, IsToolUse, IsWindow}
 
 -- the tools
 abbrev all_tools : List Tool
-all_tools = tool.Elf ∷ tool.Unelf ∷ tool.Infer ∷ tool.At ∷ tool.AtAll ∷ tool.Losses ∷ tool.Wave ∷ tool.Picture ∷ tool.Check ∷ tool.Bounds ∷ tool.Latency ∷ tool.LowerCounts ∷ tool.Map ∷ tool.Shares ∷ tool.Response ∷ tool.Symbols ∷ []
+all_tools = tool.Elf ∷ tool.Unelf ∷ tool.Infer ∷ tool.At ∷ tool.AtAll ∷ tool.Losses ∷ tool.Wave ∷ tool.Picture ∷ tool.Check ∷ tool.Bounds ∷ tool.Latency ∷ tool.LowerCounts ∷ tool.Map ∷ tool.Shares ∷ tool.Response ∷ tool.Why ∷ tool.TaskResponse ∷ tool.Symbols ∷ []
 
 -- of the two of one word it is the one that is asked for
 abbrev is_asked_for : Tool → (asks : Bool) → Bool
@@ -51,6 +51,8 @@ found tool.LowerCounts false h = absurd (false≢true h)
 found tool.Map asks h = refl
 found tool.Shares asks h = refl
 found tool.Response asks h = refl
+found tool.Why asks h = refl
+found tool.TaskResponse asks h = refl
 found tool.Symbols asks h = refl
 
 pub same-tool : (t u : Tool) (asks : Bool) → IsAskedFor t asks → IsAskedFor u asks → tool_word t ≡ tool_word u → word_count t ≡ word_count u → t ≡ u
@@ -97,6 +99,8 @@ word-limit tool.LowerCounts = tt
 word-limit tool.Map = tt
 word-limit tool.Shares = tt
 word-limit tool.Response = tt
+word-limit tool.Why = tt
+word-limit tool.TaskResponse = tt
 word-limit tool.Symbols = tt
 
 -- two lists of one length in front of others
@@ -204,6 +208,8 @@ counted tool.LowerCounts = refl
 counted tool.Map = refl
 counted tool.Shares = refl
 counted tool.Response = refl
+counted tool.Why = refl
+counted tool.TaskResponse = refl
 counted tool.Symbols = refl
 
 pub words-counted : (u : ToolUse) → IsToolUse u → length (tool_words u) ≡ word_count u.tool
@@ -411,3 +417,36 @@ is-tool (w ∷ words) t count n o behind rest closed begins same long further co
         output = writes;
       },
     )
+
+-- ---- the files that it reads
+
+few-files : (t : Tool) → file_count t ≤ input_count t
+few-files tool.Elf = omega arith
+few-files tool.Unelf = omega arith
+few-files tool.Infer = omega arith
+few-files tool.At = omega arith
+few-files tool.AtAll = omega arith
+few-files tool.Losses = omega arith
+few-files tool.Wave = omega arith
+few-files tool.Picture = omega arith
+few-files tool.Check = omega arith
+few-files tool.Bounds = omega arith
+few-files tool.Latency = omega arith
+few-files tool.LowerCounts = omega arith
+few-files tool.Map = omega arith
+few-files tool.Shares = omega arith
+few-files tool.Response = omega arith
+few-files tool.Why = omega arith
+few-files tool.TaskResponse = omega arith
+few-files tool.Symbols = omega arith
+
+-- as many names are those of files as it reads
+pub files-counted : (u : ToolUse) → length u.inputs ≡ input_count u.tool → length (file_names u) ≡ file_count u.tool
+files-counted u counted =
+    let few = few-files u.tool in
+    length-take-le (file_count u.tool) u.inputs (omega (arith, counted, few))
+
+-- they are the first of its names
+pub first-names : (names first : List (String Global)) (k n : ℕ) → k ≡ n → first ≡ take k names → words_of first ≡ take n (words_of names)
+first-names names first k n e is =
+    ap words_of is ∙ (sym (take-map (λ (w : String Global). string_bytes w) k names) ∙ ap (λ j. take j (words_of names)) e)

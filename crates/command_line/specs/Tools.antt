@@ -1,5 +1,5 @@
 -- The commands that read files, judge what they hold, and end with one answer: a row for each in each of these tables.
-use Rattle.std.specs.Prelude.{ℕ, ◌≡◌, ◌≤◌, ◌+◌, List, [], ◌∷◌, ◌++◌, length, get_or, codes, decimal, Bool, true, false, Option, Some, None, option_to_list}
+use Rattle.std.specs.Prelude.{ℕ, ◌≡◌, ◌≤◌, ◌+◌, List, [], ◌∷◌, ◌++◌, length, get_or, take, codes, decimal, Bool, true, false, Option, Some, None, option_to_list}
 use Rattle.std.specs.Str.{bytes_eq}
 use Rattle.sloth_base.specs.Limits.{count_limit, picture_limit}
 use Rattle.command_line.specs.declared.counts.Counts.{Counts}
@@ -27,9 +27,11 @@ tool_word tool.LowerCounts = codes "bounds"
 tool_word tool.Map = codes "map"
 tool_word tool.Shares = codes "shares"
 tool_word tool.Response = codes "response"
+tool_word tool.Why = codes "why"
+tool_word tool.TaskResponse = codes "response"
 tool_word tool.Symbols = codes "symbols"
 
--- how many files it reads; their names are the next words
+-- how many names are its next words: those of the files that it reads, and of a task behind them
 abbrev pub input_count : Tool → ℕ
 input_count tool.Elf = 1
 input_count tool.Unelf = 1
@@ -46,9 +48,16 @@ input_count tool.LowerCounts = 2
 input_count tool.Map = 2
 input_count tool.Shares = 2
 input_count tool.Response = 3
+input_count tool.Why = 2
+input_count tool.TaskResponse = 4
 input_count tool.Symbols = 2
 
--- the word that stands behind the names of the files that it reads, if one does
+-- how many of them are of files that it reads
+abbrev pub file_count : Tool → ℕ
+file_count tool.TaskResponse = 3
+file_count t = input_count t
+
+-- the word that stands behind these names, if one does
 abbrev pub further_word : Tool → Option (List ℕ)
 further_word tool.Elf = None
 further_word tool.Unelf = None
@@ -65,6 +74,8 @@ further_word tool.LowerCounts = Some (codes "counts")
 further_word tool.Map = None
 further_word tool.Shares = None
 further_word tool.Response = None
+further_word tool.Why = None
+further_word tool.TaskResponse = None
 further_word tool.Symbols = None
 
 -- which counts it takes as its next words, if it takes any
@@ -84,6 +95,8 @@ counts_limit tool.LowerCounts = None
 counts_limit tool.Map = None
 counts_limit tool.Shares = None
 counts_limit tool.Response = None
+counts_limit tool.Why = None
+counts_limit tool.TaskResponse = None
 counts_limit tool.Symbols = None
 
 -- the word that stands behind its counts, if one does
@@ -108,6 +121,8 @@ writes_file tool.LowerCounts = false
 writes_file tool.Map = false
 writes_file tool.Shares = false
 writes_file tool.Response = false
+writes_file tool.Why = false
+writes_file tool.TaskResponse = false
 writes_file tool.Symbols = true
 
 -- how many words it has
@@ -127,6 +142,8 @@ word_count tool.LowerCounts = 4
 word_count tool.Map = 3
 word_count tool.Shares = 3
 word_count tool.Response = 4
+word_count tool.Why = 3
+word_count tool.TaskResponse = 5
 word_count tool.Symbols = 4
 
 -- ---- two tools of one word, and of as many words
@@ -143,12 +160,16 @@ IsAskedFor _ asks = Unit {0}
 
 -- ---- uses
 
--- a tool with the files that it reads, its counts and the file that it writes, if it has them
+-- a tool with the names of the files that it reads and of a task, its counts and the file that it writes, if it has them
 pub record ToolUse : Type 0 where
   pub tool : Tool
   pub inputs : List (List ℕ)
   pub counts : Option Counts
   pub output : Option (List ℕ)
+
+-- the files that it reads
+abbrev pub file_names : ToolUse → List (List ℕ)
+file_names used = take (file_count used.tool) used.inputs
 
 -- the words of counts, if there are any
 abbrev pub counts_words : Option Counts → List (List ℕ)

@@ -20,7 +20,8 @@ fn part_text(part: Part) -> &'static [u8]
 }
 
 #[tactic(auto, unfolding(crate::specs::LastLine::code_text))]
-fn code_text(code: Code) -> &'static [u8]
+/// The letters of a refusal's code.
+pub fn code_text(code: Code) -> &'static [u8]
     ensures is { result.now ≡ code_text code }
     ensures short { length result.now ≤ 3 }
 {

@@ -1,7 +1,9 @@
 //! The commands that read files, judge what they hold, and end with one answer: a row of the table for each.
 ghost use Rattle.std.specs.Option.{option_map};
-ghost use Rattle.std.specs.Prelude.{◌≡◌, IfSome, IfNone};
-ghost use Rattle.command_line.specs.Tools.{IsAskedFor, tool_word, input_count, further_word, closing_word, word_count, counts_limit, writes_file};
+ghost use Rattle.std.specs.Prelude.{◌≡◌, IfSome, IfNone, take};
+ghost use Rattle.command_line.specs.Command.{words_of};
+ghost use Rattle.command_line.specs.Words.{use_of};
+ghost use Rattle.command_line.specs.Tools.{IsAskedFor, tool_word, input_count, file_count, file_names, further_word, closing_word, word_count, counts_limit, writes_file};
 ghost use Rattle.command_line.specs.declared.tool.Tool.{Tool as AnyTool};
 
 use crate::counts::{Counts, Limit};
@@ -41,12 +43,16 @@ pub enum Tool {
     Shares,
     /// `response OIL SRC LOAD`: how soon each task has left the processor behind what makes it Ready, under a load.
     Response,
+    /// `why OIL SRC`: whether the texts are accepted, or what stands behind their refusal.
+    Why,
+    /// `response OIL SRC LOAD TASK`: the same of one task, and of what it is made.
+    TaskResponse,
     /// `symbols OIL SRC OUT`: the file of the image that debuggers read.
     Symbols,
 }
 
 impl Tool {
-    /// How many files it reads.
+    /// How many names stand behind its word: of the files that it reads, and of a task behind them.
     pub fn input_count(self) -> usize
         ensures { result ≡ input_count self }
     {
@@ -66,11 +72,23 @@ impl Tool {
             Tool::Map => 2,
             Tool::Shares => 2,
             Tool::Response => 3,
+            Tool::Why => 2,
+            Tool::TaskResponse => 4,
             Tool::Symbols => 2,
         }
     }
 
-    /// The word that stands behind the names of the files that it reads, if one does.
+    /// How many of them are of files that it reads.
+    pub fn file_count(self) -> usize
+        ensures { result ≡ file_count self }
+    {
+        match self {
+            Tool::TaskResponse => 3,
+            _ => self.input_count(),
+        }
+    }
+
+    /// The word that stands behind these names, if one does.
     pub fn further_word(self) -> Option<&'static str>
         ensures { option_map (λ word. word.now) result ≡ further_word self }
     {
@@ -90,11 +108,13 @@ impl Tool {
             Tool::Map => None,
             Tool::Shares => None,
             Tool::Response => None,
+            Tool::Why => None,
+            Tool::TaskResponse => None,
             Tool::Symbols => None,
         }
     }
 
-    /// Which counts it takes as its words behind the files that it reads, if it takes any.
+    /// Which counts it takes as its words behind these names, if it takes any.
     pub fn counts_limit(self) -> Option<Limit>
         ensures { result ≡ counts_limit self }
     {
@@ -117,6 +137,8 @@ impl Tool {
             Tool::Map => None,
             Tool::Shares => None,
             Tool::Response => None,
+            Tool::Why => None,
+            Tool::TaskResponse => None,
             Tool::Symbols => None,
         }
     }
@@ -151,18 +173,37 @@ impl Tool {
             Tool::Map => false,
             Tool::Shares => false,
             Tool::Response => false,
+            Tool::Why => false,
+            Tool::TaskResponse => false,
             Tool::Symbols => true,
         }
     }
 }
 
-/// The words of a tool, behind its own: the files that it reads, its counts and the file that it writes, if it has them.
+/// The words of a tool, behind its own: the names of the files that it reads and of a task, its counts and the file that it writes, if it has them.
 #[derive(Clone, Copy)]
 pub struct ToolWords<'a> {
     pub tool: Tool,
     pub inputs: &'a [String],
     pub counts: Option<Counts>,
     pub output: Option<&'a str>,
+}
+
+// The first words, so many of them.
+fn first_words(words: &[String], count: usize) -> &[String]
+    ensures { result.now ≡ take count words.now }
+{
+    if count < words.len() {
+        return &words[..count];
+    }
+    words
+}
+
+/// The names of the files that a tool reads.
+pub fn file_words<'a>(words: &ToolWords<'a>) -> &'a [String]
+    ensures { words_of result.now ≡ file_names (use_of words.now) }
+{
+    first_words(words.inputs, words.tool.file_count())
 }
 
 // The tool of three words that a word asks for.
@@ -184,6 +225,9 @@ fn tool_of_three(word: &str, asks: bool) -> Option<Tool>
     }
     if word == "shares" {
         return Some(Tool::Shares);
+    }
+    if word == "why" {
+        return Some(Tool::Why);
     }
     None
 }
@@ -228,6 +272,9 @@ fn tool_of_five(word: &str, asks: bool) -> Option<Tool>
     }
     if word == "at" {
         return Some(Tool::AtAll);
+    }
+    if word == "response" {
+        return Some(Tool::TaskResponse);
     }
     None
 }

@@ -1,0 +1,6 @@
+use Rattle.std.proofs.Common.{◌∙◌, sym}
+use Rattle.body_faults.proofs.Paths.{path_of}
+use Rattle.fault_witnesses.proofs.breaches.has_mark.Goals as goal
+
+pub returns : goal.returns
+returns c = λ h. path_of ((c.requires.exact c.args.item).0 (sym c.mark_at.ensures ∙ h))

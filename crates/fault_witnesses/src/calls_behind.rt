@@ -1,0 +1,147 @@
+//! The calls that lead from an item to what breaks V9 or V10.
+ghost use Rattle.std.specs.Prelude.{◌≡◌, ◌<◌, length, true, IfOk};
+ghost use Rattle.sloth_base.specs.Named.{function, operation};
+ghost use Rattle.code_rules.specs.AppRange.{AppInRange};
+ghost use Rattle.code_rules.specs.Code.{held_list_at};
+ghost use Rattle.call_graph.specs.Rows.{is_pausing, is_pause};
+ghost use Rattle.sloth_base.specs.declared.app.Op.TheVariants as op;
+ghost use Rattle.fault_ways.specs.CallChains.{IsChain, chain_end};
+ghost use Rattle.fault_witnesses.specs.declared.places.Place.TheVariants as place;
+ghost use Rattle.fault_witnesses.specs.Places.{IsPlace};
+ghost use Rattle.fault_witnesses.specs.Witnesses.{is_culprit, AreShownCalls};
+
+use crate::label_rules::held_at;
+use fault_ways::chain_search::{Aim, called, shortest_chain};
+use fault_ways::chains::{Calls, chain_end, function_at, is_chain};
+use fault_ways::clean_steps::is_own_second_take;
+use sloth_base::app::{App, Op};
+use sloth_base::config::Config;
+use sloth_base::list::List;
+use sloth_base::memory::NoMemory;
+use sloth_base::refusal::Code;
+use sloth_base::service::Service;
+use std::alloc::Global;
+
+// What an operation leads to that breaks V9 or V10.
+fn aim_of(alloc: Global, code: Code, held: &[u32]) -> Result<Aim, NoMemory> {
+    match code {
+        Code::V9 => {
+            let copy = held.to_vec(alloc)?;
+            Ok(Aim::Taking(List::from_vec(copy)))
+        },
+        _ => Ok(Aim::Pause),
+    }
+}
+
+fn is_pausing(service: Service) -> bool
+    ensures { result ≡ is_pausing service }
+{
+    matches!(service, Service::WaitEvent | Service::Schedule)
+}
+
+fn is_pause(op: Op) -> bool
+    ensures { result ≡ is_pause op }
+{
+    match op {
+        Op::Serve(call) => is_pausing(call.service),
+        _ => false,
+    }
+}
+
+// Whether the operation breaks the rule with these held.
+fn is_culprit(code: Code, held: &[u32], op: Op) -> bool
+    ensures { result ≡ is_culprit code held.now op }
+{
+    match code {
+        Code::V9 => is_own_second_take(held, op),
+        Code::V10 => is_pause(op),
+        _ => false,
+    }
+}
+
+// Whether an item of a body breaks the rule with these held.
+fn is_culprit_at(app: &App, code: Code, held: &[u32], body: usize, item: usize) -> bool
+    ensures known { result ≡ true → body < length app.now.funcs }
+    ensures inside { result ≡ true → item < length (function app.now body).items }
+    ensures culprit { result ≡ true → is_culprit code held.now (operation app.now body item) ≡ true }
+{
+    if body >= app.funcs.items().len() {
+        return false;
+    }
+    let items = function_at(app, body).items.items();
+    item < items.len() && is_culprit(code, held, items[item].op)
+}
+
+// Whether the calls lead from a function to an item that breaks the rule with these held.
+fn leads_to(app: &App, code: Code, held: &[u32], callee: usize, calls: &Calls) -> bool
+    ensures chain { result ≡ true → IsChain app.now callee calls.now.links }
+    ensures known { result ≡ true → chain_end callee calls.now.links < length app.now.funcs }
+    ensures inside { result ≡ true → calls.now.item < length (function app.now (chain_end callee calls.now.links)).items }
+    ensures culprit { result ≡ true → is_culprit code held.now (operation app.now (chain_end callee calls.now.links) calls.now.item) ≡ true }
+{
+    let end = chain_end(callee, calls.links.items());
+    is_chain(app, callee, calls.links.items()) && is_culprit_at(app, code, held, end, calls.item)
+}
+
+// The calls, if they lead from the function that the item calls to what breaks the rule.
+fn calls_if(
+    app: &App,
+    code: Code,
+    body: usize,
+    item: usize,
+    callee: usize,
+    held: &[u32],
+    calls: Calls,
+) -> Option<Calls>
+    requires is { operation app.now body item ≡ op.Invoke callee }
+    requires held { held.now ≡ held_list_at (function app.now body) item }
+    ensures { AreShownCalls app.now code (place.Item body item) result }
+{
+    if leads_to(app, code, held, callee, &calls) {
+        Some(calls)
+    } else {
+        None
+    }
+}
+
+// The calls from a function that the item calls.
+fn calls_from(
+    alloc: Global,
+    app: &App,
+    code: Code,
+    body: usize,
+    item: usize,
+    callee: usize,
+    held: &[u32],
+) -> Result<Option<Calls>, NoMemory>
+    requires is { operation app.now body item ≡ op.Invoke callee }
+    requires held { held.now ≡ held_list_at (function app.now body) item }
+    ensures { IfOk result (λ calls. AreShownCalls app.now code (place.Item body item) calls) }
+{
+    let aim = aim_of(alloc, code, held)?;
+    match shortest_chain(alloc, app, callee, &aim)? {
+        Some(calls) => Ok(calls_if(app, code, body, item, callee, held, calls)),
+        None => Ok(None),
+    }
+}
+
+/// The calls behind V9 and V10, where the item calls a function.
+pub fn calls_of(
+    alloc: Global,
+    config: &Config,
+    app: &App,
+    code: Code,
+    body: usize,
+    item: usize,
+) -> Result<Option<Calls>, NoMemory>
+    requires in_range { AppInRange config.now app.now }
+    requires is_place { IsPlace app.now (place.Item body item) }
+    ensures { IfOk result (λ calls. AreShownCalls app.now code (place.Item body item) calls) }
+{
+    let func = function_at(app, body);
+    let Some(callee) = called(func.items.items()[item].op) else {
+        return Ok(None);
+    };
+    let held = held_at(alloc, func, item)?;
+    calls_from(alloc, app, code, body, item, callee, &held)
+}

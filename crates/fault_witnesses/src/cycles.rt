@@ -1,0 +1,71 @@
+//! The calls by which a function calls itself (V1).
+ghost use Rattle.std.specs.Prelude.{◌≡◌, ◌<◌, length, true, IfOk, IfSome};
+ghost use Rattle.fault_ways.specs.CallChains.{IsChain, IsCycle, chain_end};
+
+use fault_ways::chain_search::{Aim, shortest_chain};
+use fault_ways::chains::{Calls, Link, chain_end, function_at, is_chain};
+use sloth_base::app::App;
+use sloth_base::list::List;
+use sloth_base::memory::NoMemory;
+use std::alloc::Global;
+use text_pieces::growth::push;
+
+// The line of an item of a function, 0 where there is none.
+fn line_of(app: &App, func: usize, item: usize) -> u32 {
+    if func >= app.funcs.items().len() {
+        return 0;
+    }
+    let items = function_at(app, func).items.items();
+    if item < items.len() {
+        items[item].line
+    } else {
+        0
+    }
+}
+
+// These calls, and behind them that of a function by an item of the last.
+fn links_with(
+    alloc: Global,
+    app: &App,
+    body: usize,
+    links: &[Link],
+    item: usize,
+) -> Result<List<Link>, NoMemory> {
+    let line = line_of(app, chain_end(body, links), item);
+    let mut longer = links.to_vec(alloc)?;
+    push(&mut longer, Link { func: body, line })?;
+    Ok(List::from_vec(longer))
+}
+
+// Whether the calls lead from a function back to it.
+fn closes(app: &App, body: usize, links: &[Link]) -> bool
+    ensures some { result ≡ true → 0 < length links.now }
+    ensures chain { result ≡ true → IsChain app.now body links.now }
+    ensures ends { result ≡ true → chain_end body links.now ≡ body }
+{
+    !links.is_empty() && is_chain(app, body, links) && chain_end(body, links) == body
+}
+
+// The calls, if they lead from a function back to it.
+fn cycle_if(app: &App, body: usize, links: List<Link>) -> Option<List<Link>>
+    ensures { IfSome result (λ links. IsCycle app.now body links) }
+{
+    if closes(app, body, links.items()) {
+        Some(links)
+    } else {
+        None
+    }
+}
+
+/// The shortest chain of calls by which a function calls itself, if there is one: its last call is of the function.
+pub fn cycle_calls(alloc: Global, app: &App, body: usize) -> Result<Option<List<Link>>, NoMemory>
+    ensures { IfOk result (λ found. IfSome found (λ links. IsCycle app.now body links)) }
+{
+    match shortest_chain(alloc, app, body, &Aim::CallOf(body))? {
+        Some(Calls { links, item }) => {
+            let links = links_with(alloc, app, body, links.items(), item)?;
+            Ok(cycle_if(app, body, links))
+        },
+        None => Ok(None),
+    }
+}

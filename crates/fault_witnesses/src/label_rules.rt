@@ -1,0 +1,162 @@
+//! What is held before an item and behind a label, and V7 at a label.
+ghost use Rattle.std.specs.Prelude.{◌≡◌, ◌<◌, ◌≤◌, ◌+◌, ◌||◌, ◌≢◌, cond, ℕ, length, get_or, true, Some, None, [], is_some, IfOk};
+ghost use Rattle.sloth_base.specs.Named.{label_of, item_of};
+ghost use Rattle.code_rules.specs.Code.{held_list_at, held_list_fallen_into, held_list_entering, is_entered, is_fallen_into};
+ghost use Rattle.code_rules.specs.WellFormed.{HasOtherList};
+ghost use Rattle.body_faults.specs.Labels.{last_label_below, list_of, ArePlaced};
+
+use body_faults::held_resources::{held_after, held_at_label, is_held};
+use body_faults::labels::last_labels;
+use body_faults::ways::falls;
+use sloth_base::app::{Func, Label};
+use sloth_base::memory::NoMemory;
+use std::alloc::Global;
+
+// By the last label at each place.
+fn fallen_by(
+    alloc: Global,
+    func: &Func,
+    last: &[Option<usize>],
+    place: usize,
+) -> Result<Vec<u32>, NoMemory>
+    requires count { length last.now ≡ length func.now.items + 1 }
+    requires lasts { (place : ℕ) → place ≤ length func.now.items → get_or last.now place None ≡ last_label_below func.now.labels place (length func.now.labels) }
+    requires inside { place ≤ length func.now.items }
+    ensures { IfOk result (λ held. held.items ≡ held_list_fallen_into func.now place) }
+{
+    let mut held = Vec::new(alloc);
+    for number in 0..place {
+        let entered = held_at_label(alloc, func, last[number], held)?;
+        held = held_after(entered, func.items.items()[number].op)?;
+    }
+    Ok(held)
+}
+
+/// What is held where a place is fallen into.
+pub fn held_falling(alloc: Global, func: &Func, place: usize) -> Result<Vec<u32>, NoMemory>
+    requires placed { ArePlaced func.now }
+    requires inside { place ≤ length func.now.items }
+    ensures { IfOk result (λ held. held.items ≡ held_list_fallen_into func.now place) }
+{
+    let last = last_labels(alloc, func)?;
+    let held = fallen_by(alloc, func, &last, place)?;
+    Ok(held)
+}
+
+fn held_by_last(
+    alloc: Global,
+    func: &Func,
+    last: &[Option<usize>],
+    item: usize,
+) -> Result<Vec<u32>, NoMemory>
+    requires count { length last.now ≡ length func.now.items + 1 }
+    requires lasts { (place : ℕ) → place ≤ length func.now.items → get_or last.now place None ≡ last_label_below func.now.labels place (length func.now.labels) }
+    requires inside { item < length func.now.items }
+    ensures { IfOk result (λ held. held.items ≡ held_list_at func.now item) }
+{
+    let falling = fallen_by(alloc, func, last, item)?;
+    let held = held_at_label(alloc, func, last[item], falling)?;
+    Ok(held)
+}
+
+/// What is held before an item.
+pub fn held_at(alloc: Global, func: &Func, item: usize) -> Result<Vec<u32>, NoMemory>
+    requires placed { ArePlaced func.now }
+    requires inside { item < length func.now.items }
+    ensures { IfOk result (λ held. held.items ≡ held_list_at func.now item) }
+{
+    let last = last_labels(alloc, func)?;
+    let held = held_by_last(alloc, func, &last, item)?;
+    Ok(held)
+}
+
+fn or_number(found: Option<usize>, stands: bool, number: usize) -> Option<usize>
+    ensures { result ≡ cond stands (Some number) found }
+{
+    if stands {
+        return Some(number);
+    }
+    found
+}
+
+/// The last label before this one at its place.
+pub fn label_before(func: &Func, label: usize) -> Option<usize>
+    requires { label < length func.now.labels }
+    ensures { result ≡ last_label_below func.now.labels (label_of func.now label).item label }
+{
+    let labels = func.labels.items();
+    let place = labels[label].item;
+    let mut found = None;
+    for number in 0..label {
+        found = or_number(found, labels[number].item == place, number);
+    }
+    found
+}
+
+fn is_fallen_into(func: &Func, place: usize) -> bool
+    requires { place ≤ length func.now.items }
+    ensures { result ≡ is_fallen_into func.now place }
+{
+    if place == 0 {
+        return true;
+    }
+    falls(func.items.items()[place - 1].op)
+}
+
+fn enters(func: &Func, label: usize, before: Option<usize>) -> bool
+    requires placed { ArePlaced func.now }
+    requires inside { label < length func.now.labels }
+    ensures { result ≡ (is_some before || is_fallen_into func.now (label_of func.now label).item) }
+{
+    before.is_some() || is_fallen_into(func, func.labels.items()[label].item as usize)
+}
+
+/// What is held where a label is fallen into.
+pub fn held_entering(alloc: Global, func: &Func, label: usize) -> Result<Vec<u32>, NoMemory>
+    requires placed { ArePlaced func.now }
+    requires inside { label < length func.now.labels }
+    ensures { IfOk result (λ held. held.items ≡ held_list_entering func.now label) }
+{
+    let place = func.labels.items()[label].item as usize;
+    let falling = held_falling(alloc, func, place)?;
+    let held = held_at_label(alloc, func, label_before(func, label), falling)?;
+    Ok(held)
+}
+
+fn is_entered(func: &Func, label: usize) -> bool
+    requires placed { ArePlaced func.now }
+    requires inside { label < length func.now.labels }
+    ensures { result ≡ is_entered func.now label }
+{
+    enters(func, label, label_before(func, label))
+}
+
+fn is_start_with_resource(label: &Label) -> bool
+    ensures { result ≡ true → (label.now.item ≡ 0) × (label.now.holds ≢ []) }
+{
+    label.item == 0 && !label.holds.items().is_empty()
+}
+
+// Whether it is fallen into with another list.
+fn falls_otherwise(func: &Func, label: usize, held: &[u32]) -> bool
+    requires placed { ArePlaced func.now }
+    requires inside { label < length func.now.labels }
+    requires held { held.now ≡ held_list_entering func.now label }
+    ensures entered { result ≡ true → is_entered func.now label ≡ true }
+    ensures other { result ≡ true → (label_of func.now label).holds ≢ held_list_entering func.now label }
+{
+    is_entered(func, label) && !is_held(func.labels.items()[label].holds.items(), held)
+}
+
+/// Whether V7 is broken at a label.
+pub fn has_other_list(alloc: Global, func: &Func, label: usize) -> Result<bool, NoMemory>
+    requires placed { ArePlaced func.now }
+    requires inside { label < length func.now.labels }
+    ensures { IfOk result (λ other. other ≡ true → HasOtherList func.now label) }
+{
+    if is_start_with_resource(&func.labels.items()[label]) {
+        return Ok(true);
+    }
+    let held = held_entering(alloc, func, label)?;
+    Ok(falls_otherwise(func, label, &held))
+}

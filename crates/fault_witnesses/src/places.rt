@@ -1,0 +1,70 @@
+//! Places of task code.
+ghost use Rattle.std.specs.Prelude.{◌≡◌, ◌<◌, length, IfSome};
+ghost use Rattle.sloth_base.specs.Named.{function};
+ghost use Rattle.fault_witnesses.specs.Places.{IsPlace};
+
+use fault_ways::chains::function_at;
+use sloth_base::app::{App, Func};
+
+/// A place of task code, by the number of its body, and of the label or item in it.
+#[derive(Clone, Copy)]
+pub enum Place {
+    /// The header of a body.
+    Header(usize),
+    Label { body: usize, label: usize },
+    Item { body: usize, item: usize },
+}
+
+// The first item on a line.
+fn item_on(func: &Func, line: u32) -> Option<usize>
+    ensures { IfSome result (λ i. i < length func.now.items) }
+{
+    for (number, item) in func.items.items().iter().enumerate() {
+        if item.line == line {
+            return Some(number);
+        }
+    }
+    None
+}
+
+// The first label on a line.
+fn label_on(func: &Func, line: u32) -> Option<usize>
+    ensures { IfSome result (λ k. k < length func.now.labels) }
+{
+    for (number, label) in func.labels.items().iter().enumerate() {
+        if label.line == line {
+            return Some(number);
+        }
+    }
+    None
+}
+
+// What stands on a line of a body.
+fn place_in(app: &App, body: usize, line: u32) -> Option<Place>
+    requires { body < length app.now.funcs }
+    ensures { IfSome result (IsPlace app.now) }
+{
+    let func = function_at(app, body);
+    if func.line == line {
+        return Some(Place::Header(body));
+    }
+    if let Some(label) = label_on(func, line) {
+        return Some(Place::Label { body, label });
+    }
+    match item_on(func, line) {
+        Some(item) => Some(Place::Item { body, item }),
+        None => None,
+    }
+}
+
+/// What stands on a line of the source, from 1.
+pub fn place_on(app: &App, line: u32) -> Option<Place>
+    ensures { IfSome result (IsPlace app.now) }
+{
+    for body in 0..app.funcs.items().len() {
+        if let Some(place) = place_in(app, body, line) {
+            return Some(place);
+        }
+    }
+    None
+}

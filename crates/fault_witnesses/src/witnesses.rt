@@ -1,0 +1,297 @@
+//! What is shown of a fault.
+ghost use Rattle.std.specs.Prelude.{◌<◌, ℕ, length, IfOk, IfSome};
+ghost use Rattle.sloth_base.specs.Named.{item_of};
+ghost use Rattle.body_faults.specs.Ways.{HasBodyLabel};
+ghost use Rattle.code_rules.specs.AppRange.{AppInRange};
+ghost use Rattle.call_graph.specs.Ranks.{RanksOf};
+ghost use Rattle.fault_witnesses.specs.declared.places.Place.TheVariants as place;
+ghost use Rattle.fault_witnesses.specs.Places.{IsPlace, IsPlaceOfFault};
+ghost use Rattle.fault_witnesses.specs.Witnesses.{IsShownWayTo, IsBehind, IsShownBehind, AreShownCalls, IsShownUser, IsWitness};
+
+use crate::breaches::{place_at_fault, stands_behind};
+use crate::calls_behind::calls_of;
+use crate::label_rules::label_before;
+use crate::places::Place;
+use crate::users::{User, user_of};
+use body_faults::ways::falls;
+use call_graph::ranking::Ranks;
+use fault_ways::chains::{Calls, function_at};
+use fault_ways::ways::{Way, way_to};
+use sloth_base::app::{App, Func};
+use sloth_base::config::Config;
+use sloth_base::memory::NoMemory;
+use sloth_base::refusal::{Code, Refusal};
+use std::alloc::Global;
+
+/// What is shown of a fault of V2 to V12.
+#[derive(Drop)]
+pub struct Witness {
+    pub place: Place,
+    /// A way to the item, or to the item in front of the label.
+    pub way: Option<Way>,
+    /// The item in front of one that is not reached.
+    pub behind: Option<usize>,
+    /// The calls from the function that the item calls.
+    pub calls: Option<Calls>,
+    /// The task that lacks what the item uses.
+    pub user: Option<User>,
+}
+
+// Whether the way to an item is shown.
+fn shows_way(code: Code) -> bool {
+    matches!(
+        code,
+        Code::V5 | Code::V7 | Code::V8 | Code::V9 | Code::V10 | Code::V11 | Code::V12
+    )
+}
+
+fn is_path_rule(code: Code) -> bool {
+    matches!(code, Code::V5 | Code::V6)
+}
+
+// The way to an item.
+fn way_to_item(
+    alloc: Global,
+    config: &Config,
+    app: &App,
+    body: usize,
+    item: usize,
+) -> Result<Option<Way>, NoMemory>
+    requires in_range { AppInRange config.now app.now }
+    requires is_place { IsPlace app.now (place.Item body item) }
+    ensures { IfOk result (λ way. IsShownWayTo app.now (place.Item body item) way) }
+{
+    way_to(alloc, function_at(app, body), item)
+}
+
+// The way to the item in front of a label, unless another label stands between.
+fn way_to_label(
+    alloc: Global,
+    config: &Config,
+    app: &App,
+    body: usize,
+    label: usize,
+) -> Result<Option<Way>, NoMemory>
+    requires in_range { AppInRange config.now app.now }
+    requires is_place { IsPlace app.now (place.Label body label) }
+    ensures { IfOk result (λ way. IsShownWayTo app.now (place.Label body label) way) }
+{
+    let func = function_at(app, body);
+    let place = func.labels.items()[label].item as usize;
+    if place == 0 || label_before(func, label).is_some() {
+        return Ok(None);
+    }
+    way_to(alloc, func, place - 1)
+}
+
+// The item in front, where it is reached and never goes on, and nothing reaches this one.
+fn behind_in(alloc: Global, func: &Func, item: usize) -> Result<Option<usize>, NoMemory>
+    requires labels { (i : ℕ) → i < length func.now.items → HasBodyLabel func.now (item_of func.now i).op }
+    requires inside { item < length func.now.items }
+    ensures { IfOk result (λ behind. IfSome behind (IsBehind func.now item)) }
+{
+    if item == 0 || falls(func.items.items()[item - 1].op) {
+        return Ok(None);
+    }
+    if stands_behind(alloc, func, item)? {
+        return Ok(Some(item - 1));
+    }
+    Ok(None)
+}
+
+fn behind_of(
+    alloc: Global,
+    config: &Config,
+    app: &App,
+    body: usize,
+    item: usize,
+) -> Result<Option<usize>, NoMemory>
+    requires in_range { AppInRange config.now app.now }
+    requires is_place { IsPlace app.now (place.Item body item) }
+    ensures { IfOk result (λ behind. IsShownBehind app.now (place.Item body item) behind) }
+{
+    match behind_in(alloc, function_at(app, body), item)? {
+        Some(behind) => Ok(Some(behind)),
+        None => Ok(None),
+    }
+}
+
+// What is shown of an item by the way.
+#[derive(Drop)]
+struct ItemWay {
+    way: Option<Way>,
+    behind: Option<usize>,
+}
+
+// The way to an item, or what stands in front of it where it is not reached.
+fn item_way(
+    alloc: Global,
+    config: &Config,
+    app: &App,
+    code: Code,
+    body: usize,
+    item: usize,
+) -> Result<ItemWay, NoMemory>
+    requires in_range { AppInRange config.now app.now }
+    requires is_place { IsPlace app.now (place.Item body item) }
+    ensures way { IfOk result (λ found. IsShownWayTo app.now (place.Item body item) found.way) }
+    ensures behind { IfOk result (λ found. IsShownBehind app.now (place.Item body item) found.behind) }
+{
+    if is_path_rule(code) {
+        let behind = behind_of(alloc, config, app, body, item)?;
+        if behind.is_some() {
+            return Ok(ItemWay { way: None, behind });
+        }
+    }
+    if !shows_way(code) {
+        return Ok(ItemWay {
+            way: None,
+            behind: None,
+        });
+    }
+    let way = way_to_item(alloc, config, app, body, item)?;
+    Ok(ItemWay { way, behind: None })
+}
+
+// What is shown of an item by calls.
+#[derive(Drop)]
+struct ItemCalls {
+    calls: Option<Calls>,
+    user: Option<User>,
+}
+
+fn item_calls(
+    alloc: Global,
+    config: &Config,
+    app: &App,
+    code: Code,
+    body: usize,
+    item: usize,
+    events: &[usize],
+) -> Result<ItemCalls, NoMemory>
+    requires in_range { AppInRange config.now app.now }
+    requires is_place { IsPlace app.now (place.Item body item) }
+    ensures calls { IfOk result (λ found. AreShownCalls app.now code (place.Item body item) found.calls) }
+    ensures user { IfOk result (λ found. IsShownUser config.now app.now (place.Item body item) found.user) }
+{
+    match code {
+        Code::V9 | Code::V10 => {
+            let calls = calls_of(alloc, config, app, code, body, item)?;
+            Ok(ItemCalls { calls, user: None })
+        },
+        Code::V12 => {
+            let user = user_of(alloc, config, app, body, item, events)?;
+            Ok(ItemCalls { calls: None, user })
+        },
+        _ => Ok(ItemCalls {
+            calls: None,
+            user: None,
+        }),
+    }
+}
+
+// What is shown of a fault at an item.
+fn item_witness(
+    alloc: Global,
+    config: &Config,
+    app: &App,
+    refusal: Refusal,
+    body: usize,
+    item: usize,
+    events: &[usize],
+) -> Result<Witness, NoMemory>
+    requires in_range { AppInRange config.now app.now }
+    requires place { IsPlaceOfFault config.now app.now refusal (place.Item body item) }
+    ensures { IfOk result (IsWitness config.now app.now refusal) }
+{
+    let ItemCalls { calls, user } = item_calls(
+        alloc,
+        config,
+        app,
+        refusal.code,
+        body,
+        item,
+        events,
+    )?;
+    let ItemWay { way, behind } = item_way(alloc, config, app, refusal.code, body, item)?;
+    Ok(Witness {
+        place: Place::Item { body, item },
+        way,
+        behind,
+        calls,
+        user,
+    })
+}
+
+// What is shown of V7 at a label.
+fn label_witness(
+    alloc: Global,
+    config: &Config,
+    app: &App,
+    refusal: Refusal,
+    body: usize,
+    label: usize,
+) -> Result<Witness, NoMemory>
+    requires in_range { AppInRange config.now app.now }
+    requires place { IsPlaceOfFault config.now app.now refusal (place.Label body label) }
+    ensures { IfOk result (IsWitness config.now app.now refusal) }
+{
+    let way = way_to_label(alloc, config, app, body, label)?;
+    Ok(Witness {
+        place: Place::Label { body, label },
+        way,
+        behind: None,
+        calls: None,
+        user: None,
+    })
+}
+
+// What is shown of a fault at a place.
+fn witness_at(
+    alloc: Global,
+    config: &Config,
+    app: &App,
+    refusal: Refusal,
+    place: Place,
+    events: &[usize],
+) -> Result<Witness, NoMemory>
+    requires in_range { AppInRange config.now app.now }
+    requires place { IsPlaceOfFault config.now app.now refusal place }
+    ensures { IfOk result (IsWitness config.now app.now refusal) }
+{
+    match place {
+        Place::Header(_) => Ok(Witness {
+            place,
+            way: None,
+            behind: None,
+            calls: None,
+            user: None,
+        }),
+        Place::Label { body, label } => label_witness(alloc, config, app, refusal, body, label),
+        Place::Item { body, item } => {
+            item_witness(alloc, config, app, refusal, body, item, events)
+        },
+    }
+}
+
+/// What is shown of a fault of V2 to V12; `events` are those that the statement on its line names, in their order.
+pub fn witness_of(
+    alloc: Global,
+    config: &Config,
+    app: &App,
+    ranks: &Ranks,
+    refusal: Refusal,
+    events: &[usize],
+) -> Result<Option<Witness>, NoMemory>
+    requires in_range { AppInRange config.now app.now }
+    requires belong { RanksOf app.now ranks.now }
+    ensures { IfOk result (λ found. IfSome found (IsWitness config.now app.now refusal)) }
+{
+    match place_at_fault(alloc, config, app, ranks, refusal)? {
+        Some(place) => {
+            let found = witness_at(alloc, config, app, refusal, place, events)?;
+            Ok(Some(found))
+        },
+        None => Ok(None),
+    }
+}

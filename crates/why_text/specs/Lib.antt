@@ -1,0 +1,3 @@
+pub mod RuleLines
+pub mod NameLines
+pub mod WhyLines

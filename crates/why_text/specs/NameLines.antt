@@ -1,0 +1,57 @@
+-- The lines behind a refusal of names and forms.
+use Rattle.std.specs.Prelude.{ℕ, ◌≡◌, ◌++◌, ◌⊎◌, nat_lt, Bool, true, false, List, [], ◌∷◌, length, take, Option, Some, None, codes}
+use Rattle.command_line.specs.LastLine.{code_text}
+use Rattle.why_text.specs.RuleLines.{spaced_number, name_line, number_line}
+use Rattle.why_text.specs.declared.notes.Note.{Note}
+
+-- the line of an earlier thing, if there is one
+abbrev pub first_lines : Option ℕ → List ℕ
+first_lines None = []
+first_lines (Some line) = number_line (codes "first") line
+
+-- a name, and the line of an earlier thing
+abbrev pub named_lines : List ℕ → Option ℕ → List ℕ
+named_lines name first = name_line name ++ first_lines first
+
+-- the name that a fault concerns, if there is one
+abbrev pub concerned_words : List ℕ → List ℕ
+concerned_words [] = []
+concerned_words (byte ∷ name) = codes " " ++ (byte ∷ name)
+
+-- `among`, the line and the code of a fault, and the name that it concerns
+abbrev pub among_line : Note → List ℕ
+among_line note = (((codes "among" ++ spaced_number note.line) ++ (codes " " ++ code_text note.code)) ++ concerned_words note.name.now) ++ codes "\n"
+
+-- such a line for each of these faults
+abbrev pub among_lines : List Note → List ℕ
+among_lines [] = []
+among_lines (note ∷ notes) = among_line note ++ among_lines notes
+
+-- the last line, where there are more faults
+abbrev pub more_lines : Bool → List ℕ
+more_lines true = codes "among more\n"
+more_lines false = []
+
+-- such a line for each of the first 1,000, and the last line where there are more
+abbrev pub told_lines : List Note → List ℕ
+told_lines notes = among_lines (take 1000 notes) ++ more_lines (nat_lt 1000 (length notes))
+
+-- such lines behind these bytes
+pub record HasMore (old new : List ℕ) : Type 0 where
+  pub notes : List Note
+  pub are : new ≡ old ++ told_lines notes
+
+-- a name with the line of an earlier thing, or nothing
+pub record HasName (lines : List ℕ) : Type 0 where
+  pub name : List ℕ
+  pub first : Option ℕ
+  pub are : lines ≡ named_lines name first
+
+abbrev pub IsNamed : List ℕ → Type 0
+IsNamed lines = (lines ≡ []) ⊎ HasName lines
+
+-- a name, and behind it the lines of faults
+pub record AreNameLines (lines : List ℕ) : Type 0 where
+  pub named : List ℕ
+  pub is_named : IsNamed named
+  pub more : HasMore named lines

@@ -1,0 +1,114 @@
+-- The answer of the command `why`.
+use Rattle.std.specs.Prelude.{ℕ, ◌≡◌, ◌<◌, ◌⊎◌, List, [], length, Option, Some, None}
+use Rattle.sloth_base.specs.declared.config.Config.{Config}
+use Rattle.sloth_base.specs.declared.app.App.{App}
+use Rattle.sloth_base.specs.declared.refusal.Code.{Code}
+use Rattle.sloth_base.specs.declared.refusal.Code.TheVariants as code
+use Rattle.sloth_base.specs.declared.refusal.Refusal.{Refusal}
+use Rattle.sloth_base.specs.Named.{function}
+use Rattle.sloth_source.specs.OilText.{OilText}
+use Rattle.sloth_source.specs.RankedTexts.{HasRanks}
+use Rattle.sloth_source.specs.SourceText.{HasApp}
+use Rattle.sloth_source.specs.Texts.{AreAccepted, FirstRefusal}
+use Rattle.fault_ways.specs.CallChains.{IsCycle}
+use Rattle.fault_witnesses.specs.Witnesses.{IsWitness}
+use Rattle.fault_ways.specs.declared.chains.Link.{Link}
+use Rattle.fault_witnesses.specs.declared.witnesses.Witness.{Witness}
+use Rattle.why_text.specs.NameLines.{AreNameLines}
+use Rattle.why_text.specs.RuleLines.{witness_lines, cycle_line}
+use Rattle.why_text.specs.declared.explaining.Cause.{Cause}
+use Rattle.why_text.specs.declared.explaining.Cause.TheVariants as cause
+use Rattle.why_text.specs.declared.why.Why.{Why}
+use Rattle.why_text.specs.declared.why.Why.TheVariants as why
+
+-- The lines tell a witness of the refusal.
+pub record HasWitnessLines (config : Config) (app : App) (r : Refusal) (lines : List ℕ) : Type 0 where
+  pub witness : Witness
+  pub is_witness : IsWitness config app r witness
+  pub are : lines ≡ witness_lines config app r witness
+
+-- The lines tell a fault of V2 to V12 of the texts' task code.
+pub record TellsFault (oil src : List ℕ) (r : Refusal) (lines : List ℕ) : Type 0 where
+  pub config : Config
+  pub app : App
+  pub has_ranks : HasRanks oil src config app
+  pub tells : HasWitnessLines config app r lines
+
+-- The line tells a cycle of calls of function f.
+pub record IsCycleLine (app : App) (f : ℕ) (lines : List ℕ) : Type 0 where
+  pub links : List Link
+  pub is_cycle : IsCycle app f links
+  pub are : lines ≡ cycle_line app f links
+
+-- so it is of a function whose header stands on this line of the source
+pub record IsCycleOn (app : App) (line : ℕ) (lines : List ℕ) : Type 0 where
+  pub func : ℕ
+  pub known : func < length app.funcs
+  pub header : line ≡ (function app func).line
+  pub calls : IsCycleLine app func lines
+
+-- so it is of the task code of a text
+pub record HasCycleIn (src : List ℕ) (config : Config) (line : ℕ) (lines : List ℕ) : Type 0 where
+  pub app : App
+  pub has_app : HasApp src config app
+  pub is_on : IsCycleOn app line lines
+
+-- The line tells a cycle of calls of the texts' task code, of a function on the refusal's line.
+pub record TellsCycle (oil src : List ℕ) (r : Refusal) (lines : List ℕ) : Type 0 where
+  pub config : Config
+  pub configuration : OilText oil config
+  pub calls : HasCycleIn src config r.line lines
+
+-- what explains a refusal, by its code
+abbrev pub cause_of : Code → Cause
+cause_of code.O7 = cause.OilName
+cause_of code.O8 = cause.OilName
+cause_of code.O9 = cause.OilName
+cause_of code.O10 = cause.OilName
+cause_of code.O11 = cause.OilName
+cause_of code.O12 = cause.OilName
+cause_of code.O13 = cause.OilName
+cause_of code.O14 = cause.OilName
+cause_of code.O15 = cause.OilName
+cause_of code.A5 = cause.SourceName
+cause_of code.A6 = cause.SourceName
+cause_of code.A7 = cause.SourceName
+cause_of code.V1 = cause.Cycle
+cause_of code.V2 = cause.Rule
+cause_of code.V3 = cause.Rule
+cause_of code.V4 = cause.Rule
+cause_of code.V5 = cause.Rule
+cause_of code.V6 = cause.Rule
+cause_of code.V7 = cause.Rule
+cause_of code.V8 = cause.Rule
+cause_of code.V9 = cause.Rule
+cause_of code.V10 = cause.Rule
+cause_of code.V11 = cause.Rule
+cause_of code.V12 = cause.Rule
+cause_of _ = cause.Nothing
+
+-- what the lines are, by what explains the refusal
+abbrev pub AreLinesBy : Cause → (oil src : List ℕ) → Refusal → List ℕ → Type 0
+AreLinesBy cause.Nothing oil src r lines = lines ≡ []
+AreLinesBy cause.OilName oil src r lines = AreNameLines lines
+AreLinesBy cause.SourceName oil src r lines = AreNameLines lines
+AreLinesBy cause.Cycle oil src r lines = (lines ≡ []) ⊎ TellsCycle oil src r lines
+AreLinesBy cause.Rule oil src r lines = (lines ≡ []) ⊎ TellsFault oil src r lines
+
+-- what the lines behind a refusal are
+abbrev pub AreWhyLines : (oil src : List ℕ) → Refusal → List ℕ → Type 0
+AreWhyLines oil src r lines = AreLinesBy (cause_of r.code) oil src r lines
+
+-- the texts are accepted
+abbrev pub AreAcceptedTexts : (oil src : List ℕ) → Type 0
+AreAcceptedTexts oil src = (config : Config) × (app : App) × AreAccepted oil src config app
+
+-- the first refusal of the texts, if they are not accepted
+abbrev pub IsVerdict : (oil src : List ℕ) → Option Refusal → Type 0
+IsVerdict oil src None = AreAcceptedTexts oil src
+IsVerdict oil src (Some refusal) = FirstRefusal oil src refusal
+
+-- the texts are accepted, or have this first refusal with these lines behind it
+abbrev pub IsWhy : (oil src : List ℕ) → Why → Type 0
+IsWhy oil src why.Accepted = AreAcceptedTexts oil src
+IsWhy oil src (why.Refused refusal lines) = FirstRefusal oil src refusal × AreWhyLines oil src refusal lines

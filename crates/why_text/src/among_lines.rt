@@ -1,0 +1,94 @@
+//! The lines `among`: each fault of the stage that is at fault.
+ghost use Rattle.std.specs.Prelude.{◌≡◌, ◌++◌, OnOk, take};
+ghost use Rattle.why_text.specs.NameLines.{concerned_words, among_line, among_lines, more_lines, told_lines, HasMore};
+
+use crate::notes::{Note, order};
+use crate::pieces::{push_bytes, push_number, push_word};
+use command_line::last_line::code_text;
+use indexmap::IndexSet;
+use oil_table::sets::insert;
+use sloth_base::memory::NoMemory;
+use std::alloc::Global;
+use text_pieces::growth::push;
+
+// How many faults are told.
+const AMONG_LIMIT: usize = 1_000;
+
+fn push_concerned(text: &mut Vec<u8>, name: &[u8]) -> Result<(), NoMemory>
+    ensures { OnOk result (text.new.items ≡ text.old.items ++ concerned_words name.now) }
+{
+    if name.is_empty() {
+        return Ok(());
+    }
+    push_word(text, name)
+}
+
+fn push_note(text: &mut Vec<u8>, note: &Note) -> Result<(), NoMemory>
+    ensures { OnOk result (text.new.items ≡ text.old.items ++ among_line note.now) }
+{
+    push_bytes(text, b"among")?;
+    push_number(text, note.line)?;
+    push_word(text, code_text(note.code))?;
+    push_concerned(text, note.name)?;
+    push_bytes(text, b"\n")
+}
+
+fn push_notes(text: &mut Vec<u8>, notes: &[Note]) -> Result<(), NoMemory>
+    ensures { OnOk result (text.new.items ≡ text.old.items ++ among_lines notes.now) }
+{
+    for note in notes {
+        push_note(text, note)?;
+    }
+    Ok(())
+}
+
+// The first of these faults, as many as there are.
+fn first_notes<'n, 't>(notes: &'n [Note<'t>], count: usize) -> &'n [Note<'t>]
+    ensures { result.now ≡ take count notes.now }
+{
+    if count < notes.len() {
+        return &notes[..count];
+    }
+    notes
+}
+
+fn push_more(text: &mut Vec<u8>, more: bool) -> Result<(), NoMemory>
+    ensures { OnOk result (text.new.items ≡ text.old.items ++ more_lines more) }
+{
+    if more {
+        return push_bytes(text, b"among more\n");
+    }
+    Ok(())
+}
+
+// The lines of these faults, of no more than 1,000.
+fn push_told(text: &mut Vec<u8>, notes: &[Note]) -> Result<(), NoMemory>
+    ensures { OnOk result (text.new.items ≡ text.old.items ++ told_lines notes.now) }
+{
+    push_notes(text, first_notes(notes, AMONG_LIMIT))?;
+    push_more(text, notes.len() > AMONG_LIMIT)
+}
+
+// The faults that follow from no other, each once; of many the first.
+fn told_notes<'t>(alloc: Global, notes: &[Note<'t>]) -> Result<Vec<Note<'t>>, NoMemory> {
+    let mut seen = IndexSet::new(alloc);
+    let mut list = Vec::new(alloc);
+    for note in notes {
+        let fault = (order(note), note.name);
+        if note.follows || list.len() > AMONG_LIMIT || seen.contains(&fault) {
+            continue;
+        }
+        insert(&mut seen, fault)?;
+        push(&mut list, *note)?;
+    }
+    Ok(list)
+}
+
+/// A line for each of these faults but those that follow from others, each once; behind 1,000 the line `among more`.
+pub fn push_among(alloc: Global, text: &mut Vec<u8>, notes: &[Note]) -> Result<(), NoMemory>
+    ensures { OnOk result (HasMore text.old.items text.new.items) }
+{
+    let notes = told_notes(alloc, notes)?;
+    push_told(text, &notes)?;
+    Ok(())
+}

@@ -1,0 +1,68 @@
+//! The lines of calls.
+ghost use Rattle.std.specs.Prelude.{◌≡◌, ◌++◌, codes, OnOk};
+ghost use Rattle.why_text.specs.RuleLines.{pair_words, link_words, service_words, ending_words, calls_line};
+
+use crate::numbered::func_name;
+use crate::pieces::{push_bytes, push_number, push_word};
+use fault_ways::chains::Link;
+use sloth_base::app::{App, Item, Op};
+use sloth_base::memory::NoMemory;
+
+// A space, a name, and a line.
+fn push_pair(text: &mut Vec<u8>, name: &[u8], line: u32) -> Result<(), NoMemory>
+    ensures { OnOk result (text.new.items ≡ text.old.items ++ pair_words name.now line) }
+{
+    push_word(text, name)?;
+    push_number(text, line)
+}
+
+// Calls, each behind a comma.
+fn push_links(text: &mut Vec<u8>, app: &App, links: &[Link]) -> Result<(), NoMemory>
+    ensures { OnOk result (text.new.items ≡ text.old.items ++ link_words app.now links.now) }
+{
+    for link in links {
+        push_bytes(text, b",")?;
+        push_pair(text, func_name(app, link.func), link.line)?;
+    }
+    Ok(())
+}
+
+fn push_service(text: &mut Vec<u8>, item: Item) -> Result<(), NoMemory>
+    ensures { OnOk result (text.new.items ≡ text.old.items ++ service_words item) }
+{
+    match item.op {
+        Op::Serve(call) => push_pair(text, call.service.name(), item.line),
+        _ => Ok(()),
+    }
+}
+
+// The service that the calls lead to, if there is one.
+fn push_ending(text: &mut Vec<u8>, ending: Option<Item>) -> Result<(), NoMemory>
+    ensures { OnOk result (text.new.items ≡ text.old.items ++ ending_words ending) }
+{
+    match ending {
+        Some(item) => {
+            push_bytes(text, b",")?;
+            push_service(text, item)
+        },
+        None => Ok(()),
+    }
+}
+
+/// The line `calls`.
+pub fn push_calls(
+    text: &mut Vec<u8>,
+    app: &App,
+    name: &[u8],
+    line: u32,
+    links: &[Link],
+    ending: Option<Item>,
+) -> Result<(), NoMemory>
+    ensures { OnOk result (text.new.items ≡ text.old.items ++ calls_line app.now name.now line links.now ending) }
+{
+    push_bytes(text, b"calls")?;
+    push_pair(text, name, line)?;
+    push_links(text, app, links)?;
+    push_ending(text, ending)?;
+    push_bytes(text, b"\n")
+}

@@ -1,0 +1,322 @@
+//! The lines behind a refusal.
+ghost use Rattle.std.specs.Prelude.{◌≡◌, ◌<◌, ◌⊎◌, length, [], IfOk, IfSome};
+ghost use Rattle.sloth_base.specs.Named.{function};
+ghost use Rattle.sloth_base.specs.ConfigRange.{InRange};
+ghost use Rattle.code_rules.specs.AppRange.{AppInRange};
+ghost use Rattle.call_graph.specs.Ranks.{RanksOf};
+ghost use Rattle.sloth_source.specs.OilText.{OilText};
+ghost use Rattle.sloth_source.specs.SourceText.{HasApp};
+ghost use Rattle.sloth_source.specs.RankedTexts.{HasRanks};
+ghost use Rattle.why_text.specs.NameLines.{AreNameLines};
+ghost use Rattle.why_text.specs.WhyLines.{TellsFault, TellsCycle, IsCycleLine, IsCycleOn, HasCycleIn, HasWitnessLines, cause_of, AreLinesBy, AreWhyLines};
+
+use crate::named_events::named_events;
+use crate::naming::{names_text, no_text, oil_text};
+use crate::rule_lines::{cycle_line, witness_lines};
+use asm_lines::{SourceLine, read};
+use asm_parse::parse_app;
+use call_graph::ranking::Ranks;
+use fault_ways::chains::function_at;
+use fault_witnesses::cycles::cycle_calls;
+use fault_witnesses::witnesses::witness_of;
+use sloth_base::app::App;
+use sloth_base::config::Config;
+use sloth_base::list::List;
+use sloth_base::memory::NoMemory;
+use sloth_base::refusal::{BuildError, Code, Refusal};
+use sloth_source::{Ranked, read_config, read_ranked};
+use std::alloc::Global;
+
+fn no_lines(alloc: Global) -> List<u8>
+    ensures { result ≡ [] }
+{
+    List::from_vec(Vec::new(alloc))
+}
+
+// ---- names
+
+// The configuration of a text, if it has one.
+fn config_of(alloc: Global, oil: &[u8]) -> Result<Option<Config>, NoMemory>
+    requires { length oil.now < 4294967295 }
+    ensures means { IfOk result (λ found. IfSome found (OilText oil.now)) }
+    ensures in_range { IfOk result (λ found. IfSome found InRange) }
+{
+    match read_config(alloc, oil) {
+        Ok(config) => Ok(Some(config)),
+        Err(BuildError::Refused(_)) => Ok(None),
+        Err(BuildError::Memory) => Err(NoMemory),
+    }
+}
+
+// The lines behind A5 to A7.
+fn name_lines(alloc: Global, oil: &[u8], src: &[u8], refusal: Refusal) -> Result<List<u8>, NoMemory>
+    requires oil { length oil.now < 4294967295 }
+    requires src { length src.now < 4294967295 }
+    ensures { IfOk result AreNameLines }
+{
+    match config_of(alloc, oil)? {
+        Some(config) => names_text(alloc, &config, src, refusal),
+        None => no_text(alloc, refusal),
+    }
+}
+
+// ---- cycles of calls
+
+// The number of a body whose header stands on this line.
+fn body_on(app: &App, line: u32) -> Option<usize>
+    ensures known { IfSome result (λ b. b < length app.now.funcs) }
+    ensures line { IfSome result (λ b. line ≡ (function app.now b).line) }
+{
+    for number in 0..app.funcs.items().len() {
+        if function_at(app, number).line == line {
+            return Some(number);
+        }
+    }
+    None
+}
+
+// The line of a cycle, if there is one.
+fn cycle_text(alloc: Global, app: &App, body: usize) -> Result<Option<List<u8>>, NoMemory>
+    ensures { IfOk result (λ found. IfSome found (λ lines. IsCycleLine app.now body lines)) }
+{
+    match cycle_calls(alloc, app, body)? {
+        Some(links) => {
+            let text = cycle_line(alloc, app, body, links.items())?;
+            Ok(Some(List::from_vec(text)))
+        },
+        None => Ok(None),
+    }
+}
+
+fn cycle_on(alloc: Global, app: &App, line: u32) -> Result<Option<List<u8>>, NoMemory>
+    ensures { IfOk result (λ found. IfSome found (λ lines. IsCycleOn app.now line lines)) }
+{
+    match body_on(app, line) {
+        Some(body) => cycle_text(alloc, app, body),
+        None => Ok(None),
+    }
+}
+
+// The task code of a text, if it has any.
+fn app_of(alloc: Global, config: &Config, src: &[u8]) -> Result<Option<App>, NoMemory>
+    requires src { length src.now < 4294967295 }
+    requires config { InRange config.now }
+    ensures { IfOk result (λ found. IfSome found (HasApp src.now config.now)) }
+{
+    match parse_app(alloc, src, config) {
+        Ok(app) => Ok(Some(app)),
+        Err(BuildError::Refused(_)) => Ok(None),
+        Err(BuildError::Memory) => Err(NoMemory),
+    }
+}
+
+fn cycle_of(
+    alloc: Global,
+    src: &[u8],
+    config: &Config,
+    line: u32,
+) -> Result<Option<List<u8>>, NoMemory>
+    requires src { length src.now < 4294967295 }
+    requires config { InRange config.now }
+    ensures { IfOk result (λ found. IfSome found (λ lines. HasCycleIn src.now config.now line lines)) }
+{
+    match app_of(alloc, config, src)? {
+        Some(app) => cycle_on(alloc, &app, line),
+        None => Ok(None),
+    }
+}
+
+fn cycle_for(
+    alloc: Global,
+    oil: &[u8],
+    src: &[u8],
+    refusal: Refusal,
+) -> Result<Option<List<u8>>, NoMemory>
+    requires oil { length oil.now < 4294967295 }
+    requires src { length src.now < 4294967295 }
+    ensures { IfOk result (λ found. IfSome found (TellsCycle oil.now src.now refusal)) }
+{
+    match config_of(alloc, oil)? {
+        Some(config) => cycle_of(alloc, src, &config, refusal.line),
+        None => Ok(None),
+    }
+}
+
+// ---- rules of task code
+
+// What the lines of a text are, if none is at fault.
+fn lines_of(alloc: Global, src: &[u8]) -> Result<List<SourceLine>, NoMemory>
+    requires { length src.now < 4294967295 }
+{
+    match read(alloc, src) {
+        Ok(lines) => Ok(lines),
+        Err(BuildError::Refused(_)) => Ok(List::from_vec(Vec::new(alloc))),
+        Err(BuildError::Memory) => Err(NoMemory),
+    }
+}
+
+// What is shown of a fault, in these lines.
+fn fault_text(
+    alloc: Global,
+    config: &Config,
+    app: &App,
+    ranks: &Ranks,
+    lines: &[SourceLine],
+    refusal: Refusal,
+) -> Result<Option<List<u8>>, NoMemory>
+    requires in_range { AppInRange config.now app.now }
+    requires belong { RanksOf app.now ranks.now }
+    ensures { IfOk result (λ found. IfSome found (λ text. HasWitnessLines config.now app.now refusal text)) }
+{
+    let events = named_events(alloc, config, lines, refusal.line)?;
+    match witness_of(alloc, config, app, ranks, refusal, &events)? {
+        Some(witness) => {
+            let text = witness_lines(alloc, config, app, refusal, &witness)?;
+            Ok(Some(List::from_vec(text)))
+        },
+        None => Ok(None),
+    }
+}
+
+fn fault_of(
+    alloc: Global,
+    src: &[u8],
+    config: &Config,
+    app: &App,
+    ranks: &Ranks,
+    refusal: Refusal,
+) -> Result<Option<List<u8>>, NoMemory>
+    requires src { length src.now < 4294967295 }
+    requires in_range { AppInRange config.now app.now }
+    requires belong { RanksOf app.now ranks.now }
+    ensures { IfOk result (λ found. IfSome found (λ text. HasWitnessLines config.now app.now refusal text)) }
+{
+    let lines = lines_of(alloc, src)?;
+    fault_text(alloc, config, app, ranks, lines.items(), refusal)
+}
+
+// What both texts mean, if no rule up to V1 is broken.
+fn ranked_of(alloc: Global, oil: &[u8], src: &[u8]) -> Result<Option<Ranked>, NoMemory>
+    requires oil { length oil.now < 4294967295 }
+    requires src { length src.now < 4294967295 }
+    ensures has_ranks { IfOk result (λ found. IfSome found (λ ranked. HasRanks oil.now src.now ranked.config ranked.app)) }
+    ensures in_range { IfOk result (λ found. IfSome found (λ ranked. AppInRange ranked.config ranked.app)) }
+    ensures belong { IfOk result (λ found. IfSome found (λ ranked. RanksOf ranked.app ranked.ranks)) }
+{
+    match read_ranked(alloc, oil, src) {
+        Ok(ranked) => Ok(Some(ranked)),
+        Err(BuildError::Refused(_)) => Ok(None),
+        Err(BuildError::Memory) => Err(NoMemory),
+    }
+}
+
+fn fault_for(
+    alloc: Global,
+    oil: &[u8],
+    src: &[u8],
+    refusal: Refusal,
+) -> Result<Option<List<u8>>, NoMemory>
+    requires oil { length oil.now < 4294967295 }
+    requires src { length src.now < 4294967295 }
+    ensures { IfOk result (λ found. IfSome found (TellsFault oil.now src.now refusal)) }
+{
+    match ranked_of(alloc, oil, src)? {
+        Some(Ranked { config, app, ranks }) => {
+            fault_of(alloc, src, &config, &app, &ranks, refusal)
+        },
+        None => Ok(None),
+    }
+}
+
+// ---- all
+
+// What explains a refusal.
+#[derive(Clone, Copy)]
+enum Cause {
+    Nothing,
+    OilName,
+    SourceName,
+    Cycle,
+    Rule,
+}
+
+fn cause_of(code: Code) -> Cause
+    ensures { result ≡ cause_of code }
+{
+    match code {
+        Code::O7 | Code::O8 | Code::O9 | Code::O10 | Code::O11 => Cause::OilName,
+        Code::O12 | Code::O13 | Code::O14 | Code::O15 => Cause::OilName,
+        Code::A5 | Code::A6 | Code::A7 => Cause::SourceName,
+        Code::V1 => Cause::Cycle,
+        Code::V2 | Code::V3 | Code::V4 | Code::V5 | Code::V6 | Code::V7 => Cause::Rule,
+        Code::V8 | Code::V9 | Code::V10 | Code::V11 | Code::V12 => Cause::Rule,
+        _ => Cause::Nothing,
+    }
+}
+
+fn cycle_lines(
+    alloc: Global,
+    oil: &[u8],
+    src: &[u8],
+    refusal: Refusal,
+) -> Result<List<u8>, NoMemory>
+    requires oil { length oil.now < 4294967295 }
+    requires src { length src.now < 4294967295 }
+    ensures { IfOk result (λ lines. (lines ≡ []) ⊎ TellsCycle oil.now src.now refusal lines) }
+{
+    match cycle_for(alloc, oil, src, refusal)? {
+        Some(lines) => Ok(lines),
+        None => Ok(no_lines(alloc)),
+    }
+}
+
+fn fault_lines(
+    alloc: Global,
+    oil: &[u8],
+    src: &[u8],
+    refusal: Refusal,
+) -> Result<List<u8>, NoMemory>
+    requires oil { length oil.now < 4294967295 }
+    requires src { length src.now < 4294967295 }
+    ensures { IfOk result (λ lines. (lines ≡ []) ⊎ TellsFault oil.now src.now refusal lines) }
+{
+    match fault_for(alloc, oil, src, refusal)? {
+        Some(lines) => Ok(lines),
+        None => Ok(no_lines(alloc)),
+    }
+}
+
+// The lines behind a refusal that is explained so.
+fn lines_by(
+    alloc: Global,
+    cause: Cause,
+    oil: &[u8],
+    src: &[u8],
+    refusal: Refusal,
+) -> Result<List<u8>, NoMemory>
+    requires oil { length oil.now < 4294967295 }
+    requires src { length src.now < 4294967295 }
+    ensures { IfOk result (AreLinesBy cause oil.now src.now refusal) }
+{
+    match cause {
+        Cause::OilName => oil_text(alloc, oil, refusal),
+        Cause::SourceName => name_lines(alloc, oil, src, refusal),
+        Cause::Cycle => cycle_lines(alloc, oil, src, refusal),
+        Cause::Rule => fault_lines(alloc, oil, src, refusal),
+        Cause::Nothing => Ok(no_lines(alloc)),
+    }
+}
+
+/// The lines behind the first refusal of texts of at most 4,294,967,294 bytes.
+pub fn lines_behind(
+    alloc: Global,
+    oil: &[u8],
+    src: &[u8],
+    refusal: Refusal,
+) -> Result<List<u8>, NoMemory>
+    requires oil { length oil.now < 4294967295 }
+    requires src { length src.now < 4294967295 }
+    ensures { IfOk result (AreWhyLines oil.now src.now refusal) }
+{
+    lines_by(alloc, cause_of(refusal.code), oil, src, refusal)
+}

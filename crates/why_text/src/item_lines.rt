@@ -1,0 +1,313 @@
+//! The lines of an item that breaks a rule.
+ghost use Rattle.std.specs.Prelude.{◌≡◌, ◌++◌, ◌<◌, codes, length, Some, OnOk};
+ghost use Rattle.sloth_base.specs.Named.{function, item_of};
+ghost use Rattle.why_text.specs.RuleLines.{name_line, number_line, symbol_lines, size_lines, jump_name_lines, falls_out, run_out_lines, target_lines, object_of, last_lines, release_lines, callee_of, culprit_item, called_lines, taken_lines, left_lines, is_of_resource, event_lines, lacked_lines, user_calls, user_lines};
+
+use crate::call_lines::push_calls;
+use crate::numbered::{
+    event_name, func_line, func_name, item_line, item_op, label_holds, label_name, resource_name,
+    symbol_name, symbol_size, task_name,
+};
+use crate::pieces::{push_count_line, push_line, push_name, push_number_line};
+use crate::way_lines::push_list_line;
+use body_faults::held_resources::held_by;
+use body_faults::ways::{falls, way};
+use fault_ways::chains::{Calls, Link, chain_end};
+use fault_witnesses::users::User;
+use sloth_base::app::{App, Func, Item, Op};
+use sloth_base::config::Config;
+use sloth_base::memory::NoMemory;
+use sloth_base::service::Service;
+use std::alloc::Global;
+
+fn push_symbol(text: &mut Vec<u8>, app: &App, symbol: u32) -> Result<(), NoMemory>
+    ensures { OnOk result (text.new.items ≡ text.old.items ++ symbol_lines app.now symbol) }
+{
+    push_name(text, symbol_name(app, symbol))?;
+    push_count_line(text, b"bytes", symbol_size(app, symbol))
+}
+
+fn push_frame(text: &mut Vec<u8>, words: u32) -> Result<(), NoMemory>
+    ensures { OnOk result (text.new.items ≡ text.old.items ++ (name_line (codes "frame") ++ number_line (codes "words") words)) }
+{
+    push_name(text, b"frame")?;
+    push_number_line(text, b"words", words)
+}
+
+/// V2 to V4: what is accessed, and its size.
+pub fn push_size(text: &mut Vec<u8>, app: &App, func: &Func, op: Op) -> Result<(), NoMemory>
+    ensures { OnOk result (text.new.items ≡ text.old.items ++ size_lines app.now func.now op) }
+{
+    match op {
+        Op::Load { symbol, .. } => push_symbol(text, app, symbol.0),
+        Op::Store { symbol, .. } => push_symbol(text, app, symbol.0),
+        Op::LoadAt { symbol, .. } => push_symbol(text, app, symbol.0),
+        Op::StoreAt { symbol, .. } => push_symbol(text, app, symbol.0),
+        _ => push_frame(text, func.frame_words),
+    }
+}
+
+fn push_jump_name(text: &mut Vec<u8>, func: &Func, label: Option<u32>) -> Result<(), NoMemory>
+    ensures { OnOk result (text.new.items ≡ text.old.items ++ jump_name_lines func.now label) }
+{
+    match label {
+        Some(label) => push_name(text, label_name(func, label as usize)),
+        None => Ok(()),
+    }
+}
+
+fn falls_out(func: &Func, item: usize) -> bool
+    requires { item < length func.now.items }
+    ensures { result ≡ falls_out func.now item }
+{
+    falls(item_op(func, item)) && func.items.items().len() <= item + 1
+}
+
+/// V5: the label behind the last item.
+pub fn push_run_out(text: &mut Vec<u8>, func: &Func, item: usize) -> Result<(), NoMemory>
+    requires { item < length func.now.items }
+    ensures { OnOk result (text.new.items ≡ text.old.items ++ run_out_lines func.now item) }
+{
+    if falls_out(func, item) {
+        return Ok(());
+    }
+    push_jump_name(text, func, way(item_op(func, item)))
+}
+
+fn push_label(
+    alloc: Global,
+    text: &mut Vec<u8>,
+    config: &Config,
+    func: &Func,
+    label: usize,
+) -> Result<(), NoMemory>
+    ensures { OnOk result (text.new.items ≡ text.old.items ++ target_lines config.now func.now (Some label)) }
+{
+    push_name(text, label_name(func, label))?;
+    let holds = held_by(alloc, label_holds(func, label))?;
+    push_list_line(text, config, b"lists", &holds)
+}
+
+/// V7: a label, and its list.
+pub fn push_target(
+    alloc: Global,
+    text: &mut Vec<u8>,
+    config: &Config,
+    func: &Func,
+    label: Option<usize>,
+) -> Result<(), NoMemory>
+    ensures { OnOk result (text.new.items ≡ text.old.items ++ target_lines config.now func.now label) }
+{
+    match label {
+        Some(label) => push_label(alloc, text, config, func, label),
+        None => Ok(()),
+    }
+}
+
+fn object_of(op: Op) -> u32
+    ensures { result ≡ object_of op }
+{
+    match op {
+        Op::Serve(call) => call.object,
+        _ => 0,
+    }
+}
+
+fn push_last(text: &mut Vec<u8>, config: &Config, held: &[u32]) -> Result<(), NoMemory>
+    ensures { OnOk result (text.new.items ≡ text.old.items ++ last_lines config.now held.now) }
+{
+    if held.is_empty() {
+        return Ok(());
+    }
+    push_line(text, b"wants", resource_name(config, held[held.len() - 1]))
+}
+
+/// V8: the resource that is released, and the last one taken.
+pub fn push_release(
+    text: &mut Vec<u8>,
+    config: &Config,
+    held: &[u32],
+    op: Op,
+) -> Result<(), NoMemory>
+    ensures { OnOk result (text.new.items ≡ text.old.items ++ release_lines config.now held.now op) }
+{
+    push_name(text, resource_name(config, object_of(op)))?;
+    push_last(text, config, held)
+}
+
+fn callee_of(op: Op) -> usize
+    ensures { result ≡ callee_of op }
+{
+    match op {
+        Op::Invoke { func } => func.0 as usize,
+        _ => 0,
+    }
+}
+
+fn item_of_func(app: &App, func: usize, item: usize) -> Item
+    ensures { result ≡ item_of (function app.now func) item }
+{
+    match app.funcs.items().get(func) {
+        Some(func) => Item {
+            line: item_line(func, item),
+            op: item_op(func, item),
+        },
+        None => Item {
+            line: 0,
+            op: Op::Return,
+        },
+    }
+}
+
+fn culprit_item(app: &App, op: Op, calls: &Calls) -> Item
+    ensures { result ≡ culprit_item app.now op calls.now }
+{
+    let end = chain_end(callee_of(op), calls.links.items());
+    item_of_func(app, end, calls.item)
+}
+
+fn push_called(text: &mut Vec<u8>, app: &App, item: &Item, calls: &Calls) -> Result<(), NoMemory>
+    ensures { OnOk result (text.new.items ≡ text.old.items ++ called_lines app.now item.now calls.now) }
+{
+    let name = func_name(app, callee_of(item.op));
+    let culprit = culprit_item(app, item.op, calls);
+    push_calls(
+        text,
+        app,
+        name,
+        item.line,
+        calls.links.items(),
+        Some(culprit),
+    )
+}
+
+fn push_taken_by(
+    text: &mut Vec<u8>,
+    config: &Config,
+    app: &App,
+    item: &Item,
+    calls: &Calls,
+) -> Result<(), NoMemory>
+    ensures { OnOk result (text.new.items ≡ text.old.items ++ taken_lines config.now app.now item.now (Some calls.now)) }
+{
+    let culprit = culprit_item(app, item.op, calls);
+    push_name(text, resource_name(config, object_of(culprit.op)))?;
+    push_called(text, app, item, calls)
+}
+
+/// V9: the resource that is taken twice, and the calls that take it.
+pub fn push_taken(
+    text: &mut Vec<u8>,
+    config: &Config,
+    app: &App,
+    item: &Item,
+    calls: &Option<Calls>,
+) -> Result<(), NoMemory>
+    ensures { OnOk result (text.new.items ≡ text.old.items ++ taken_lines config.now app.now item.now calls.now) }
+{
+    match calls {
+        Some(calls) => push_taken_by(text, config, app, item, calls),
+        None => push_name(text, resource_name(config, object_of(item.op))),
+    }
+}
+
+/// V10: the calls that lead to the wait.
+pub fn push_left(
+    text: &mut Vec<u8>,
+    app: &App,
+    item: &Item,
+    calls: &Option<Calls>,
+) -> Result<(), NoMemory>
+    ensures { OnOk result (text.new.items ≡ text.old.items ++ left_lines app.now item.now calls.now) }
+{
+    match calls {
+        Some(calls) => push_called(text, app, item, calls),
+        None => Ok(()),
+    }
+}
+
+fn is_of_resource(op: Op) -> bool
+    ensures { result ≡ is_of_resource op }
+{
+    match op {
+        Op::Serve(call) => matches!(
+            call.service,
+            Service::GetResource | Service::ReleaseResource
+        ),
+        _ => false,
+    }
+}
+
+fn push_event(text: &mut Vec<u8>, config: &Config, event: Option<usize>) -> Result<(), NoMemory>
+    ensures { OnOk result (text.new.items ≡ text.old.items ++ event_lines config.now event) }
+{
+    match event {
+        Some(event) => push_name(text, event_name(config, event)),
+        None => Ok(()),
+    }
+}
+
+fn push_lacked(
+    text: &mut Vec<u8>,
+    config: &Config,
+    op: &Op,
+    event: Option<usize>,
+) -> Result<(), NoMemory>
+    ensures { OnOk result (text.new.items ≡ text.old.items ++ lacked_lines config.now op.now event) }
+{
+    if is_of_resource(*op) {
+        return push_name(text, resource_name(config, object_of(*op)));
+    }
+    push_event(text, config, event)
+}
+
+fn push_user_calls(
+    text: &mut Vec<u8>,
+    app: &App,
+    body: usize,
+    links: &[Link],
+) -> Result<(), NoMemory>
+    ensures { OnOk result (text.new.items ≡ text.old.items ++ user_calls app.now body links.now) }
+{
+    if links.is_empty() {
+        return Ok(());
+    }
+    push_calls(
+        text,
+        app,
+        func_name(app, body),
+        func_line(app, body),
+        links,
+        None,
+    )
+}
+
+fn push_user_of(
+    text: &mut Vec<u8>,
+    config: &Config,
+    app: &App,
+    op: &Op,
+    user: &User,
+) -> Result<(), NoMemory>
+    ensures { OnOk result (text.new.items ≡ text.old.items ++ user_lines config.now app.now op.now (Some user.now)) }
+{
+    push_line(text, b"task", task_name(config, user.task))?;
+    push_lacked(text, config, op, user.event)?;
+    push_user_calls(text, app, user.body, user.links.items())
+}
+
+/// V12: the task, what it lacks, and the calls from its body.
+pub fn push_user(
+    text: &mut Vec<u8>,
+    config: &Config,
+    app: &App,
+    op: &Op,
+    user: &Option<User>,
+) -> Result<(), NoMemory>
+    ensures { OnOk result (text.new.items ≡ text.old.items ++ user_lines config.now app.now op.now user.now) }
+{
+    match user {
+        Some(user) => push_user_of(text, config, app, op, user),
+        None => Ok(()),
+    }
+}

@@ -1,0 +1,279 @@
+//! The lines behind a refusal of task code.
+ghost use Rattle.std.specs.Prelude.{◌≡◌, ◌++◌, ◌<◌, ◌&&◌, ℕ, cond, codes, length, not, Some, OnOk, IfOk};
+ghost use Rattle.sloth_base.specs.Named.{function, label_of, item_of};
+ghost use Rattle.code_rules.specs.AppRange.{AppInRange};
+ghost use Rattle.code_rules.specs.Code.{held_list_at, held_list_entering};
+ghost use Rattle.body_faults.specs.Labels.{ArePlaced};
+ghost use Rattle.fault_witnesses.specs.Places.{IsPlace};
+ghost use Rattle.why_text.specs.RuleLines.{own_lines, is_of_held, held_lines, item_lines, lists_at_begin, start_lines, entry_lines, list_line, entered_lines, label_lines, place_lines, witness_lines, cycle_line};
+
+use crate::call_lines::push_calls;
+use crate::item_lines::{
+    push_left, push_release, push_run_out, push_size, push_taken, push_target, push_user,
+};
+use crate::numbered::{func_line, func_name};
+use crate::pieces::{push_bytes, push_name};
+use crate::way_lines::{push_behind, push_from, push_list_line, push_shown_way, push_way};
+use body_faults::ways::way;
+use fault_ways::chains::{Link, function_at};
+use fault_ways::ways::Way;
+use fault_witnesses::label_rules::{held_at, held_entering, label_before};
+use fault_witnesses::places::Place;
+use fault_witnesses::witnesses::Witness;
+use sloth_base::app::{App, Func};
+use sloth_base::config::Config;
+use sloth_base::memory::NoMemory;
+use sloth_base::refusal::{Code, Refusal};
+use std::alloc::Global;
+
+fn label_number(label: Option<u32>) -> Option<usize>
+    ensures { result ≡ label }
+{
+    match label {
+        Some(label) => Some(label as usize),
+        None => None,
+    }
+}
+
+// What stands behind the way and what is held.
+fn push_own(
+    alloc: Global,
+    text: &mut Vec<u8>,
+    config: &Config,
+    app: &App,
+    func: &Func,
+    number: usize,
+    held: &[u32],
+    code: Code,
+    witness: &Witness,
+) -> Result<(), NoMemory>
+    requires inside { number < length func.now.items }
+    requires held { held.now ≡ held_list_at func.now number }
+    ensures { OnOk result (text.new.items ≡ text.old.items ++ own_lines config.now app.now func.now number code witness.now) }
+{
+    let item = &func.items.items()[number];
+    match code {
+        Code::V2 => push_size(text, app, func, item.op),
+        Code::V3 => push_size(text, app, func, item.op),
+        Code::V4 => push_size(text, app, func, item.op),
+        Code::V5 => push_run_out(text, func, number),
+        Code::V7 => push_target(alloc, text, config, func, label_number(way(item.op))),
+        Code::V8 => push_release(text, config, held, item.op),
+        Code::V9 => push_taken(text, config, app, item, &witness.calls),
+        Code::V10 => push_left(text, app, item, &witness.calls),
+        Code::V11 => push_name(text, func.name.bytes()),
+        Code::V12 => push_user(text, config, app, &item.op, &witness.user),
+        _ => Ok(()),
+    }
+}
+
+fn is_of_held(code: Code) -> bool
+    ensures { result ≡ is_of_held code }
+{
+    matches!(code, Code::V7 | Code::V8 | Code::V9 | Code::V10)
+}
+
+fn push_held(
+    text: &mut Vec<u8>,
+    config: &Config,
+    func: &Func,
+    number: usize,
+    held: &[u32],
+    code: Code,
+) -> Result<(), NoMemory>
+    requires held { held.now ≡ held_list_at func.now number }
+    ensures { OnOk result (text.new.items ≡ text.old.items ++ held_lines config.now func.now number code) }
+{
+    if is_of_held(code) {
+        return push_list_line(text, config, b"holds", held);
+    }
+    Ok(())
+}
+
+fn push_item_with(
+    alloc: Global,
+    text: &mut Vec<u8>,
+    config: &Config,
+    app: &App,
+    func: &Func,
+    number: usize,
+    held: &[u32],
+    code: Code,
+    witness: &Witness,
+) -> Result<(), NoMemory>
+    requires inside { number < length func.now.items }
+    requires held { held.now ≡ held_list_at func.now number }
+    ensures { OnOk result (text.new.items ≡ text.old.items ++ item_lines config.now app.now func.now number code witness.now) }
+{
+    push_shown_way(text, func, &witness.way)?;
+    push_behind(text, func, witness.behind)?;
+    push_held(text, config, func, number, held, code)?;
+    push_own(alloc, text, config, app, func, number, held, code, witness)
+}
+
+fn push_item(
+    alloc: Global,
+    text: &mut Vec<u8>,
+    config: &Config,
+    app: &App,
+    func: &Func,
+    number: usize,
+    code: Code,
+    witness: &Witness,
+) -> Result<(), NoMemory>
+    requires placed { ArePlaced func.now }
+    requires inside { number < length func.now.items }
+    ensures { OnOk result (text.new.items ≡ text.old.items ++ item_lines config.now app.now func.now number code witness.now) }
+{
+    let held = held_at(alloc, func, number)?;
+    push_item_with(alloc, text, config, app, func, number, &held, code, witness)
+}
+
+fn lists_at_begin(func: &Func, label: usize) -> bool
+    requires { label < length func.now.labels }
+    ensures { result ≡ lists_at_begin func.now label }
+{
+    let label = &func.labels.items()[label];
+    label.item == 0 && !label.holds.items().is_empty()
+}
+
+fn push_before(text: &mut Vec<u8>, func: &Func, before: Option<usize>) -> Result<(), NoMemory>
+    ensures { OnOk result (text.new.items ≡ text.old.items ++ start_lines func.now before) }
+{
+    match before {
+        Some(label) => push_from(text, func, label),
+        None => Ok(()),
+    }
+}
+
+fn push_entry(
+    text: &mut Vec<u8>,
+    func: &Func,
+    label: usize,
+    way: &Option<Way>,
+) -> Result<(), NoMemory>
+    requires { label < length func.now.labels }
+    ensures { OnOk result (text.new.items ≡ text.old.items ++ entry_lines func.now label way.now) }
+{
+    match way {
+        Some(way) => push_way(text, func, way),
+        None => {
+            push_before(text, func, label_before(func, label))?;
+            push_bytes(text, b"way -\n")
+        },
+    }
+}
+
+fn push_entering(
+    alloc: Global,
+    text: &mut Vec<u8>,
+    config: &Config,
+    func: &Func,
+    label: usize,
+    way: &Option<Way>,
+) -> Result<(), NoMemory>
+    requires placed { ArePlaced func.now }
+    requires inside { label < length func.now.labels }
+    ensures { OnOk result (text.new.items ≡ text.old.items ++ (entry_lines func.now label way.now ++ list_line config.now (codes "holds") (held_list_entering func.now label))) }
+{
+    push_entry(text, func, label, way)?;
+    let held = held_entering(alloc, func, label)?;
+    push_list_line(text, config, b"holds", &held)
+}
+
+fn push_entered(
+    alloc: Global,
+    text: &mut Vec<u8>,
+    config: &Config,
+    func: &Func,
+    label: usize,
+    way: &Option<Way>,
+) -> Result<(), NoMemory>
+    requires placed { ArePlaced func.now }
+    requires inside { label < length func.now.labels }
+    ensures { OnOk result (text.new.items ≡ text.old.items ++ entered_lines config.now func.now label way.now) }
+{
+    if lists_at_begin(func, label) {
+        return push_bytes(text, b"way -\nholds -\n");
+    }
+    push_entering(alloc, text, config, func, label, way)
+}
+
+fn push_label(
+    alloc: Global,
+    text: &mut Vec<u8>,
+    config: &Config,
+    func: &Func,
+    label: usize,
+    way: &Option<Way>,
+) -> Result<(), NoMemory>
+    requires placed { ArePlaced func.now }
+    requires inside { label < length func.now.labels }
+    ensures { OnOk result (text.new.items ≡ text.old.items ++ label_lines config.now func.now label way.now) }
+{
+    push_entered(alloc, text, config, func, label, way)?;
+    push_target(alloc, text, config, func, Some(label))
+}
+
+fn push_place(
+    alloc: Global,
+    text: &mut Vec<u8>,
+    config: &Config,
+    app: &App,
+    code: Code,
+    witness: &Witness,
+) -> Result<(), NoMemory>
+    requires in_range { AppInRange config.now app.now }
+    requires is_place { IsPlace app.now witness.now.place }
+    ensures { OnOk result (text.new.items ≡ text.old.items ++ place_lines config.now app.now code witness.now witness.now.place) }
+{
+    match witness.place {
+        Place::Header(body) => push_name(text, func_name(app, body)),
+        Place::Label { body, label } => {
+            let func = function_at(app, body);
+            push_label(alloc, text, config, func, label, &witness.way)
+        },
+        Place::Item { body, item } => {
+            let func = function_at(app, body);
+            push_item(alloc, text, config, app, func, item, code, witness)
+        },
+    }
+}
+
+/// The lines behind a refusal of V2 to V12.
+pub fn witness_lines(
+    alloc: Global,
+    config: &Config,
+    app: &App,
+    refusal: Refusal,
+    witness: &Witness,
+) -> Result<Vec<u8>, NoMemory>
+    requires in_range { AppInRange config.now app.now }
+    requires is_place { IsPlace app.now witness.now.place }
+    ensures { IfOk result (λ text. text.items ≡ witness_lines config.now app.now refusal witness.now) }
+{
+    let mut text = Vec::new(alloc);
+    push_place(alloc, &mut text, config, app, refusal.code, witness)?;
+    Ok(text)
+}
+
+/// The line behind V1.
+pub fn cycle_line(
+    alloc: Global,
+    app: &App,
+    body: usize,
+    links: &[Link],
+) -> Result<Vec<u8>, NoMemory>
+    ensures { IfOk result (λ text. text.items ≡ cycle_line app.now body links.now) }
+{
+    let mut text = Vec::new(alloc);
+    push_calls(
+        &mut text,
+        app,
+        func_name(app, body),
+        func_line(app, body),
+        links,
+        None,
+    )?;
+    Ok(text)
+}

@@ -1,0 +1,108 @@
+//! The lines of ways and of what is held.
+ghost use Rattle.std.specs.Prelude.{◌≡◌, ◌++◌, [], codes, OnOk};
+ghost use Rattle.why_text.specs.RuleLines.{item_words, start_line, start_lines, way_line, way_lines, shown_way_lines, resource_words, list_words, list_line, behind_lines};
+
+use crate::numbered::{item_line, label_line, label_name, resource_name};
+use crate::pieces::{push_bytes, push_number, push_number_line, push_word};
+use fault_ways::ways::Way;
+use sloth_base::app::Func;
+use sloth_base::config::Config;
+use sloth_base::memory::NoMemory;
+use sloth_base::numbers::ResId;
+
+// The lines of these items.
+fn push_items(text: &mut Vec<u8>, func: &Func, items: &[usize]) -> Result<(), NoMemory>
+    ensures { OnOk result (text.new.items ≡ text.old.items ++ item_words func.now items.now) }
+{
+    for item in items {
+        push_number(text, item_line(func, *item))?;
+    }
+    Ok(())
+}
+
+/// The line `from`: the label that a way starts behind.
+pub fn push_from(text: &mut Vec<u8>, func: &Func, label: usize) -> Result<(), NoMemory>
+    ensures { OnOk result (text.new.items ≡ text.old.items ++ start_line func.now label) }
+{
+    push_bytes(text, b"from")?;
+    push_number(text, label_line(func, label))?;
+    push_word(text, label_name(func, label))?;
+    push_bytes(text, b"\n")
+}
+
+fn push_start(text: &mut Vec<u8>, func: &Func, label: Option<usize>) -> Result<(), NoMemory>
+    ensures { OnOk result (text.new.items ≡ text.old.items ++ start_lines func.now label) }
+{
+    match label {
+        Some(label) => push_from(text, func, label),
+        None => Ok(()),
+    }
+}
+
+fn push_way_line(text: &mut Vec<u8>, func: &Func, items: &[usize]) -> Result<(), NoMemory>
+    ensures { OnOk result (text.new.items ≡ text.old.items ++ way_line func.now items.now) }
+{
+    push_bytes(text, b"way")?;
+    push_items(text, func, items)?;
+    push_bytes(text, b"\n")
+}
+
+/// The lines of a way.
+pub fn push_way(text: &mut Vec<u8>, func: &Func, way: &Way) -> Result<(), NoMemory>
+    ensures { OnOk result (text.new.items ≡ text.old.items ++ way_lines func.now way.now) }
+{
+    push_start(text, func, way.label)?;
+    push_way_line(text, func, way.items.items())
+}
+
+/// The way, if there is one.
+pub fn push_shown_way(text: &mut Vec<u8>, func: &Func, way: &Option<Way>) -> Result<(), NoMemory>
+    ensures { OnOk result (text.new.items ≡ text.old.items ++ shown_way_lines func.now way.now) }
+{
+    match way {
+        Some(way) => push_way(text, func, way),
+        None => Ok(()),
+    }
+}
+
+/// The item in front, if there is one.
+pub fn push_behind(text: &mut Vec<u8>, func: &Func, item: Option<usize>) -> Result<(), NoMemory>
+    ensures { OnOk result (text.new.items ≡ text.old.items ++ behind_lines func.now item) }
+{
+    match item {
+        Some(item) => push_number_line(text, b"behind", item_line(func, item)),
+        None => Ok(()),
+    }
+}
+
+fn push_resources(text: &mut Vec<u8>, config: &Config, list: &[u32]) -> Result<(), NoMemory>
+    ensures { OnOk result (text.new.items ≡ text.old.items ++ resource_words config.now list.now) }
+{
+    for resource in list {
+        push_word(text, resource_name(config, *resource))?;
+    }
+    Ok(())
+}
+
+fn push_list(text: &mut Vec<u8>, config: &Config, list: &[u32]) -> Result<(), NoMemory>
+    ensures { OnOk result (text.new.items ≡ text.old.items ++ list_words config.now list.now) }
+{
+    if list.is_empty() {
+        return push_bytes(text, b" -");
+    }
+    push_resources(text, config, list)
+}
+
+/// A line of resources, `-` for none.
+pub fn push_list_line(
+    text: &mut Vec<u8>,
+    config: &Config,
+    word: &[u8],
+    list: &[u32],
+) -> Result<(), NoMemory>
+    ensures { OnOk result (text.new.items ≡ text.old.items ++ list_line config.now word.now list.now) }
+{
+    push_bytes(text, word)?;
+    push_list(text, config, list)?;
+    push_bytes(text, b"\n")
+}
