@@ -5,7 +5,7 @@ use Rattle.rv32_instr.specs.declared.stop.Stop.{Stop}
 use Rattle.debug_ways.specs.declared.look.Look.{Look}
 
 -- the last count, and why the instruction there stops it, if it does; and at each count up to it what decides where a way ends, the states of
--- tasks, the registers of threads by their numbers, and the bytes of memory
+-- tasks, the registers of threads by their numbers, and the bytes of memory; and the text of the events that so many of its instructions bring
 pub record Run : Type 0 where
   pub end : ℕ
   pub stop : Option Stop
@@ -13,3 +13,4 @@ pub record Run : Type 0 where
   pub states : ℕ → List TaskState
   pub register : (count thread number : ℕ) → Option ℕ
   pub byte : (count address : ℕ) → Option ℕ
+  pub trace : (counts : ℕ) → List ℕ

@@ -1,5 +1,5 @@
 //! A place in a run that goes to any count.
-ghost use Rattle.std.specs.Prelude.{◌≡◌, ◌≤◌, ◌<◌, ◌+◌, ◌*◌, ◌/◌, IfOk, length};
+ghost use Rattle.std.specs.Prelude.{◌≡◌, ◌≤◌, ◌<◌, ◌+◌, ◌++◌, ◌*◌, ◌/◌, IfOk, OnOk, length};
 ghost use Rattle.sloth_base.specs.Limits.{count_limit};
 ghost use Rattle.debug_ways.specs.Marks.{AreMarks};
 
@@ -128,6 +128,14 @@ impl<M: Machine> Cursor<M> {
         ensures { result ≡ (cursor_run M.run self.now).stop }
     {
         self.stop
+    }
+
+    /// Puts the line of each event that so many instructions of the run bring, from its start on, with its count.
+    pub fn put_trace(&self, alloc: Global, out: &mut Vec<u8>, counts: u32) -> Result<(), NoMemory>
+        requires { counts ≤ count_limit }
+        ensures { OnOk result (out.new.items ≡ out.old.items ++ (cursor_run M.run self.now).trace counts) }
+    {
+        self.here.put_trace(alloc, out, counts)
     }
 
     /// A register of a thread at a count, where it is known.

@@ -1,5 +1,6 @@
 //! Machines that stand in a run.
-ghost use Rattle.std.specs.Prelude.{◌≡◌, ◌<◌, ◌+◌, ℕ, IsTrue, false, IfOk};
+ghost use Rattle.std.specs.Prelude.{◌≡◌, ◌<◌, ◌≤◌, ◌+◌, ◌++◌, OnOk, ℕ, IsTrue, false, IfOk};
+ghost use Rattle.sloth_base.specs.Limits.{count_limit};
 ghost use Rattle.debug_ways.specs.Runs.{Run};
 
 use crate::look::Look;
@@ -60,6 +61,11 @@ pub trait Machine: Drop {
         ensures stop { result ≡ (run self.old).stop }
         ensures run { run self.new ≡ run self.old }
         ensures count { count self.new ≡ count self.old };
+
+    /// Puts the line of each event that so many instructions of the run bring, from its start on, with its count.
+    fn put_trace(&self, alloc: Global, out: &mut Vec<u8>, counts: u32) -> Result<(), NoMemory>
+        requires { counts ≤ count_limit }
+        ensures { OnOk result (out.new.items ≡ out.old.items ++ (run self.now).trace counts) };
 
     /// The byte at an address, where there is one.
     fn byte(&mut self, address: u32) -> Option<u8>

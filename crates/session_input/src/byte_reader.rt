@@ -1,8 +1,9 @@
 //! The bytes of any reader.
-ghost use Rattle.std.specs.Prelude.{◌≡◌, ◌≤◌, ◌<◌, IsTrue, [], ◌∷◌, None, OnErr, IfOk, IfSome, IfNone, true, false};
+ghost use Rattle.std.specs.Prelude.{◌≡◌, ◌≤◌, ◌<◌, ◌++◌, option_to_list, IsTrue, [], ◌∷◌, None, OnErr, IfOk, IfSome, IfNone, true, false};
 ghost use Rattle.std.specs.Io.KnownBytes.{Consumes, IsAtEnd, Keeps};
 ghost use Rattle.session_input.specs.Input.{Gives, Ends};
 
+use crate::given::Given;
 use crate::input::{Input, InputFault};
 use std::io::Read;
 
@@ -16,6 +17,7 @@ pub struct ByteReader<R> {
     buffer: [u8; MOST],
     start: usize,
     end: usize,
+    given: Given,
     ghost ordered: { start ≤ end },
     ghost within: { end ≤ 4096 },
 }
@@ -25,13 +27,15 @@ impl<R: Read> ByteReader<R> {
 
     /// The bytes of this reader.
     pub fn new(from: R) -> ByteReader<R>
-        ensures { left_bytes R.remaining result ≡ R.remaining from }
+        ensures left { left_bytes R.remaining result ≡ R.remaining from }
+        ensures given { result.given.items ≡ [] }
     {
         ByteReader {
             from,
             buffer: [0; MOST],
             start: 0,
             end: 0,
+            given: Given::new(),
         }
     }
 
@@ -39,6 +43,7 @@ impl<R: Read> ByteReader<R> {
     fn fill(&mut self) -> Result<bool, InputFault>
         requires { self.old.start ≡ self.old.end }
         ensures kept { Keeps (left_bytes R.remaining self.old) (left_bytes R.remaining self.new) }
+        ensures given { self.new.given.items ≡ self.old.given.items }
         ensures came { IfOk result (λ came. IsTrue came → self.new.start < self.new.end) }
         ensures none { IfOk result (λ came. came ≡ false → IsAtEnd (left_bytes R.remaining self.new)) }
     {
@@ -53,10 +58,12 @@ impl<R: Read> ByteReader<R> {
     // Gives a byte that was read.
     fn give(&mut self) -> u8
         requires { self.old.start < self.old.end }
-        ensures { Consumes (left_bytes R.remaining self.old) (left_bytes R.remaining self.new) (result ∷ []) }
+        ensures consumes { Consumes (left_bytes R.remaining self.old) (left_bytes R.remaining self.new) (result ∷ []) }
+        ensures given { self.new.given.items ≡ self.old.given.items ++ result ∷ [] }
     {
         let byte = self.buffer[self.start];
         self.start += 1;
+        self.given = self.given.and(&[byte]);
         byte
     }
 }
@@ -66,10 +73,14 @@ impl<R: Read> Input for ByteReader<R> {
 
     ghost coming = { λ _. None };
 
+    ghost given = { λ reader. reader.given.items };
+
     fn next(&mut self) -> Result<Option<u8>, InputFault>
         ensures byte { IfOk result (λ next. IfSome next (λ byte. Gives None None (byte ∷ []))) }
         ensures end { IfOk result (λ next. IfNone next (Ends None None false)) }
         ensures err { OnErr result (Ends None None true) }
+        ensures given { IfOk result (λ next. self.new.given.items ≡ self.old.given.items ++ option_to_list next) }
+        ensures kept_given { OnErr result (self.new.given.items ≡ self.old.given.items) }
 
         // Of a reader that tells its bytes it is the next one, and at the end there is none.
         ensures next_byte { IfOk result (λ next. IfSome next (λ byte.

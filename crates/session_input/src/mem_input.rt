@@ -1,7 +1,8 @@
 //! Bytes in memory.
-ghost use Rattle.std.specs.Prelude.{◌≡◌};
+ghost use Rattle.std.specs.Prelude.{◌≡◌, []};
 ghost use Rattle.session_input.specs.MemInput.{coming_of};
 
+use crate::given::Given;
 use crate::input::{Input, InputFault};
 
 /// Bytes in memory, and whether a fault stands behind them in the place of the end.
@@ -9,14 +10,20 @@ use crate::input::{Input, InputFault};
 pub struct MemInput<'a> {
     bytes: &'a [u8],
     broken: bool,
+    given: Given,
 }
 
 impl<'a> MemInput<'a> {
     /// The input of these bytes, with the end or a fault behind them.
     pub fn new(bytes: &'a [u8], broken: bool) -> MemInput<'a>
-        ensures { coming_of result ≡ record { bytes = bytes.now; broken = broken } }
+        ensures coming { coming_of result ≡ record { bytes = bytes.now; broken = broken } }
+        ensures given { result.given.items ≡ [] }
     {
-        MemInput { bytes, broken }
+        MemInput {
+            bytes,
+            broken,
+            given: Given::new(),
+        }
     }
 }
 
@@ -25,10 +32,13 @@ impl<'a> Input for MemInput<'a> {
 
     ghost coming = { λ input. Some (coming_of input) };
 
+    ghost given = { λ input. input.given.items };
+
     fn next(&mut self) -> Result<Option<u8>, InputFault> {
         match self.bytes.split_first() {
             Some((first, rest)) => {
                 self.bytes = rest;
+                self.given = self.given.and(&[*first]);
                 Ok(Some(*first))
             }
             None => {

@@ -1,0 +1,57 @@
+-- How the command ends.
+use Rattle.std.proofs.Common.{◌≡◌, inl, inr, ℕ, List, [], Option, Some, None, refl, sym, ◌∙◌, append-nil}
+use Rattle.std.specs.Prelude.{Result, Ok, Err, OnOk, IfErr}
+use Rattle.sloth_io.specs.Sink.{Output, output_with, FailsToPassOn}
+use Rattle.sloth_io.proofs.Gains.{gains-nil, part-whole, part-behind}
+use Rattle.session_input.specs.Input.{Coming}
+use Rattle.debug_ways.specs.Runs.{Run}
+use Rattle.debug_session.specs.Serving.{session_text, IsWhole, BrokeOff, IsAnswered, IsAnsweredInPart}
+use Rattle.debug_session.specs.declared.serving.SessionFault.{SessionFault}
+use Rattle.debug_session.specs.declared.serving.SessionFault.TheVariants as faults
+use Rattle.tool_answers.specs.declared.status.Status.{Status}
+use Rattle.tool_answers.specs.declared.status.Status.TheVariants as status
+use Rattle.debug_command.specs.DebugAnswers.{Heard, IsCloseAnswer, IsLineAnswer, IsSessionEnd, end_status}
+
+-- what holds anyway holds of an error
+pub err_anyway : {T E : Type 0} (r : Result T E) (P : Type 0) → P → IfErr r (λ _. P)
+err_anyway (Ok t) P p = tt
+err_anyway (Err e) P p = p
+
+-- a line that was put and then handed on or not
+pub closed_line : (wanted answer : Status) (before mid now : Output) (line : List ℕ) → mid ≡ output_with before line → IsCloseAnswer wanted answer mid now
+    → IsLineAnswer wanted answer before now line
+closed_line wanted answer before mid now line took (inl done) = inl (done.0, done.1 ∙ took)
+closed_line wanted answer before mid now line took (inr failed) = inr (failed.0, part-whole before mid now line took failed.1)
+
+-- a session's end, by its status
+pub session_ended : {T : Type 0} (run : Run) (names : List (List ℕ)) (bytes : Heard) (before now : Output) (end : Result T SessionFault)
+    → OnOk end (IsWhole run names bytes.coming before now) → IfErr end (λ fault. BrokeOff run names bytes.coming before now fault)
+    → OnOk end (IsAnswered run names bytes.before bytes.behind before now) → IfErr end (λ fault. IsAnsweredInPart run names bytes.before bytes.behind before now fault)
+    → IsSessionEnd run names bytes before now (end_status end)
+session_ended run names bytes before now (Ok t) whole broke answered partly = record { whole = whole; answered = answered }
+session_ended run names bytes before now (Err faults.Read) whole broke answered partly = record { broke = broke; partly = partly }
+session_ended run names bytes before now (Err faults.Write) whole broke answered partly = record { broke = broke; partly = partly }
+session_ended run names bytes before now (Err faults.NoMemory) whole broke answered partly = record { broke = broke; partly = partly }
+
+pub passed_when_done : {T : Type 0} (end : Result T SessionFault) (P : Type 0) → OnOk end P → end_status end ≡ status.Done → P
+passed_when_done (Ok t) P passed is = passed
+passed_when_done (Err faults.Read) P passed is = cc
+passed_when_done (Err faults.Write) P passed is = cc
+passed_when_done (Err faults.NoMemory) P passed is = cc
+
+-- nothing was written, since what was held back could not be handed on
+pub broke_before : (run : Run) (names : List (List ℕ)) (all : Option Coming) (before now : Output) → FailsToPassOn before now
+    → BrokeOff run names all before now faults.Write
+broke_before run names None before now failed = ([], ([], refl), part-whole before before now [] (sym (gains-nil before)) failed)
+broke_before run names (Some all) before now failed =
+    let text = session_text run names all.bytes in
+    let none = part-whole before before now [] (sym (gains-nil before)) failed in
+    (text, refl, part-behind before before now [] [] text text (sym (gains-nil before)) none refl)
+
+-- the same, told by the bytes that were given
+pub answered_before : (run : Run) (names : List (List ℕ)) (given : List ℕ) (before now : Output) → FailsToPassOn before now
+    → IsAnsweredInPart run names given given before now faults.Write
+answered_before run names given before now failed =
+    let text = session_text run names [] in
+    let none = part-whole before before now [] (sym (gains-nil before)) failed in
+    ([], sym (append-nil given), part-behind before before now [] [] text text (sym (gains-nil before)) none refl)

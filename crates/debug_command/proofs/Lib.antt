@@ -1,0 +1,2 @@
+pub mod DebugRan
+pub mod Ending

@@ -1,0 +1,4 @@
+pub mod DebugAnswers
+pub mod DebugRun
+pub mod Inputs
+pub mod Words

@@ -1,0 +1,6 @@
+pub mod Answered
+pub mod Answering
+pub mod Continuing
+pub mod Exchanging
+pub mod Growing
+pub mod Reading

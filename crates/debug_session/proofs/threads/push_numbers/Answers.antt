@@ -1,0 +1,10 @@
+use Rattle.debug_session.specs.Replies.{number_text}
+use Rattle.debug_session.proofs.Growing.{one_more, none_yet}
+use Rattle.debug_session.proofs.threads.push_numbers.Goals as goal
+
+pub loop-task-init : goal.loop-task-init
+loop-task-init c = none_yet number_text c.args.out.now.items
+
+pub loop-task-preserved : goal.loop-task-preserved
+loop-task-preserved c =
+    one_more number_text c.loop-task.task c.args.out.now.items c.loop-task.out.items _ c.loop-task.invariant c.in_ok-push_comma_number.ensures

@@ -1,0 +1,10 @@
+pub mod Causes
+pub mod Description
+pub mod Exchanges
+pub mod Points
+pub mod Replies
+pub mod Serving
+pub mod Sessions
+pub mod Standing
+pub mod Texts
+pub mod Wishes

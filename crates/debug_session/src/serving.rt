@@ -1,0 +1,174 @@
+//! A session over an input and a sink.
+ghost use Rattle.std.specs.Prelude.{◌≡◌, ◌≤◌, ◌++◌, OnOk, IfErr, length};
+ghost use Rattle.sloth_base.specs.Limits.{task_limit};
+ghost use Rattle.sloth_io.specs.Sink.{output_with};
+ghost use Rattle.gdb_packets.specs.Reading.{fresh};
+ghost use Rattle.debug_ways.specs.Cursor.{cursor_run};
+ghost use Rattle.debug_session.specs.Serving.{behind_event, event_answer, IsWhole, BrokeOff, IsAnswered, IsAnsweredInPart, HasNoAnswer};
+
+use crate::session::Session;
+use debug_ways::{Cursor, Machine};
+use gdb_packets::reading::{Event, PacketReader};
+use session_input::input::Input;
+use sloth_base::memory::NoMemory;
+use sloth_base::name::Name;
+use sloth_io::sink::Sink;
+use std::alloc::Global;
+
+/// Why a session broke off.
+#[derive(Clone, Copy)]
+pub enum SessionFault {
+    /// A byte could not be read, or there are too many of them.
+    Read,
+    /// A reply could not be written.
+    Write,
+    NoMemory,
+}
+
+// Puts what is due, and hands it on.
+fn hand_on<S: Sink>(out: &mut S, due: &[u8]) -> Result<(), SessionFault>
+    ensures whole { OnOk result (S.seen out.new ≡ output_with (S.seen out.old) due.now) }
+    ensures broke { IfErr result (λ fault. HasNoAnswer (S.seen out.old) (S.seen out.new) due.now fault) }
+    ensures passed { OnOk result (S.passed_on out.old → S.passed_on out.new) }
+{
+    if due.is_empty() {
+        return Ok(());
+    }
+    match out.put(due) {
+        Ok(()) => {}
+        Err(_) => return Err(SessionFault::Write),
+    }
+    match out.flush() {
+        Ok(()) => Ok(()),
+        Err(_) => Err(SessionFault::Write),
+    }
+}
+
+// Puts what is written for what a byte completes.
+fn take<M: Machine>(
+    alloc: Global,
+    session: &mut Session,
+    out: &mut Vec<u8>,
+    cursor: &mut Cursor<M>,
+    names: &[Name],
+    event: Event,
+    content: &[u8],
+) -> Result<(), NoMemory>
+    requires there { session.old.standing.count ≤ (cursor_run M.run cursor.old).end }
+    requires few { length names.now ≤ task_limit }
+    ensures session { OnOk result (session.new ≡ behind_event (cursor_run M.run cursor.old) names.now session.old event content.now) }
+    ensures text { OnOk result (out.new.items ≡ out.old.items ++ event_answer (cursor_run M.run cursor.old) names.now session.old event content.now) }
+    ensures within { OnOk result (session.new.standing.count ≤ (cursor_run M.run cursor.old).end) }
+    ensures run { cursor_run M.run cursor.new ≡ cursor_run M.run cursor.old }
+{
+    match event {
+        Event::Nothing => Ok(()),
+        Event::Interrupt => {
+            session.take_interrupt();
+            Ok(())
+        }
+        Event::Again => session.repeat(out),
+        Event::Wrong => session.refuse(alloc, out),
+        Event::Packet => session.take_packet(alloc, out, cursor, names, content),
+    }
+}
+
+// Answers what a byte completes.
+fn answer<S: Sink, M: Machine>(
+    alloc: Global,
+    session: &mut Session,
+    out: &mut S,
+    cursor: &mut Cursor<M>,
+    names: &[Name],
+    event: Event,
+    content: &[u8],
+) -> Result<(), SessionFault>
+    requires there { session.old.standing.count ≤ (cursor_run M.run cursor.old).end }
+    requires few { length names.now ≤ task_limit }
+    ensures session { OnOk result (session.new ≡ behind_event (cursor_run M.run cursor.old) names.now session.old event content.now) }
+    ensures text { OnOk result (S.seen out.new
+        ≡ output_with (S.seen out.old) (event_answer (cursor_run M.run cursor.old) names.now session.old event content.now)) }
+    ensures broke { IfErr result (λ fault. HasNoAnswer (S.seen out.old) (S.seen out.new)
+        (event_answer (cursor_run M.run cursor.old) names.now session.old event content.now) fault) }
+    ensures passed { OnOk result (S.passed_on out.old → S.passed_on out.new) }
+    ensures within { OnOk result (session.new.standing.count ≤ (cursor_run M.run cursor.old).end) }
+    ensures run { cursor_run M.run cursor.new ≡ cursor_run M.run cursor.old }
+{
+    let mut due = Vec::new(alloc);
+    match take(alloc, session, &mut due, cursor, names, event, content) {
+        Ok(()) => hand_on(out, due.as_slice()),
+        Err(NoMemory) => Err(SessionFault::NoMemory),
+    }
+}
+
+// Answers what comes behind the bytes that were read: up to 2^64 - 1 further bytes, so that it ends.
+fn serve_on<I: Input, S: Sink, M: Machine>(
+    alloc: Global,
+    input: &mut I,
+    out: &mut S,
+    cursor: &mut Cursor<M>,
+    names: &[Name],
+    reader: &mut PacketReader,
+) -> Result<(), SessionFault>
+    requires fresh { reader.old ≡ fresh }
+    requires few { length names.now ≤ task_limit }
+    ensures whole { OnOk result (IsWhole (cursor_run M.run cursor.old) names.now (I.coming input.old) (S.seen out.old) (S.seen out.new)) }
+    ensures broke { IfErr result (λ fault. BrokeOff (cursor_run M.run cursor.old) names.now (I.coming input.old) (S.seen out.old) (S.seen out.new) fault) }
+    ensures answered { OnOk result (IsAnswered (cursor_run M.run cursor.old) names.now (I.given input.old) (I.given input.new) (S.seen out.old) (S.seen out.new)) }
+    ensures partly { IfErr result (λ fault.
+        IsAnsweredInPart (cursor_run M.run cursor.old) names.now (I.given input.old) (I.given input.new) (S.seen out.old) (S.seen out.new) fault) }
+    ensures passed { OnOk result (S.passed_on out.old → S.passed_on out.new) }
+    ensures run { cursor_run M.run cursor.new ≡ cursor_run M.run cursor.old }
+{
+    let mut session = Session::new(alloc);
+    for _count in 0..u64::MAX {
+        if session.is_over() {
+            return Ok(());
+        }
+        let byte = match input.next() {
+            Ok(Some(byte)) => byte,
+            Ok(None) => return Ok(()),
+            Err(_) => return Err(SessionFault::Read),
+        };
+        let event = reader.take(byte);
+        match answer(
+            alloc,
+            &mut session,
+            out,
+            cursor,
+            names,
+            event,
+            reader.content(),
+        ) {
+            Ok(()) => {}
+            Err(fault) => return Err(fault),
+        }
+    }
+    Err(SessionFault::Read)
+}
+
+/// Answers what comes, until the session is over or nothing comes any more. Each reply is handed on at once.
+pub fn serve<I: Input, S: Sink, M: Machine>(
+    alloc: Global,
+    input: &mut I,
+    out: &mut S,
+    cursor: &mut Cursor<M>,
+    names: &[Name],
+) -> Result<(), SessionFault>
+    requires few { length names.now ≤ task_limit }
+    ensures whole { OnOk result (IsWhole (cursor_run M.run cursor.old) names.now (I.coming input.old) (S.seen out.old) (S.seen out.new)) }
+    ensures broke { IfErr result (λ fault. BrokeOff (cursor_run M.run cursor.old) names.now (I.coming input.old) (S.seen out.old) (S.seen out.new) fault) }
+    ensures answered { OnOk result (IsAnswered (cursor_run M.run cursor.old) names.now (I.given input.old) (I.given input.new) (S.seen out.old) (S.seen out.new)) }
+    ensures partly { IfErr result (λ fault.
+        IsAnsweredInPart (cursor_run M.run cursor.old) names.now (I.given input.old) (I.given input.new) (S.seen out.old) (S.seen out.new) fault) }
+    ensures passed { OnOk result (S.passed_on out.old → S.passed_on out.new) }
+    ensures run { cursor_run M.run cursor.new ≡ cursor_run M.run cursor.old }
+{
+    match PacketReader::new(alloc) {
+        Ok(reader) => {
+            let mut reader = reader;
+            serve_on(alloc, input, out, cursor, names, &mut reader)
+        }
+        Err(_) => Err(SessionFault::NoMemory),
+    }
+}

@@ -1,0 +1,196 @@
+//! Where a session stands but for its points, and what steps and continues make of it.
+ghost use Rattle.std.specs.Prelude.{◌≡◌};
+ghost use Rattle.debug_session.specs.Causes.{thread_of};
+ghost use Rattle.debug_session.specs.Standing.{begun, selected, interrupted, stays, step_target, is_told_anywhere, is_step, is_end, told_by, plain_step};
+
+use crate::wanted::{Cause, Target, is_own};
+use debug_ways::Look;
+use gdb_packets::request::Step;
+
+/// What a stop reply tells: the cause, the thread, or 0 for the one that runs, and whether a step ended on another thread.
+#[derive(Clone, Copy)]
+pub struct Told {
+    pub cause: Cause,
+    pub thread: u32,
+    pub other: bool,
+}
+
+/// Where a session stands.
+#[derive(Clone, Copy)]
+pub struct Standing {
+    pub count: u32,
+    /// The thread whose registers are shown, or 0 for the one that runs.
+    pub general: u32,
+    /// The thread that a plain step steps alone, or 0.
+    pub step: u32,
+    /// The thread of the last stop.
+    pub stopped: u32,
+    pub told: Told,
+    /// Whether an interrupt came since the last step or continue.
+    pub interrupted: bool,
+    /// Whether the machine was seen to stop at this count.
+    pub met: bool,
+    pub over: bool,
+}
+
+/// A session that has begun.
+pub fn begun() -> Standing
+    ensures { result ≡ begun }
+{
+    Standing {
+        count: 0,
+        general: 0,
+        step: 0,
+        stopped: 1,
+        told: Told {
+            cause: Cause::Step,
+            thread: 0,
+            other: false,
+        },
+        interrupted: false,
+        met: false,
+        over: false,
+    }
+}
+
+/// The thread that runs.
+pub fn thread_of(look: &Look) -> u32
+    ensures { result ≡ thread_of look.now }
+{
+    u32::from(look.running) + 1
+}
+
+/// The thread that a stop reply names becomes the one that is shown and the one that stopped.
+pub fn selected(standing: &Standing, look: &Look) -> Standing
+    ensures { result ≡ selected standing.now look.now }
+{
+    let thread = if standing.told.thread == 0 {
+        thread_of(look)
+    } else {
+        standing.told.thread
+    };
+    let mut next = *standing;
+    next.general = thread;
+    next.stopped = thread;
+    next
+}
+
+/// The interrupt is told.
+pub fn interrupted(standing: &Standing, thread: u32) -> Standing
+    ensures { result ≡ interrupted standing.now thread }
+{
+    let mut next = *standing;
+    next.told = Told {
+        cause: Cause::Interrupt,
+        thread,
+        other: false,
+    };
+    next.interrupted = false;
+    next
+}
+
+/// Whether a step that is alone stays where it is: its thread does not run.
+pub fn stays(step: &Step, look: &Look) -> bool
+    ensures { result ≡ stays step.now look.now }
+{
+    step.alone && step.thread >= 2 && thread_of(look) != step.thread
+}
+
+/// What a step goes to.
+pub fn step_target(step: &Step, look: &Look) -> Target
+    ensures { result ≡ step_target step.now look.now }
+{
+    if step.alone || step.thread == 0 {
+        return Target::Each;
+    }
+    if step.thread == 1 {
+        return if is_own(1, look) {
+            Target::Busy
+        } else {
+            Target::Each
+        };
+    }
+    if is_own(step.thread, look) || thread_of(look) != step.thread {
+        Target::Own(step.thread)
+    } else {
+        Target::Each
+    }
+}
+
+// Whether a cause is told with the thread that runs, whichever was stepped.
+fn is_told_anywhere(cause: Cause) -> bool
+    ensures { result ≡ is_told_anywhere cause }
+{
+    match cause {
+        Cause::Watch(_, _) | Cause::Begin | Cause::End => true,
+        Cause::Interrupt | Cause::Step | Cause::Break(_) => false,
+    }
+}
+
+/// Whether a way reached its target.
+pub fn is_step(cause: Cause) -> bool
+    ensures { result ≡ is_step cause }
+{
+    match cause {
+        Cause::Step => true,
+        Cause::Interrupt | Cause::Break(_) | Cause::Watch(_, _) | Cause::Begin | Cause::End => {
+            false
+        }
+    }
+}
+
+/// Whether a way ended at the end of the run.
+pub fn is_end(cause: Cause) -> bool
+    ensures { result ≡ is_end cause }
+{
+    match cause {
+        Cause::End => true,
+        Cause::Interrupt | Cause::Step | Cause::Break(_) | Cause::Watch(_, _) | Cause::Begin => {
+            false
+        }
+    }
+}
+
+/// What is told of a step that ended so on this thread.
+pub fn told_by(step: &Step, thread: u32, cause: Cause) -> Told
+    ensures { result ≡ told_by step.now thread cause }
+{
+    let elsewhere = step.thread != 0 && thread != step.thread;
+    if step.alone && elsewhere && !is_told_anywhere(cause) {
+        return Told {
+            cause: Cause::Step,
+            thread: step.thread,
+            other: false,
+        };
+    }
+    if is_step(cause) {
+        return Told {
+            cause,
+            thread: 0,
+            other: !step.alone && elsewhere,
+        };
+    }
+    Told {
+        cause,
+        thread: if step.alone { step.thread } else { 0 },
+        other: false,
+    }
+}
+
+/// A plain step: of the thread of `Hc`, alone, or else of the one that stopped.
+pub fn plain_step(backwards: bool, standing: &Standing) -> Step
+    ensures { result ≡ plain_step backwards standing.now }
+{
+    let stopped = standing.step == 0;
+    Step {
+        thread: if stopped {
+            standing.stopped
+        } else {
+            standing.step
+        },
+        alone: !stopped,
+        backwards,
+        from: 0,
+        to: 0,
+    }
+}

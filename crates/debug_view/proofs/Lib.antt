@@ -1,0 +1,4 @@
+pub mod Linking
+pub mod Running
+pub mod Standing
+pub mod SinkTexts

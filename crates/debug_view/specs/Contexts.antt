@@ -1,0 +1,93 @@
+-- Where the registers of a task stand that does not run: in the chain of contexts below what runs, or where it is to go on behind a wait.
+use Rattle.std.specs.Prelude.{ℕ, zero, suc, ◌+◌, ◌-◌, ◌*◌, ◌==◌, ◌&&◌, nat_le, Option, None, Some, Bool, is_some, if◌then◌else◌}
+use Rattle.std.specs.Option.{unwrap_or}
+use Rattle.sloth_base.specs.Arithmetic.{sum32}
+use Rattle.sloth_base.specs.Limits.{task_limit}
+use Rattle.sloth_base.specs.MemoryMap.{memory_base, vectors_base}
+use Rattle.sloth_base.specs.declared.app.Width.TheVariants as width
+use Rattle.rv32_instr.specs.declared.stop.Bad.{Bad}
+use Rattle.rv32_instr.specs.Memory.{Memory, refusal, loaded_number}
+use Rattle.sloth_region.specs.Layout.{active, below_word, resume, context_bytes, context_cur, context_below}
+
+-- what is there, unless it is refused
+abbrev pub unless_bad : Option Bad → ℕ → Option ℕ
+unless_bad None value = Some value
+unless_bad (Some bad) value = None
+
+-- the word at an address of RAM that is a multiple of 4
+abbrev pub word_in : Memory → ℕ → Option ℕ
+word_in memory address = unless_bad (refusal memory address width.Word) (loaded_number memory address width.Word)
+
+-- a word stands there
+abbrev pub is_word : Memory → ℕ → Bool
+is_word memory address = is_some (word_in memory address)
+
+-- the word there, or 0 where none is
+abbrev pub word_or_zero : Memory → ℕ → ℕ
+word_or_zero memory address = unwrap_or (word_in memory address) 0
+
+-- the first and the fourth word of a context stand there
+abbrev pub is_link : Memory → ℕ → Bool
+is_link memory address = is_word memory address && is_word memory (sum32 address context_below)
+
+-- the context of a task in the chain from an address on, of at most so many links: the first one that names the task
+abbrev pub link_in : Memory → (links address task : ℕ) → Option ℕ
+link_in memory zero address task = None
+link_in memory (suc links) address task =
+    if is_link memory address
+    then (if word_or_zero memory (sum32 address context_cur) == task + 1
+    then Some address
+    else link_in memory links (word_or_zero memory (sum32 address context_below)) task)
+    else None
+
+-- the first and the last word of a context stand there
+abbrev pub is_whole : Memory → ℕ → Bool
+is_whole memory address = is_word memory address && is_word memory (sum32 address (context_bytes - 4))
+
+-- a context, where its words are there
+abbrev pub whole : Memory → ℕ → Option ℕ
+whole memory address = if is_whole memory address then Some address else None
+
+-- a context below, where its task is Active
+abbrev pub preempted : Memory → (task address : ℕ) → Option ℕ
+preempted memory task address = if word_or_zero memory (memory_base + active task) == 1 then whole memory address else None
+
+-- the context that a task goes on from behind a wait; 0 where it has none
+abbrev pub waiting : Memory → ℕ → Option ℕ
+waiting memory task =
+    if word_or_zero memory (memory_base + resume task) == 0 then None else whole memory (word_or_zero memory (memory_base + resume task))
+
+-- of the one below, or else of the one that it goes on from
+abbrev pub context_by : Option ℕ → Memory → ℕ → Option ℕ
+context_by (Some address) memory task = preempted memory task address
+context_by None memory task = waiting memory task
+
+-- where the registers of a task stand; the chain has a link for each of so many tasks and one for the idle loop
+abbrev pub context_in : Memory → (tasks task : ℕ) → Option ℕ
+context_in memory tasks task = context_by (link_in memory (tasks + 1) (word_or_zero memory (memory_base + below_word)) task) memory task
+
+-- a register in a context: x0, x2 as it is behind it, x5 to x31 and the pc
+abbrev pub context_register : Memory → (context number : ℕ) → Option ℕ
+context_register memory context number =
+    if number == 0 then Some 0
+    else if number == 2 then Some (sum32 context context_bytes)
+    else if nat_le 5 number && nat_le number 31 then word_in memory (sum32 context (4 * number))
+    else if number == 32 then word_in memory context
+    else None
+
+-- a register of a task that has not begun: x0, and the address where the machine will enter it
+abbrev pub fresh_register : (task number : ℕ) → Option ℕ
+fresh_register task number =
+    if number == 0 then Some 0
+    else if number == 32 then Some (vectors_base + 4 * task)
+    else None
+
+-- a register in a context, or of a task that has none
+abbrev pub register_by : Option ℕ → Memory → (task number : ℕ) → Option ℕ
+register_by (Some context) memory task number = context_register memory context number
+register_by None memory task number = fresh_register task number
+
+-- a register of a task that does not run, by its number
+abbrev pub kept_register : Memory → (tasks task number : ℕ) → Option ℕ
+kept_register memory tasks task number =
+    if nat_le task_limit task then None else register_by (context_in memory tasks task) memory task number

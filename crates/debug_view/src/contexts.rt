@@ -1,0 +1,169 @@
+//! Where the registers of a task stand that does not run.
+ghost use Rattle.std.specs.Prelude.{◌≡◌, ◌<◌, ◌≤◌};
+ghost use Rattle.sloth_base.specs.Limits.{task_limit};
+ghost use Rattle.debug_view.specs.Contexts.{word_in, is_word, is_link, word_or_zero, link_in, is_whole, whole, preempted, waiting, context_in, context_register, fresh_register, kept_register};
+
+use rv32_machine::{Bus, SlothBus};
+use sloth_base::app::Width;
+use sloth_base::limits::TASK_LIMIT;
+use sloth_base::memory_map::{MEMORY_BASE, VECTORS_BASE};
+use sloth_region::layout::{
+    BELOW_WORD, CONTEXT_BELOW, CONTEXT_BYTES, CONTEXT_CUR, RESUME_WORDS, active,
+};
+
+// The last word of a context.
+const LAST_WORD: u32 = CONTEXT_BYTES as u32 - 4;
+
+// The word at an address, where one is. The bus keeps its contents.
+fn word_in(bus: &mut SlothBus, address: u32) -> Option<u32>
+    ensures word { result ≡ word_in bus.old address }
+    ensures same { bus.new ≡ bus.old }
+{
+    match bus.load(address, Width::Word) {
+        Ok(word) => Some(word),
+        Err(_) => None,
+    }
+}
+
+// Whether a word stands at an address.
+fn is_word(bus: &mut SlothBus, address: u32) -> bool
+    ensures is { result ≡ is_word bus.old address }
+    ensures same { bus.new ≡ bus.old }
+{
+    word_in(bus, address).is_some()
+}
+
+// Whether the first and the fourth word of a context stand at an address.
+fn is_link(bus: &mut SlothBus, address: u32) -> bool
+    ensures is { result ≡ is_link bus.old address }
+    ensures same { bus.new ≡ bus.old }
+{
+    is_word(bus, address) && is_word(bus, address.wrapping_add(CONTEXT_BELOW as u32))
+}
+
+// The word at an address, or 0 where none is.
+fn word_or_zero(bus: &mut SlothBus, address: u32) -> u32
+    ensures word { result ≡ word_or_zero bus.old address }
+    ensures same { bus.new ≡ bus.old }
+{
+    word_in(bus, address).unwrap_or(0)
+}
+
+// The context of a task in the chain of those below, of at most so many links.
+fn link_in(bus: &mut SlothBus, links: u32, first: u32, task: u32) -> Option<u32>
+    requires { task < 4294967295 }
+    ensures link { result ≡ link_in bus.old links first task }
+    ensures same { bus.new ≡ bus.old }
+{
+    let mut address = first;
+    let mut left = links;
+    while left > 0 && is_link(bus, address) {
+        left -= 1;
+        if word_or_zero(bus, address.wrapping_add(CONTEXT_CUR as u32)) == task + 1 {
+            return Some(address);
+        }
+        address = word_or_zero(bus, address.wrapping_add(CONTEXT_BELOW as u32));
+    }
+    None
+}
+
+// Whether the first and the last word of a context stand at an address.
+fn is_whole(bus: &mut SlothBus, address: u32) -> bool
+    ensures is { result ≡ is_whole bus.old address }
+    ensures same { bus.new ≡ bus.old }
+{
+    is_word(bus, address) && is_word(bus, address.wrapping_add(LAST_WORD))
+}
+
+// A context, where its words are there.
+fn whole(bus: &mut SlothBus, address: u32) -> Option<u32>
+    ensures whole { result ≡ whole bus.old address }
+    ensures same { bus.new ≡ bus.old }
+{
+    if is_whole(bus, address) {
+        Some(address)
+    } else {
+        None
+    }
+}
+
+// A context below, where its task is Active.
+fn preempted(bus: &mut SlothBus, task: u32, address: u32) -> Option<u32>
+    requires { task < task_limit }
+    ensures context { result ≡ preempted bus.old task address }
+    ensures same { bus.new ≡ bus.old }
+{
+    if word_or_zero(bus, MEMORY_BASE + active(task as u8) as u32) == 1 {
+        whole(bus, address)
+    } else {
+        None
+    }
+}
+
+// The context that a task goes on from behind a wait, where it has one.
+fn waiting(bus: &mut SlothBus, task: u32) -> Option<u32>
+    requires { task < task_limit }
+    ensures context { result ≡ waiting bus.old task }
+    ensures same { bus.new ≡ bus.old }
+{
+    let address = word_or_zero(bus, MEMORY_BASE + RESUME_WORDS as u32 + 4 * task);
+    if address == 0 {
+        return None;
+    }
+    whole(bus, address)
+}
+
+// Where the registers of a task stand, where they do.
+fn context_in(bus: &mut SlothBus, tasks: u32, task: u32) -> Option<u32>
+    requires task { task < task_limit }
+    requires tasks { tasks ≤ task_limit }
+    ensures context { result ≡ context_in bus.old tasks task }
+    ensures same { bus.new ≡ bus.old }
+{
+    let first = word_or_zero(bus, MEMORY_BASE + BELOW_WORD as u32);
+    match link_in(bus, tasks + 1, first, task) {
+        Some(address) => preempted(bus, task, address),
+        None => waiting(bus, task),
+    }
+}
+
+// A register in a context, where it stands there.
+fn context_register(bus: &mut SlothBus, context: u32, number: u32) -> Option<u32>
+    ensures register { result ≡ context_register bus.old context number }
+    ensures same { bus.new ≡ bus.old }
+{
+    match number {
+        0 => Some(0),
+        2 => Some(context.wrapping_add(CONTEXT_BYTES as u32)),
+        5..=31 => word_in(bus, context.wrapping_add(4 * number)),
+        32 => word_in(bus, context),
+        _ => None,
+    }
+}
+
+// A register of a task that has not begun, where it is known.
+fn fresh_register(task: u32, number: u32) -> Option<u32>
+    requires { task < task_limit }
+    ensures { result ≡ fresh_register task number }
+{
+    match number {
+        0 => Some(0),
+        32 => Some(VECTORS_BASE + 4 * task),
+        _ => None,
+    }
+}
+
+/// A register of a task that does not run, where it is known.
+pub fn kept_register(bus: &mut SlothBus, tasks: u32, task: u32, number: u32) -> Option<u32>
+    requires { tasks ≤ task_limit }
+    ensures register { result ≡ kept_register bus.old tasks task number }
+    ensures same { bus.new ≡ bus.old }
+{
+    if task >= TASK_LIMIT as u32 {
+        return None;
+    }
+    match context_in(bus, tasks, task) {
+        Some(context) => context_register(bus, context, number),
+        None => fresh_register(task, number),
+    }
+}

@@ -1,0 +1,129 @@
+//! What the instruction of a count is.
+ghost use Rattle.std.specs.Prelude.{◌≡◌};
+ghost use Rattle.sloth_base.specs.Arithmetic.{size_of};
+ghost use Rattle.rv32_machine.specs.State.{state};
+ghost use Rattle.debug_view.specs.Looks.{fetched_instr, effect_by, effect_of, keeps_open, change_keeps_open, access_of, is_plain};
+
+use debug_ways::Access;
+use rv32_instr::csr::MSTATUS;
+use rv32_instr::{Change, Effect, Instr};
+use rv32_machine::effect::effect;
+use rv32_machine::{Bus, Machine, SlothBus};
+use sloth_base::app::Width;
+
+// The instruction at an address, if the word there is one's. The bus keeps its contents.
+fn fetched_instr(bus: &mut SlothBus, address: u32) -> Option<Instr>
+    ensures instr { result ≡ fetched_instr bus.old address }
+    ensures same { bus.new ≡ bus.old }
+{
+    match bus.fetch(address) {
+        Ok(instr) => instr,
+        Err(_) => None,
+    }
+}
+
+// What an instruction does, if it is one.
+fn effect_by(instr: &Option<Instr>, pc: u32, registers: &[u32; 32]) -> Option<Effect>
+    ensures { result ≡ effect_by instr.now pc registers.now }
+{
+    match instr {
+        Some(instr) => Some(effect(instr.kind(), pc, registers)),
+        None => None,
+    }
+}
+
+/// What the instruction of the machine's count does, if its word is one's.
+pub fn effect_at(machine: &mut Machine<SlothBus>) -> Option<Effect>
+    ensures effect { result ≡ effect_of (state (λ bus. bus) machine.old) }
+    ensures same { machine.new ≡ machine.old }
+{
+    let pc = machine.next_pc();
+    let instr = fetched_instr(machine.bus_mut(), pc);
+    effect_by(&instr, pc, machine.registers())
+}
+
+// Whether MIE stays 1 behind a change of mstatus.
+fn change_keeps_open(change: Change) -> bool
+    ensures { result ≡ change_keeps_open change }
+{
+    match change {
+        Change::Keep => true,
+        Change::Replace(value) => value / 8 % 2 == 1,
+        Change::Set(_) => true,
+        Change::Clear(bits) => bits / 8 % 2 == 0,
+    }
+}
+
+// Whether MIE, which is 1, stays so behind an effect.
+fn keeps_open(effect: &Option<Effect>, behind_return: bool) -> bool
+    ensures { result ≡ keeps_open effect.now behind_return }
+{
+    match effect {
+        None => true,
+        Some(Effect::Csr { csr, change, .. }) => {
+            if *csr == MSTATUS {
+                change_keeps_open(*change)
+            } else {
+                true
+            }
+        }
+        Some(Effect::Return) => behind_return,
+        Some(
+            Effect::Nothing
+            | Effect::Write { .. }
+            | Effect::Branch { .. }
+            | Effect::Jump { .. }
+            | Effect::Load { .. }
+            | Effect::Store { .. }
+            | Effect::Environment,
+        ) => true,
+    }
+}
+
+fn width_bytes(width: Width) -> u32
+    ensures { result ≡ size_of width }
+{
+    match width {
+        Width::Byte | Width::ByteU => 1,
+        Width::Half | Width::HalfU => 2,
+        Width::Word => 4,
+    }
+}
+
+/// The load or store that an effect is.
+pub fn access_of(effect: &Option<Effect>) -> Option<Access>
+    ensures { result ≡ access_of effect.now }
+{
+    match effect {
+        Some(Effect::Load { width, address, .. }) => Some(Access {
+            address: *address,
+            length: width_bytes(*width),
+            stores: false,
+        }),
+        Some(Effect::Store { width, address, .. }) => Some(Access {
+            address: *address,
+            length: width_bytes(*width),
+            stores: true,
+        }),
+        None
+        | Some(
+            Effect::Nothing
+            | Effect::Write { .. }
+            | Effect::Branch { .. }
+            | Effect::Jump { .. }
+            | Effect::Csr { .. }
+            | Effect::Environment
+            | Effect::Return,
+        ) => None,
+    }
+}
+
+/// Whether the instruction of this effect is in no stretch.
+pub fn is_plain(machine: &Machine<SlothBus>, effect: &Option<Effect>) -> bool
+    requires { effect.now ≡ effect_of (state (λ bus. bus) machine.now) }
+    ensures { result ≡ is_plain (state (λ bus. bus) machine.now) }
+{
+    machine.enabled()
+        && machine.line_to_take().is_none()
+        && keeps_open(effect, machine.enabled_behind_return())
+}
