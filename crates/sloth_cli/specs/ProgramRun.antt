@@ -4,6 +4,8 @@ use Rattle.sloth_io.specs.Counts.{Rose}
 use Rattle.sloth_io.specs.Store.{Files}
 use Rattle.sloth_io.specs.Buffered.{IsPrefix}
 use Rattle.sloth_io.specs.FileStore.{untold_files}
+use Rattle.debug_command.specs.DebugRun.{HasDebugRun}
+use Rattle.debug_command.specs.Words.{Debugging, IsDebugging}
 use Rattle.sloth_commands.specs.CommandFiles.{ReadsInOrder}
 use Rattle.sloth_commands.specs.Top.{IsRequired}
 use Rattle.tool_answers.specs.declared.status.Status.{Status}
@@ -24,5 +26,12 @@ pub record IsProgramRun (words : List (List ℕ)) (files : Files) (printed : Lis
   pub whole : answer ≢ status.WriteFault → printed ≡ text
 
 -- such a run ended with this answer
+abbrev pub HasTopRun : List (List ℕ) → Status → Type 0
+HasTopRun words answer = (files : Files) × (printed : List ℕ) × (faults : ℕ) × IsProgramRun words files printed faults answer
+
+-- ---- all words
+
+-- the words `debug IMG ARR` had a session; all others the top call's answer
 abbrev pub HasProgramRun : List (List ℕ) → Status → Type 0
-HasProgramRun words answer = (files : Files) × (printed : List ℕ) × (faults : ℕ) × IsProgramRun words files printed faults answer
+HasProgramRun words answer =
+    ((d : Debugging) × IsDebugging words d × HasDebugRun d answer) ⊎ (((d : Debugging) → IsDebugging words d → ⊥) × HasTopRun words answer)

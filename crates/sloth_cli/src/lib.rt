@@ -1,9 +1,9 @@
-//! The program's top call, `sloth_top`, for any store of files and any sink; and what the program does with its words: they go to the top call, over
-//! the system's files and standard output, and the status is how it ends.
+//! The program's top call, `sloth_top`, for any store of files and any sink; and what the program does with its words: but for those of `debug` they go
+//! to the top call, over the system's files and standard output, and the status is how it ends.
 //!
 //! Of the program as it ships `program::run_over` says the same, over the system's files and standard output: for the bytes that the reads delivered its
 //! answer is required, with what was written and printed (`specs/ProgramRun`). Whatever the answer, what was read are the first of the command's files,
-//! in the order of its words, and nothing else (`reads`).
+//! in the order of its words, and nothing else (`reads`). The words `debug IMG ARR` have a debugger's session (`program::run_words`; `debug_command`).
 //!
 //! Clause `answers`: each answer has its cause, the sink took exactly the text that is due, and the files hold what it says. The other clauses say
 //! which answer comes: `usage`, `overwrite`, `refused` and `complete`; of image files `fault`, `no_image`, `exec_refused`, `executed` and `listed`; of `sample`

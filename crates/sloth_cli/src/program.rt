@@ -1,4 +1,5 @@
-//! What the program does with its words: they go to the top call, over the system's files and standard output, and the status is how it ends.
+//! What the program does with its words: those of `debug` have a session, all others go to the top call, over the system's files, standard input and standard output,
+//! and the status is how it ends.
 ghost use Rattle.std.specs.Prelude.{◌≡◌, []};
 ghost use Rattle.sloth_io.specs.FileStore.{shown_files, untold_files};
 ghost use Rattle.sloth_io.specs.OutSink.{shown_output, accepted_bytes, given_bytes};
@@ -6,6 +7,9 @@ ghost use Rattle.command_line.specs.Command.{words_of};
 ghost use Rattle.sloth_cli.specs.ProgramRun.{IsProgramRun, HasProgramRun};
 
 use crate::top::sloth_top;
+use debug_command::debug_words;
+use debug_command::program::debug_over;
+use session_input::byte_reader::ByteReader;
 use sloth_io::file_store::FileStore;
 use sloth_io::out_sink::OutSink;
 use std::alloc::Global;
@@ -48,16 +52,22 @@ pub fn run_over<R: Files, P: Print>(
 }
 
 /// Runs the command of these words.
-pub fn run_words(rt: &(impl Files + Print + AllocGlobal), words: &[String]) -> Status
+pub fn run_words(rt: &(impl Files + Print + Input + AllocGlobal), words: &[String]) -> Status
     ensures { HasProgramRun (words_of words.now) result }
 {
     let mut files = FileStore::new(rt, rt.alloc());
     let mut out = OutSink::new(rt);
-    run_over(rt.alloc(), words, &mut files, &mut out)
+    match debug_words(words) {
+        Some(asked) => {
+            let mut input = ByteReader::new(rt.reader());
+            debug_over(rt.alloc(), &mut files, &mut input, &mut out, &asked)
+        }
+        None => run_over(rt.alloc(), words, &mut files, &mut out),
+    }
 }
 
 /// Runs the command of the program's words, and answers with the number of its status.
-pub fn run_program(rt: &(impl Env + Files + Print + AllocGlobal)) -> ExitCode {
+pub fn run_program(rt: &(impl Env + Files + Print + Input + AllocGlobal)) -> ExitCode {
     let status = match words(rt) {
         Ok(words) => run_words(rt, words.as_slice()),
         Err(status) => status,

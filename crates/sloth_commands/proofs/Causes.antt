@@ -52,7 +52,7 @@ cause-in_call words old new (inr h) = inr (h.0, h.1, output-in_call old new (out
 pub usage-required : (words : List (List ℕ)) (old new : Files) → IsOnlyAsked old new → IsUsageCause words old new
     → IsRequired status.Usage words (call_files old new) new (codes "usage\n")
 usage-required words old new only cause =
-    (cause-in_call words old new cause, refl, (λ name. ap (λ (x : Files). x.holds name) only, ap (λ (x : Files). x.writes) only))
+    (inl (cause-in_call words old new cause), refl, (λ name. ap (λ (x : Files). x.holds name) only, ap (λ (x : Files). x.writes) only))
 
 pub usage-ends : (words : List (List ℕ)) (old new : Files) (sink out : Output) (answer : Status) → IsOnlyAsked old new → IsUsageCause words old new
     → IsPutAnswer status.Usage answer sink out (codes "usage\n") → IsTopAnswer words (world (call_files old new) sink) (world new out) answer
@@ -193,6 +193,7 @@ required-plain status.NoMemory words c old new text is h = absurd h
 required-plain status.TooLong words c old new text is h = absurd h
 required-plain status.NotAnImage words c old new text is h = absurd h
 required-plain status.NotAnElf words c old new text is h = absurd h
+required-plain status.Explained words c old new text is h = absurd h
 required-plain status.BadTrace words c old new text is h = absurd h
 required-plain status.NoHolds words c old new text is h = absurd h
 required-plain status.OpenDeadline words c old new text is h = absurd h

@@ -24,11 +24,11 @@ use Rattle.sloth_commands.specs.ImageFiles.{IsNoImage}
 use Rattle.tool_answers.specs.declared.status.Status.{Status}
 use Rattle.tool_answers.specs.declared.status.Status.TheVariants as status
 use Rattle.sloth_commands.specs.Top.{World, FirstUnread, AreInputs, HoldsArrivals, AreThere, IsFailedRead, IsLongRead}
-use Rattle.sloth_commands.specs.CommandFiles.{arrivals_named, inputs_of}
+use Rattle.sloth_commands.specs.CommandFiles.{arrivals_named, inputs_of, OverwritesInput, IsUsageCause}
 use Rattle.sloth_commands.specs.Top.{IsCommandDone, IsCommandRefused, IsCommandUnwritten, IsCommandStopped, done_text, IsRefused, IsAccepted, IsBuiltImage, IsRequired, IsPutAnswer, IsTextTaken, IsTextBrokenOff, IsFullAnswer, IsTopAnswer}
 use Rattle.trace_check.specs.Inputs.{IsRefusal}
 use Rattle.sloth_base.specs.DeclaredNames.{task_names, counter_names}
-use Rattle.sloth_commands.specs.Top.{IsUsageAnswer, IsRefusalAnswer, ReadsWork, WritesWork, HasSpace, PutsWork, CallsWork, HasUsageAnswer, HasRefusalAnswer, IsComplete}
+use Rattle.sloth_commands.specs.Top.{IsUsageAnswer, IsRefusalAnswer, ReadsWork, WritesWork, HasSpace, PutsWork, CallsWork, HasUsageAnswer, HasRefusalAnswer, IsComplete, LacksTask}
 use Rattle.command_line.proofs.Commands.{one-command}
 use Rattle.sloth_commands.proofs.OwnOutput.{keeps-inputs, no-usage}
 use Rattle.trace_check.proofs.Refused.{not-refused, one-way}
@@ -143,6 +143,12 @@ no-failed-write old new name size (inr works) h = let a = h.1 works.0 in let b =
 pub no-tool : (words : List (List ℕ)) (u : ToolUse) (c : Command) → IsCommand words (Uses u) → IsCommand words c → IsNoTool c → ⊥
 no-tool words u c used is other = subst IsNoTool (one-command words c (Uses u) is used) other
 
+-- the words of a command that is none, and whose output has a name of its own, are not answered by `usage`
+pub never-usage : (words : List (List ℕ)) (old new : Files) (c : Command) → IsNoTool c → IsCommand words c → (OverwritesInput old new c → ⊥)
+    → IsUsageCause words old new ⊎ LacksTask words old → ⊥
+never-usage words old new c plain is keeps (inl h) = no-usage words old new c is keeps h
+never-usage words old new c plain is keeps (inr h) = no-tool words h.0 c h.1 is plain
+
 -- ---- Usage
 
 usage-by : (wanted answer : Status) (words : List (List ℕ)) (old new : World) (text : List ℕ) → IsRequired wanted words old.files new.files text
@@ -158,6 +164,7 @@ usage-by status.TooLong answer words old new text r p none = absurd (none r.0 r.
 usage-by status.Stopped answer words old new text r p none = absurd (none r.0 r.1)
 usage-by status.NotAnImage answer words old new text r p none = absurd (none r.0 r.1)
 usage-by status.NotAnElf answer words old new text r p none = absurd (none (Uses r.0) r.1)
+usage-by status.Explained answer words old new text r p none = absurd (none (Uses r.0) r.1)
 usage-by status.BadTrace answer words old new text r p none = absurd (none (Uses r.0) r.1)
 usage-by status.NoHolds answer words old new text r p none = absurd (none (Uses r.0) r.1)
 usage-by status.OpenDeadline answer words old new text r p none = absurd (none (Uses r.0) r.1)
@@ -186,7 +193,7 @@ refused-by status.NoMemory answer words old new text c oil src arr r q (inl p) i
 refused-by status.NoMemory answer words old new text c oil src arr r q (inr p) is there works refusal =
     inr (inr (p.0, counted-put old.sink new.sink text p.1))
 refused-by status.Usage answer words old new text c oil src arr r q p is there works refusal =
-    absurd (no-usage words old.files new.files (Builds c) is (keeps-inputs old.files new.files (Builds c) there.tells there.own_output) q.0)
+    absurd (never-usage words old.files new.files (Builds c) tt is (keeps-inputs old.files new.files (Builds c) there.tells there.own_output) q.0)
 refused-by status.Done answer words old new text c oil src arr r q p is there works refusal =
     let d = subst (λ x. IsCommandDone old.files new.files x text) (one-command words q.0 (Builds c) q.1 is) q.2 in
     absurd (one-verdict old.files c d.config d.app d.arrivals oil src arr r there d.accepted refusal)
@@ -202,6 +209,7 @@ refused-by status.Stopped answer words old new text c oil src arr r q p is there
 refused-by status.NotAnImage answer words old new text c oil src arr r q p is there works refusal =
     absurd (subst (λ x. IsNoImage old.files x q.2) (one-command words q.0 (Builds c) q.1 is) q.3).inputs
 refused-by status.NotAnElf answer words old new text c oil src arr r q p is there works refusal = absurd (no-tool words q.0 (Builds c) q.1 is tt)
+refused-by status.Explained answer words old new text c oil src arr r q p is there works refusal = absurd (no-tool words q.0 (Builds c) q.1 is tt)
 refused-by status.BadTrace answer words old new text c oil src arr r q p is there works refusal = absurd (no-tool words q.0 (Builds c) q.1 is tt)
 refused-by status.NoHolds answer words old new text c oil src arr r q p is there works refusal = absurd (no-tool words q.0 (Builds c) q.1 is tt)
 refused-by status.OpenDeadline answer words old new text c oil src arr r q p is there works refusal = absurd (no-tool words q.0 (Builds c) q.1 is tt)
@@ -254,7 +262,7 @@ module _ (old new : World) (c : Building) (oil src arr : List ℕ) (config : Con
   complete-by status.NoMemory answer words text q p is =
       inr (stands status.NoMemory answer words old new text (subst (λ x. PutsWork old.sink new.sink x) (sym q.2) works.last_line) q p)
   complete-by status.Usage answer words text q p is =
-      absurd (no-usage words old.files new.files (Builds c) is (keeps-inputs old.files new.files (Builds c) there.tells there.own_output) q.0)
+      absurd (never-usage words old.files new.files (Builds c) tt is (keeps-inputs old.files new.files (Builds c) there.tells there.own_output) q.0)
   complete-by status.Refused answer words text q p is =
       absurd (refused-verdict old.files c config app oil src arr q.2 there h read.no_fault
       (subst (λ x. IsCommandRefused old.files x q.2) (one-command words q.0 (Builds c) q.1 is) q.3))
@@ -272,6 +280,7 @@ module _ (old new : World) (c : Building) (oil src arr : List ℕ) (config : Con
   complete-by status.NotAnImage answer words text q p is =
       absurd (subst (λ x. IsNoImage old.files x q.2) (one-command words q.0 (Builds c) q.1 is) q.3).inputs
   complete-by status.NotAnElf answer words text q p is = absurd (no-tool words q.0 (Builds c) q.1 is tt)
+  complete-by status.Explained answer words text q p is = absurd (no-tool words q.0 (Builds c) q.1 is tt)
   complete-by status.BadTrace answer words text q p is = absurd (no-tool words q.0 (Builds c) q.1 is tt)
   complete-by status.NoHolds answer words text q p is = absurd (no-tool words q.0 (Builds c) q.1 is tt)
   complete-by status.OpenDeadline answer words text q p is = absurd (no-tool words q.0 (Builds c) q.1 is tt)

@@ -17,7 +17,7 @@ use Rattle.trace_text.specs.ArrivalsText.{ArrivalsFault, arrivals_in}
 use Rattle.trace_text.specs.Listing.{listing}
 use Rattle.sloth_source.proofs.Least.{one_least}
 use Rattle.command_line.specs.Command.{Command, Execution, Builds, Executes, Lists, Samples, Uses, IsCommand}
-use Rattle.command_line.specs.Tools.{ToolUse}
+use Rattle.command_line.specs.Tools.{ToolUse, file_names}
 use Rattle.tool_answers.specs.declared.answer.ToolAnswer.{ToolAnswer}
 use Rattle.tool_answers.specs.declared.answer.ToolAnswer.TheVariants as tool_answer
 use Rattle.tool_commands.proofs.OneAnswer.{HasImage}
@@ -32,15 +32,15 @@ use Rattle.sloth_commands.specs.ImageAnswers.{end_status, LinesWork, IsNoImageAn
 use Rattle.command_line.specs.LastLine.{no_image_line, refusal_line}
 use Rattle.sloth_runner.specs.Runner.{run_end}
 use Rattle.sloth_commands.specs.Top.{World, FirstUnread, IsFailedRead, IsLongRead, IsRequired, IsPutAnswer, IsTextTaken, IsFullAnswer, IsTopAnswer, IsRefusalAnswer, ReadsWork, PutsWork}
-use Rattle.sloth_commands.specs.CommandFiles.{inputs_of, HasOwnOutput}
-use Rattle.sloth_commands.specs.Top.{IsCommandDone, IsCommandRefused, IsCommandUnwritten, IsCommandStopped, IsToolEnd}
+use Rattle.sloth_commands.specs.CommandFiles.{inputs_of, HasOwnOutput, IsUsageCause}
+use Rattle.sloth_commands.specs.Top.{IsCommandDone, IsCommandRefused, IsCommandUnwritten, IsCommandStopped, IsToolEnd, LacksTask}
 use Rattle.sloth_runner.specs.declared.runner.RunEnd.{RunEnd}
 use Rattle.sloth_runner.specs.declared.runner.RunEnd.TheVariants as ends
 use Rattle.tool_answers.specs.declared.status.Status.{Status}
 use Rattle.tool_answers.specs.declared.status.Status.TheVariants as status
 use Rattle.command_line.proofs.Commands.{one-command}
 use Rattle.sloth_commands.proofs.OwnOutput.{keeps-inputs, no-usage}
-use Rattle.sloth_commands.proofs.Complete.{told, not-missing, not-long, counted-put, no-tool, stands}
+use Rattle.sloth_commands.proofs.Complete.{told, not-missing, not-long, counted-put, no-tool, never-usage, stands}
 use Rattle.trace_check.proofs.Refused.{of-arrivals}
 
 -- ---- the inputs that are told
@@ -65,7 +65,7 @@ none-unread P old (Builds b) file i f h = i
 none-unread P old (Executes e) file i f h = no-exec-unread P old e file i.0 i.1 f h
 none-unread P old (Lists img) file i f h = no-list-unread P old img file i f h
 none-unread P old (Samples seed img) file i f h = i
-none-unread P old (Uses u) file i f h = no-tool-unread P old u.inputs (file ∷ i.rest) i.read f h
+none-unread P old (Uses u) file i f h = no-tool-unread P old (file_names u) (file ∷ i.rest) i.read f h
 
 no-failed-read : (old new : Files) (c : Command) (file : List ℕ) → IsTrue old.tells → ReadsImageFile old c file → ReadsWork old new → IsFailedRead old new c → ⊥
 no-failed-read old new c file tells i works =
@@ -81,7 +81,7 @@ told-file old (Executes e) one other tells h i = told old e.img one other tells 
 told-file old (Lists img) one other tells h i = told old img one other tells h.read i.read
 told-file old (Samples seed img) one other tells h i = absurd h
 told-file old (Uses u) one other tells h i =
-    let both : one ∷ h.rest ≡ other ∷ i.rest = told-inputs old u.inputs (one ∷ h.rest) (other ∷ i.rest) tells h.read i.read in cc
+    let both : one ∷ h.rest ≡ other ∷ i.rest = told-inputs old (file_names u) (one ∷ h.rest) (other ∷ i.rest) tells h.read i.read in cc
 
 -- ---- an image or none
 
@@ -163,7 +163,13 @@ module _ (words : List (List ℕ)) (old new : Files) (text : List ℕ) (c : Comm
       let same : n.file ≡ file = told-file old c n.file file tells n.inputs i in
       inr (inl (refl, (q.2, subst (IsFirstImageFault q.2) same n.faulty, q.4)))
   verdict status.NoMemory q = inr (inr refl)
-  verdict status.Usage q = absurd (no-usage words old new c is (keeps-inputs old new c tells own) q.0)
+  verdict status.Usage q = by q.0
+    where
+      by : IsUsageCause words old new ⊎ LacksTask words old → Verdict status.Usage file text
+      by (inl h) = absurd (no-usage words old new c is (keeps-inputs old new c tells own) h)
+      by (inr h) =
+          inl (own-image old c file tool_answer.NoTask tells i (subst (AnswersAs old tool_answer.NoTask) (one-command words (Uses h.0) c h.1 is) h.2)
+          (λ fault e. let same : tool_answer.NoTask ≡ tool_answer.NotAnImage fault = e in cc))
   verdict status.ReadFault q =
       absurd (no-failed-read old new c file tells i works (subst (IsFailedRead old new) (one-command words q.0 c q.1 is) q.2))
   verdict status.TooLong q = absurd (no-long-read old new c file tells i (subst (IsLongRead old new) (one-command words q.0 c q.1 is) q.2))
@@ -171,6 +177,9 @@ module _ (words : List (List ℕ)) (old new : Files) (text : List ℕ) (c : Comm
   verdict status.NotAnElf q =
       inl (own-image old c file (tool_answer.NotAnElf q.2) tells i (subst (AnswersAs old (tool_answer.NotAnElf q.2)) (one-command words (Uses q.0) c q.1 is) q.3)
       (λ fault e. let same : tool_answer.NotAnElf q.2 ≡ tool_answer.NotAnImage fault = e in cc))
+  verdict status.Explained q =
+      inl (own-image old c file (tool_answer.Explained q.2) tells i (subst (AnswersAs old (tool_answer.Explained q.2)) (one-command words (Uses q.0) c q.1 is) q.3)
+      (λ fault e. let same : tool_answer.Explained q.2 ≡ tool_answer.NotAnImage fault = e in cc))
   verdict status.BadTrace q =
       inl (own-image old c file (tool_answer.BadTrace q.2) tells i (subst (AnswersAs old (tool_answer.BadTrace q.2)) (one-command words (Uses q.0) c q.1 is) q.3)
       (λ fault e. let same : tool_answer.BadTrace q.2 ≡ tool_answer.NotAnImage fault = e in cc))
@@ -262,7 +271,7 @@ module _ (words : List (List ℕ)) (old new : World) (answer : Status) (e : Exec
       absurd (read.no_fault q.2 (subst (λ x. ArrivalsFault image.tasks image.counters x q.2) arr_is (subst (λ (x : Image). ArrivalsFault x.tasks x.counters d.arr q.2) same d.least.is_fault)))
   executed-by status.NotAnImage arrivals text read works q p =
       absurd (no-fault q.2 (subst (λ x. IsNoImage old.files x q.2) (one-command words q.0 (Executes e) q.1 is) q.3))
-  executed-by status.Usage arrivals text read works q p = absurd (no-usage words old.files new.files (Executes e) is (λ h. h) q.0)
+  executed-by status.Usage arrivals text read works q p = absurd (never-usage words old.files new.files (Executes e) tt is (λ h. h) q.0)
   executed-by status.ReadFault arrivals text read works q p =
       absurd (no-failed-read old.files new.files (Executes e) file tells (arr, i) works.reads (subst (IsFailedRead old.files new.files) (one-command words q.0 (Executes e) q.1 is) q.2))
   executed-by status.TooLong arrivals text read works q p =
@@ -270,6 +279,7 @@ module _ (words : List (List ℕ)) (old new : World) (answer : Status) (e : Exec
   executed-by status.WriteFault arrivals text read works q p =
       absurd (subst (IsCommandUnwritten old.files new.files) (one-command words q.0 (Executes e) q.1 is) q.2)
   executed-by status.NotAnElf arrivals text read works q p = absurd (no-tool words q.0 (Executes e) q.1 is tt)
+  executed-by status.Explained arrivals text read works q p = absurd (no-tool words q.0 (Executes e) q.1 is tt)
   executed-by status.BadTrace arrivals text read works q p = absurd (no-tool words q.0 (Executes e) q.1 is tt)
   executed-by status.NoHolds arrivals text read works q p = absurd (no-tool words q.0 (Executes e) q.1 is tt)
   executed-by status.OpenDeadline arrivals text read works q p = absurd (no-tool words q.0 (Executes e) q.1 is tt)
@@ -303,7 +313,7 @@ module _ (words : List (List ℕ)) (old new : World) (answer : Status) (e : Exec
       absurd (not-accepted d.2.image d.2.arrivals r d.2.accepted least)
   refused-by status.NotAnImage text r works least q p =
       absurd (no-fault q.2 (subst (λ x. IsNoImage old.files x q.2) (one-command words q.0 (Executes e) q.1 is) q.3))
-  refused-by status.Usage text r works least q p = absurd (no-usage words old.files new.files (Executes e) is (λ h. h) q.0)
+  refused-by status.Usage text r works least q p = absurd (never-usage words old.files new.files (Executes e) tt is (λ h. h) q.0)
   refused-by status.ReadFault text r works least q p =
       absurd (no-failed-read old.files new.files (Executes e) file tells (arr, i) works (subst (IsFailedRead old.files new.files) (one-command words q.0 (Executes e) q.1 is) q.2))
   refused-by status.TooLong text r works least q p =
@@ -311,6 +321,7 @@ module _ (words : List (List ℕ)) (old new : World) (answer : Status) (e : Exec
   refused-by status.WriteFault text r works least q p =
       absurd (subst (IsCommandUnwritten old.files new.files) (one-command words q.0 (Executes e) q.1 is) q.2)
   refused-by status.NotAnElf text r works least q p = absurd (no-tool words q.0 (Executes e) q.1 is tt)
+  refused-by status.Explained text r works least q p = absurd (no-tool words q.0 (Executes e) q.1 is tt)
   refused-by status.BadTrace text r works least q p = absurd (no-tool words q.0 (Executes e) q.1 is tt)
   refused-by status.NoHolds text r works least q p = absurd (no-tool words q.0 (Executes e) q.1 is tt)
   refused-by status.OpenDeadline text r works least q p = absurd (no-tool words q.0 (Executes e) q.1 is tt)
@@ -343,13 +354,14 @@ module _ (words : List (List ℕ)) (old new : World) (answer : Status) (img file
       absurd (none_is_both file image q.2 is_image (subst (IsFirstImageFault q.2) same n.faulty))
   listed-by status.Stopped text q p = absurd (subst (λ x. IsCommandStopped old.files new.files x text) (one-command words q.0 (Lists img) q.1 is) q.2)
   listed-by status.Refused text q p = absurd (subst (λ x. IsCommandRefused old.files x q.2) (one-command words q.0 (Lists img) q.1 is) q.3)
-  listed-by status.Usage text q p = absurd (no-usage words old.files new.files (Lists img) is (λ h. h) q.0)
+  listed-by status.Usage text q p = absurd (never-usage words old.files new.files (Lists img) tt is (λ h. h) q.0)
   listed-by status.ReadFault text q p =
       absurd (no-failed-read old.files new.files (Lists img) file tells i works.reads (subst (IsFailedRead old.files new.files) (one-command words q.0 (Lists img) q.1 is) q.2))
   listed-by status.TooLong text q p =
       absurd (no-long-read old.files new.files (Lists img) file tells i (subst (IsLongRead old.files new.files) (one-command words q.0 (Lists img) q.1 is) q.2))
   listed-by status.WriteFault text q p = absurd (subst (IsCommandUnwritten old.files new.files) (one-command words q.0 (Lists img) q.1 is) q.2)
   listed-by status.NotAnElf text q p = absurd (no-tool words q.0 (Lists img) q.1 is tt)
+  listed-by status.Explained text q p = absurd (no-tool words q.0 (Lists img) q.1 is tt)
   listed-by status.BadTrace text q p = absurd (no-tool words q.0 (Lists img) q.1 is tt)
   listed-by status.NoHolds text q p = absurd (no-tool words q.0 (Lists img) q.1 is tt)
   listed-by status.OpenDeadline text q p = absurd (no-tool words q.0 (Lists img) q.1 is tt)

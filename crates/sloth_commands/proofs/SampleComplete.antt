@@ -18,8 +18,7 @@ use Rattle.sloth_commands.specs.Top.{IsCommandDone, IsCommandRefused, IsCommandU
 use Rattle.tool_answers.specs.declared.status.Status.{Status}
 use Rattle.tool_answers.specs.declared.status.Status.TheVariants as status
 use Rattle.command_line.proofs.Commands.{one-command}
-use Rattle.sloth_commands.proofs.OwnOutput.{no-usage}
-use Rattle.sloth_commands.proofs.Complete.{counted-put, stands, image-of, no-failed-write, no-tool}
+use Rattle.sloth_commands.proofs.Complete.{counted-put, stands, image-of, no-failed-write, no-tool, never-usage}
 
 module _ (words : List (List ℕ)) (old new : World) (answer : Status) (seed : ℕ) (img : List ℕ) (is : IsCommand words (Samples seed img)) where
   refused-by : (wanted : Status) (text : List ℕ) (r : Refusal) → FirstRefusal sample_oil (sample_source seed) r
@@ -37,7 +36,7 @@ module _ (words : List (List ℕ)) (old new : World) (answer : Status) (seed : �
   refused-by status.WriteFault text r refusal q p =
       let d = subst (IsCommandUnwritten old.files new.files) (one-command words q.0 (Samples seed img) q.1 is) q.2 in
       absurd (never_both sample_oil (sample_source seed) d.config d.app r d.accepted refusal)
-  refused-by status.Usage text r refusal q p = absurd (no-usage words old.files new.files (Samples seed img) is (λ h. h) q.0)
+  refused-by status.Usage text r refusal q p = absurd (never-usage words old.files new.files (Samples seed img) tt is (λ h. h) q.0)
   refused-by status.ReadFault text r refusal q p =
       absurd (subst (IsFailedRead old.files new.files) (one-command words q.0 (Samples seed img) q.1 is) q.2)
   refused-by status.TooLong text r refusal q p =
@@ -47,6 +46,7 @@ module _ (words : List (List ℕ)) (old new : World) (answer : Status) (seed : �
   refused-by status.NotAnImage text r refusal q p =
       absurd (subst (λ x. IsNoImage old.files x q.2) (one-command words q.0 (Samples seed img) q.1 is) q.3).inputs
   refused-by status.NotAnElf text r refusal q p = absurd (no-tool words q.0 (Samples seed img) q.1 is tt)
+  refused-by status.Explained text r refusal q p = absurd (no-tool words q.0 (Samples seed img) q.1 is tt)
   refused-by status.BadTrace text r refusal q p = absurd (no-tool words q.0 (Samples seed img) q.1 is tt)
   refused-by status.NoHolds text r refusal q p = absurd (no-tool words q.0 (Samples seed img) q.1 is tt)
   refused-by status.OpenDeadline text r refusal q p = absurd (no-tool words q.0 (Samples seed img) q.1 is tt)
@@ -69,7 +69,7 @@ module _ (words : List (List ℕ)) (old new : World) (answer : Status) (seed : �
       let same = one_meaning sample_oil (sample_source seed) d.config config d.app app d.accepted accepted in
       let image = image-of config d.config app d.app d.image same d.is_image in
       absurd (no-failed-write old.files new.files img (length (image_bytes d.image)) (works.write d.image image) d.failed)
-  sampled-by status.Usage text config app accepted works q p = absurd (no-usage words old.files new.files (Samples seed img) is (λ h. h) q.0)
+  sampled-by status.Usage text config app accepted works q p = absurd (never-usage words old.files new.files (Samples seed img) tt is (λ h. h) q.0)
   sampled-by status.ReadFault text config app accepted works q p =
       absurd (subst (IsFailedRead old.files new.files) (one-command words q.0 (Samples seed img) q.1 is) q.2)
   sampled-by status.TooLong text config app accepted works q p =
@@ -79,6 +79,7 @@ module _ (words : List (List ℕ)) (old new : World) (answer : Status) (seed : �
   sampled-by status.NotAnImage text config app accepted works q p =
       absurd (subst (λ x. IsNoImage old.files x q.2) (one-command words q.0 (Samples seed img) q.1 is) q.3).inputs
   sampled-by status.NotAnElf text config app accepted works q p = absurd (no-tool words q.0 (Samples seed img) q.1 is tt)
+  sampled-by status.Explained text config app accepted works q p = absurd (no-tool words q.0 (Samples seed img) q.1 is tt)
   sampled-by status.BadTrace text config app accepted works q p = absurd (no-tool words q.0 (Samples seed img) q.1 is tt)
   sampled-by status.NoHolds text config app accepted works q p = absurd (no-tool words q.0 (Samples seed img) q.1 is tt)
   sampled-by status.OpenDeadline text config app accepted works q p = absurd (no-tool words q.0 (Samples seed img) q.1 is tt)

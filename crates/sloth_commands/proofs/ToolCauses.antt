@@ -1,5 +1,5 @@
 -- What a tool did, and why it did not.
-use Rattle.std.proofs.Common.{◌≡◌, ◌∙◌, ℕ, List, [], ◌∷◌, ◌++◌, refl, sym, ap, subst, arith, length}
+use Rattle.std.proofs.Common.{◌≡◌, ◌∙◌, inr, ℕ, List, [], ◌∷◌, ◌++◌, refl, sym, ap, subst, arith, length}
 use Rattle.std.specs.Prelude.{IsTrue, Option, Some, None, Result, Ok, Err, IfOk, OnOk}
 use Rattle.image_file.specs.declared.fault.ImageFault.{ImageFault}
 use Rattle.sloth_io.specs.Counts.{Rose}
@@ -7,11 +7,12 @@ use Rattle.sloth_io.specs.Sink.{Output}
 use Rattle.sloth_io.specs.Store.{Files, KeepsFiles, AreDelivered, call_files}
 use Rattle.sloth_io.specs.Slots.{is_space_for}
 use Rattle.command_line.specs.Command.{Uses, IsCommand}
-use Rattle.command_line.specs.Tools.{ToolUse, IsToolUse}
+use Rattle.command_line.specs.Tools.{ToolUse, IsToolUse, file_names}
 use Rattle.tool_commands.specs.Answers.{IsAnswer, input, reads_image}
 use Rattle.tool_commands.specs.Lines.{tool_text}
 use Rattle.tool_answers.specs.declared.answer.ToolAnswer.{ToolAnswer}
 use Rattle.tool_answers.specs.declared.answer.ToolAnswer.TheVariants as tool_answer
+use Rattle.command_line.proofs.ToolWords.{files-counted}
 use Rattle.tool_commands.proofs.OneAnswer.{no-image, reads-one}
 use Rattle.sloth_commands.specs.ImageFiles.{IsNoImage}
 use Rattle.tool_answers.specs.Statuses.{tool_status}
@@ -26,11 +27,11 @@ use Rattle.sloth_commands.proofs.ToolReads.{as-many}
 
 -- ---- no image
 
-first-of : (files : Files) (u : ToolUse) (inputs : List (List ℕ)) → IsTrue (reads_image u.tool) → IsToolUse u → AreToolInputs files u.inputs inputs
+first-of : (files : Files) (u : ToolUse) (inputs : List (List ℕ)) → IsTrue (reads_image u.tool) → IsToolUse u → AreToolInputs files (file_names u) inputs
     → (i : ReadsImageFirst files u (input inputs 0)) × (inputs ≡ input inputs 0 ∷ i.rest)
 first-of files u [] reads is read =
-    let same = as-many files u.inputs [] read in
-    let counted = is.counted in
+    let same = as-many files (file_names u) [] read in
+    let counted = files-counted u is.counted in
     let one = reads-one u.tool reads in
     absurd (omega (arith, same, counted, one))
 first-of files u (b ∷ rest) reads is read = (record { rest = rest; first = reads; read = read }, refl)
@@ -43,7 +44,7 @@ no-image-file files u fault is h =
     record {
       file = input h.inputs 0;
       inputs = first.0;
-      delivered = h.delivered ∙ ap (λ (xs : List (List ℕ)). input_deliveries u.inputs xs) first.1;
+      delivered = h.delivered ∙ ap (λ (xs : List (List ℕ)). input_deliveries (file_names u) xs) first.1;
       faulty = no.1;
     }
 
@@ -58,9 +59,11 @@ tool-required (tool_answer.Stopped pc stop) words u old new is h after =
 tool-required (tool_answer.Refused r) words u old new is h after = (Uses u, is, r, h, refl, after)
 tool-required (tool_answer.NotAnImage fault) words u old new is h after = (Uses u, is, fault, no-image-file old u fault is.1 h, refl, after)
 tool-required (tool_answer.NotAnElf fault) words u old new is h after = (u, is, fault, h, refl, after)
+tool-required (tool_answer.Explained fault) words u old new is h after = (u, is, fault, h, refl, after)
 tool-required (tool_answer.BadTrace fault) words u old new is h after = (u, is, fault, h, refl, after)
 tool-required tool_answer.NoHolds words u old new is h after = (u, is, h, refl, after)
 tool-required (tool_answer.OpenDeadline lines) words u old new is h after = (u, is, lines, h, refl, after)
+tool-required tool_answer.NoTask words u old new is h after = (inr (u, is, h), refl, after)
 
 pub end-required : (s : Status) (words : List (List ℕ)) (u : ToolUse) (old new : Files) (text : List ℕ) → IsCommand words (Uses u) → IsToolEnd s old new u text
     → IsRequired s words old new text
@@ -85,9 +88,11 @@ after-kept (tool_answer.Refused r) old mid new output kept h = stays-behind old 
 after-kept (tool_answer.Stopped pc stop) old mid new output kept h = stays-behind old mid new kept h
 after-kept (tool_answer.NotAnImage f) old mid new output kept h = stays-behind old mid new kept h
 after-kept (tool_answer.NotAnElf f) old mid new output kept h = stays-behind old mid new kept h
+after-kept (tool_answer.Explained f) old mid new output kept h = stays-behind old mid new kept h
 after-kept (tool_answer.BadTrace f) old mid new output kept h = stays-behind old mid new kept h
 after-kept tool_answer.NoHolds old mid new output kept h = stays-behind old mid new kept h
 after-kept (tool_answer.OpenDeadline lines) old mid new output kept h = stays-behind old mid new kept h
+after-kept tool_answer.NoTask old mid new output kept h = stays-behind old mid new kept h
 
 unwritten-kept : (old mid new : Files) (output : Option (List ℕ)) (bytes : List ℕ) → KeepsFiles old mid → IsUnwrittenOutput mid new output bytes
     → IsUnwrittenOutput (call_files old new) new output bytes
@@ -120,9 +125,11 @@ module _ (old mid : Files) (sink : Output) (new : World) (u : ToolUse) (kept : K
   tell-ends failure.WriteFile (tool_answer.Stopped pc stop) is h = absurd h
   tell-ends failure.WriteFile (tool_answer.NotAnImage e) is h = absurd h
   tell-ends failure.WriteFile (tool_answer.NotAnElf e) is h = absurd h
+  tell-ends failure.WriteFile (tool_answer.Explained e) is h = absurd h
   tell-ends failure.WriteFile (tool_answer.BadTrace e) is h = absurd h
   tell-ends failure.WriteFile tool_answer.NoHolds is h = absurd h
   tell-ends failure.WriteFile (tool_answer.OpenDeadline lines) is h = absurd h
+  tell-ends failure.WriteFile tool_answer.NoTask is h = absurd h
   tell-ends (failure.Refused r) a is h = absurd h
   tell-ends failure.ReadFault a is h = absurd h
   tell-ends failure.TooLong a is h = absurd h
@@ -135,12 +142,12 @@ module _ (old mid : Files) (sink : Output) (new : World) (u : ToolUse) (kept : K
       (tool_text a, record { answer = a; is = at-end a is; status_is = status; text_is = refl; files = after-kept a old mid new.files u.output kept after }, text)
 
 -- the answer to what was read
-pub answer-of : (old mid : Files) (u : ToolUse) (inputs slice : List (List ℕ)) (a : ToolAnswer) → AreToolInputs old u.inputs inputs
-    → AreDelivered old mid (input_deliveries u.inputs inputs) → slice ≡ inputs → IsAnswer u.tool u.counts u.inputs slice a → IsToolAnswer (call_files old mid) u a
+pub answer-of : (old mid : Files) (u : ToolUse) (inputs slice : List (List ℕ)) (a : ToolAnswer) → AreToolInputs old (file_names u) inputs
+    → AreDelivered old mid (input_deliveries (file_names u) inputs) → slice ≡ inputs → IsAnswer u.tool u.counts u.inputs slice a → IsToolAnswer (call_files old mid) u a
 answer-of old mid u inputs slice a read delivered same is = record {
   inputs = inputs;
-  read = tool-inputs-in_call old mid u.inputs inputs read;
-  delivered = delivered-in_call old mid (input_deliveries u.inputs inputs) delivered;
+  read = tool-inputs-in_call old mid (file_names u) inputs read;
+  delivered = delivered-in_call old mid (input_deliveries (file_names u) inputs) delivered;
   is = subst (λ xs. IsAnswer u.tool u.counts u.inputs xs a) same is;
 }
 

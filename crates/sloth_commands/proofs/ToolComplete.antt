@@ -7,7 +7,7 @@ use Rattle.sloth_io.specs.Store.{Files, IsMissing, IsTooLong}
 use Rattle.image_file.specs.declared.fault.ImageFault.{ImageFault}
 use Rattle.image_file.proofs.Faulted.{fault_is_one, none_is_both}
 use Rattle.command_line.specs.Command.{Command, Builds, Executes, Lists, Samples, Uses, IsCommand}
-use Rattle.command_line.specs.Tools.{ToolUse}
+use Rattle.command_line.specs.Tools.{ToolUse, file_names}
 use Rattle.command_line.specs.declared.counts.Counts.{Counts}
 use Rattle.command_line.specs.declared.tool.Tool.{Tool}
 use Rattle.command_line.proofs.Commands.{one-command}
@@ -22,11 +22,11 @@ use Rattle.tool_answers.specs.Statuses.{tool_status}
 use Rattle.sloth_commands.specs.ToolFiles.{AreToolInputs, IsToolAnswer, ReadsImageFirst}
 use Rattle.sloth_commands.specs.ToolAnswers.{IsToolTold, IsToolStatus, OutputWorks, StandsFor, ToolWorks, HasToolAnswer, HasToolDoneAnswer}
 use Rattle.sloth_commands.specs.Top.{World, IsFailedRead, IsLongRead, FilesAfter, IsUnwrittenOutput, IsRequired, IsPutAnswer, IsTextTaken, IsTextBrokenOff, IsFullAnswer, IsTopAnswer}
-use Rattle.sloth_commands.specs.Top.{IsCommandDone, IsCommandRefused, IsCommandUnwritten, IsCommandStopped, ReadsWork}
+use Rattle.sloth_commands.specs.Top.{IsCommandDone, IsCommandRefused, IsCommandUnwritten, IsCommandStopped, ReadsWork, LacksTask}
 use Rattle.tool_answers.specs.declared.status.Status.{Status}
 use Rattle.tool_answers.specs.declared.status.Status.TheVariants as status
 use Rattle.sloth_commands.proofs.OwnOutput.{keeps-inputs, no-usage}
-use Rattle.sloth_commands.specs.CommandFiles.{HasOwnOutput}
+use Rattle.sloth_commands.specs.CommandFiles.{HasOwnOutput, IsUsageCause}
 use Rattle.sloth_commands.proofs.Complete.{not-missing, not-long, counted-put, no-broken-put, no-failed-write}
 use Rattle.sloth_commands.proofs.ToolReads.{none-unread, told-inputs}
 
@@ -38,22 +38,22 @@ AnswersAs files a (Lists img) = ⊥
 AnswersAs files a (Samples seed img) = ⊥
 AnswersAs files a (Uses u) = IsToolAnswer files u a
 
-pub no-failed-tool-read : (old new : Files) (u : ToolUse) (inputs : List (List ℕ)) → IsTrue old.tells → AreToolInputs old u.inputs inputs → ReadsWork old new
+pub no-failed-tool-read : (old new : Files) (u : ToolUse) (inputs : List (List ℕ)) → IsTrue old.tells → AreToolInputs old (file_names u) inputs → ReadsWork old new
     → IsFailedRead old new (Uses u) → ⊥
 no-failed-tool-read old new u inputs tells i works =
-    none-unread (IsMissing old new) old u.inputs inputs i (λ name bytes holds short. not-missing old new name bytes tells works holds)
+    none-unread (IsMissing old new) old (file_names u) inputs i (λ name bytes holds short. not-missing old new name bytes tells works holds)
 
-pub no-long-tool-read : (old new : Files) (u : ToolUse) (inputs : List (List ℕ)) → IsTrue old.tells → AreToolInputs old u.inputs inputs
+pub no-long-tool-read : (old new : Files) (u : ToolUse) (inputs : List (List ℕ)) → IsTrue old.tells → AreToolInputs old (file_names u) inputs
     → IsLongRead old new (Uses u) → ⊥
 no-long-tool-read old new u inputs tells i =
-    none-unread (λ name. IsTooLong old new name file_limit) old u.inputs inputs i (λ name bytes holds short. not-long old new name bytes tells holds short)
+    none-unread (λ name. IsTooLong old new name file_limit) old (file_names u) inputs i (λ name bytes holds short. not-long old new name bytes tells holds short)
 
 -- what an answer says of the image file that a tool reads first
 image-of-inputs : (old : Files) (u : ToolUse) (file : List ℕ) (b : ToolAnswer) → IsTrue old.tells → ReadsImageFirst old u file
-    → (inputs : List (List ℕ)) → AreToolInputs old u.inputs inputs → IsAnswer u.tool u.counts u.inputs inputs b
+    → (inputs : List (List ℕ)) → AreToolInputs old (file_names u) inputs → IsAnswer u.tool u.counts u.inputs inputs b
     → HasImage file ⊎ ((fault : ImageFault) × (b ≡ tool_answer.NotAnImage fault))
 image-of-inputs old u file b tells i inputs read answers =
-    let same : inputs ≡ file ∷ i.rest = told-inputs old u.inputs inputs (file ∷ i.rest) tells read i.read in
+    let same : inputs ≡ file ∷ i.rest = told-inputs old (file_names u) inputs (file ∷ i.rest) tells read i.read in
     let is = subst (λ xs. IsAnswer u.tool u.counts u.inputs xs b) same answers in
     image-or-fault u.tool u.counts u.inputs (file ∷ i.rest) b i.first is
 
@@ -68,9 +68,11 @@ IsUnwrittenFor (tool_answer.Refused r) output old new = ⊥
 IsUnwrittenFor (tool_answer.Stopped pc stop) output old new = ⊥
 IsUnwrittenFor (tool_answer.NotAnImage f) output old new = ⊥
 IsUnwrittenFor (tool_answer.NotAnElf f) output old new = ⊥
+IsUnwrittenFor (tool_answer.Explained f) output old new = ⊥
 IsUnwrittenFor (tool_answer.BadTrace f) output old new = ⊥
 IsUnwrittenFor tool_answer.NoHolds output old new = ⊥
 IsUnwrittenFor (tool_answer.OpenDeadline lines) output old new = ⊥
+IsUnwrittenFor tool_answer.NoTask output old new = ⊥
 
 -- what a failed write leaves to be said
 data Told (words : List (List ℕ)) (a : ToolAnswer) (output : Option (List ℕ)) (old new : World) (answer : Status) : Type 0 where
@@ -81,12 +83,12 @@ data Told (words : List (List ℕ)) (a : ToolAnswer) (output : Option (List ℕ)
   BrokeWanting : answer ≡ status.WriteFault → IsTextBrokenOff old.sink new.sink (codes "no memory\n") → Told words a output old new answer
 
 module _ (words : List (List ℕ)) (old new : World) (answer : Status) (u : ToolUse) (is : IsCommand words (Uses u)) (tells : IsTrue old.files.tells)
-    (own_output : HasOwnOutput (Uses u)) (inputs : List (List ℕ)) (i : AreToolInputs old.files u.inputs inputs) (works : ReadsWork old.files new.files) (a : ToolAnswer)
+    (own_output : HasOwnOutput (Uses u)) (inputs : List (List ℕ)) (i : AreToolInputs old.files (file_names u) inputs) (works : ReadsWork old.files new.files) (a : ToolAnswer)
     (is_answer : IsAnswer u.tool u.counts u.inputs inputs a) where
   -- what the tool answers is an answer to these files
   an-answer : (b : ToolAnswer) → IsToolAnswer old.files u b → IsAnswer u.tool u.counts u.inputs inputs b
   an-answer b h =
-      let same : h.inputs ≡ inputs = told-inputs old.files u.inputs h.inputs inputs tells h.read i in
+      let same : h.inputs ≡ inputs = told-inputs old.files (file_names u) h.inputs inputs tells h.read i in
       subst (λ xs. IsAnswer u.tool u.counts u.inputs xs b) same h.is
 
   ended : (wanted : Status) (b : ToolAnswer) (text : List ℕ) → IsToolAnswer old.files u b → wanted ≡ tool_status b → text ≡ tool_text b
@@ -110,7 +112,7 @@ module _ (words : List (List ℕ)) (old new : World) (answer : Status) (u : Tool
       by : HasImage n.file ⊎ ((own : ImageFault) × (a ≡ tool_answer.NotAnImage own)) → IsToolAnswer old.files u (tool_answer.NotAnImage fault)
       by (inl image) = absurd (none_is_both n.file image.0 fault image.1 n.faulty)
       by (inr other) =
-          let same : inputs ≡ n.file ∷ n.inputs.rest = told-inputs old.files u.inputs inputs (n.file ∷ n.inputs.rest) tells i n.inputs.read in
+          let same : inputs ≡ n.file ∷ n.inputs.rest = told-inputs old.files (file_names u) inputs (n.file ∷ n.inputs.rest) tells i n.inputs.read in
           let is_no : IsAnswer u.tool u.counts u.inputs (n.file ∷ n.inputs.rest) (tool_answer.NotAnImage other.0) =
           subst (λ xs. IsAnswer u.tool u.counts u.inputs xs (tool_answer.NotAnImage other.0)) same (subst (λ x. IsAnswer u.tool u.counts u.inputs inputs x) other.1 is_answer) in
           let fault_is : other.0 ≡ fault = fault_is_one n.file other.0 fault (no-image u.tool u.counts u.inputs (n.file ∷ n.inputs.rest) other.0 is_no).1 n.faulty in
@@ -136,6 +138,7 @@ module _ (words : List (List ℕ)) (old new : World) (answer : Status) (u : Tool
       let n = subst (λ x. IsNoImage old.files x q.2) (one-command words q.0 (Uses u) q.1 is) q.3 in
       ended status.NotAnImage (tool_answer.NotAnImage q.2) text (no-image-told q.2 n) refl q.4 q.5 p
   told-by status.NotAnElf text q p = ended status.NotAnElf (tool_answer.NotAnElf q.2) text (own (Uses q.0) (tool_answer.NotAnElf q.2) q.1 q.3) refl q.4 q.5 p
+  told-by status.Explained text q p = ended status.Explained (tool_answer.Explained q.2) text (own (Uses q.0) (tool_answer.Explained q.2) q.1 q.3) refl q.4 q.5 p
   told-by status.BadTrace text q p = ended status.BadTrace (tool_answer.BadTrace q.2) text (own (Uses q.0) (tool_answer.BadTrace q.2) q.1 q.3) refl q.4 q.5 p
   told-by status.NoHolds text q p = ended status.NoHolds tool_answer.NoHolds text (own (Uses q.0) tool_answer.NoHolds q.1 q.2) refl q.3 q.4 p
   told-by status.OpenDeadline text q p =
@@ -149,7 +152,12 @@ module _ (words : List (List ℕ)) (old new : World) (answer : Status) (u : Tool
       write-fault : IsPutAnswer status.WriteFault answer old.sink new.sink text → answer ≡ status.WriteFault
       write-fault (inl p) = p.0
       write-fault (inr p) = p.0
-  told-by status.Usage text q p = absurd (no-usage words old.files new.files (Uses u) is (keeps-inputs old.files new.files (Uses u) tells own_output) q.0)
+  told-by status.Usage text q p = by q.0
+    where
+      by : IsUsageCause words old.files new.files ⊎ LacksTask words old.files
+          → (b : ToolAnswer) × IsAnswer u.tool u.counts u.inputs inputs b × Told words b u.output old new answer
+      by (inl h) = absurd (no-usage words old.files new.files (Uses u) is (keeps-inputs old.files new.files (Uses u) tells own_output) h)
+      by (inr h) = ended status.Usage tool_answer.NoTask text (own (Uses h.0) tool_answer.NoTask h.1 h.2) refl q.1 q.2 p
   told-by status.ReadFault text q p =
       absurd (no-failed-tool-read old.files new.files u inputs tells i works (subst (IsFailedRead old.files new.files) (one-command words q.0 (Uses u) q.1 is) q.2))
   told-by status.TooLong text q p =
@@ -167,9 +175,11 @@ rose-for (tool_answer.Refused r) output old new h = absurd h
 rose-for (tool_answer.Stopped pc stop) output old new h = absurd h
 rose-for (tool_answer.NotAnImage f) output old new h = absurd h
 rose-for (tool_answer.NotAnElf f) output old new h = absurd h
+rose-for (tool_answer.Explained f) output old new h = absurd h
 rose-for (tool_answer.BadTrace f) output old new h = absurd h
 rose-for tool_answer.NoHolds output old new h = absurd h
 rose-for (tool_answer.OpenDeadline lines) output old new h = absurd h
+rose-for tool_answer.NoTask output old new h = absurd h
 
 not-unwritten-output : (outcome : Outcome) (output : Option (List ℕ)) (old new : Files) → OutputWorks (tool_answer.Done outcome) output old new
     → IsUnwrittenOutput old new output outcome.file → ⊥
@@ -182,9 +192,11 @@ not-unwritten (tool_answer.Refused r) output old new works h = h
 not-unwritten (tool_answer.Stopped pc stop) output old new works h = h
 not-unwritten (tool_answer.NotAnImage f) output old new works h = h
 not-unwritten (tool_answer.NotAnElf f) output old new works h = h
+not-unwritten (tool_answer.Explained f) output old new works h = h
 not-unwritten (tool_answer.BadTrace f) output old new works h = h
 not-unwritten tool_answer.NoHolds output old new works h = h
 not-unwritten (tool_answer.OpenDeadline lines) output old new works h = h
+not-unwritten tool_answer.NoTask output old new works h = h
 
 answers-tool : (words : List (List ℕ)) (a : ToolAnswer) (output : Option (List ℕ)) (old new : World) (answer : Status) → Told words a output old new answer
     → IsToolStatus words a output old new answer

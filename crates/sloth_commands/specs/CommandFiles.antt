@@ -3,6 +3,7 @@ use Rattle.std.specs.Prelude.{ℕ, ◌≡◌, ◌≢◌, ◌⊎◌, List, [], �
 use Rattle.std.specs.List.{AllByRecursion}
 use Rattle.sloth_io.specs.Store.{Files, AreDelivered, IsSaidSame}
 use Rattle.command_line.specs.Command.{Command, Run, Builds, Executes, Lists, Samples, Uses, IsCommand, NoCommand}
+use Rattle.command_line.specs.Tools.{file_names}
 use Rattle.sloth_commands.specs.ToolFiles.{input_deliveries}
 
 -- the file that a run reads its arrivals from
@@ -16,7 +17,7 @@ inputs_of (Builds b) = b.oil ∷ b.src ∷ arrivals_named b.run
 inputs_of (Executes e) = e.img ∷ e.arr ∷ []
 inputs_of (Lists img) = img ∷ []
 inputs_of (Samples seed img) = []
-inputs_of (Uses u) = u.inputs
+inputs_of (Uses u) = file_names u
 
 -- the file that a command writes, if it writes one
 abbrev pub output_of : Command → Option (List ℕ)

@@ -14,6 +14,7 @@ use Rattle.trace_text.specs.ArrivalsText.{ArrivalsFault}
 use Rattle.trace_text.specs.Listing.{listing}
 use Rattle.trace_text.specs.declared.printing.Form.TheVariants as form
 use Rattle.command_line.specs.Command.{Command, Execution, Builds, Executes, Lists, Samples, Uses}
+use Rattle.command_line.specs.Tools.{file_names}
 use Rattle.trace_check.specs.Inputs.{AreArrivalsOf}
 use Rattle.sloth_commands.specs.FileInputs.{IsInput}
 use Rattle.sloth_commands.specs.ToolFiles.{ReadsImageFirst, input_deliveries}
@@ -47,7 +48,7 @@ IsImageFileDelivered files (Builds b) file i = ⊥
 IsImageFileDelivered files (Executes e) file i = files.reads ≡ exec_deliveries e file i.0
 IsImageFileDelivered files (Lists img) file i = files.reads ≡ (img, file) ∷ []
 IsImageFileDelivered files (Samples seed img) file i = ⊥
-IsImageFileDelivered files (Uses u) file i = files.reads ≡ input_deliveries u.inputs (file ∷ i.rest)
+IsImageFileDelivered files (Uses u) file i = files.reads ≡ input_deliveries (file_names u) (file ∷ i.rest)
 
 -- ---- `exec`
 

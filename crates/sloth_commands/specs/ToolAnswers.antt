@@ -3,7 +3,7 @@ use Rattle.std.specs.Prelude.{ℕ, ◌≡◌, ◌⊎◌, List, Option, Some, IsT
 use Rattle.sloth_io.specs.Counts.{Rose}
 use Rattle.sloth_io.specs.Store.{Files}
 use Rattle.command_line.specs.Command.{Uses, IsCommand}
-use Rattle.command_line.specs.Tools.{ToolUse}
+use Rattle.command_line.specs.Tools.{ToolUse, file_names}
 use Rattle.command_line.specs.declared.tool.Tool.{Tool}
 use Rattle.tool_commands.specs.Answers.{IsAnswer, is_determined}
 use Rattle.tool_commands.specs.Lines.{tool_text}
@@ -51,7 +51,7 @@ StandsFor tool one other = IsTrue (is_determined tool) → one ≡ other
 abbrev pub HasToolAnswer : List (List ℕ) → World → World → Status → Type 0
 HasToolAnswer words old new answer =
     (u : ToolUse) → IsCommand words (Uses u) → IsTrue old.files.tells → HasOwnOutput (Uses u) → (inputs : List (List ℕ))
-    → AreToolInputs old.files u.inputs inputs
+    → AreToolInputs old.files (file_names u) inputs
     → ReadsWork old.files new.files → (a : ToolAnswer) → IsAnswer u.tool u.counts u.inputs inputs a
     → (b : ToolAnswer) × IsAnswer u.tool u.counts u.inputs inputs b × StandsFor u.tool b a × IsToolStatus words b u.output old new answer
 
@@ -63,7 +63,7 @@ EachWorks u inputs old new = (b : ToolAnswer) → IsAnswer u.tool u.counts u.inp
 abbrev pub HasToolDoneAnswer : List (List ℕ) → World → World → Status → Type 0
 HasToolDoneAnswer words old new answer =
     (u : ToolUse) → IsCommand words (Uses u) → IsTrue old.files.tells → HasOwnOutput (Uses u) → (inputs : List (List ℕ))
-    → AreToolInputs old.files u.inputs inputs
+    → AreToolInputs old.files (file_names u) inputs
     → (a : ToolAnswer) → IsAnswer u.tool u.counts u.inputs inputs a → EachWorks u inputs old new
     → ((b : ToolAnswer) × IsAnswer u.tool u.counts u.inputs inputs b × StandsFor u.tool b a × IsToolTold b u.output old new answer)
     ⊎ IsFullAnswer status.NoMemory words old new answer

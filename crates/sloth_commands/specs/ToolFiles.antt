@@ -1,7 +1,7 @@
 -- What tools read, and what they answer to it.
 use Rattle.std.specs.Prelude.{ℕ, ◌≡◌, List, [], ◌∷◌, IsTrue}
 use Rattle.sloth_io.specs.Store.{Files}
-use Rattle.command_line.specs.Tools.{ToolUse}
+use Rattle.command_line.specs.Tools.{ToolUse, file_names}
 use Rattle.tool_commands.specs.Answers.{IsAnswer, reads_image}
 use Rattle.tool_answers.specs.declared.answer.ToolAnswer.{ToolAnswer}
 use Rattle.sloth_commands.specs.FileInputs.{IsInput}
@@ -22,13 +22,13 @@ input_deliveries (name ∷ names) (bytes ∷ rest) = (name, bytes) ∷ input_del
 -- the tool reads these files, and this is its answer to them
 pub record IsToolAnswer (files : Files) (u : ToolUse) (answer : ToolAnswer) : Type 0 where
   pub inputs : List (List ℕ)
-  pub read : AreToolInputs files u.inputs inputs
+  pub read : AreToolInputs files (file_names u) inputs
   -- and exactly they were read, in this order
-  pub delivered : files.reads ≡ input_deliveries u.inputs inputs
+  pub delivered : files.reads ≡ input_deliveries (file_names u) inputs
   pub is : IsAnswer u.tool u.counts u.inputs inputs answer
 
 -- the tool reads an image file first, which has these bytes
 pub record ReadsImageFirst (files : Files) (u : ToolUse) (file : List ℕ) : Type 0 where
   pub rest : List (List ℕ)
   pub first : IsTrue (reads_image u.tool)
-  pub read : AreToolInputs files u.inputs (file ∷ rest)
+  pub read : AreToolInputs files (file_names u) (file ∷ rest)

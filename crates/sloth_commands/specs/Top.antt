@@ -257,6 +257,8 @@ FilesAfter (tool_answer.NotAnElf fault) old new output = AreFilesSame old new
 FilesAfter (tool_answer.BadTrace fault) old new output = AreFilesSame old new
 FilesAfter tool_answer.NoHolds old new output = AreFilesSame old new
 FilesAfter (tool_answer.OpenDeadline lines) old new output = AreFilesSame old new
+FilesAfter (tool_answer.Explained text) old new output = AreFilesSame old new
+FilesAfter tool_answer.NoTask old new output = AreFilesSame old new
 
 -- the tool has an answer with this status and this text, and the files hold what it says
 pub record IsToolEnd (wanted : Status) (old new : Files) (u : ToolUse) (text : List ℕ) : Type 0 where
@@ -325,10 +327,15 @@ IsPutAnswer wanted answer old new text = ((answer ≡ wanted) × IsTextTaken old
 abbrev pub IsCloseAnswer : Status → Status → Output → Output → Type 0
 IsCloseAnswer wanted answer old new = ((answer ≡ wanted) × (new ≡ old)) ⊎ ((answer ≡ status.WriteFault) × FailsToPassOn old new)
 
+-- no task has the name that the words of a tool say
+abbrev pub LacksTask : List (List ℕ) → Files → Type 0
+LacksTask words old = (u : ToolUse) × IsCommand words (Uses u) × IsToolAnswer old u tool_answer.NoTask
+
 -- What an answer requires: its cause, this text, and what the files hold.
 abbrev pub IsRequired : Status → List (List ℕ) → Files → Files → List ℕ → Type 0
 IsRequired status.Done words old new text = (c : Command) × IsCommand words c × IsCommandDone old new c text
-IsRequired status.Usage words old new text = IsUsageCause words old new × (text ≡ codes "usage\n") × AreFilesSame old new
+IsRequired status.Usage words old new text =
+    (IsUsageCause words old new ⊎ LacksTask words old) × (text ≡ codes "usage\n") × AreFilesSame old new
 IsRequired status.Refused words old new text =
     (c : Command) × IsCommand words c × (refusal : Refusal) × IsCommandRefused old c refusal × (text ≡ refusal_line refusal) × AreFilesSame old new
 IsRequired status.ReadFault words old new text =
@@ -352,6 +359,8 @@ IsRequired status.NoHolds words old new text =
 IsRequired status.OpenDeadline words old new text =
     (u : ToolUse) × IsCommand words (Uses u) × (lines : List ℕ) × IsToolAnswer old u (tool_answer.OpenDeadline lines) × (text ≡ lines)
     × AreFilesSame old new
+IsRequired status.Explained words old new text =
+    (u : ToolUse) × IsCommand words (Uses u) × (lines : List ℕ) × IsToolAnswer old u (tool_answer.Explained lines) × (text ≡ lines) × AreFilesSame old new
 
 -- The sink took the text that the answer requires, and the files hold what it requires; or a put failed, the answer is WriteFault, and
 -- this holds of another answer and a part of its text.

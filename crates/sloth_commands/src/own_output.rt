@@ -5,7 +5,7 @@ ghost use Rattle.command_line.specs.Words.{building_of, command_of, run_of, use_
 ghost use Rattle.sloth_commands.specs.CommandFiles.{arrivals_named, HasOwnOutput, IsFileAmong, IsNameApart, IsOnlyAsked, OverwritesInput};
 
 use command_line::command::{BuildWords, CommandWords, RunWords};
-use command_line::tool::ToolWords;
+use command_line::tool::{ToolWords, file_words};
 use sloth_io::store::Store;
 
 // Whether the file of a name is one of these.
@@ -60,7 +60,7 @@ fn is_tool_input<F: Store>(files: &mut F, words: &ToolWords) -> bool
     ensures only { IsOnlyAsked (F.seen files.old) (F.seen files.new) }
 {
     match words.output {
-        Some(name) => is_among(files, name, words.inputs),
+        Some(name) => is_among(files, name, file_words(words)),
         None => false,
     }
 }

@@ -3,7 +3,7 @@ ghost use Rattle.std.specs.Prelude.{◌≡◌, ◌++◌, IfOk, IfErr, OnOk};
 ghost use Rattle.sloth_io.specs.Lines.{lines_in};
 ghost use Rattle.sloth_io.specs.Store.{KeepsFiles, AreDelivered, call_files};
 ghost use Rattle.command_line.specs.Command.{Uses, words_of};
-ghost use Rattle.command_line.specs.Tools.{IsToolUse};
+ghost use Rattle.command_line.specs.Tools.{IsToolUse, file_names};
 ghost use Rattle.command_line.specs.Words.{use_of};
 ghost use Rattle.tool_commands.specs.Lines.{tool_text};
 ghost use Rattle.tool_answers.specs.declared.answer.ToolAnswer.TheVariants as tool_answer;
@@ -17,7 +17,7 @@ ghost use Rattle.sloth_commands.specs.ToolLines.{IsAnswerUntold, IsToldByLine, I
 use crate::failure::Failure;
 use crate::inputs::fetch;
 use command_line::last_line::{no_image_line, refusal_line};
-use command_line::tool::ToolWords;
+use command_line::tool::{ToolWords, file_words};
 use line_words::stop_line::stopped_line;
 use sloth_base::list::List;
 use sloth_io::lines::put_lines;
@@ -46,6 +46,22 @@ fn fetch_all<F: Store>(
         inputs.push(List::from_vec(bytes))?;
     }
     Ok(inputs)
+}
+
+// The bytes of the files of a tool.
+fn fetch_inputs<F: Store>(
+    alloc: Global,
+    files: &mut F,
+    words: &ToolWords,
+) -> Result<Vec<List<u8>>, Failure>
+    ensures ok { IfOk result (λ inputs. AreToolInputs (F.seen files.old) (file_names (use_of words.now)) inputs.items) }
+    ensures err { IfErr result (λ failure. IsReadFailure failure (F.seen files.old) (F.seen files.new) (file_names (use_of words.now))) }
+    ensures keeps { KeepsFiles (F.seen files.old) (F.seen files.new) }
+    ensures delivered { IfOk result (λ inputs.
+        AreDelivered (F.seen files.old) (F.seen files.new) (input_deliveries (file_names (use_of words.now)) inputs.items)) }
+    ensures front { IfErr result (λ _. AreFirstDelivered (F.seen files.old) (F.seen files.new) (file_names (use_of words.now))) }
+{
+    fetch_all(alloc, files, file_words(words))
 }
 
 // Writes the file of a tool that was done, if it writes one.
@@ -119,6 +135,8 @@ fn tell_text<F: Store, S: Sink>(
         ToolAnswer::BadTrace(fault) => tell_line(out, bad_trace_line(*fault).bytes()),
         ToolAnswer::NoHolds => tell_line(out, b"no holds\n"),
         ToolAnswer::OpenDeadline(text) => tell_line(out, text.items()),
+        ToolAnswer::Explained(text) => tell_line(out, text.items()),
+        ToolAnswer::NoTask => tell_line(out, b"usage\n"),
     }
 }
 
@@ -163,7 +181,7 @@ pub fn use_tool<F: Store, S: Sink>(
         (world (call_files (F.seen files.old) (F.seen files.new)) (S.seen out.old)) (world (F.seen files.new) (S.seen out.new))
         (S.pieces out.old) (S.pieces out.new) (Uses (use_of words.now))) }
 {
-    let inputs = fetch_all(alloc, files, words.inputs)?;
+    let inputs = fetch_inputs(alloc, files, words)?;
     let answer = judge(
         alloc,
         words.tool,

@@ -20,6 +20,7 @@ exit_status status.NotAnElf = 9
 exit_status status.BadTrace = 10
 exit_status status.NoHolds = 11
 exit_status status.OpenDeadline = 12
+exit_status status.Explained = 2
 
 -- the status of an answer
 abbrev pub tool_status : ToolAnswer → Status
@@ -31,3 +32,5 @@ tool_status (tool_answer.NotAnElf fault) = status.NotAnElf
 tool_status (tool_answer.BadTrace fault) = status.BadTrace
 tool_status tool_answer.NoHolds = status.NoHolds
 tool_status (tool_answer.OpenDeadline lines) = status.OpenDeadline
+tool_status (tool_answer.Explained text) = status.Explained
+tool_status tool_answer.NoTask = status.Usage

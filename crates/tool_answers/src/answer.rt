@@ -38,6 +38,10 @@ pub enum ToolAnswer {
     NoHolds,
     /// A text that says of a deadline that it is not met.
     OpenDeadline(List<u8>),
+    /// The whole text of a refusal with what stands behind it.
+    Explained(List<u8>),
+    /// No task has the name that is asked for.
+    NoTask,
 }
 
 impl ToolAnswer {
@@ -56,6 +60,8 @@ impl ToolAnswer {
             ToolAnswer::BadTrace(_) => Status::BadTrace,
             ToolAnswer::NoHolds => Status::NoHolds,
             ToolAnswer::OpenDeadline(_) => Status::OpenDeadline,
+            ToolAnswer::Explained(_) => Status::Explained,
+            ToolAnswer::NoTask => Status::Usage,
         }
     }
 }

@@ -17,6 +17,8 @@ pub enum Status {
     BadTrace,
     NoHolds,
     OpenDeadline,
+    /// Refused, with what stands behind the refusal.
+    Explained,
 }
 
 impl Status {
@@ -40,6 +42,7 @@ impl Status {
             Status::BadTrace => 10,
             Status::NoHolds => 11,
             Status::OpenDeadline => 12,
+            Status::Explained => 2,
         }
     }
 }

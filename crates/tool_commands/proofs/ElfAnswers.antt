@@ -45,6 +45,8 @@ elf-view file (answer.NotAnElf fault) h = absurd h
 elf-view file (answer.BadTrace fault) h = absurd h
 elf-view file answer.NoHolds h = absurd h
 elf-view file (answer.OpenDeadline lines) h = absurd h
+elf-view file (answer.Explained lines) h = absurd h
+elf-view file answer.NoTask h = absurd h
 
 elf-file : (file one other : List ℕ) → AreOfOneImage file one → AreOfOneImage file other → one ≡ other
 elf-file file one other h i =
@@ -73,6 +75,8 @@ unelf-view file (answer.NotAnImage fault) h = absurd h
 unelf-view file (answer.BadTrace fault) h = absurd h
 unelf-view file answer.NoHolds h = absurd h
 unelf-view file (answer.OpenDeadline lines) h = absurd h
+unelf-view file (answer.Explained lines) h = absurd h
+unelf-view file answer.NoTask h = absurd h
 
 image-file : (file one other : List ℕ) → AreOfOneImage one file → AreOfOneImage other file → one ≡ other
 image-file file one other h i = let same = elf-unique h.0 i.0 file h.2 i.2 in h.1.written ∙ ap image_bytes same ∙ sym i.1.written

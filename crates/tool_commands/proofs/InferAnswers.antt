@@ -22,11 +22,13 @@ infer-view : (oil src : List ℕ) (a : ToolAnswer) → IsInferAnswer oil src a �
 infer-view oil src (answer.Done outcome) h = inl (record { outcome = outcome; is = refl; file = h.0; text = h.1 })
 infer-view oil src (answer.Refused refusal) h = inr (inl (refusal, refl, h))
 infer-view oil src answer.NoHolds h = inr (inr (refl, h))
+infer-view oil src (answer.Explained lines) h = absurd h
 infer-view oil src (answer.Stopped pc stop) h = absurd h
 infer-view oil src (answer.NotAnImage fault) h = absurd h
 infer-view oil src (answer.NotAnElf fault) h = absurd h
 infer-view oil src (answer.BadTrace fault) h = absurd h
 infer-view oil src (answer.OpenDeadline lines) h = absurd h
+infer-view oil src answer.NoTask h = absurd h
 
 pub infer-one : (oil src : List ℕ) (a b : ToolAnswer) → IsInferAnswer oil src a → IsInferAnswer oil src b → a ≡ b
 infer-one oil src a b p q = by (infer-view oil src a p) (infer-view oil src b q)

@@ -6,7 +6,7 @@ use Rattle.sloth_base.specs.declared.image.Image.{Image}
 use Rattle.image_file.specs.ImageText.{ImageText}
 use Rattle.image_file.specs.Faults.{IsFirstImageFault}
 use Rattle.image_file.specs.declared.fault.ImageFault.{ImageFault}
-use Rattle.command_line.specs.Tools.{input_count, number_of, window_of}
+use Rattle.command_line.specs.Tools.{file_count, number_of, window_of}
 use Rattle.command_line.specs.declared.counts.Counts.{Counts}
 use Rattle.command_line.specs.declared.tool.Tool.{Tool}
 use Rattle.command_line.specs.declared.tool.Tool.TheVariants as tool
@@ -53,10 +53,12 @@ one_answer tool.Map counts names inputs a b d p q =
 one_answer tool.Shares counts names inputs a b d p q =
     let oil = input inputs 0 in let src = input inputs 1 in one_source oil src (SharesSays oil src) (one_shares oil src) a b p q
 one_answer tool.Response counts names inputs a b d p q = one_response_answer (input inputs 0) (input inputs 1) (input inputs 2) a b p q
+one_answer tool.TaskResponse counts names inputs a b d p q = absurd (false≢true d)
 one_answer tool.Symbols counts names inputs a b d p q = absurd (false≢true d)
+one_answer tool.Why counts names inputs a b d p q = absurd (false≢true d)
 
 -- a tool that reads an image file reads a file
-pub reads-one : (t : Tool) → IsTrue (reads_image t) → 1 ≤ input_count t
+pub reads-one : (t : Tool) → IsTrue (reads_image t) → 1 ≤ file_count t
 reads-one tool.Elf h = omega arith
 reads-one tool.Unelf h = omega arith
 reads-one tool.Infer h = omega arith
@@ -72,6 +74,8 @@ reads-one tool.LowerCounts h = omega arith
 reads-one tool.Map h = omega arith
 reads-one tool.Shares h = omega arith
 reads-one tool.Response h = omega arith
+reads-one tool.Why h = omega arith
+reads-one tool.TaskResponse h = omega arith
 reads-one tool.Symbols h = omega arith
 
 -- only a tool that reads an image file says that it is none, by its first fault
@@ -93,6 +97,8 @@ no-image tool.LowerCounts counts names inputs fault h = absurd h
 no-image tool.Map counts names inputs fault h = absurd h
 no-image tool.Shares counts names inputs fault h = absurd h
 no-image tool.Response counts names inputs fault h = absurd h
+no-image tool.Why counts names inputs fault h = absurd h
+no-image tool.TaskResponse counts names inputs fault h = absurd h
 no-image tool.Symbols counts names inputs fault h = absurd h
 
 -- these bytes are an image's
@@ -125,4 +131,6 @@ image-or-fault tool.LowerCounts counts names inputs a reads h = absurd (false≢
 image-or-fault tool.Map counts names inputs a reads h = absurd (false≢true reads)
 image-or-fault tool.Shares counts names inputs a reads h = absurd (false≢true reads)
 image-or-fault tool.Response counts names inputs a reads h = absurd (false≢true reads)
+image-or-fault tool.Why counts names inputs a reads h = absurd (false≢true reads)
+image-or-fault tool.TaskResponse counts names inputs a reads h = absurd (false≢true reads)
 image-or-fault tool.Symbols counts names inputs a reads h = absurd (false≢true reads)

@@ -1,12 +1,13 @@
 -- Texts have one answer of `response`.
-use Rattle.std.proofs.Common.{◌≡◌, ◌∙◌, ℕ, List, [], Bool, true, false, refl, sym, ap}
+use Rattle.std.proofs.Common.{◌≡◌, ◌∙◌, ℕ, List, Bool, true, false, Some, refl, sym, ap}
 use Rattle.sloth_base.specs.declared.refusal.Refusal.{Refusal}
 use Rattle.response_text.specs.declared.told.Told.{Told}
 use Rattle.response_text.specs.Inputs.{IsRefusal}
 use Rattle.response_text.specs.ResponseText.{IsResponseText}
+use Rattle.response_text.specs.TaskText.{IsTaskText}
 use Rattle.response_text.proofs.OneText.{one_text}
 use Rattle.response_text.proofs.Refused.{not_refused, one_way}
-use Rattle.tool_commands.specs.ResponseAnswers.{IsResponseAnswer, response_answer}
+use Rattle.tool_commands.specs.ResponseAnswers.{IsResponseAnswer, IsTaskResponseAnswer, response_answer}
 use Rattle.tool_answers.specs.declared.answer.ToolAnswer.{ToolAnswer}
 use Rattle.tool_answers.specs.declared.answer.ToolAnswer.TheVariants as answer
 use Rattle.tool_commands.proofs.ElfAnswers.{same-outcome}
@@ -43,21 +44,29 @@ module _ (oil src load : List ℕ) where
   one_response_answer (answer.NotAnElf fault) other a b = absurd a
   one_response_answer (answer.BadTrace fault) other a b = absurd a
   one_response_answer answer.NoHolds other a b = absurd a
+  one_response_answer (answer.Explained lines) other a b = absurd a
+  one_response_answer answer.NoTask other a b = absurd a
   one_response_answer (answer.Done o) (answer.Stopped pc stop) a b = absurd b
   one_response_answer (answer.Done o) (answer.NotAnImage fault) a b = absurd b
   one_response_answer (answer.Done o) (answer.NotAnElf fault) a b = absurd b
   one_response_answer (answer.Done o) (answer.BadTrace fault) a b = absurd b
   one_response_answer (answer.Done o) answer.NoHolds a b = absurd b
+  one_response_answer (answer.Done o) (answer.Explained lines) a b = absurd b
+  one_response_answer (answer.Done o) answer.NoTask a b = absurd b
   one_response_answer (answer.OpenDeadline l) (answer.Stopped pc stop) a b = absurd b
   one_response_answer (answer.OpenDeadline l) (answer.NotAnImage fault) a b = absurd b
   one_response_answer (answer.OpenDeadline l) (answer.NotAnElf fault) a b = absurd b
   one_response_answer (answer.OpenDeadline l) (answer.BadTrace fault) a b = absurd b
   one_response_answer (answer.OpenDeadline l) answer.NoHolds a b = absurd b
+  one_response_answer (answer.OpenDeadline l) (answer.Explained lines) a b = absurd b
+  one_response_answer (answer.OpenDeadline l) answer.NoTask a b = absurd b
   one_response_answer (answer.Refused r) (answer.Stopped pc stop) a b = absurd b
   one_response_answer (answer.Refused r) (answer.NotAnImage fault) a b = absurd b
   one_response_answer (answer.Refused r) (answer.NotAnElf fault) a b = absurd b
   one_response_answer (answer.Refused r) (answer.BadTrace fault) a b = absurd b
   one_response_answer (answer.Refused r) answer.NoHolds a b = absurd b
+  one_response_answer (answer.Refused r) (answer.Explained lines) a b = absurd b
+  one_response_answer (answer.Refused r) answer.NoTask a b = absurd b
 
 -- what is told is an answer
 pub told_answer : (oil src load : List ℕ) (told : Told) → IsResponseText oil src load told → IsResponseAnswer oil src load (response_answer told)
@@ -65,5 +74,15 @@ told_answer oil src load told h = by told.is_open h
   where
     by : (late : Bool) → IsResponseText oil src load (record { text = told.text; is_open = late })
         → IsResponseAnswer oil src load (response_answer (record { text = told.text; is_open = late }))
+    by true is = is
+    by false is = (is, refl)
+
+-- so it is of one task
+pub task_told_answer : (oil src load name : List ℕ) (told : Told) → IsTaskText oil src load name (Some told)
+    → IsTaskResponseAnswer oil src load name (response_answer told)
+task_told_answer oil src load name told h = by told.is_open h
+  where
+    by : (late : Bool) → IsTaskText oil src load name (Some (record { text = told.text; is_open = late }))
+        → IsTaskResponseAnswer oil src load name (response_answer (record { text = told.text; is_open = late }))
     by true is = is
     by false is = (is, refl)

@@ -3,6 +3,7 @@ use Rattle.std.proofs.Common.{◌∙◌, ℕ, List, sym, ap}
 use Rattle.sloth_base.specs.declared.event.Arrival.{Arrival}
 use Rattle.sloth_base.specs.declared.image.Image.{Image}
 use Rattle.sloth_runner.proofs.OneSample.{one-samples}
+use Rattle.wave_text.specs.Moments.{moments_of}
 use Rattle.wave_text.specs.Waves.{AreWavesOf, waves_text}
 use Rattle.tool_commands.proofs.RunAnswers.{IsOneText}
 
@@ -14,6 +15,6 @@ pub one_waves : (n : ℕ) → IsOneText (Waves n) n
 one_waves n = record {
   one = λ image arrivals file other h k.
       let samples = one-samples image arrivals 0 h.samples k.samples h.are_samples k.are_samples (h.counted ∙ sym k.counted) in
-      h.is ∙ ap (waves_text image) samples ∙ sym k.is;
+      h.is ∙ ap (λ xs. waves_text image (moments_of image arrivals xs)) samples ∙ sym k.is;
   whole = λ image arrivals file h. h.whole;
 }

@@ -13,17 +13,18 @@ use Rattle.tool_commands.specs.AtAnswers.{IsAtAnswer}
 use Rattle.tool_commands.specs.LossesAnswers.{IsLossesAnswer}
 use Rattle.tool_commands.specs.MapAnswers.{IsMapAnswer}
 use Rattle.tool_commands.specs.SharesAnswers.{IsSharesAnswer}
-use Rattle.tool_commands.specs.ResponseAnswers.{IsResponseAnswer}
+use Rattle.tool_commands.specs.WhyAnswers.{IsWhyAnswer}
+use Rattle.tool_commands.specs.ResponseAnswers.{IsResponseAnswer, IsTaskResponseAnswer}
 use Rattle.tool_commands.specs.PictureAnswers.{IsPictureAnswer}
 use Rattle.tool_commands.specs.SymbolsAnswers.{IsSymbolsAnswer}
 use Rattle.tool_commands.specs.WaveAnswers.{IsWaveAnswer}
 use Rattle.tool_answers.specs.declared.answer.ToolAnswer.{ToolAnswer}
 
--- the bytes of a file, or its name, by its place in the order of the words
+-- the bytes of a file, or a name, by its place in the order of the words
 abbrev pub input : List (List ℕ) → ℕ → List ℕ
 input inputs k = get_or inputs k []
 
--- the answer of a tool with these counts, if it takes any, to files of these names and bytes
+-- the answer of a tool with these counts, if it takes any, and these names to files of these bytes
 abbrev pub IsAnswer : Tool → Option Counts → (names inputs : List (List ℕ)) → ToolAnswer → Type 0
 IsAnswer tool.Elf counts names inputs answer = IsElfAnswer (input inputs 0) answer
 IsAnswer tool.Unelf counts names inputs answer = IsUnelfAnswer (input inputs 0) answer
@@ -41,6 +42,9 @@ IsAnswer tool.LowerCounts counts names inputs answer = IsLowerCountsAnswer (inpu
 IsAnswer tool.Map counts names inputs answer = IsMapAnswer (input inputs 0) (input inputs 1) answer
 IsAnswer tool.Shares counts names inputs answer = IsSharesAnswer (input inputs 0) (input inputs 1) answer
 IsAnswer tool.Response counts names inputs answer = IsResponseAnswer (input inputs 0) (input inputs 1) (input inputs 2) answer
+IsAnswer tool.Why counts names inputs answer = IsWhyAnswer (input inputs 0) (input inputs 1) answer
+IsAnswer tool.TaskResponse counts names inputs answer =
+    IsTaskResponseAnswer (input inputs 0) (input inputs 1) (input inputs 2) (input names 3) answer
 IsAnswer tool.Symbols counts names inputs answer = IsSymbolsAnswer (input inputs 0) (input inputs 1) (input names 1) answer
 
 -- the first file that it reads is to be an image file
@@ -60,9 +64,11 @@ reads_image tool.LowerCounts = false
 reads_image tool.Map = false
 reads_image tool.Shares = false
 reads_image tool.Response = false
+reads_image tool.Why = false
+reads_image tool.TaskResponse = false
 reads_image tool.Symbols = false
 
--- its answer is determined by what it reads; the file of `symbols` by the image too, of which there may be more than one
+-- its answer is determined by what it reads; the file of `symbols` by the image too, and of a response's starts more than one may be the greatest
 abbrev pub is_determined : Tool → Bool
 is_determined tool.Elf = true
 is_determined tool.Unelf = true
@@ -79,6 +85,8 @@ is_determined tool.LowerCounts = true
 is_determined tool.Map = true
 is_determined tool.Shares = true
 is_determined tool.Response = true
+is_determined tool.Why = false
+is_determined tool.TaskResponse = false
 is_determined tool.Symbols = false
 
 -- files have one answer of such a tool

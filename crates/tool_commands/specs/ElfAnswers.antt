@@ -23,6 +23,8 @@ IsElfAnswer file (answer.NotAnElf fault) = ⊥
 IsElfAnswer file (answer.BadTrace fault) = ⊥
 IsElfAnswer file answer.NoHolds = ⊥
 IsElfAnswer file (answer.OpenDeadline lines) = ⊥
+IsElfAnswer file (answer.Explained lines) = ⊥
+IsElfAnswer file answer.NoTask = ⊥
 
 -- `unelf`: the image file of the ELF file, or the ELF file's first fault
 abbrev pub IsUnelfAnswer : List ℕ → ToolAnswer → Type 0
@@ -34,3 +36,5 @@ IsUnelfAnswer file (answer.NotAnImage fault) = ⊥
 IsUnelfAnswer file (answer.BadTrace fault) = ⊥
 IsUnelfAnswer file answer.NoHolds = ⊥
 IsUnelfAnswer file (answer.OpenDeadline lines) = ⊥
+IsUnelfAnswer file (answer.Explained lines) = ⊥
+IsUnelfAnswer file answer.NoTask = ⊥

@@ -10,6 +10,7 @@ pub mod LossesText
 pub mod MapAnswers
 pub mod ResponseAnswers
 pub mod SharesAnswers
+pub mod WhyAnswers
 pub mod PictureAnswers
 pub mod RunAnswers
 pub mod SourceAnswers

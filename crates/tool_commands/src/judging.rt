@@ -2,7 +2,7 @@
 ghost use Rattle.std.specs.Prelude.{◌≡◌, ◌≤◌, ◌<◌, IfOk, All, length};
 ghost use Rattle.sloth_base.specs.Limits.{file_limit};
 ghost use Rattle.command_line.specs.Command.{words_of};
-ghost use Rattle.command_line.specs.Tools.{input_count, counts_limit, AreCounts};
+ghost use Rattle.command_line.specs.Tools.{input_count, file_count, counts_limit, AreCounts};
 ghost use Rattle.tool_commands.specs.Answers.{IsAnswer, input};
 
 use crate::at_all_command::at_all;
@@ -13,10 +13,11 @@ use crate::infer_command::infer;
 use crate::losses_command::losses;
 use crate::map_command::map;
 use crate::picture_command::picture;
-use crate::response_command::response;
+use crate::response_command::{response, task_response};
 use crate::shares_command::shares;
 use crate::symbols_command::symbols;
 use crate::wave_command::wave;
+use crate::why_command::why;
 use command_line::counts::{Counts, number_of, window_of};
 use command_line::tool::Tool;
 use sloth_base::list::List;
@@ -25,7 +26,7 @@ use std::alloc::Global;
 use tool_answers::answer::ToolAnswer;
 use tool_answers::check_command::check;
 
-// The name of a file, by its place in the order of the words.
+// A name, by its place in the order of the words.
 fn name_of(names: &[String], place: usize) -> &[u8]
     requires { place < length names.now }
     ensures { result.now ≡ input (words_of names.now) place }
@@ -33,7 +34,7 @@ fn name_of(names: &[String], place: usize) -> &[u8]
     names[place].as_str().as_bytes()
 }
 
-/// The answer of a tool with these counts, if it takes any, to files of these names and bytes.
+/// The answer of a tool with these counts, if it takes any, and these names to files of these bytes.
 pub fn judge(
     alloc: Global,
     tool: Tool,
@@ -42,7 +43,7 @@ pub fn judge(
     inputs: &[List<u8>],
 ) -> Result<ToolAnswer, NoMemory>
     requires named { length names.now ≡ input_count tool }
-    requires counted { length inputs.now ≡ input_count tool }
+    requires counted { length inputs.now ≡ file_count tool }
     requires counts { AreCounts (counts_limit tool) counts }
     requires short { All (λ input. length input ≤ file_limit) inputs.now }
     ensures { IfOk result (λ answer. IsAnswer tool counts (words_of names.now) inputs.now answer) }
@@ -99,6 +100,14 @@ pub fn judge(
             inputs[0].items(),
             inputs[1].items(),
             inputs[2].items(),
+        ),
+        Tool::Why => why(alloc, inputs[0].items(), inputs[1].items()),
+        Tool::TaskResponse => task_response(
+            alloc,
+            inputs[0].items(),
+            inputs[1].items(),
+            inputs[2].items(),
+            name_of(names, 3),
         ),
         Tool::Symbols => symbols(
             alloc,

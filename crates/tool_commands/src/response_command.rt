@@ -1,10 +1,10 @@
 //! The command `response`.
 ghost use Rattle.std.specs.Prelude.{◌≡◌, ◌≤◌, IfOk, length};
 ghost use Rattle.sloth_base.specs.Limits.{file_limit};
-ghost use Rattle.tool_commands.specs.ResponseAnswers.{IsResponseAnswer, response_answer};
+ghost use Rattle.tool_commands.specs.ResponseAnswers.{IsResponseAnswer, IsTaskResponseAnswer, response_answer};
 
-use response_text::response_text;
 use response_text::told::Told;
+use response_text::{response_parts, response_text};
 use sloth_base::list::List;
 use sloth_base::memory::NoMemory;
 use sloth_base::refusal::BuildError;
@@ -35,6 +35,28 @@ pub fn response(alloc: Global, oil: &[u8], src: &[u8], load: &[u8]) -> Result<To
 {
     match response_text(alloc, oil, src, load) {
         Ok(told) => Ok(answer_of(alloc, told)),
+        Err(BuildError::Refused(refusal)) => Ok(ToolAnswer::Refused(refusal)),
+        Err(BuildError::Memory) => Err(NoMemory),
+    }
+}
+
+#[tactic(auto, using(crate::proofs::ResponseAnswers::task_told_answer))]
+/// How soon the task of this name has left the processor, and of what that is made; or the first refusal.
+pub fn task_response(
+    alloc: Global,
+    oil: &[u8],
+    src: &[u8],
+    load: &[u8],
+    name: &[u8],
+) -> Result<ToolAnswer, NoMemory>
+    requires oil { length oil.now ≤ file_limit }
+    requires src { length src.now ≤ file_limit }
+    requires load { length load.now ≤ file_limit }
+    ensures { IfOk result (λ answer. IsTaskResponseAnswer oil.now src.now load.now name.now answer) }
+{
+    match response_parts(alloc, oil, src, load, name) {
+        Ok(Some(told)) => Ok(answer_of(alloc, told)),
+        Ok(None) => Ok(ToolAnswer::NoTask),
         Err(BuildError::Refused(refusal)) => Ok(ToolAnswer::Refused(refusal)),
         Err(BuildError::Memory) => Err(NoMemory),
     }

@@ -6,6 +6,9 @@ use crate::repeats::number_before;
 use crate::rows::{Piece, Rows};
 use crate::syntax::shown;
 use crate::texts::{LONGEST, Texts, add_text, append, refill};
+use debug_command::words::DebugWords;
+use debug_command::{debug, debug_words};
+use session_input::mem_input::MemInput;
 use sloth_base::list::List;
 use sloth_base::memory::NoMemory;
 use sloth_base::name::Name;
@@ -72,9 +75,20 @@ pub struct Outcome {
     pub img: Vec<u8>,
 }
 
+// A session on whose input the OIL text comes.
+fn session(alloc: Global, asked: &DebugWords, files: &mut MemStore, out: &mut MemSink) -> Status {
+    let mut bytes = Vec::new(alloc);
+    append(&mut bytes, files.file("oil").unwrap_or(b""));
+    let mut input = MemInput::new(bytes.as_slice(), false);
+    debug(alloc, files, &mut input, out, asked)
+}
+
 // Does what the words say.
 fn top(alloc: Global, words: &[String], files: &mut MemStore, out: &mut MemSink) -> Status {
-    sloth_top(alloc, words, files, out)
+    match debug_words(words) {
+        Some(asked) => session(alloc, &asked, files, out),
+        None => sloth_top(alloc, words, files, out),
+    }
 }
 
 // What was printed, with how the command ended behind it.

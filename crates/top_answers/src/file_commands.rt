@@ -25,13 +25,13 @@ fn print_flag(rt: &(impl Print + AllocGlobal), text: &str, flag: bool) {
 }
 
 // Runs the command of these words, and prints the number of its status.
-fn run_line(rt: &(impl Files + Print + AllocGlobal), words: &[String]) {
+fn run_line(rt: &(impl Files + Print + Input + AllocGlobal), words: &[String]) {
     let status = run_words(rt, words);
     print_status(rt, status.code());
 }
 
 // Runs the command of a line, and prints the number of its status.
-fn run(rt: &(impl Files + Print + AllocGlobal), line: &str) {
+fn run(rt: &(impl Files + Print + Input + AllocGlobal), line: &str) {
     let words = words(rt.alloc(), line);
     run_line(rt, words.as_slice());
 }
@@ -51,7 +51,7 @@ fn are_same(rt: &(impl Files + AllocGlobal), one: &str, other: &str) -> bool {
 }
 
 /// Draws the picture anew, and prints whether it is the one of the file `door.svg`.
-pub fn compare_picture(rt: &(impl Files + Print + AllocGlobal)) {
+pub fn compare_picture(rt: &(impl Files + Print + Input + AllocGlobal)) {
     run(rt, "build door.oil door.src door.img");
     run(rt, "picture door.img door.arr 0 1200 drawn.svg");
     let same = are_same(rt, "drawn.svg", "door.svg");
@@ -59,7 +59,7 @@ pub fn compare_picture(rt: &(impl Files + Print + AllocGlobal)) {
 }
 
 /// Runs commands that would write over a file that they read: by its name, by another path, and by a link. It stays as it is.
-pub fn run_over_inputs(rt: &(impl Files + Print + AllocGlobal)) {
+pub fn run_over_inputs(rt: &(impl Files + Print + Input + AllocGlobal)) {
     run(rt, "build door.oil door.src door.src");
     run(rt, "run door.oil door.src door.arr ./door.arr 10");
     let _ = symlink(rt, "door.img", "door.link");
@@ -71,6 +71,6 @@ pub fn run_over_inputs(rt: &(impl Files + Print + AllocGlobal)) {
 }
 
 /// Runs a command of whose files one is missing.
-pub fn run_missing(rt: &(impl Files + Print + AllocGlobal)) {
+pub fn run_missing(rt: &(impl Files + Print + Input + AllocGlobal)) {
     run(rt, "build same.oil missing.src same.img");
 }

@@ -16,7 +16,7 @@
 //! - `sweep`, and words such as `1 400 High / run oil src arr img 3000 / once enter High / each run High High 0 / last`: the command is run
 //!   once for each of the moments, with one arrival of the task then, and what the questions ask of the lines of all runs is printed;
 //! - a command, such as `order oil src arr img 5000`: it is run on the files of these names. The image file that it leaves is kept; one that reads
-//!   the image file writes to `out`, which takes its place.
+//!   the image file writes to `out`, which takes its place. On the input of `debug img arr` comes the OIL text.
 //!   Nothing behind `=== ` is a command without words.
 //!
 //! What the readers alone make of a text is asked by a line behind it: `tokens`, `tree` and `config` of an OIL text, `counts`, `listing`, `sizes`
@@ -195,7 +195,7 @@ fn list_answers(rt: &(impl Input + Print + AllocGlobal)) {
 }
 
 // What is done on files of the system.
-fn list_files(rt: &(impl Files + Print + AllocGlobal)) {
+fn list_files(rt: &(impl Files + Print + Input + AllocGlobal)) {
     list_outside(rt);
     compare_picture(rt);
     run_over_inputs(rt);

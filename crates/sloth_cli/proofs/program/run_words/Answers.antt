@@ -1,6 +1,21 @@
+use Rattle.std.proofs.Common.{ℕ, List, None, inl, inr, subst}
 use Rattle.sloth_io.specs.FileStore.{shown_files}
 use Rattle.sloth_io.specs.OutSink.{shown_output, given_bytes}
+use Rattle.debug_command.specs.DebugAnswers.{heard}
+use Rattle.debug_command.specs.DebugRun.{IsDebugRun}
+use Rattle.debug_command.specs.Words.{debugging_of}
 use Rattle.sloth_cli.proofs.program.run_words.Goals as goal
 
-pub returns : goal.returns
-returns g c = (shown_files c.run_over.new.files, given_bytes c.run_over.new.out, (shown_output c.run_over.new.out).faults, c.run_over.ensures)
+pub returns-in-Some : goal.returns-in-Some
+returns-in-Some g c =
+    let d = debugging_of c.in-Some.asked in
+    let files = shown_files c.debug_over.new.files in
+    let out = c.debug_over.new.out in
+    let came = c.debug_over.new.input.given.items in
+    let B : List ℕ → Type 0 = λ before. IsDebugRun d (heard None before came) files (given_bytes out) (shown_output out).faults c.debug_over.result in
+    inl (d, c.in-Some.ensures.some, (came, files, given_bytes out, (shown_output out).faults, subst B c.new-input.ensures.given c.debug_over.ensures))
+
+pub returns-in-None : goal.returns-in-None
+returns-in-None g c =
+    let out = c.run_over.new.out in
+    inr (c.in-None.ensures.none, (shown_files c.run_over.new.files, given_bytes out, (shown_output out).faults, c.run_over.ensures))

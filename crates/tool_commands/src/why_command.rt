@@ -1,0 +1,57 @@
+//! The command `why`.
+ghost use Rattle.std.specs.Prelude.{◌≡◌, ◌≤◌, codes, IfOk, length};
+ghost use Rattle.sloth_base.specs.Limits.{file_limit};
+ghost use Rattle.why_text.specs.WhyLines.{IsWhy};
+ghost use Rattle.why_text.specs.declared.why.Why.TheVariants as why_is;
+ghost use Rattle.tool_commands.specs.WhyAnswers.{IsExplained, IsWhyAnswer};
+
+use command_line::last_line::refusal_line;
+use sloth_base::list::List;
+use sloth_base::memory::NoMemory;
+use sloth_base::refusal::Refusal;
+use std::alloc::Global;
+use tool_answers::answer::ToolAnswer;
+use tool_answers::text_answer::told;
+use why_text::why::{Why, explain};
+
+// The line of a refusal, and the lines behind it.
+fn explained(
+    alloc: Global,
+    oil: &[u8],
+    src: &[u8],
+    refusal: Refusal,
+    lines: &[u8],
+) -> Result<List<u8>, NoMemory>
+    requires { IsWhy oil.now src.now (why_is.Refused refusal lines.now) }
+    ensures { IfOk result (IsExplained oil.now src.now) }
+{
+    let line = refusal_line(refusal);
+    let mut text = Vec::from_slice(alloc, line.bytes())?;
+    text.extend_from_slice(lines)?;
+    Ok(List::from_vec(text))
+}
+
+fn accepted(alloc: Global) -> Result<Vec<u8>, NoMemory>
+    ensures { IfOk result (λ text. text.items ≡ codes "accepted\n") }
+{
+    let text = Vec::from_slice(alloc, b"accepted\n")?;
+    Ok(text)
+}
+
+/// That these texts are accepted, or their first refusal and what stands behind it.
+pub fn why(alloc: Global, oil: &[u8], src: &[u8]) -> Result<ToolAnswer, NoMemory>
+    requires oil { length oil.now ≤ file_limit }
+    requires src { length src.now ≤ file_limit }
+    ensures { IfOk result (λ answer. IsWhyAnswer oil.now src.now answer) }
+{
+    match explain(alloc, oil, src)? {
+        Why::Accepted => {
+            let text = accepted(alloc)?;
+            Ok(told(alloc, text))
+        },
+        Why::Refused { refusal, lines } => {
+            let text = explained(alloc, oil, src, refusal, lines.items())?;
+            Ok(ToolAnswer::Explained(text))
+        },
+    }
+}
