@@ -1,6 +1,6 @@
 -- What events leave of one alarm.
 use Rattle.std.proofs.Common.{◌≡◌, ℕ, zero, suc, ◌+◌, ◌-◌, ◌<◌, ◌≤◌, ◌⊎◌, ◌==◌, ◌&&◌, ◌||◌, not, List, [], ◌∷◌, Bool, true, false, cond, length, get_or, refl, sym, ap, ◌∙◌, subst, arith, inl, inr, Some, bit_and, bit_or}
-use Rattle.std.proofs.lemmas.Bool.{cases_eq, cases_lt, cond_both, false≢true, true≢false, eqb-true, eqb-false, ne_eqb, eq-eqb, not-true, and_parts, and_right}
+use Rattle.std.proofs.lemmas.Bool.{cases_eq, cases_lt, cond_both, false≢true, true≢false, eqb-true, eqb-false, ne_eqb, eq-eqb, not-true}
 use Rattle.std.proofs.lemmas.List.{get_or-set_same, get_or_past, set_past}
 use Rattle.sloth_base.specs.Options.{is_number}
 use Rattle.sloth_base.specs.declared.config.Action.{Action}
@@ -8,7 +8,6 @@ use Rattle.sloth_base.specs.declared.config.Action.TheVariants as action
 use Rattle.sloth_base.specs.declared.config.AlarmDecl.{AlarmDecl}
 use Rattle.sloth_base.specs.declared.config.Config.{Config}
 use Rattle.sloth_base.specs.declared.app.App.{App}
-use Rattle.sloth_base.specs.declared.app.Op.TheVariants as op
 use Rattle.sloth_base.specs.declared.event.Event.{Event}
 use Rattle.sloth_base.specs.declared.event.Event.TheVariants as event
 use Rattle.sloth_base.specs.declared.service.Service.{Service}
@@ -27,7 +26,7 @@ use Rattle.osek_scheduler.specs.Changes.{with_change}
 use Rattle.osek_scheduler.specs.Services.{activated_state, woken_state, with_events, set_events, with_left, acted_state, alarm_ticked_state, alarms_ticked_state, counted_on_state, ServiceOutcome, GoesOn, Leaves}
 use Rattle.sloth_base.specs.Status.{E_OK, E_OS_NOFUNC}
 use Rattle.osek_scheduler.specs.Outcomes.{plan, decision, outcome, with_other, planned_system, shown_outcome}
-use Rattle.osek_scheduler.specs.Steps.{OsekStep, IsServiceStep, admitted_state}
+use Rattle.osek_scheduler.specs.Steps.{OsekStep, IsServiceStep}
 use Rattle.osek_scheduler.proofs.AllPlans.{all_plans}
 use Rattle.osek_scheduler.proofs.Going.{at_set}
 use Rattle.osek_scheduler.proofs.Outcomes.{by_suspended, on_outcome, on_tested, shown_after}

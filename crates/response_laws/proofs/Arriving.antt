@@ -13,7 +13,6 @@ use Rattle.sloth_base.specs.declared.event.Stamped.{Stamped}
 use Rattle.sloth_base.specs.Events.{admitted_line}
 use Rattle.osek_scheduler.specs.State.{System, opening}
 use Rattle.osek_scheduler.specs.InTime.{IsStamped, IsOrdered, StandsBefore, InTime, AreAllAdmitted, AreLeftOut, admits_at, arrivals_at, is_admit}
-use Rattle.sloth_base.specs.declared.event.Event.TheVariants as event
 use Rattle.osek_scheduler.specs.Runs.{AreStepsTo}
 use Rattle.run_counts.specs.Stages.{Stage, state_behind, stage, stages, end_of}
 use Rattle.response_laws.specs.Sums.{count}

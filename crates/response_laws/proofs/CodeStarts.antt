@@ -1,9 +1,9 @@
 -- What lower tasks bring into busy periods is within the starts that the task code fits.
-use Rattle.std.proofs.Common.{◌≡◌, ℕ, zero, suc, ◌+◌, ◌<◌, ◌≤◌, ◌⊎◌, ◌==◌, ◌&&◌, not, List, [], ◌∷◌, ◌++◌, Bool, true, false, cond, length, get_or, refl, sym, ap, ◌∙◌, subst, arith, inl, inr, Some, is_some}
+use Rattle.std.proofs.Common.{◌≡◌, ℕ, zero, suc, ◌+◌, ◌<◌, ◌≤◌, ◌⊎◌, ◌==◌, ◌&&◌, not, List, [], ◌∷◌, ◌++◌, Bool, true, false, cond, length, get_or, append_assoc, refl, sym, ap, ◌∙◌, subst, arith, inl, inr, Some, is_some}
 use Rattle.std.specs.List.{AllByRecursion}
 use Rattle.std.proofs.lemmas.List.{get_or_past}
 use Rattle.sloth_base.proofs.Services.{same_service}
-use Rattle.std.proofs.lemmas.Bool.{cases_Bool, eq-eqb, cases_lt, true≢false, false≢true, eqb-true, and_parts, leb-false, leb-true}
+use Rattle.std.proofs.lemmas.Bool.{cases_Bool, eq-eqb, cases_lt, true≢false, false≢true, eqb-true, and_parts, leb-false}
 use Rattle.sloth_base.specs.declared.config.Config.{Config}
 use Rattle.sloth_base.specs.declared.config.TaskDecl.{TaskDecl}
 use Rattle.sloth_base.specs.declared.app.App.{App}
@@ -11,23 +11,20 @@ use Rattle.sloth_base.specs.declared.app.Op.{Op}
 use Rattle.sloth_base.specs.declared.app.Op.TheVariants as op
 use Rattle.sloth_base.specs.declared.event.Event.{Event}
 use Rattle.sloth_base.specs.declared.event.Event.TheVariants as event
-use Rattle.sloth_base.specs.declared.event.Stamped.{Stamped}
 use Rattle.sloth_base.specs.declared.service.Service.{Service}
 use Rattle.sloth_base.specs.declared.service.Service.TheVariants as service
 use Rattle.sloth_base.specs.Events.{is_boot, admitted_line, served_task}
 use Rattle.sloth_base.specs.Named.{declaration, undeclared_task}
 use Rattle.sloth_base.specs.ServiceCodes.{is_service}
-use Rattle.code_rules.specs.WellFormed.{WellFormed}
 use Rattle.code_lengths.specs.LongestPaths.{way_back_path}
 use Rattle.osek_scheduler.specs.declared.state.TaskState.TheVariants as mode
-use Rattle.osek_scheduler.specs.State.{Frame, Task, System, sleeping_task, task, opening}
+use Rattle.osek_scheduler.specs.State.{Task, System, sleeping_task, task, opening}
 use Rattle.osek_scheduler.specs.InTime.{is_admit}
 use Rattle.osek_scheduler.specs.Services.{ServiceOutcome, GoesOn, Leaves}
 use Rattle.osek_scheduler.specs.Meaning.{meaning}
 use Rattle.osek_scheduler.specs.Steps.{OsekStep, IsItemStep, IsServiceStep, autostarted_tasks}
 use Rattle.osek_scheduler.specs.Valid.{InState}
 use Rattle.osek_scheduler.specs.Apart.{static_priority, IsActive}
-use Rattle.osek_scheduler.specs.Runs.{OsekRun}
 use Rattle.osek_scheduler.proofs.Facts.{Facts, facts}
 use Rattle.osek_scheduler.proofs.Leading.{follows_leads}
 use Rattle.osek_scheduler.proofs.Steps.{opening_valid, autostarted_at}
@@ -44,27 +41,30 @@ use Rattle.walk_sums.specs.declared.counted.Counted.{Counted}
 use Rattle.walk_sums.specs.declared.counted.Counted.TheVariants as counts
 use Rattle.walk_sums.specs.Counted.{one_if, calls, is_going_counted, counted_weights}
 use Rattle.event_weights.specs.Events.{has_frames, enter_counts}
-use Rattle.event_weights.specs.Pace.{ItemSizes, next_size, next_size_of, paced_counts}
+use Rattle.event_weights.specs.Pace.{ItemSizes, next_size, paced_counts}
 use Rattle.run_counts.specs.Stages.{Stage, charged, end_of, is_turn, is_entry, run_stages}
 use Rattle.run_counts.specs.Laws.{IsWithinWeights}
 use Rattle.run_counts.specs.Spending.{WeighsItems}
-use Rattle.run_counts.specs.Rounds.{is_left, next_ending, WeighsEndings}
-use Rattle.run_counts.proofs.Rounded.{left_fits}
-use Rattle.run_counts.proofs.Weighed.{event_fits}
+use Rattle.run_counts.specs.Rounds.{is_left, total, WeighsEndings}
+use Rattle.run_counts.proofs.SpentStages.{AreSpent}
 use Rattle.response_laws.specs.Sums.{total_where, is_over}
+use Rattle.response_laws.specs.Shares.{lower_own, lower_counts, LowerSpendWithin}
 use Rattle.response_laws.specs.Turns.{at_entry, in_turn, is_other_event, is_other, if_entry, activated, was_set}
 use Rattle.response_laws.specs.Demand.{Start}
 use Rattle.response_laws.specs.Walked.{standing, is_executed, is_back, FitsItem, SectionsSum}
 use Rattle.response_laws.specs.Makers.{activation_weights, setting_weights}
-use Rattle.response_laws.specs.Starts.{IsRaisedTurn, InSection, may_raise, OpensSection, AreOfSection, IsWithinStart, IsSectionWithin, HaveStarts}
-use Rattle.response_laws.specs.CodeStarts.{HasRoom, SomeHasRoom, none, autostarted, HasSections, is_call, FitsStarts, CodeFitsStarts}
-use Rattle.response_laws.proofs.Attributed.{IsDeclared, declared_by_step}
+use Rattle.response_laws.specs.Starts.{IsRaisedTurn, InSection, may_raise, OpensSection, AreOfSection, charged_served, IsWithinStart, IsSectionWithin}
+use Rattle.response_laws.specs.CodeStarts.{SomeHasRoom, none, autostarted, HasSections, is_call, FitsStarts, CodeFitsStarts}
+use Rattle.response_laws.proofs.Attributed.{declared_by_step}
 use Rattle.response_laws.proofs.Counting.{counted_going, counted_lighter}
 use Rattle.response_laws.proofs.Linked.{Known, Linked, last_state, last_end, linked_front, linked_behind, each_append, each_so, stages_linked, stages_known}
 use Rattle.response_laws.proofs.Lower.{admit_is_none}
 use Rattle.response_laws.proofs.Making.{items_activate, items_set}
 use Rattle.response_laws.proofs.RoundEnds.{no_acts, no_sets}
 use Rattle.response_laws.proofs.SectionWalks.{FitsRaised, section_within}
+use Rattle.response_laws.proofs.LowerSpending.{admit_counts, spent_in, lower_spend}
+use Rattle.response_laws.proofs.SectionShares.{executed_fits, leaving_fits, section_shares}
+use Rattle.response_laws.proofs.SectionShares as shares
 use Rattle.response_laws.proofs.Steps.{activated_between, set_between, not_activated, not_set, at_most_one, starting_sets_none, turn_active, active_declared}
 
 -- ---- boot
@@ -148,11 +148,17 @@ runs_no_call config app t func item result s next h = place_is ∙ by h.operatio
 
 -- ---- stages
 
+pub served_few : (x : Stage) (most : ℕ) → (is_some (served_task x.stamped.event) ≡ true → charged x ≤ most) → charged_served x ≤ most
+served_few x most few = by (is_some (served_task x.stamped.event)) few
+  where
+    by : (b : Bool) → (b ≡ true → charged x ≤ most) → cond b (charged x) 0 ≤ most
+    by true few = few refl
+    by false few = omega arith
+
 module _ (config : Config) (app : App) (w : Facts config app) (size : ItemSizes) (longest : ℕ) (weights : List BodyWeights) (weighs : WeighsItems app size weights)
     (ends : WeighsEndings app size weights) (h : ℕ) where
   lighter : (at : Position) → going_at weights at ≤ ending_at weights at
-  lighter [] = omega arith
-  lighter (here ∷ outer) = weighs.no_lighter here.func here.item
+  lighter = shares.lighter config app w size longest weights weighs ends
 
   -- what is known of a stage
   pub record Seen (x : Stage) : Type 0 where
@@ -191,28 +197,10 @@ module _ (config : Config) (app : App) (w : Facts config app) (size : ItemSizes)
     Charge e = is_some (admitted_line e) ≡ false → is_boot e ≡ false → charged x ≤ paced_counts config app size longest x.found e
 
     executed_charge : (e : Event) (t : ℕ) → OsekStep config app e x.found x.next → Charge e → is_executed t e ≡ true → charged x ≤ going_at weights (own t)
-    executed_charge (event.Run u func item result) t step charge is =
-        let le = charge refl refl in
-        let fits = event_fits config app size longest weights weighs (event.Run u func item result) x.found x.next u step refl in
-        subst (λ v. charged x ≤ going_at weights (own v)) (eqb-true u t is) (omega (arith, le, fits))
-    executed_charge (event.Call u served status) t step charge is =
-        let le = charge refl refl in
-        let fits = event_fits config app size longest weights weighs (event.Call u served status) x.found x.next u step refl in
-        subst (λ v. charged x ≤ going_at weights (own v)) (eqb-true u t is) (omega (arith, le, fits))
-    executed_charge event.Boot t step charge is = absurd (false≢true is)
-    executed_charge e t step charge is = absurd (false≢true is)
-
-    ending_is : (fs : List Frame) → next_ending weights fs ≡ ending_at weights (standing fs)
-    ending_is [] = refl
-    ending_is (frame ∷ outer) = refl
+    executed_charge = executed_fits config app w size longest weights weighs ends (charged x) x.found x.next
 
     left_charge : (e : Event) (t : ℕ) → OsekStep config app e x.found x.next → Charge e → is_left t e ≡ true → charged x ≤ ending_at weights (own t)
-    left_charge (event.Left u served) t step charge is =
-        let le = left_fits config app size longest weights weighs ends w (charged x) u served x.found x.next step charge in
-        let same = ending_is (task x.found u).frames in
-        subst (λ v. charged x ≤ ending_at weights (own v)) (eqb-true u t is) (omega (arith, le, same))
-    left_charge event.Boot t step charge is = absurd (false≢true is)
-    left_charge e t step charge is = absurd (false≢true is)
+    left_charge = leaving_fits config app w size longest weights weighs ends (charged x) x.found x.next
 
     back_charge : (e : Event) (t : ℕ) → OsekStep config app e x.found x.next → Charge e → is_back t e ≡ true → charged x ≤ way_back_path
     back_charge (event.Back u) t step charge is =
@@ -246,17 +234,17 @@ module _ (config : Config) (app : App) (w : Facts config app) (size : ItemSizes)
 
   module _ (once : Bool) (starts : ℕ) (start : ℕ → Start) (fits : FitsStarts config app longest weights h once starts start) (x : Stage) (s : Seen x) where
     abbrev Within : Type 0
-    Within = (i : ℕ) × (i < starts) × IsWithinStart config h (start i) x × ((start i).is_boot ≡ true → is_boot x.stamped.event ≡ true)
+    Within = (i : ℕ) × (i < starts) × IsWithinStart config h longest (start i) x × ((start i).is_boot ≡ true → is_boot x.stamped.event ≡ true)
 
     -- what the event has is within the room of a start
     with_room : (counts : ℕ) (acts sets : ℕ → ℕ) → (is_some (served_task x.stamped.event) ≡ true → charged x ≤ counts)
         → ((j : ℕ) → activated j x ≤ acts j) → ((j : ℕ) → was_set j x ≤ sets j) → (boot : Bool) → (boot ≡ true → is_boot x.stamped.event ≡ true)
-        → SomeHasRoom config h starts start boot counts acts sets → Within
+        → SomeHasRoom config h longest starts start boot counts acts sets → Within
     with_room counts acts sets few makes signals boot at_boot (i, lt, boots, room) = (
       i,
       lt,
       record {
-        front = λ served. let le = few served in let most = room.front in omega (arith, le, most);
+        front = let le = served_few x counts few in let most = room.front in omega (arith, le, most);
         acts = λ j over. let le = makes j in let most = room.acts j over in omega (arith, le, most);
         sets = λ j over. let le = signals j in let most = room.sets j over in omega (arith, le, most);
       },
@@ -267,12 +255,12 @@ module _ (config : Config) (app : App) (w : Facts config app) (size : ItemSizes)
     within_any : is_some (served_task x.stamped.event) ≡ false → ((j : ℕ) → activated j x ≤ 0) → ((j : ℕ) → was_set j x ≤ 0) → Within
     within_any quiet makes signals = by fits.some
       where
-        by : (i : ℕ) × (i < starts) × ((start i).is_boot ≡ false) → Within
-        by (i, lt, off) = (
+        by : (i : ℕ) × (i < starts) × ((start i).is_boot ≡ false) × (longest ≤ (start i).inflow.front) → Within
+        by (i, lt, off, room) = (
           i,
           lt,
           record {
-            front = λ served. absurd (true≢false (sym served ∙ quiet));
+            front = let none = ap {B = ℕ} (λ b. cond b (charged x) 0) quiet in omega (arith, none, room);
             acts = λ j over. let le = makes j in omega (arith, le);
             sets = λ j over. let le = signals j in omega (arith, le);
           },
@@ -374,17 +362,17 @@ module _ (config : Config) (app : App) (w : Facts config app) (size : ItemSizes)
     by_event (event.Tick c) is step other = absurd (false≢true (sym (ap (is_other_event config h) is) ∙ other))
 
     -- where h leaves
-    pub within_leaving : once ≡ true → is_left h x.stamped.event ≡ true → (i : ℕ) × (i < starts) × ((start i).is_boot ≡ false) × IsWithinStart config h (start i) x
+    pub within_leaving : once ≡ true → is_left h x.stamped.event ≡ true → (i : ℕ) × (i < starts) × ((start i).is_boot ≡ false) × IsWithinStart config h longest (start i) x
     within_leaving on is = by x.stamped.event refl s.known.step is
       where
-        placed_so : SomeHasRoom config h starts start false (ending_at weights (own x s h)) (λ j. ending_at (activation_weights app h j) (own x s h))
-            (λ j. ending_at (setting_weights app j) (own x s h)) → (i : ℕ) × (i < starts) × ((start i).is_boot ≡ false) × IsWithinStart config h (start i) x
+        placed_so : SomeHasRoom config h longest starts start false (ending_at weights (own x s h)) (λ j. ending_at (activation_weights app h j) (own x s h))
+            (λ j. ending_at (setting_weights app j) (own x s h)) → (i : ℕ) × (i < starts) × ((start i).is_boot ≡ false) × IsWithinStart config h longest (start i) x
         placed_so (i, lt, boots, room) = (
           i,
           lt,
           off (cases_Bool (start i).is_boot) boots,
           record {
-            front = λ served. let le = left_charge x s x.stamped.event h s.known.step s.within is in let most = room.front in omega (arith, le, most);
+            front = let le = served_few x (ending_at weights (own x s h)) (λ _. left_charge x s x.stamped.event h s.known.step s.within is) in let most = room.front in omega (arith, le, most);
             acts = λ j over. let le = (s.acts h j).leaves is in let most = room.acts j over in omega (arith, le, most);
             sets = λ j over. let le = (s.sets h j).leaves is in let most = room.sets j over in omega (arith, le, most);
           },
@@ -395,14 +383,14 @@ module _ (config : Config) (app : App) (w : Facts config app) (size : ItemSizes)
             off (inl is) boots = absurd (false≢true (boots is))
 
         by : (e : Event) → x.stamped.event ≡ e → OsekStep config app e x.found x.next → is_left h e ≡ true
-            → (i : ℕ) × (i < starts) × ((start i).is_boot ≡ false) × IsWithinStart config h (start i) x
+            → (i : ℕ) × (i < starts) × ((start i).is_boot ≡ false) × IsWithinStart config h longest (start i) x
         by (event.Left u served) e step same =
             let own_step = subst (λ v. OsekStep config app (event.Left v served) x.found x.next) (eqb-true u h same) step in
             placed_so (fits.leaves on (own x s h) (stands_reached x s h (ap (is_turn h) e ∙ same)) (at_call h served (Leaves own_step.1.0) own_step.1.1))
         by event.Boot e step same = absurd (false≢true same)
         by v e step same = absurd (false≢true same)
 
-    pub within_one : is_other config h x ≡ true → (i : ℕ) × (i < starts) × IsWithinStart config h (start i) x × ((start i).is_boot ≡ true → is_boot x.stamped.event ≡ true)
+    pub within_one : is_other config h x ≡ true → (i : ℕ) × (i < starts) × IsWithinStart config h longest (start i) x × ((start i).is_boot ≡ true → is_boot x.stamped.event ≡ true)
     within_one = by_event x.stamped.event refl s.known.step
 
   -- ---- sections
@@ -466,15 +454,15 @@ module _ (config : Config) (app : App) (w : Facts config app) (size : ItemSizes)
 
     -- the sum over a section, with what raises its task in front
     module _ (f : Stage → ℕ) (c : List BodyWeights) (c_lighter : (at : Position) → going_at c at ≤ ending_at c at)
-        (item : (x : Stage) → Seen x → FitsRaised config app w h b lower f (going_at c) (ending_at c) c_lighter x) (most more : ℕ) (bound : SectionsSum config app h b c most)
+        (item : (x : Stage) → Seen x → FitsRaised config app w h b lower (going_at c) (ending_at c) c_lighter f x) (most more : ℕ) (bound : SectionsSum config app h b c most)
         (raising : (x : Stage) → Seen x → may_raise config b x.stamped.event ≡ true → f x ≤ more) where
       abbrev sum : List Stage → ℕ
       sum xs = total_where (is_other config h) f xs
 
       in_section : (at : ℕ) (st : System) (xs : List Stage) → Linked at st xs → AllByRecursion Seen xs → Placed app st → InSection config h b xs → sum xs ≤ most
       in_section at st xs l seen placed section =
-          section_within config app w h b lower f (going_at c) (ending_at c) c_lighter most bound at st xs l
-          (each_so Seen (Known config app) (λ x s. s.known) xs seen) (each_so Seen (FitsRaised config app w h b lower f (going_at c) (ending_at c) c_lighter) item xs seen)
+          section_within config app w h b lower (going_at c) (ending_at c) c_lighter f most bound at st xs l
+          (each_so Seen (Known config app) (λ x s. s.known) xs seen) (each_so Seen (FitsRaised config app w h b lower (going_at c) (ending_at c) c_lighter f) item xs seen)
           placed section
 
       of_section : (at : ℕ) (st : System) (xs : List Stage) → Linked at st xs → AllByRecursion Seen xs → AreOfSection config h b xs → sum xs ≤ more + most
@@ -518,22 +506,10 @@ module _ (config : Config) (app : App) (w : Facts config app) (size : ItemSizes)
               omega (arith, rest, zero)
           by false later s again = opened (cases_Bool (is_other config h x)) s
 
-      -- without the first stage of all
-      behind_first : (at : ℕ) (st : System) (x : Stage) (xs : List Stage) → Linked at st (x ∷ xs) → AllByRecursion Seen (x ∷ xs) → AreOfSection config h b (x ∷ xs)
-          → sum xs ≤ more + most
-      behind_first at st x xs l seen section = by (is_admit x.stamped) section
-        where
-          next_placed : Placed app x.next
-          next_placed =
-              step_placed config app x.found x.next x.stamped.event
-              (frame_effect config app w x.found x.next seen.0.known.valid x.stamped.event seen.0.known.step) seen.0.placed
-
-          by : (a : Bool) → OpensSection config h b a (AreOfSection config h b xs) x xs → sum xs ≤ more + most
-          by true s = of_section (end_of x) x.next xs l.2 seen.1 s
-          by false s = let le = in_section (end_of x) x.next xs l.2 seen.1 next_placed s.1 in omega (arith, le)
-
     -- a start that has the sections of the task has them in each part of the run
-    module _ (run : List Stage) (first_found : System) (linked : Linked 0 first_found run) (seen : AllByRecursion Seen run) (s : Start)
+    module _ (run : List Stage) (first_found : System) (linked : Linked 0 first_found run) (seen : AllByRecursion Seen run)
+        (spent : (before xs behind : List Stage) → run ≡ before ++ (xs ++ behind)
+        → (at : ℕ) × ((spent : ℕ) × AreSpent config app size longest b at spent (last_state first_found before) xs)) (few : LowerSpendWithin config h longest run) (s : Start)
         (has : HasSections config app longest weights h b s) where
       part_links : (before xs behind : List Stage) → run ≡ before ++ (xs ++ behind) → Linked (last_end 0 before) (last_state first_found before) xs
       part_links before xs behind is =
@@ -543,25 +519,74 @@ module _ (config : Config) (app : App) (w : Facts config app) (size : ItemSizes)
       part_seen : (before xs behind : List Stage) → run ≡ before ++ (xs ++ behind) → AllByRecursion Seen xs
       part_seen before xs behind is = (each_append Seen xs behind (each_append Seen before (xs ++ behind) (subst (AllByRecursion Seen) is seen)).1).0
 
-      charges : (x : Stage) → Seen x → FitsRaised config app w h b lower charged (going_at weights) (ending_at weights) lighter x
-      charges x s = record {
-        goes = λ is. executed_charge x s x.stamped.event b s.known.step s.within is;
-        leaves = λ is. left_charge x s x.stamped.event b s.known.step s.within is;
-      }
+      in_shares : (before xs behind : List Stage) → run ≡ before ++ (xs ++ behind) → InSection config h b xs → total (lower_counts config h) xs ≤ has.counts + longest
+      in_shares before [] behind is section = omega arith
+      in_shares before (x ∷ xs) behind is section =
+          let links = part_links before (x ∷ xs) behind is in
+          let each = part_seen before (x ∷ xs) behind is in
+          let so_far = spent before (x ∷ xs) behind is in
+          section_shares config app w size longest weights weighs ends h b lower run few has.counts has.sum before behind (last_end 0 before) so_far.0 so_far.1.0
+          (last_state first_found before) (x ∷ xs) is links (each_so Seen (Known config app) (λ y s. s.known) (x ∷ xs) each) so_far.1.1
+          (subst (Placed app) links.1 each.0.placed) section
+
+      of_shares : (before xs behind : List Stage) → run ≡ before ++ (xs ++ behind) → AreOfSection config h b xs
+          → total (lower_counts config h) xs ≤ has.raising + has.counts + longest
+      of_shares before [] behind is section = omega arith
+      of_shares before (x ∷ xs) behind is section = by (is_admit x.stamped) refl section (of_shares (before ++ x ∷ []) xs behind further)
+        where
+          further : run ≡ (before ++ x ∷ []) ++ (xs ++ behind)
+          further = is ∙ sym (append_assoc before (x ∷ []) (xs ++ behind))
+
+          here : (other : Bool) → is_other config h x ≡ other → lower_counts config h x ≡ cond other (charged x) (lower_own config h x)
+          here other is = ap {B = ℕ} (λ b. cond b (charged x) (lower_own config h x)) is
+
+          all_of : (is_other config h x ≡ true → IsRaisedTurn config h b x) → InSection config h b xs → total (lower_counts config h) (x ∷ xs) ≤ has.raising + has.counts + longest
+          all_of raised section = let le = in_shares before (x ∷ xs) behind is (raised, section) in omega (arith, le)
+
+          opened : (is_other config h x ≡ true) ⊎ (is_other config h x ≡ false)
+              → ((is_other config h x ≡ true → IsRaisedTurn config h b x ⊎ (may_raise config b x.stamped.event ≡ true)) × InSection config h b xs)
+              → total (lower_counts config h) (x ∷ xs) ≤ has.raising + has.counts + longest
+          opened (inr other) s = all_of (λ on. absurd (true≢false (sym on ∙ other))) s.1
+          opened (inl on) s = which (s.0 on)
+            where
+              which : IsRaisedTurn config h b x ⊎ (may_raise config b x.stamped.event ≡ true) → total (lower_counts config h) (x ∷ xs) ≤ has.raising + has.counts + longest
+              which (inl r) = all_of (λ _. r) s.1
+              which (inr may) =
+                  let le = in_shares (before ++ x ∷ []) xs behind further s.1 in
+                  let first = raising_charge has.raising has.takes has.enters has.returns x (part_seen before (x ∷ xs) behind is).0 may in
+                  let own = here true on in
+                  omega (arith, le, first, own)
+
+          by : (a : Bool) → is_admit x.stamped ≡ a → OpensSection config h b a (AreOfSection config h b xs) x xs
+              → (AreOfSection config h b xs → total (lower_counts config h) xs ≤ has.raising + has.counts + longest)
+              → total (lower_counts config h) (x ∷ xs) ≤ has.raising + has.counts + longest
+          by true admits s again =
+              let rest = again s in
+              let own = here false (admit_is_none config app h x admits) in
+              let zero = admit_counts config app h x admits in
+              omega (arith, rest, own, zero)
+          by false later s again = opened (cases_Bool (is_other config h x)) s
+
+      -- without the first stage of all
+      behind_first : (before : List Stage) (x : Stage) (xs behind : List Stage) → run ≡ before ++ ((x ∷ xs) ++ behind) → AreOfSection config h b (x ∷ xs)
+          → total (lower_counts config h) xs ≤ has.raising + has.counts + longest
+      behind_first before x xs behind is section = by (is_admit x.stamped) section
+        where
+          further : run ≡ (before ++ x ∷ []) ++ (xs ++ behind)
+          further = is ∙ sym (append_assoc before (x ∷ []) (xs ++ behind))
+
+          by : (a : Bool) → OpensSection config h b a (AreOfSection config h b xs) x xs → total (lower_counts config h) xs ≤ has.raising + has.counts + longest
+          by true s = of_shares (before ++ x ∷ []) xs behind further s
+          by false s = let le = in_shares (before ++ x ∷ []) xs behind further s.1 in omega (arith, le)
 
       items : (number : Stage → ℕ) (c : List BodyWeights) (le : (at : Position) → going_at c at ≤ ending_at c at)
           → ((x : Stage) → Seen x → FitsItem b number (going_at c) (ending_at c) x) → (x : Stage) → Seen x
-          → FitsRaised config app w h b lower number (going_at c) (ending_at c) le x
+          → FitsRaised config app w h b lower (going_at c) (ending_at c) le number x
       items number c le item x s = record { goes = (item x s).goes; leaves = (item x s).leaves }
 
       pub sections_within : IsSectionWithin config h run b s
       sections_within = record {
-        front = λ before behind first xs is section.
-            let le = behind_first charged weights lighter charges has.counts has.raising has.sum
-            (raising_charge has.raising has.takes has.enters has.returns)
-            (last_end 0 before) (last_state first_found before) first xs (part_links before (first ∷ xs) behind is) (part_seen before (first ∷ xs) behind is) section in
-            let most = has.front in
-            omega (arith, le, most);
+        front = λ before behind first xs is section. let le = behind_first before first xs behind is section in let most = has.front in omega (arith, le, most);
         acts = λ before behind j xs over is section.
             let le = counted_lighter (cond (b == j) (counts.Chains j) (counts.Activations j)) app in
             let item : (x : Stage) → Seen x → FitsItem b (activated j) (going_at (activation_weights app b j)) (ending_at (activation_weights app b j)) x = λ x s. s.acts b j in
@@ -582,7 +607,7 @@ module _ (config : Config) (app : App) (w : Facts config app) (size : ItemSizes)
 -- ---- a run
 
 pub code_fits_starts : CodeFitsStarts
-code_fits_starts config app size longest weights events h once starts start wf osek within weighs ends fits = record {
+code_fits_starts config app size longest n weights arrivals events h once starts start wf osek timed most spends within weighs ends fits = record {
   some = fits.some;
   single = singles (run_stages config app events) seen;
   leaves = λ on. leavings on (run_stages config app events) seen;
@@ -592,7 +617,8 @@ code_fits_starts config app size longest weights events h once starts start wf o
         s.1,
         s.2,
         sections_within config app w size longest weights weighs ends h b lower (run_stages config app events) (opening config app)
-            (stages_linked config app 0 (opening config app) events) seen (start s.0) s.3,
+            (stages_linked config app 0 (opening config app) events) seen (λ before xs behind is. spent_in config app size longest n b arrivals events wf osek timed (spends b lower.0) before xs behind is)
+            (lower_spend config app size longest n h arrivals events wf osek timed most spends) (start s.0) s.3,
       );
 }
   where
@@ -623,12 +649,12 @@ code_fits_starts config app size longest weights events h once starts start wf o
 
     singles : (xs : List Stage) → AllByRecursion (Seen config app w size longest weights weighs ends h) xs
         → AllByRecursion
-        (λ x. is_other config h x ≡ true → (i : ℕ) × (i < starts) × IsWithinStart config h (start i) x × ((start i).is_boot ≡ true → is_boot x.stamped.event ≡ true)) xs
+        (λ x. is_other config h x ≡ true → (i : ℕ) × (i < starts) × IsWithinStart config h longest (start i) x × ((start i).is_boot ≡ true → is_boot x.stamped.event ≡ true)) xs
     singles [] each = tt
     singles (x ∷ xs) each = (within_one config app w size longest weights weighs ends h once starts start fits x each.0, singles xs each.1)
 
     leavings : once ≡ true → (xs : List Stage) → AllByRecursion (Seen config app w size longest weights weighs ends h) xs
-        → AllByRecursion (λ x. is_left h x.stamped.event ≡ true → (i : ℕ) × (i < starts) × ((start i).is_boot ≡ false) × IsWithinStart config h (start i) x) xs
+        → AllByRecursion (λ x. is_left h x.stamped.event ≡ true → (i : ℕ) × (i < starts) × ((start i).is_boot ≡ false) × IsWithinStart config h longest (start i) x) xs
     leavings on [] each = tt
     leavings on (x ∷ xs) each =
         (within_leaving config app w size longest weights weighs ends h once starts start fits x each.0 on, leavings on xs each.1)

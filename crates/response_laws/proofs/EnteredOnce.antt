@@ -1,7 +1,7 @@
 -- A task that leaves once at most is entered once at most.
-use Rattle.std.proofs.Common.{◌≡◌, ℕ, ◌+◌, ◌<◌, ◌≤◌, ◌⊎◌, List, [], ◌∷◌, ◌++◌, Bool, true, false, cond, refl, sym, ap, ◌∙◌, subst, arith, inl, inr}
+use Rattle.std.proofs.Common.{◌≡◌, ℕ, ◌+◌, ◌≤◌, ◌⊎◌, List, [], ◌∷◌, ◌++◌, Bool, true, false, cond, ap, subst, arith, inl, inr}
 use Rattle.std.specs.List.{AllByRecursion}
-use Rattle.std.proofs.lemmas.Bool.{cases_Bool, true≢false, false≢true, eqb-true}
+use Rattle.std.proofs.lemmas.Bool.{cases_Bool, false≢true, eqb-true}
 use Rattle.sloth_base.specs.declared.config.Config.{Config}
 use Rattle.sloth_base.specs.declared.app.App.{App}
 use Rattle.sloth_base.specs.declared.event.Event.{Event}
@@ -10,11 +10,10 @@ use Rattle.osek_scheduler.specs.declared.state.TaskState.TheVariants as mode
 use Rattle.osek_scheduler.specs.State.{System, task}
 use Rattle.osek_scheduler.specs.Priority.{is_active}
 use Rattle.osek_scheduler.specs.Steps.{OsekStep}
-use Rattle.osek_scheduler.specs.Apart.{IsActive}
 use Rattle.osek_scheduler.proofs.Facts.{Facts}
 use Rattle.osek_scheduler.proofs.Tests.{Decides-is_active}
 use Rattle.run_counts.specs.Stages.{Stage, end_of, is_entry}
-use Rattle.run_counts.specs.Rounds.{is_left, total}
+use Rattle.run_counts.specs.Rounds.{is_left}
 use Rattle.response_laws.specs.Sums.{count}
 use Rattle.response_laws.specs.Turns.{at_entry}
 use Rattle.run_counts.proofs.Awake.{stays_active, entry_active}

@@ -1,7 +1,7 @@
 -- Ticks make a task Ready or set its events no more often than alarms of their counter expire.
 use Rattle.std.proofs.Common.{◌≡◌, ℕ, zero, suc, ◌+◌, ◌-◌, ◌*◌, ◌/◌, ◌<◌, ◌≤◌, ◌⊎◌, ◌==◌, ◌&&◌, ◌||◌, not, List, [], ◌∷◌, ◌++◌, Bool, true, false, cond, min, map, length, get_or, refl, sym, ap, ◌∙◌, subst, arith, inl, inr, le-div_iff_mul-le}
 use Rattle.std.specs.List.{AllByRecursion}
-use Rattle.std.proofs.lemmas.Bool.{cases_Bool, cases_eq, cases_lt, cond_both, false≢true, true≢false, eqb-true, eqb-false, ne_eqb, eq-eqb, le-ltb, and_parts}
+use Rattle.std.proofs.lemmas.Bool.{cases_Bool, cond_both, false≢true, eqb-true, ne_eqb, le-ltb, and_parts}
 use Rattle.sloth_base.specs.Options.{is_number}
 use Rattle.sloth_base.specs.declared.config.Action.{Action}
 use Rattle.sloth_base.specs.declared.config.AlarmDecl.{AlarmDecl}
@@ -9,15 +9,12 @@ use Rattle.sloth_base.specs.declared.config.Config.{Config}
 use Rattle.sloth_base.specs.declared.app.App.{App}
 use Rattle.sloth_base.specs.declared.event.Event.{Event}
 use Rattle.sloth_base.specs.declared.event.Event.TheVariants as event
-use Rattle.sloth_base.specs.declared.event.Stamped.{Stamped}
 use Rattle.sloth_base.specs.Named.{counter_declaration, undeclared_alarm, alarm_declaration, operation}
 use Rattle.sloth_base.specs.Owners.{counter_line}
-use Rattle.code_rules.specs.WellFormed.{WellFormed}
 use Rattle.osek_scheduler.specs.declared.state.Alarm.{Alarm}
 use Rattle.osek_scheduler.specs.State.{Task, System, task, no_alarm, alarm, opening}
 use Rattle.osek_scheduler.specs.Services.{with_left, acted_state, alarm_ticked_state, alarms_ticked_state, counted_on_state}
 use Rattle.osek_scheduler.specs.Steps.{OsekStep}
-use Rattle.osek_scheduler.specs.Runs.{OsekRun}
 use Rattle.osek_scheduler.proofs.Facts.{facts}
 use Rattle.osek_scheduler.proofs.Leading.{follows_leads}
 use Rattle.osek_scheduler.proofs.Steps.{opening_valid}
@@ -27,8 +24,8 @@ use Rattle.run_counts.specs.Rounds.{total}
 use Rattle.response_laws.specs.Sums.{total_where, count}
 use Rattle.response_laws.specs.Turns.{ticking_counter, at_tick, is_ready_for, has_grown, activated, was_set}
 use Rattle.response_laws.specs.Ticks.{activates, sets_events}
-use Rattle.response_laws.specs.Expiries.{sets_alarm, MarksAlarms, cyclic_expiries, booted_expiries, expiries, expiring, HasExpiries, TicksMakeAsAlarmsExpire}
-use Rattle.response_laws.proofs.AlarmSteps.{alarm_behind, ticked_other, Calm, leaves_alarm}
+use Rattle.response_laws.specs.Expiries.{sets_alarm, MarksAlarms, cyclic_expiries, booted_expiries, expiries, expiring, TicksMakeAsAlarmsExpire}
+use Rattle.response_laws.proofs.AlarmSteps.{alarm_behind, ticked_other, leaves_alarm}
 use Rattle.response_laws.proofs.Linked.{Known, Linked, last_state, last_end, linked_front, linked_behind, each_append, stages_linked, stages_known}
 use Rattle.response_laws.proofs.Steps.{activated_between, set_between, at_most_one}
 use Rattle.response_laws.proofs.Sums.{one_more}

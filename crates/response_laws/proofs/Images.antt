@@ -1,5 +1,5 @@
 -- The runs of an image respond in time, by what its builder promises of them.
-use Rattle.std.proofs.Common.{ℕ, ◌+◌, ◌-◌, ◌<◌, ◌≤◌, List, [], Bool, refl, arith, ◌≡◌, true}
+use Rattle.std.proofs.Common.{ℕ, ◌+◌, ◌<◌, ◌≤◌, List, [], length, Bool, refl, arith, ◌≡◌, true}
 use Rattle.std.specs.List.{AllByRecursion}
 use Rattle.sloth_base.specs.declared.config.Config.{Config}
 use Rattle.sloth_base.specs.declared.app.App.{App}
@@ -18,13 +18,14 @@ use Rattle.event_weights.specs.Pace.{ItemSizes, AreAtMost}
 use Rattle.event_weights.proofs.BodyLengths.{short}
 use Rattle.sim_induction.specs.Paced.{KeepsPace, InPace}
 use Rattle.sim_induction.specs.Sound.{Sound, IsSoundRun, events_of}
+use Rattle.sim_induction.specs.Spent.{SpendsOnItems}
 use Rattle.sim_induction.specs.Weighed.{Weighed}
 use Rattle.run_counts.specs.Laws.{IsWithinWeights}
 use Rattle.run_counts.specs.Spending.{WeighsItems}
 use Rattle.run_counts.specs.Stages.{run_stages}
 use Rattle.run_counts.specs.Rounds.{WeighsEndings}
 use Rattle.run_counts.proofs.Counted.{counts_weigh, counts_end}
-use Rattle.run_counts.proofs.Owned.{own_what_is_charged}
+use Rattle.run_counts.proofs.Shared as shared
 use Rattle.run_counts.proofs.Staged.{keeps_weights}
 use Rattle.sloth_base.specs.declared.event.Arrival.{Arrival}
 use Rattle.sloth_base.specs.declared.image.Image.{Image}
@@ -46,6 +47,7 @@ use Rattle.response_laws.proofs.Linked.{Known, stages_known}
 use Rattle.response_laws.proofs.Loaded.{respond_under_load}
 use Rattle.response_laws.proofs.Expiring.{ticks_make_as_alarms_expire}
 use Rattle.response_laws.proofs.CodeStarts.{code_fits_starts}
+use Rattle.response_laws.proofs.LowerSpending.{lower_spend}
 use Rattle.response_laws.proofs.SoundRuns.{all_charged, bounds_rounds, all_brief}
 
 -- an image, whose longest item has so many instructions
@@ -77,27 +79,30 @@ module _ (config : Config) (app : App) (image : Image) (weights : List BodyWeigh
   leads : AreStepsTo config app events (opening config app) run.osek.0
   leads = follows_leads config app [] (opening config app) events run.osek.0 run.osek.1
 
+  spends : (t : ℕ) → t < length config.tasks → SpendsOnItems config app size longest t events
+  spends t lt = (pace.spent counts.0 counts.1).each arrivals n longest t are few lt
+
   known : AllByRecursion (Known config app) (run_stages config app events)
   known = stages_known config app (facts config app wf) 0 (opening config app) run.osek.0 events (opening_ordered config app) (opening_valid config app) leads
 
   responds : NoStretchIsAbove config app late → HasDistances load → KeepDistances load arrivals → KeepsWork config load cuts (run_stages config app events)
-      → FitsRounds config app longest weights load h cuts costs → HaveStarts config h once starts start (run_stages config app events)
+      → FitsRounds config app weights load h cuts costs → HaveStarts config h longest once starts start (run_stages config app events)
       → ((i : ℕ) → i < starts → IsStartFor config load late (longest + late) h r once costs (run_stages config app events) (start i))
       → RespondsWithin config app n (longest + late) h r events
   responds above distances keeps works rounds have fit =
-      respond_under_load config app load n late (longest + late) (longest + late) arrivals events h r cuts costs once starts start enters wf run.osek run.in_time
+      respond_under_load config app load n late (longest + late) (longest + late) longest arrivals events h r cuts costs once starts start enters wf run.osek run.in_time
       (record {
         brief = all_brief config app late events above (weighed.each arrivals n are few) [] events (opening config app) run.osek.0 refl refl leads;
         reaches = λ some. let end = pacing.reaches_within late above.stretches some in omega (arith, end);
       })
       (omega arith) (all_charged config app size longest most positive late above (run_stages config app events) known within)
-      distances keeps
-      (bounds_rounds config app size longest n weights load events h cuts costs wf run.osek positive most pacing weighs ends
-      (λ t. own_what_is_charged config app n t arrivals events wf run.osek run.in_time) works rounds)
+      distances keeps (shared.shares config app size longest n arrivals events wf run.osek run.in_time pacing)
+      (lower_spend config app size longest n h arrivals events wf run.osek run.in_time most spends)
+      (bounds_rounds config app size longest n weights load arrivals events h cuts costs wf run.osek run.in_time (weighed.each arrivals n are few) spends weighs ends works rounds)
       have fit
 
-  have_starts : FitsStarts config app longest weights h once starts start → HaveStarts config h once starts start (run_stages config app events)
-  have_starts fits = code_fits_starts config app size longest weights events h once starts start wf run.osek within weighs ends fits
+  have_starts : FitsStarts config app longest weights h once starts start → HaveStarts config h longest once starts start (run_stages config app events)
+  have_starts fits = code_fits_starts config app size longest n weights arrivals events h once starts start wf run.osek run.in_time most spends within weighs ends fits
 
   alarms : (is_set : ℕ → Bool) (s : Start) → MarksAlarms app is_set → HasExpiries config is_set s → HasAlarms (run_stages config app events) s
   alarms is_set s marks has = ticks_make_as_alarms_expire config app events is_set s wf run.osek marks has

@@ -1,23 +1,22 @@
 -- Where a preemptable task leaves, nothing of its level is due but what was admitted meanwhile.
-use Rattle.std.proofs.Common.{◌≡◌, ℕ, ◌*◌, ◌+◌, ◌<◌, ◌≤◌, ◌⊎◌, ◌==◌, ◌&&◌, not, cond, max, map, List, [], ◌∷◌, Bool, true, false, length, refl, sym, ap, ◌∙◌, subst, arith, inl, inr, is_some}
+use Rattle.std.proofs.Common.{◌≡◌, ℕ, ◌<◌, ◌≤◌, ◌⊎◌, ◌==◌, ◌&&◌, not, cond, max, map, List, [], ◌∷◌, Bool, true, false, length, refl, sym, ap, ◌∙◌, subst, arith, inl, inr, is_some}
 use Rattle.std.specs.List.{AllByRecursion}
-use Rattle.std.proofs.lemmas.Bool.{cases_Bool, cases_eq, false≢true, true≢false, true_from_ne_false, leb-true, le-leb, not_from_false, and_right, and_from, eqb-true, eqb-false, eq-eqb, ne_eqb}
+use Rattle.std.proofs.lemmas.Bool.{false≢true, true≢false, true_from_ne_false, leb-true, not_from_false, and_from, eqb-true, eqb-false}
 use Rattle.sloth_base.specs.declared.config.Config.{Config}
 use Rattle.sloth_base.specs.declared.app.App.{App}
 use Rattle.sloth_base.specs.declared.event.Event.{Event}
 use Rattle.sloth_base.specs.declared.event.Event.TheVariants as event
 use Rattle.sloth_base.specs.Events.{admitted_line}
-use Rattle.sloth_base.specs.Named.{declaration}
 use Rattle.code_rules.specs.Code.{is_in}
 use Rattle.osek_scheduler.specs.declared.state.Counter.{Counter}
 use Rattle.osek_scheduler.specs.declared.state.TaskState.{TaskState}
 use Rattle.osek_scheduler.specs.declared.state.TaskState.TheVariants as mode
 use Rattle.osek_scheduler.specs.State.{Task, System, task, no_counter, counter}
 use Rattle.osek_scheduler.specs.InTime.{is_admit}
-use Rattle.osek_scheduler.specs.Next.{is_due, all_below}
-use Rattle.osek_scheduler.specs.Priority.{ceiling, greatest, highest_priority, rank, IsDue, NoTicks, IsTop}
-use Rattle.osek_scheduler.specs.Steps.{OsekStep, admitted_state}
-use Rattle.osek_scheduler.specs.Valid.{InState, IsValid}
+use Rattle.osek_scheduler.specs.Next.{is_due}
+use Rattle.osek_scheduler.specs.Priority.{ceiling, greatest, highest_priority, IsDue, NoTicks, IsTop}
+use Rattle.osek_scheduler.specs.Steps.{OsekStep}
+use Rattle.osek_scheduler.specs.Valid.{InState}
 use Rattle.osek_scheduler.specs.Apart.{priority_of, static_priority, IsActive}
 use Rattle.osek_scheduler.proofs.Apart.{at_least_static, rank_active}
 use Rattle.osek_scheduler.proofs.Facts.{Facts}
@@ -35,7 +34,6 @@ use Rattle.response_laws.specs.Turns.{is_other_event, is_other}
 use Rattle.response_laws.specs.Busy.{is_quiet_but, LeavesFirst}
 use Rattle.response_laws.specs.Response.{EntersOnce}
 use Rattle.run_counts.proofs.States.{not_ready}
-use Rattle.response_laws.proofs.Booted.{HasStarted, has_started}
 use Rattle.response_laws.proofs.Linked.{Known, Linked}
 use Rattle.response_laws.proofs.Lower.{all_so, rank_due, admit_active, admit_ticks, settles, from_same, late, no_section, pressed_next, started_next, admit_is_none}
 use Rattle.response_laws.proofs.Starting.{IsBusy, over_itself}

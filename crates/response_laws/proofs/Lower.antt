@@ -1,5 +1,5 @@
 -- In a busy period lower tasks do no more than the rest of one raised section, and one service in front of it.
-use Rattle.std.proofs.Common.{◌≡◌, ℕ, zero, suc, ◌*◌, ◌<◌, ◌≤◌, ◌⊎◌, ◌==◌, ◌&&◌, ◌||◌, not, cond, ◌++◌, List, [], ◌∷◌, Bool, true, false, length, refl, sym, ap, ◌∙◌, subst, arith, inl, inr, is_some}
+use Rattle.std.proofs.Common.{◌≡◌, ℕ, zero, suc, ◌*◌, ◌<◌, ◌≤◌, ◌⊎◌, ◌==◌, ◌&&◌, not, cond, ◌++◌, List, [], ◌∷◌, Bool, true, false, length, refl, sym, ap, ◌∙◌, subst, arith, inl, inr, is_some}
 use Rattle.std.specs.List.{AllByRecursion}
 use Rattle.std.proofs.lemmas.Bool.{cases_eq, cases_lt, cases_Bool, false≢true, true≢false, true_from_ne_false, false_from_ne_true, leb-false, leb-true, not-true, not_from_false, and_right, and_left, and_from, eq-eqb, eqb-true}
 use Rattle.sloth_base.specs.Options.{is_number}
@@ -12,7 +12,6 @@ use Rattle.sloth_base.specs.declared.service.Service.{Service}
 use Rattle.sloth_base.specs.declared.service.Service.TheVariants as service
 use Rattle.sloth_base.specs.ServiceCodes.{is_service}
 use Rattle.osek_scheduler.specs.declared.state.Counter.{Counter}
-use Rattle.osek_scheduler.specs.declared.state.TaskState.{TaskState}
 use Rattle.osek_scheduler.specs.declared.state.TaskState.TheVariants as mode
 use Rattle.std.specs.Prelude.{max, map}
 use Rattle.std.proofs.lemmas.List.{get_or-set_same}
@@ -22,7 +21,7 @@ use Rattle.code_rules.specs.Code.{is_in}
 use Rattle.osek_scheduler.specs.Priority.{ceiling, greatest, highest_priority, rank, IsDue, NoTicks, IsTop}
 use Rattle.osek_scheduler.specs.InTime.{is_admit}
 use Rattle.osek_scheduler.specs.Next.{is_due, all_below}
-use Rattle.osek_scheduler.specs.Services.{activated_state, started_task, ServiceOutcome, GoesOn, Leaves}
+use Rattle.osek_scheduler.specs.Services.{activated_state, started_task, GoesOn, Leaves}
 use Rattle.osek_scheduler.specs.Steps.{OsekStep, IsServiceStep, admitted_state}
 use Rattle.osek_scheduler.proofs.Outcomes.{by_suspended}
 use Rattle.osek_scheduler.proofs.Tests.{Decides-is_due, Decides-no_ticks}
@@ -47,9 +46,9 @@ use Rattle.osek_scheduler.proofs.Facts.{facts}
 use Rattle.osek_scheduler.proofs.Leading.{follows_leads}
 use Rattle.osek_scheduler.proofs.Steps.{opening_valid}
 use Rattle.osek_blocking.proofs.Ordering.{opening_ordered}
-use Rattle.run_counts.specs.Stages.{is_turn, is_entry, run_stages}
+use Rattle.run_counts.specs.Stages.{is_turn, run_stages}
 use Rattle.response_laws.specs.Sums.{count}
-use Rattle.response_laws.specs.Starts.{IsRaisedTurn, InSection, may_raise, OpensSection, AreOfSection, Comes, with_one, with_section, PeriodsStartSo}
+use Rattle.response_laws.specs.Starts.{IsRaisedTurn, InSection, may_raise, OpensSection, AreOfSection, IsAlone, AreOfOne, Comes, with_one, with_section, PeriodsStartSo}
 use Rattle.response_laws.proofs.Attributed.{IsDeclared, declared_by_step}
 use Rattle.response_laws.proofs.Linked.{last_state, last_end, linked_front, linked_behind, each_append, stages_linked, stages_known}
 use Rattle.response_laws.proofs.Linked.{Known, Linked}
@@ -369,7 +368,7 @@ module _ (config : Config) (app : App) (h : ℕ) where
 
   -- ---- who blocks, or that none does
 
-  blocks_or_not : (s : System) (b : ℕ) → Blocks config h s b ⊎ (Blocks config h s b → ⊥)
+  pub blocks_or_not : (s : System) (b : ℕ) → Blocks config h s b ⊎ (Blocks config h s b → ⊥)
   blocks_or_not s b =
       by (cases_lt b (length config.tasks)) (cases_Bool (is_active (task s b).state)) (cases_lt (static_priority config b) (static_priority config h))
       (cases_lt (priority_of config b (task s b)) (static_priority config h))
@@ -558,12 +557,8 @@ module _ (config : Config) (app : App) (h : ℕ) where
       → AllByRecursion (IsBusy config h) xs → Comes config h (x ∷ xs)
   opened x xs other k l ks busy = by (behind_one (end_of x) x.next xs l ks busy (started_next x k) (ordered_next x k) (pressed_next x k other))
     where
-      at_most : (b : Bool) → cond b 1 0 ≤ 1
-      at_most true = omega arith
-      at_most false = omega arith
-
       by : (count (is_other config h) xs ≤ 0) ⊎ ((b : ℕ) × Blocks config h x.next b × InSection config h b xs) → Comes config h (x ∷ xs)
-      by (inl none) = with_one (let one = at_most (is_other config h x) in omega (arith, none, one))
+      by (inl none) = with_one (subst (λ a. IsAlone config h a (AreOfOne config h xs) xs) (sym other) none)
       by (inr (b, blocks, section)) =
           with_section b (blocks.declared, blocks.lower)
           (subst (λ a. OpensSection config h b a (AreOfSection config h b xs) x xs) (sym other)
@@ -575,12 +570,12 @@ module _ (config : Config) (app : App) (h : ℕ) where
     where
       by : (is_admit x.stamped ≡ true) ⊎ (is_admit x.stamped ≡ false) → Comes config h xs → Comes config h (x ∷ xs)
       by (inr other) more = opened x xs other k l ks busy
-      by (inl is) (with_one le) = with_one (let none = ap {B = ℕ} (λ v. cond v 1 0) (admit_is_none x is) in omega (arith, le, none))
+      by (inl is) (with_one one) = with_one (subst (λ a. IsAlone config h a (AreOfOne config h xs) xs) (sym is) one)
       by (inl is) (with_section b lower section) =
           with_section b lower (subst (λ a. OpensSection config h b a (AreOfSection config h b xs) x xs) (sym is) section)
 
   comes_behind : (at : ℕ) (s : System) (xs : List Stage) → Linked at s xs → AllByRecursion (Known config app) xs → AllByRecursion (IsBusy config h) xs → Comes config h xs
-  comes_behind at s [] l k busy = with_one (omega arith)
+  comes_behind at s [] l k busy = with_one tt
   comes_behind at s (x ∷ xs) l k busy = in_front x xs k.0 l.2 k.1 busy.1 (comes_behind (end_of x) x.next xs l.2 k.1 busy.1)
 
 pub periods_start_so : PeriodsStartSo

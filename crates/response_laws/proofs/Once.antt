@@ -1,17 +1,15 @@
 -- A round of a task makes another one that cannot be entered meanwhile Ready once at most.
-use Rattle.std.proofs.Common.{◌≡◌, ℕ, zero, suc, ◌+◌, ◌*◌, ◌<◌, ◌≤◌, ◌⊎◌, ◌&&◌, ◌||◌, not, List, [], ◌∷◌, ◌++◌, Bool, true, false, cond, max, map, length, get_or, refl, sym, ap, ◌∙◌, subst, arith, inl, inr}
+use Rattle.std.proofs.Common.{◌≡◌, ℕ, zero, suc, ◌+◌, ◌<◌, ◌≤◌, ◌⊎◌, ◌&&◌, ◌||◌, not, List, [], ◌∷◌, ◌++◌, Bool, true, false, cond, max, map, length, get_or, refl, sym, ap, ◌∙◌, subst, arith, inl, inr}
 use Rattle.std.specs.List.{AllByRecursion}
-use Rattle.std.proofs.lemmas.Bool.{cases_Bool, cases_eq, true≢false, false≢true, eq-eqb, ne_eqb, eqb-true, eqb-false, and_parts}
+use Rattle.std.proofs.lemmas.Bool.{cases_Bool, cases_eq, true≢false, false≢true, eqb-true, eqb-false, and_parts}
 use Rattle.sloth_base.specs.declared.config.Config.{Config}
 use Rattle.sloth_base.specs.declared.config.TaskDecl.{TaskDecl}
 use Rattle.sloth_base.specs.declared.app.App.{App}
 use Rattle.sloth_base.specs.declared.event.Event.{Event}
 use Rattle.sloth_base.specs.declared.event.Event.TheVariants as event
-use Rattle.sloth_base.specs.declared.event.Stamped.{Stamped}
 use Rattle.sloth_base.specs.declared.service.Service.TheVariants as service
 use Rattle.sloth_base.specs.Named.{undeclared_task}
 use Rattle.sloth_base.specs.ServiceCodes.{is_service}
-use Rattle.code_rules.specs.WellFormed.{WellFormed}
 use Rattle.osek_scheduler.specs.declared.state.TaskState.{TaskState}
 use Rattle.osek_scheduler.specs.declared.state.TaskState.TheVariants as mode
 use Rattle.osek_scheduler.specs.State.{Task, System, task, opening}
@@ -20,7 +18,6 @@ use Rattle.osek_scheduler.specs.Services.{GoesOn}
 use Rattle.osek_scheduler.specs.Valid.{InState, IsValid}
 use Rattle.osek_scheduler.specs.Next.{is_ready}
 use Rattle.osek_scheduler.specs.Steps.{OsekStep, IsServiceStep}
-use Rattle.osek_scheduler.specs.Runs.{OsekRun}
 use Rattle.osek_scheduler.specs.Apart.{priority_of, static_priority, IsActive}
 use Rattle.osek_scheduler.proofs.Apart.{at_least_static, rank_active, rank_ready}
 use Rattle.osek_scheduler.proofs.Facts.{Facts, facts}
@@ -37,8 +34,7 @@ use Rattle.walk_sums.specs.Rounds.{Reaches, IsSteady}
 use Rattle.event_weights.specs.Events.{has_frames}
 use Rattle.run_counts.specs.Stages.{Stage, end_of, is_entry, run_stages}
 use Rattle.run_counts.specs.Rounds.{goes_on_waiting, is_left, round_of, total}
-use Rattle.response_laws.specs.Turns.{in_turn, at_entry, begins_first, begins_next, round_behind, is_ready_for, activated, if_turn, if_entry}
-use Rattle.response_laws.specs.Bounded.{EachFirst, EachNext}
+use Rattle.response_laws.specs.Turns.{in_turn, at_entry, begins_next, round_behind, is_ready_for, activated, if_turn, if_entry}
 use Rattle.response_laws.specs.Once.{StaysOut, RoundsMakeOnce}
 use Rattle.run_counts.proofs.Owing.{entered_owes, ran_owes, came_back_owes, called_owes}
 use Rattle.run_counts.proofs.States.{not_ready}

@@ -1,6 +1,5 @@
 -- As long as a busy period is no longer than its start says, its rounds are no more than their numbers; so it ends in time.
 use Rattle.std.proofs.Common.{◌≡◌, ℕ, zero, suc, ◌+◌, ◌*◌, ◌<◌, ◌≤◌, ◌⊎◌, ◌&&◌, ◌||◌, not, List, [], ◌∷◌, ◌++◌, Bool, true, false, cond, length, refl, sym, ap, ◌∙◌, subst, arith, inl, inr, append_assoc, append-nil, ◌==◌, add-mul}
-use Rattle.std.specs.Prelude.{◌-◌}
 use Rattle.std.specs.List.{AllByRecursion}
 use Rattle.std.proofs.lemmas.Bool.{cases_eq, and_parts, not-true, true≢false, or_parts, eqb-true, ne_eqb}
 use Rattle.sloth_base.specs.declared.config.Config.{Config}
@@ -11,21 +10,26 @@ use Rattle.osek_scheduler.specs.Priority.{is_active}
 use Rattle.osek_scheduler.specs.InTime.{is_admit}
 use Rattle.osek_scheduler.specs.Next.{is_ready, is_due, all_below, no_ticks}
 use Rattle.osek_scheduler.specs.Apart.{IsActive}
-use Rattle.run_counts.specs.Stages.{Stage, end_of, charged}
+use Rattle.run_counts.specs.Stages.{Stage, end_of, charged, spanned}
+use Rattle.run_counts.specs.OwnCounts.{IsShared}
+use Rattle.response_laws.specs.Shares.{share_of, lower_counts}
 use Rattle.run_counts.specs.Rounds.{goes_on_waiting, total}
 use Rattle.response_laws.specs.Sums.{total_where, count, is_over, sum_over}
 use Rattle.event_weights.specs.Events.{has_frames}
-use Rattle.response_laws.specs.Turns.{round_behind, if_turn, in_turn, at_entry, at_entry_for, at_tick, at_admission, is_other, begins_first, begins_next, as_said, is_made, activated, has_grown, was_set}
+use Rattle.response_laws.specs.Turns.{round_behind, if_turn, if_entry, in_turn, at_entry, at_entry_for, at_tick, at_admission, is_other, begins_first, begins_next, as_said, is_made, activated, has_grown, was_set}
 use Rattle.response_laws.specs.Busy.{is_quiet, is_quiet_but, LeavesOnce}
 use Rattle.osek_scheduler.proofs.Facts.{Facts}
 use Rattle.response_laws.proofs.EnteredOnce.{entered_once}
 use Rattle.response_laws.specs.Demand.{Costs, Start, acts_due, sets_due, IsEnough}
-use Rattle.response_laws.specs.Bounded.{EachFirst, EachNext, BoundsRounds, BeginsWithin, left_over, IsWithinInflow, StartsSo}
-use Rattle.response_laws.proofs.Sums.{product_grows, total-append, total_within, sum_below-le, sum_over-le, sum_over-once}
+use Rattle.response_laws.specs.Bounded.{EachOf, EachFirst, EachNext, BoundsRounds, BeginsWithin, left_of, left_over, IsWithinInflow, StartsSo}
+use Rattle.response_laws.proofs.Sums.{total-le, total-none, each_stage, product_grows, total-append, total_within, sum_below-le, sum_over-le, sum_over-once}
 use Rattle.response_laws.proofs.Attributed.{IsDeclared, declared_by_step, all_attributed}
 use Rattle.response_laws.proofs.Linked.{Known, Linked, last_state, last_end, linked_front, linked_behind, each_append, each_joined, each_so, last_within}
 use Rattle.response_laws.proofs.Steps.{turn_active, ready_count, entry_takes, entry_balance, acts_by_admission, sets_by_admission, due_count, tick_balance}
-use Rattle.response_laws.proofs.RoundSums.{waiting_turn, by_task, rounds_of, no_round}
+use Rattle.response_laws.proofs.OwnAttributed.{own_or_entry, all_attributed_own}
+use Rattle.response_laws.proofs.OwnShares.{own_apart, own_rests}
+use Rattle.response_laws.proofs.RoundSums.{waiting_turn, turn_apart, turn_rests}
+use Rattle.response_laws.proofs.Shares.{IsApart, IsNoneAtRest, rounds_of, no_round}
 
 -- ---- a quiet state
 
@@ -91,34 +95,6 @@ module _ (config : Config) (h : ℕ) (once : Bool) (s : System) (calm : Calm con
   calm_inactive t lt over other active =
       let none = (or_parts (is_ready (task s t).state) (is_active (task s t).state) (calm.not_due_but t lt over other)).1 in
       true≢false (sym (ap is_active active) ∙ none)
-
--- ---- sums of all parts
-
-pub total-le : (f g : Stage → ℕ) (xs : List Stage) → AllByRecursion (λ x. f x ≤ g x) xs → total f xs ≤ total g xs
-total-le f g [] each = omega arith
-total-le f g (x ∷ xs) each =
-    let here = each.0 in
-    let rest = total-le f g xs each.1 in
-    omega (arith, here, rest)
-
-total-none : (f : Stage → ℕ) (xs : List Stage) → AllByRecursion (λ x. f x ≤ 0) xs → total f xs ≤ 0
-total-none f [] each = omega arith
-total-none f (x ∷ xs) each =
-    let here = each.0 in
-    let rest = total-none f xs each.1 in
-    omega (arith, here, rest)
-
-pub each_stage : (P : Stage → Type 0) → ((x : Stage) → P x) → (xs : List Stage) → AllByRecursion P xs
-each_stage P all [] = tt
-each_stage P all (x ∷ xs) = (all x, each_stage P all xs)
-
--- an admit is charged with nothing
-admits_charge : (x : Stage) → cond (is_admit x.stamped) (charged x) 0 ≤ 0
-admits_charge x = by (is_admit x.stamped)
-  where
-    by : (b : Bool) → cond b (cond b 0 (x.stamped.stamp.at + 1 - x.start)) 0 ≤ 0
-    by true = omega arith
-    by false = omega arith
 
 -- ---- entries and ticks
 
@@ -211,7 +187,8 @@ pub record Counted (config : Config) (h : ℕ) (once : Bool) (start : Start) (q 
   pub sets : (j : ℕ) → is_over config h j ≡ true → total_where (is_other config h) (was_set j) q + left_over once h (was_set j) q ≤ start.inflow.sets j
 
 module _ (config : Config) (app : App) (h : ℕ) (cuts : ℕ → Bool) (costs : Costs) (run : List Stage) (bounds : BoundsRounds config h cuts costs run)
-    (w : Facts config app) (opening : System) (linked : Linked 0 opening run) (known : AllByRecursion (Known config app) run) (start : Start)
+    (w : Facts config app) (opening : System) (linked : Linked 0 opening run) (known : AllByRecursion (Known config app) run)
+    (shared : AllByRecursion (IsShared config) run) (start : Start)
     (once : Bool) (whole : once ≡ true → cuts h ≡ false) (enough : IsEnough config h once costs start) where
   -- a part of the run
   part_linked : (before q behind : List Stage) → run ≡ before ++ (q ++ behind) → Linked (last_end 0 before) (last_state opening before) q
@@ -293,59 +270,68 @@ module _ (config : Config) (app : App) (h : ℕ) (cuts : ℕ → Bool) (costs : 
         let most = counted.arrivals (counter_line c) in
         omega (arith, le, none, most)
 
-    -- What the rounds of a task come to, that of h with the rest of a turn of it. The part is q, or a part of it with no more of the rounds.
-    rounds : (f : Stage → ℕ) (most more k : ℕ) → k < length config.tasks → is_over config h k ≡ true → EachFirst run (cuts k) k f most → EachNext run (cuts k) k f more
-        → (k ≡ h → once ≡ true → more ≡ most)
-        → (ahead p further : List Stage) → run ≡ ahead ++ (p ++ further) → count (begins_first k) p ≤ count (begins_first k) q
-        → count (begins_next (cuts k) k) p ≤ count (begins_next (cuts k) k) q
-        → ((once && (k == h)) ≡ false → total (if_turn k f) (round_behind (cuts k) k p) ≤ 0)
-        → total (by_task (cuts k) k f) p ≤ cond (k == h) (left_over once h f p) 0 + (start.firsts k * most + start.nexts k * more)
-    rounds f most more k lt over each again same ahead p further is fewer_first fewer_next none = by (once && (k == h)) refl
-      where
-        le : total (by_task (cuts k) k f) p
-            ≤ total (if_turn k f) (round_behind (cuts k) k p) + (count (begins_first k) p * most + count (begins_next (cuts k) k) p * more)
-        le = rounds_of (cuts k) k f run most more each again ahead p further is
+    -- What the rounds of a task come to, that of h with the rest of a round of it. The part is q, or a part of it with no more of the rounds.
+    module _ (entry : Stage → ℕ) (share : ℕ → Stage → ℕ) (apart : (k : ℕ) → IsApart (cuts k) k entry (share k)) where
+      abbrev by_both : ℕ → Stage → ℕ
+      by_both k y = if_entry k entry y + share k y
 
-        by : (b : Bool) → (once && (k == h)) ≡ b → total (by_task (cuts k) k f) p ≤ cond (k == h) (left_over once h f p) 0 + (start.firsts k * most + start.nexts k * more)
-        by false other =
-            let rest = none other in
-            let first = firsts k lt over in
-            let next = nexts k lt over in
-            let a = product_grows (count (begins_first k) p) (start.firsts k) most
-            (let fits = enough.firsts k lt over other in omega (arith, fewer_first, first, fits)) in
-            let b = product_grows (count (begins_next (cuts k) k) p) (start.nexts k) more
-            (let fits = enough.nexts k lt over other in omega (arith, fewer_next, next, fits)) in
-            let all = le in
-            omega (arith, all, rest, a, b)
-        by true own =
-            let both = and_parts once (k == h) own in
-            let e = eqb-true k h both.1 in
-            let P : ℕ → Type 0 = λ u. count (begins_first u) q + count (begins_next (cuts u) u) q ≤ start.firsts u in
-            let number = subst P (sym e) (rounds_once both.0 (subst (λ u. u < length config.tasks) e lt) (subst (λ u. is_over config h u ≡ true) e over)) in
-            let Q : ℕ → Type 0 = λ u. total (if_turn u f) (round_behind (cuts u) u p) ≤ left_over once h f p in
-            let over_left = subst Q (sym e) (left both.0) in
-            let here = ap {B = ℕ} (λ b. cond b (left_over once h f p) 0) both.1 in
-            let equal = ap (λ m. count (begins_next (cuts k) k) p * m) (same e both.0) in
-            let sum = add-mul (count (begins_first k) p) (count (begins_next (cuts k) k) p) most in
-            let grown = product_grows (count (begins_first k) p + count (begins_next (cuts k) k) p) (start.firsts k) most (omega (arith, fewer_first, fewer_next, number)) in
-            let all = le in
-            omega (arith, all, over_left, here, equal, sum, grown)
-          where
-            left : once ≡ true → total (if_turn h f) (round_behind (cuts h) h p) ≤ left_over once h f p
-            left is =
-                let on = ap {B = ℕ} (λ b. cond b (total (if_turn h f) (round_behind false h p)) 0) is in
-                let cut = ap (λ b. total (if_turn h f) (round_behind b h p)) (whole is) in
-                omega (arith, on, cut)
+      rounds : (most more k : ℕ) → k < length config.tasks → is_over config h k ≡ true → EachOf run (cuts k) k (begins_first k) entry (share k) most
+          → EachOf run (cuts k) k (begins_next (cuts k) k) entry (share k) more
+          → (k ≡ h → once ≡ true → more ≡ most)
+          → (ahead p further : List Stage) → run ≡ ahead ++ (p ++ further) → count (begins_first k) p ≤ count (begins_first k) q
+          → count (begins_next (cuts k) k) p ≤ count (begins_next (cuts k) k) q
+          → ((once && (k == h)) ≡ false → total (share k) (round_behind (cuts k) k p) ≤ 0)
+          → total (by_both k) p ≤ cond (k == h) (left_of once h (share h) p) 0 + (start.firsts k * most + start.nexts k * more)
+      rounds most more k lt over each again same ahead p further is fewer_first fewer_next none = by (once && (k == h)) refl
+        where
+          le : total (by_both k) p
+              ≤ total (share k) (round_behind (cuts k) k p) + (count (begins_first k) p * most + count (begins_next (cuts k) k) p * more)
+          le = rounds_of (cuts k) k entry (share k) run most more each again (apart k) ahead p further is
 
-    -- of all stages
-    rounds_here : (f : Stage → ℕ) (most more k : ℕ) → k < length config.tasks → is_over config h k ≡ true → EachFirst run (cuts k) k f most → EachNext run (cuts k) k f more
-        → (k ≡ h → once ≡ true → more ≡ most)
-        → total (by_task (cuts k) k f) q ≤ cond (k == h) (left_over once h f q) 0 + (start.firsts k * most + start.nexts k * more)
-    rounds_here f most more k lt over each again same =
-        rounds f most more k lt over each again same before q behind part (omega arith) (omega arith)
-        (λ other. no_round (cuts k) k f config app at s q links ks (calm_inactive config h once s calm k lt over other))
+          by : (b : Bool) → (once && (k == h)) ≡ b → total (by_both k) p ≤ cond (k == h) (left_of once h (share h) p) 0 + (start.firsts k * most + start.nexts k * more)
+          by false other =
+              let rest = none other in
+              let first = firsts k lt over in
+              let next = nexts k lt over in
+              let a = product_grows (count (begins_first k) p) (start.firsts k) most
+              (let fits = enough.firsts k lt over other in omega (arith, fewer_first, first, fits)) in
+              let b = product_grows (count (begins_next (cuts k) k) p) (start.nexts k) more
+              (let fits = enough.nexts k lt over other in omega (arith, fewer_next, next, fits)) in
+              let all = le in
+              omega (arith, all, rest, a, b)
+          by true own =
+              let both = and_parts once (k == h) own in
+              let e = eqb-true k h both.1 in
+              let P : ℕ → Type 0 = λ u. count (begins_first u) q + count (begins_next (cuts u) u) q ≤ start.firsts u in
+              let number = subst P (sym e) (rounds_once both.0 (subst (λ u. u < length config.tasks) e lt) (subst (λ u. is_over config h u ≡ true) e over)) in
+              let Q : ℕ → Type 0 = λ u. total (share u) (round_behind (cuts u) u p) ≤ left_of once h (share h) p in
+              let over_left = subst Q (sym e) (left both.0) in
+              let here = ap {B = ℕ} (λ b. cond b (left_of once h (share h) p) 0) both.1 in
+              let equal = ap (λ m. count (begins_next (cuts k) k) p * m) (same e both.0) in
+              let sum = add-mul (count (begins_first k) p) (count (begins_next (cuts k) k) p) most in
+              let grown = product_grows (count (begins_first k) p + count (begins_next (cuts k) k) p) (start.firsts k) most (omega (arith, fewer_first, fewer_next, number)) in
+              let all = le in
+              omega (arith, all, over_left, here, equal, sum, grown)
+            where
+              left : once ≡ true → total (share h) (round_behind (cuts h) h p) ≤ left_of once h (share h) p
+              left is =
+                  let on = ap {B = ℕ} (λ b. cond b (total (share h) (round_behind false h p)) 0) is in
+                  let cut = ap (λ b. total (share h) (round_behind b h p)) (whole is) in
+                  omega (arith, on, cut)
 
-    split : (f : Stage → ℕ) (k : ℕ) (xs : List Stage) → total_where (at_entry k) f xs + total_where (in_turn k) f xs ≤ total (by_task (cuts k) k f) xs
+      -- of all stages
+      rounds_here : (most more k : ℕ) → k < length config.tasks → is_over config h k ≡ true → EachOf run (cuts k) k (begins_first k) entry (share k) most
+          → EachOf run (cuts k) k (begins_next (cuts k) k) entry (share k) more
+          → (k ≡ h → once ≡ true → more ≡ most) → IsNoneAtRest (cuts k) k entry (share k) config app
+          → total (by_both k) q ≤ cond (k == h) (left_of once h (share h) q) 0 + (start.firsts k * most + start.nexts k * more)
+      rounds_here most more k lt over each again same rests =
+          rounds most more k lt over each again same before q behind part (omega arith) (omega arith)
+          (λ other. no_round (cuts k) k entry (share k) config app rests at s q links ks (calm_inactive config h once s calm k lt over other))
+
+    turns_apart : (f : Stage → ℕ) (k : ℕ) → IsApart (cuts k) k f (if_turn k f)
+    turns_apart f k = turn_apart (cuts k) k f
+
+    split : (f : Stage → ℕ) (k : ℕ) (xs : List Stage) → total_where (at_entry k) f xs + total_where (in_turn k) f xs ≤ total (λ y. if_entry k f y + if_turn k f y) xs
     split f k [] = omega arith
     split f k (y ∷ ys) = let rest = split f k ys in omega (arith, rest)
 
@@ -358,8 +344,8 @@ module _ (config : Config) (app : App) (h : ℕ) (cuts : ℕ → Bool) (costs : 
         let le = sum_over-le config h (λ k. total_where (at_entry k) f q + total_where (in_turn k) f q)
         (λ k. cond (k == h) (left_over once h f q) 0 + (start.firsts k * first k + start.nexts k * next k))
         (λ k there above.
-        let le = rounds_here f (first k) (next k) k there above (each k there above) (again k there above)
-        (λ e is. let P : ℕ → Type 0 = λ u. next u ≡ first u in subst P (sym e) (same is)) in
+        let le = rounds_here f (λ u. if_turn u f) (turns_apart f) (first k) (next k) k there above (each k there above) (again k there above)
+        (λ e is. let P : ℕ → Type 0 = λ u. next u ≡ first u in subst P (sym e) (same is)) (turn_rests k f config app) in
         let parts = split f k q in
         omega (arith, le, parts)) in
         let once_more = sum_over-once config h (left_over once h f q) (λ k. start.firsts k * first k + start.nexts k * next k) in
@@ -394,17 +380,17 @@ module _ (config : Config) (app : App) (h : ℕ) (cuts : ℕ → Bool) (costs : 
     few_step = record { acts = acts_step; sets = sets_step }
 
     -- the events behind the first
-    pub counts_step : (first : Stage) (period : List Stage) → q ≡ first ∷ period → total_where (is_other config h) charged period + left_over once h charged period ≤ start.inflow.front
+    pub counts_step : (first : Stage) (period : List Stage) → q ≡ first ∷ period → total (lower_counts config h) period + left_of once h (share_of config h) period ≤ start.inflow.front
         → total charged period ≤ start.counts
     counts_step first period is blocking =
-        let parts_all = all_attributed config h charged period (each_of (λ y. IsDeclared config y.stamped.event) declared) in
-        let none = total-none (λ y. cond (is_admit y.stamped) (charged y) 0) period (each_stage (λ y. cond (is_admit y.stamped) (charged y) 0 ≤ 0) admits_charge period) in
-        let turns = sum_over-le config h (λ k. total_where (at_entry k) charged period + total_where (in_turn k) charged period)
-        (λ k. cond (k == h) (left_over once h charged period) 0 + (start.firsts k * costs.first k + start.nexts k * costs.next k)) by_turn in
-        let once_more = sum_over-once config h (left_over once h charged period) (λ k. start.firsts k * costs.first k + start.nexts k * costs.next k) in
-        let by_ticks = sum_below-le (length config.counters) (λ c. total_where (at_tick c) charged period) (λ c. start.inflow.arrivals (counter_line c) * costs.tick c) by_tick in
+        let parts_all = all_attributed_own config app h period (each_of (Known config app) ks) (each_of (λ y. IsDeclared config y.stamped.event) declared)
+        (each_of (IsShared config) (part_each (IsShared config) shared before q behind part)) in
+        let turns = sum_over-le config h (λ k. total (own_or_entry config app h k) period)
+        (λ k. cond (k == h) (left_of once h (share_of config h) period) 0 + (start.firsts k * costs.first k + start.nexts k * costs.next k)) by_turn in
+        let once_more = sum_over-once config h (left_of once h (share_of config h) period) (λ k. start.firsts k * costs.first k + start.nexts k * costs.next k) in
+        let by_ticks = sum_below-le (length config.counters) (λ c. total_where (at_tick c) spanned period) (λ c. start.inflow.arrivals (counter_line c) * costs.tick c) by_tick in
         let most = enough.enough in
-        omega (arith, parts_all, none, blocking, turns, once_more, by_ticks, most)
+        omega (arith, parts_all, blocking, turns, once_more, by_ticks, most)
       where
         each_of : (P : Stage → Type 0) → AllByRecursion P q → AllByRecursion P period
         each_of P each = (subst (AllByRecursion P) is each).1
@@ -414,47 +400,46 @@ module _ (config : Config) (app : App) (h : ℕ) (cuts : ℕ → Bool) (costs : 
 
         -- the rest of a round in which they begin is none, or that of all stages
         by_turn : (k : ℕ) → k < length config.tasks → is_over config h k ≡ true
-            → total_where (at_entry k) charged period + total_where (in_turn k) charged period
-            ≤ cond (k == h) (left_over once h charged period) 0 + (start.firsts k * costs.first k + start.nexts k * costs.next k)
+            → total (own_or_entry config app h k) period
+            ≤ cond (k == h) (left_of once h (share_of config h) period) 0 + (start.firsts k * costs.first k + start.nexts k * costs.next k)
         by_turn k there above = which (once && (k == h)) refl
           where
-            parts : total_where (at_entry k) charged period + total_where (in_turn k) charged period ≤ total (by_task (cuts k) k charged) period
-            parts = split charged k period
-
             same : k ≡ h → once ≡ true → costs.next k ≡ costs.first k
             same e is = let P : ℕ → Type 0 = λ u. costs.next u ≡ costs.first u in subst P (sym e) (enough.entered is).cost
 
-            no_left : (k : ℕ) → (once && (k == h)) ≡ false → cond (k == h) (left_over once h charged q) 0 ≤ 0
+            no_left : (k : ℕ) → (once && (k == h)) ≡ false → cond (k == h) (left_of once h (share_of config h) q) 0 ≤ 0
             no_left k other = by once (k == h) other
               where
-                by : (o e : Bool) → (o && e) ≡ false → cond e (cond o (total (if_turn h charged) (round_behind false h q)) 0) 0 ≤ 0
+                by : (o e : Bool) → (o && e) ≡ false → cond e (cond o (total (share_of config h) (round_behind false h q)) 0) 0 ≤ 0
                 by true true off = absurd (true≢false off)
                 by true false off = omega arith
                 by false true off = omega arith
                 by false false off = omega arith
 
+            own_apart_of : (u : ℕ) → IsApart (cuts u) u spanned (share_of config u)
+            own_apart_of u = own_apart config app u (cuts u)
+
             which : (b : Bool) → (once && (k == h)) ≡ b
-                → total_where (at_entry k) charged period + total_where (in_turn k) charged period
-                ≤ cond (k == h) (left_over once h charged period) 0 + (start.firsts k * costs.first k + start.nexts k * costs.next k)
+                → total (own_or_entry config app h k) period
+                ≤ cond (k == h) (left_of once h (share_of config h) period) 0 + (start.firsts k * costs.first k + start.nexts k * costs.next k)
             which true own =
-                let le = rounds charged (costs.first k) (costs.next k) k there above (bounds.firsts k there above) (bounds.nexts k there above) same (before ++ first ∷ []) period behind
+                let le = rounds spanned (share_of config) own_apart_of (costs.first k) (costs.next k) k there above (bounds.firsts k there above) (bounds.nexts k there above) same (before ++ first ∷ []) period behind
                 (part ∙ ap (λ zs. before ++ (zs ++ behind)) is ∙ sym (append_assoc before (first ∷ []) (period ++ behind)))
                 (fewer (λ y. cond (begins_first k y) 1 0)) (fewer (λ y. cond (begins_next (cuts k) k y) 1 0)) (λ off. absurd (true≢false (sym own ∙ off))) in
-                let most = parts in
-                omega (arith, le, most)
+                omega (arith, le)
             which false other =
-                let le = rounds_here charged (costs.first k) (costs.next k) k there above (bounds.firsts k there above) (bounds.nexts k there above) same in
+                let le = rounds_here spanned (share_of config) own_apart_of (costs.first k) (costs.next k) k there above (bounds.firsts k there above) (bounds.nexts k there above) same
+                (own_rests config app k) in
                 let none = no_left k other in
-                let some = fewer (by_task (cuts k) k charged) in
-                let most = parts in
-                omega (arith, le, none, some, most)
+                let some = fewer (own_or_entry config app h k) in
+                omega (arith, le, none, some)
 
-        by_tick : (c : ℕ) → c < length config.counters → total_where (at_tick c) charged period ≤ start.inflow.arrivals (counter_line c) * costs.tick c
+        by_tick : (c : ℕ) → c < length config.counters → total_where (at_tick c) spanned period ≤ start.inflow.arrivals (counter_line c) * costs.tick c
         by_tick c there =
             let few_ticks = fewer (λ y. cond (at_tick c y) 1 0) in
             let all = ticks c there in
-            let ticking = total_within (at_tick c) charged (costs.tick c) period (each_of (λ y. at_tick c y ≡ true → charged y ≤ costs.tick c)
-            (part_each (λ y. at_tick c y ≡ true → charged y ≤ costs.tick c) (bounds.ticks c) before q behind part)) in
+            let ticking = total_within (at_tick c) spanned (costs.tick c) period (each_of (λ y. at_tick c y ≡ true → spanned y ≤ costs.tick c)
+            (part_each (λ y. at_tick c y ≡ true → spanned y ≤ costs.tick c) (bounds.ticks c) before q behind part)) in
             let more = product_grows (count (at_tick c) period) (start.inflow.arrivals (counter_line c)) (costs.tick c) (omega (arith, few_ticks, all)) in
             omega (arith, ticking, more)
 

@@ -1,6 +1,6 @@
 -- With which events a task may be raised.
-use Rattle.std.proofs.Common.{◌≡◌, ℕ, ◌≤◌, ◌==◌, ◌&&◌, List, [], ◌∷◌, ◌++◌, Bool, true, false, cond, max, map, refl, sym, ap, ◌∙◌, subst, arith, Some}
-use Rattle.std.proofs.lemmas.Bool.{false≢true, and_parts, eq-eqb}
+use Rattle.std.proofs.Common.{◌≡◌, ℕ, ◌≤◌, List, [], ◌∷◌, Bool, true, false, cond, max, map, refl, sym, subst, arith}
+use Rattle.std.proofs.lemmas.Bool.{false≢true}
 use Rattle.sloth_base.specs.declared.config.Config.{Config}
 use Rattle.sloth_base.specs.declared.app.App.{App}
 use Rattle.sloth_base.specs.declared.service.Service.{Service}

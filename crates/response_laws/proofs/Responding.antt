@@ -27,6 +27,7 @@ use Rattle.osek_blocking.proofs.Ordering.{opening_ordered}
 use Rattle.raised_sections.specs.Pace.{last_count}
 use Rattle.run_counts.specs.Stages.{Stage, state_behind, stage, stages, run_stages, end_of}
 use Rattle.run_counts.specs.Rounds.{is_left, total}
+use Rattle.run_counts.specs.OwnCounts.{IsShared}
 use Rattle.event_weights.specs.Events.{has_frames}
 use Rattle.response_laws.specs.Sums.{count}
 use Rattle.response_laws.specs.Turns.{as_said, is_ready_for, is_made, has_grown, activated, was_set}
@@ -172,6 +173,7 @@ lefts h xs = count (λ x. is_left h x.stamped.event) xs
 module _ (config : Config) (app : App) (n late more : ℕ) (arrivals : List Arrival) (events : List Stamped) (h r : ℕ) (cuts : ℕ → Bool) (costs : Costs)
     (once : Bool) (starts : ℕ) (start : ℕ → Start) (enters : once ≡ true → EntersOnce config h cuts) (wf : WellFormed config app)
     (run : OsekRun config app events) (in_time : InTime config n arrivals events) (pace : HasPace n late more events)
+    (shared : AllByRecursion (IsShared config) (run_stages config app events))
     (bounds : BoundsRounds config h cuts costs (run_stages config app events)) (ways : StartsInOne config h once starts start (run_stages config app events))
     (enough : (i : ℕ) → i < starts → IsEnough config h once costs (start i)) (lasts : (i : ℕ) → i < starts → LastsWithin h late r (start i)) where
   whole : AreStepsTo config app events (opening config app) run.0
@@ -201,7 +203,7 @@ module _ (config : Config) (app : App) (n late more : ℕ) (arrivals : List Arri
   ends_by before first period behind part begins busy low declared made =
       let way = ways first period (record { before = before; behind = behind; part = part; begins = begins; busy = busy; leaves_once = low }) in
       let holds = period_holds config app h cuts costs (run_stages config app events) bounds (facts config app wf) (opening config app)
-      (stages_linked config app 0 (opening config app) events) known (start way.0) once (λ on. (enters on).whole) (enough way.0 way.1) before first (calm begins) period behind
+      (stages_linked config app 0 (opening config app) events) known shared (start way.0) once (λ on. (enters on).whole) (enough way.0 way.1) before first (calm begins) period behind
       part way.2 low in
       let over = over_itself config h in
       let acts = holds.few.acts h declared over in
@@ -477,5 +479,5 @@ module _ (config : Config) (app : App) (n late more : ℕ) (arrivals : List Arri
             absurd (omega (arith, le, end, last, no_less, near, enough_counts))
 
 pub respond_in_time : RespondsInTime
-respond_in_time config app n late more arrivals events h r cuts costs once starts start enters wf run in_time pace bounds ways enough lasts before behind made found s is leads makes many =
-    responds config app n late more arrivals events h r cuts costs once starts start enters wf run in_time pace bounds ways enough lasts before behind made found s is leads makes many
+respond_in_time config app n late more arrivals events h r cuts costs once starts start enters wf run in_time pace shared bounds ways enough lasts before behind made found s is leads makes many =
+    responds config app n late more arrivals events h r cuts costs once starts start enters wf run in_time pace shared bounds ways enough lasts before behind made found s is leads makes many

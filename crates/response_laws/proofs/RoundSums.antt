@@ -1,7 +1,7 @@
 -- The rounds of a task in a list of stages come together to no more than each may, for each that begins: of a number of the entry and of the events in turns.
-use Rattle.std.proofs.Common.{◌≡◌, ℕ, ◌+◌, ◌*◌, ◌≤◌, ◌⊎◌, ◌&&◌, List, ◌++◌, Bool, true, false, cond, refl, ap, inl, inr}
+use Rattle.std.proofs.Common.{◌≡◌, ℕ, ◌+◌, ◌*◌, ◌≤◌, List, ◌++◌, Bool, true, false, cond, refl, ap}
 use Rattle.std.specs.List.{AllByRecursion}
-use Rattle.std.proofs.lemmas.Bool.{cases_Bool, false≢true, and_parts}
+use Rattle.std.proofs.lemmas.Bool.{false≢true, and_parts}
 use Rattle.sloth_base.specs.declared.config.Config.{Config}
 use Rattle.sloth_base.specs.declared.app.App.{App}
 use Rattle.sloth_base.specs.declared.event.Event.{Event}
@@ -11,7 +11,7 @@ use Rattle.osek_scheduler.specs.Apart.{IsActive}
 use Rattle.run_counts.specs.Stages.{Stage, is_turn}
 use Rattle.run_counts.specs.Rounds.{goes_on_waiting, total}
 use Rattle.response_laws.specs.Sums.{count}
-use Rattle.response_laws.specs.Turns.{in_turn, at_entry, begins_first, begins_next, round_behind, if_turn, if_entry}
+use Rattle.response_laws.specs.Turns.{in_turn, begins_first, begins_next, round_behind, if_turn, if_entry}
 use Rattle.response_laws.specs.Bounded.{EachFirst, EachNext}
 use Rattle.response_laws.proofs.Linked.{Known, Linked}
 use Rattle.response_laws.proofs.Shares.{IsApart, IsNoneAtRest, entry_alone}
@@ -29,7 +29,7 @@ module _ (cuts : Bool) (t : ℕ) (f : Stage → ℕ) where
   abbrev pub by_task : Stage → ℕ
   by_task x = if_entry t f x + if_turn t f x
 
-  turn_apart : IsApart cuts t f (if_turn t f)
+  pub turn_apart : IsApart cuts t f (if_turn t f)
   turn_apart x is = ap {B = ℕ} (λ b. cond b (f x) 0) (entry_alone t x.stamped.event is).0
 
   -- more stages, more of the round

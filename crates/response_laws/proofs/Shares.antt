@@ -1,5 +1,5 @@
 -- What rounds of a task come to, by what its entries have and what the other stages have that are its: no more than each round may, for each that begins.
-use Rattle.std.proofs.Common.{◌≡◌, ℕ, ◌+◌, ◌*◌, ◌≤◌, ◌⊎◌, ◌&&◌, ◌||◌, not, List, [], ◌∷◌, ◌++◌, Bool, true, false, cond, refl, sym, ap, ◌∙◌, subst, arith, inl, inr, append_assoc}
+use Rattle.std.proofs.Common.{◌≡◌, ℕ, ◌+◌, ◌*◌, ◌≤◌, ◌&&◌, ◌||◌, not, List, [], ◌∷◌, ◌++◌, Bool, true, false, cond, refl, sym, ap, ◌∙◌, subst, arith, append_assoc}
 use Rattle.std.specs.List.{AllByRecursion}
 use Rattle.std.proofs.lemmas.Bool.{false≢true, and_right, eqb-true}
 use Rattle.sloth_base.specs.declared.config.Config.{Config}
@@ -15,6 +15,7 @@ use Rattle.run_counts.specs.Stages.{Stage, end_of, is_turn, is_entry}
 use Rattle.run_counts.specs.Rounds.{goes_on_waiting, is_left, round_of, total}
 use Rattle.response_laws.specs.Sums.{count}
 use Rattle.event_weights.specs.Events.{has_frames}
+use Rattle.response_laws.specs.Bounded.{EachOf}
 use Rattle.response_laws.specs.Turns.{at_entry, begins_first, begins_next, round_behind, if_entry}
 use Rattle.response_laws.proofs.Sums.{one_more}
 use Rattle.response_laws.proofs.Linked.{Known, Linked}
@@ -35,12 +36,6 @@ left_inactive config app w t x k is = by x.stamped.event k.step is
         (frame_effect config app w x.found x.next k.valid (event.Left u served) step).gone (subst (IsActive x.next) (sym (eqb-true u t is)) active)
     by event.Boot step is active = false≢true is
     by e step is active = absurd (false≢true is)
-
--- each round of task t that begins so has at most this sum: of its entry one number, of the stages behind it another
-abbrev pub EachOf : List Stage → (cuts : Bool) → (t : ℕ) → (begins : Stage → Bool) → (entry share : Stage → ℕ) → (most : ℕ) → Type 0
-EachOf run cuts t begins entry share most =
-    (before behind : List Stage) (opens : Stage) → run ≡ before ++ opens ∷ behind → begins opens ≡ true
-    → if_entry t entry opens + total share (round_behind cuts t behind) ≤ most
 
 module _ (cuts : Bool) (t : ℕ) (e share : Stage → ℕ) where
   -- what a stage has as an entry of the task and else

@@ -1,7 +1,6 @@
 -- Where a busy period starts: at the last quiet state.
-use Rattle.std.proofs.Common.{◌≡◌, ℕ, zero, suc, ◌<◌, ◌⊎◌, ◌&&◌, ◌||◌, not, List, [], ◌∷◌, ◌++◌, Bool, true, false, length, get_or, map, refl, sym, ap, ◌∙◌, arith, inl, inr}
-use Rattle.std.specs.List.{AllByRecursion}
-use Rattle.std.proofs.lemmas.Bool.{cases_Bool, and_from, and_right, true≢false, false_from_ne_true, le-leb, not_from_false}
+use Rattle.std.proofs.Common.{◌≡◌, ℕ, zero, suc, ◌<◌, ◌&&◌, ◌||◌, not, List, [], ◌∷◌, Bool, true, false, length, get_or, map, refl, sym, ap, ◌∙◌, arith}
+use Rattle.std.proofs.lemmas.Bool.{and_from, and_right, true≢false, false_from_ne_true, le-leb, not_from_false}
 use Rattle.sloth_base.specs.declared.config.Config.{Config}
 use Rattle.sloth_base.specs.declared.config.CounterDecl.{CounterDecl}
 use Rattle.sloth_base.specs.declared.app.App.{App}

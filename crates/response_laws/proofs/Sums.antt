@@ -27,6 +27,24 @@ pub total-append : (f : Stage → ℕ) (xs ys : List Stage) → total f (xs ++ y
 total-append f [] ys = omega arith
 total-append f (x ∷ xs) ys = let rest = total-append f xs ys in omega (arith, rest)
 
+pub total-le : (f g : Stage → ℕ) (xs : List Stage) → AllByRecursion (λ x. f x ≤ g x) xs → total f xs ≤ total g xs
+total-le f g [] each = omega arith
+total-le f g (x ∷ xs) each =
+    let here = each.0 in
+    let rest = total-le f g xs each.1 in
+    omega (arith, here, rest)
+
+pub total-none : (f : Stage → ℕ) (xs : List Stage) → AllByRecursion (λ x. f x ≤ 0) xs → total f xs ≤ 0
+total-none f [] each = omega arith
+total-none f (x ∷ xs) each =
+    let here = each.0 in
+    let rest = total-none f xs each.1 in
+    omega (arith, here, rest)
+
+pub each_stage : (P : Stage → Type 0) → ((x : Stage) → P x) → (xs : List Stage) → AllByRecursion P xs
+each_stage P all [] = tt
+each_stage P all (x ∷ xs) = (all x, each_stage P all xs)
+
 -- where each stage that passes has at most so much
 pub total_within : (test : Stage → Bool) (f : Stage → ℕ) (most : ℕ) (xs : List Stage) → AllByRecursion (λ x. test x ≡ true → f x ≤ most) xs
     → total_where test f xs ≤ count test xs * most

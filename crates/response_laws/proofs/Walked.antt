@@ -37,10 +37,12 @@ use Rattle.raised_sections.specs.Walks.{place, GoesBack, GoesOnInside, LeadsTo}
 use Rattle.raised_sections.proofs.Placed.{FrameEffect}
 use Rattle.run_counts.specs.Stages.{Stage, end_of, is_turn, is_entry, run_stages}
 use Rattle.run_counts.specs.Rounds.{goes_on_waiting, is_left, closes_round, round_of, total}
+use Rattle.run_counts.specs.OwnCounts.{is_preempted, begun, left_begun}
+use Rattle.event_weights.specs.Pace.{ItemSizes, next_size}
 use Rattle.event_weights.specs.Events.{has_frames}
 use Rattle.response_laws.specs.Turns.{at_entry, begins_first, begins_next, if_turn}
 use Rattle.walk_sums.specs.Rounds.{is_wait, OnlyLast, IsBehindWait, Anywhere}
-use Rattle.response_laws.specs.Walked.{standing, is_cut, IsLaterRound, weigh, FirstRoundsWeigh, LaterRoundsWeigh, is_executed, is_back, FitsItem, RoundsFollowWalks}
+use Rattle.response_laws.specs.Walked.{standing, is_cut, IsLaterRound, weigh, FirstRoundsWeigh, LaterRoundsWeigh, is_executed, is_back, FitsItem, FitsBegun, RoundsFollowWalks, RoundsFollowWalksOn}
 use Rattle.osek_scheduler.specs.Services.{moved_frames, ServiceOutcome, GoesOn, Leaves}
 use Rattle.osek_scheduler.specs.Steps.{IsServiceStep}
 use Rattle.osek_scheduler.proofs.Steps.{asleep_at}
@@ -241,72 +243,113 @@ module _ (config : Config) (app : App) (w : Facts config app) (t : ℕ) where
           weighs = let le = found.weighs in omega (arith, none, le);
         })
 
-    found_in : (at : ℕ) (s : System) (xs : List Stage) → Linked at s xs → AllByRecursion (Known config app) xs → AllByRecursion (FitsItem t f going ending) xs
-        → (task s t).frames ≢ [] → Found (standing (task s t).frames) (total (if_turn t f) (round_of cuts t xs))
-    found_in at s [] l k fits stands = nothing (standing (task s t).frames) 0 (omega arith)
-    found_in at s (x ∷ xs) l k fits stands =
-        subst (λ (y : System). Found (standing (task y t).frames) (total (if_turn t f) (round_of cuts t (x ∷ xs)))) l.1
-        (here (view x.stamped.event x.found x.next k.0.step k.0.valid (λ none. stands (ap (λ (y : System). (task y t).frames) (sym l.1) ∙ none)))
-        (λ some. found_in (end_of x) x.next xs l.2 k.1 fits.1 some))
-      where
-        there : (task x.found t).frames ≢ []
-        there none = stands (ap (λ (y : System). (task y t).frames) (sym l.1) ∙ none)
+    lighten : (at : Position) (sum less : ℕ) → less ≤ sum → Found at sum → Found at less
+    lighten at sum less le found = record {
+      positions = found.positions;
+      starts = found.starts;
+      consecutive = found.consecutive;
+      cut = found.cut;
+      weighs = let weight = found.weighs in omega (arith, le, weight);
+    }
 
-        on : is_turn t x.stamped.event ≡ true → if_turn t f x ≡ f x
-        on is = ap {B = ℕ} (λ b. cond b (f x) 0) is
+    module _ (size : ItemSizes) where
+      -- what a round has, and the item that it has begun and not ended
+      abbrev Sum : (so_far : ℕ) → List Stage → ℕ
+      Sum so_far xs = total (if_turn t f) xs + left_begun config size t so_far xs
 
-        off : is_turn t x.stamped.event ≡ false → if_turn t f x ≡ 0
-        off is = ap {B = ℕ} (λ b. cond b (f x) 0) is
+      abbrev FoundIn : System → ℕ → Type 0
+      FoundIn s sum = Found (standing (task s t).frames) sum
 
-        with_closes : (b : Bool) → closes_round cuts t x.stamped.event ≡ b
-            → Found (standing (task x.found t).frames) (if_turn t f x + total (if_turn t f) (cond b [] (round_of cuts t xs)))
-            → Found (standing (task x.found t).frames) (total (if_turn t f) (round_of cuts t (x ∷ xs)))
-        with_closes b is found =
-            subst (λ c. Found (standing (task x.found t).frames) (if_turn t f x + total (if_turn t f) (cond c [] (round_of cuts t xs)))) (sym is) found
+      found_on : (at : ℕ) (s : System) (xs : List Stage) (so_far : ℕ) → Linked at s xs → AllByRecursion (Known config app) xs → AllByRecursion (FitsItem t f going ending) xs
+          → AllByRecursion (FitsBegun config size t ending) xs → so_far ≤ ending (standing (task s t).frames) → (task s t).frames ≢ [] → FoundIn s (Sum so_far (round_of cuts t xs))
+      found_on at s [] so_far l k fits begins few stands = last (standing (task s t).frames) (0 + so_far) (omega (arith, few))
+      found_on at s (x ∷ xs) so_far l k fits begins few stands =
+          subst (λ (y : System). FoundIn y (Sum so_far (round_of cuts t (x ∷ xs)))) l.1
+          (here (view x.stamped.event x.found x.next k.0.step k.0.valid (λ none. stands (ap (λ (y : System). (task y t).frames) (sym l.1) ∙ none)))
+          (λ le some. found_on (end_of x) x.next xs behind_so l.2 k.1 fits.1 begins.1 le some))
+        where
+          there : (task x.found t).frames ≢ []
+          there none = stands (ap (λ (y : System). (task y t).frames) (sym l.1) ∙ none)
 
-        closes_not : is_left t x.stamped.event ≡ false → goes_on_waiting t x.stamped.event ≡ false → closes_round cuts t x.stamped.event ≡ false
-        closes_not stays quiet = ap (λ b. b || (cuts && goes_on_waiting t x.stamped.event)) stays ∙ and_right cuts (goes_on_waiting t x.stamped.event) quiet
+          few_here : so_far ≤ ending (standing (task x.found t).frames)
+          few_here = subst (λ (y : System). so_far ≤ ending (standing (task y t).frames)) (sym l.1) few
 
-        same_frames_next : (task x.next t).frames ≡ (task x.found t).frames → (task x.next t).frames ≢ []
-        same_frames_next same none = there (sym same ∙ none)
+          picked : ℕ
+          picked = cond (is_preempted config t x) (begun size t x) so_far
 
-        here : View x.stamped.event x.found x.next
-            → ((task x.next t).frames ≢ [] → Found (standing (task x.next t).frames) (total (if_turn t f) (round_of cuts t xs)))
-            → Found (standing (task x.found t).frames) (total (if_turn t f) (round_of cuts t (x ∷ xs)))
-        here (goes executed turn stays step waits) again = by (cases_Bool (cuts && goes_on_waiting t x.stamped.event))
-          where
-            some : (task x.next t).frames ≢ []
-            some none = somewhere app (standing (task x.found t).frames) (subst (λ fs. IsPositionStep app (standing (task x.found t).frames) (standing fs)) none step)
+          behind_so : ℕ
+          behind_so = cond (is_turn t x.stamped.event) 0 picked
 
-            by : ((cuts && goes_on_waiting t x.stamped.event) ≡ true) ⊎ ((cuts && goes_on_waiting t x.stamped.event) ≡ false)
-                → Found (standing (task x.found t).frames) (total (if_turn t f) (round_of cuts t (x ∷ xs)))
-            by (inl ends) =
-                with_closes true (ap (λ b. b || (cuts && goes_on_waiting t x.stamped.event)) stays ∙ ends)
-                (last (standing (task x.found t).frames) _
-                (let le = fits.0.goes executed in let more = lighter (standing (task x.found t).frames) in let a = on turn in omega (arith, le, more, a)))
-            by (inr more) =
-                with_closes false (ap (λ b. b || (cuts && goes_on_waiting t x.stamped.event)) stays ∙ more)
-                (in_front (standing (task x.found t).frames) (standing (task x.next t).frames) _ _ step no_cut
-                (let le = fits.0.goes executed in let a = on turn in omega (arith, le, a)) (again some))
-              where
-                no_cut : is_cut cuts (operation_at app (standing (task x.found t).frames)) ≡ false
-                no_cut = none cuts (is_wait (operation_at app (standing (task x.found t).frames))) (goes_on_waiting t x.stamped.event) more waits
-                  where
-                    none : (c w g : Bool) → (c && g) ≡ false → (w ≡ true → g ≡ true) → (c && w) ≡ false
-                    none false w g off so = refl
-                    none true false g off so = refl
-                    none true true g off so = absurd (true≢false (sym (so refl) ∙ off))
-        here (leaves is turn) again =
-            with_closes true (ap (λ b. b || (cuts && goes_on_waiting t x.stamped.event)) is)
-            (last (standing (task x.found t).frames) _ (let le = fits.0.leaves is in let a = on turn in omega (arith, le, a)))
-        here (returns is turn stays quiet same) again =
-            with_closes false (closes_not stays quiet)
-            (kept (standing (task x.found t).frames) (standing (task x.next t).frames) _ _ (ap standing (sym same)) (let le = fits.0.returns is in let a = on turn in omega (arith, le, a))
-            (again (same_frames_next same)))
-        here (rests away stays quiet same) again =
-            with_closes false (closes_not stays quiet)
-            (kept (standing (task x.found t).frames) (standing (task x.next t).frames) _ _ (ap standing (sym same)) (let a = off away in omega (arith, a))
-            (again (same_frames_next same)))
+          picked_few : picked ≤ ending (standing (task x.found t).frames)
+          picked_few = by (is_preempted config t x) begins.0
+            where
+              by : (b : Bool) → (b ≡ true → begun size t x ≤ ending (standing (task x.found t).frames))
+                  → cond b (begun size t x) so_far ≤ ending (standing (task x.found t).frames)
+              by true so = so refl
+              by false so = few_here
+
+          nothing_begun : is_turn t x.stamped.event ≡ true → behind_so ≡ 0
+          nothing_begun is = ap {B = ℕ} (λ b. cond b 0 picked) is
+
+          still_begun : is_turn t x.stamped.event ≡ false → behind_so ≡ picked
+          still_begun is = ap {B = ℕ} (λ b. cond b 0 picked) is
+
+          on : is_turn t x.stamped.event ≡ true → if_turn t f x ≡ f x
+          on is = ap {B = ℕ} (λ b. cond b (f x) 0) is
+
+          off : is_turn t x.stamped.event ≡ false → if_turn t f x ≡ 0
+          off is = ap {B = ℕ} (λ b. cond b (f x) 0) is
+
+          with_closes : (b : Bool) → closes_round cuts t x.stamped.event ≡ b
+              → FoundIn x.found (if_turn t f x + Sum behind_so (cond b [] (round_of cuts t xs)))
+              → FoundIn x.found (Sum so_far (round_of cuts t (x ∷ xs)))
+          with_closes b is found =
+              subst (λ c. FoundIn x.found ((if_turn t f x + total (if_turn t f) (cond c [] (round_of cuts t xs))) + left_begun config size t behind_so (cond c [] (round_of cuts t xs)))) (sym is)
+              (lighten (standing (task x.found t).frames) _ _ (omega arith) found)
+
+          closes_not : is_left t x.stamped.event ≡ false → goes_on_waiting t x.stamped.event ≡ false → closes_round cuts t x.stamped.event ≡ false
+          closes_not stays quiet = ap (λ b. b || (cuts && goes_on_waiting t x.stamped.event)) stays ∙ and_right cuts (goes_on_waiting t x.stamped.event) quiet
+
+          same_frames_next : (task x.next t).frames ≡ (task x.found t).frames → (task x.next t).frames ≢ []
+          same_frames_next same none = there (sym same ∙ none)
+
+          here : View x.stamped.event x.found x.next
+              → (behind_so ≤ ending (standing (task x.next t).frames) → (task x.next t).frames ≢ [] → FoundIn x.next (Sum behind_so (round_of cuts t xs)))
+              → FoundIn x.found (Sum so_far (round_of cuts t (x ∷ xs)))
+          here (goes executed turn stays step waits) again = by (cases_Bool (cuts && goes_on_waiting t x.stamped.event))
+            where
+              some : (task x.next t).frames ≢ []
+              some none = somewhere app (standing (task x.found t).frames) (subst (λ fs. IsPositionStep app (standing (task x.found t).frames) (standing fs)) none step)
+
+              by : ((cuts && goes_on_waiting t x.stamped.event) ≡ true) ⊎ ((cuts && goes_on_waiting t x.stamped.event) ≡ false)
+                  → FoundIn x.found (Sum so_far (round_of cuts t (x ∷ xs)))
+              by (inl ends) =
+                  with_closes true (ap (λ b. b || (cuts && goes_on_waiting t x.stamped.event)) stays ∙ ends)
+                  (last (standing (task x.found t).frames) _
+                  (let le = fits.0.goes executed in let more = lighter (standing (task x.found t).frames) in let a = on turn in let z = nothing_begun turn in omega (arith, le, more, a, z)))
+              by (inr more) =
+                  with_closes false (ap (λ b. b || (cuts && goes_on_waiting t x.stamped.event)) stays ∙ more)
+                  (in_front (standing (task x.found t).frames) (standing (task x.next t).frames) _ _ step no_cut
+                  (let le = fits.0.goes executed in let a = on turn in omega (arith, le, a)) (again (let z = nothing_begun turn in omega (arith, z)) some))
+                where
+                  no_cut : is_cut cuts (operation_at app (standing (task x.found t).frames)) ≡ false
+                  no_cut = none cuts (is_wait (operation_at app (standing (task x.found t).frames))) (goes_on_waiting t x.stamped.event) more waits
+                    where
+                      none : (c w g : Bool) → (c && g) ≡ false → (w ≡ true → g ≡ true) → (c && w) ≡ false
+                      none false w g off so = refl
+                      none true false g off so = refl
+                      none true true g off so = absurd (true≢false (sym (so refl) ∙ off))
+          here (leaves is turn) again =
+              with_closes true (ap (λ b. b || (cuts && goes_on_waiting t x.stamped.event)) is)
+              (last (standing (task x.found t).frames) _ (let le = fits.0.leaves is in let a = on turn in let z = nothing_begun turn in omega (arith, le, a, z)))
+          here (returns is turn stays quiet same) again =
+              with_closes false (closes_not stays quiet)
+              (kept (standing (task x.found t).frames) (standing (task x.next t).frames) _ _ (ap standing (sym same)) (let le = fits.0.returns is in let a = on turn in omega (arith, le, a))
+              (again (let z = nothing_begun turn in omega (arith, z)) (same_frames_next same)))
+          here (rests away stays quiet same) again =
+              with_closes false (closes_not stays quiet)
+              (kept (standing (task x.found t).frames) (standing (task x.next t).frames) _ _ (ap standing (sym same)) (let a = off away in omega (arith, a))
+              (again (subst (λ fs. behind_so ≤ ending (standing fs)) (sym same) (let z = still_begun away in let le = picked_few in omega (arith, z, le))) (same_frames_next same)))
 
     anywhere : (positions : List Position) → AllByRecursion Anywhere positions
     anywhere [] = tt
@@ -596,12 +639,12 @@ module _ (config : Config) (app : App) (w : Facts config app) where
           let on = sym (ap (λ b. b || (cuts && goes_on_waiting t x.stamped.event)) other) ∙ is in
           waited (and_parts cuts (goes_on_waiting t x.stamped.event) on).1
 
-pub rounds_follow_walks : RoundsFollowWalks
-rounds_follow_walks config app events t cuts f going ending wf osek fits lighter before behind opens is = (
+pub rounds_follow_on : RoundsFollowWalksOn
+rounds_follow_on config app events t cuts f going ending size wf osek fits begins lighter before behind opens is = (
   λ most bound begun.
       let first = stands_first config app w t opens here begun in
       first_found config app w t cuts f going ending lighter most _ bound
-      (subst (λ p. Found config app w t cuts f going ending lighter p (total (if_turn t f) (round_of cuts t behind))) first.0 (found first.1)),
+      (subst (λ p. Found config app w t cuts f going ending lighter p (total (if_turn t f) (round_of cuts t behind) + left_begun config size t 0 (round_of cuts t behind))) first.0 (found first.1)),
   λ most bound begun.
       let some = stands_again config app w cuts t opens here begun in
       later_found config app w t cuts f going ending lighter most _ (standing (task opens.next t).frames) bound
@@ -634,8 +677,29 @@ rounds_follow_walks config app events t cuts f going ending wf osek fits lighter
         (linked_behind 0 (opening config app) before (opens ∷ behind)
         (subst (Linked 0 (opening config app)) is (stages_linked config app 0 (opening config app) events))).2
 
-    found : (task opens.next t).frames ≢ [] → Found config app w t cuts f going ending lighter (standing (task opens.next t).frames) (total (if_turn t f) (round_of cuts t behind))
+    found : (task opens.next t).frames ≢ []
+        → Found config app w t cuts f going ending lighter (standing (task opens.next t).frames)
+        (total (if_turn t f) (round_of cuts t behind) + left_begun config size t 0 (round_of cuts t behind))
     found stands =
-        found_in config app w t cuts f going ending lighter (end_of opens) opens.next behind links
+        found_on config app w t cuts f going ending lighter size (end_of opens) opens.next behind 0 links
         (each_append (Known config app) before (opens ∷ behind) (subst (AllByRecursion (Known config app)) is known)).1.1
-        (each_append (FitsItem t f going ending) before (opens ∷ behind) (subst (AllByRecursion (FitsItem t f going ending)) is fits)).1.1 stands
+        (each_append (FitsItem t f going ending) before (opens ∷ behind) (subst (AllByRecursion (FitsItem t f going ending)) is fits)).1.1
+        (each_append (FitsBegun config size t ending) before (opens ∷ behind) (subst (AllByRecursion (FitsBegun config size t ending)) is begins)).1.1
+        (omega arith) stands
+
+-- the same of the events alone: of items of no size none is begun
+pub rounds_follow_walks : RoundsFollowWalks
+rounds_follow_walks config app events t cuts f going ending wf osek fits lighter before behind opens is =
+    let both = rounds_follow_on config app events t cuts f going ending (λ g i. 0) wf osek fits (none_begun (run_stages config app events)) lighter before behind opens is in (
+      λ most bound begins. let le = both.0 most bound begins in omega (arith, le),
+      λ most bound begins. let le = both.1 most bound begins in omega (arith, le),
+    )
+  where
+    none_of : (b : Bool) (fs : List Frame) → cond b 0 (next_size (λ g i. 0) fs) ≤ 0
+    none_of true fs = omega arith
+    none_of false [] = omega arith
+    none_of false (frame ∷ outer) = omega arith
+
+    none_begun : (xs : List Stage) → AllByRecursion (FitsBegun config (λ g i. 0) t ending) xs
+    none_begun [] = tt
+    none_begun (x ∷ xs) = ((λ _. let none = none_of (task x.found t).owed (task x.found t).frames in omega (arith, none)), none_begun xs)

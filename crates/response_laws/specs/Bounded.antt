@@ -4,26 +4,29 @@ use Rattle.std.specs.List.{AllByRecursion}
 use Rattle.sloth_base.specs.declared.config.Config.{Config}
 use Rattle.sloth_base.specs.Owners.{counter_line}
 use Rattle.osek_scheduler.specs.Next.{is_due}
-use Rattle.run_counts.specs.Stages.{Stage, charged, end_of}
+use Rattle.run_counts.specs.Stages.{Stage, spanned, end_of}
 use Rattle.run_counts.specs.Rounds.{total}
 use Rattle.response_laws.specs.Sums.{total_where, count, is_over}
 use Rattle.response_laws.specs.Turns.{at_tick, at_admission, is_other, begins_first, begins_next, round_behind, if_turn, if_entry, activated, was_set}
 use Rattle.response_laws.specs.Busy.{IsBusyPeriod}
+use Rattle.response_laws.specs.Shares.{share_of, lower_counts}
 use Rattle.response_laws.specs.Demand.{Costs, Inflow, Start}
 
 -- ---- rounds
 
+-- each round of task t that begins so has at most this sum: of the entry that it begins with one number, of the stages behind it another
+abbrev pub EachOf : List Stage → (cuts : Bool) → (t : ℕ) → (begins : Stage → Bool) → (entry share : Stage → ℕ) → (most : ℕ) → Type 0
+EachOf run cuts t begins entry share most =
+    (before behind : List Stage) (opens : Stage) → run ≡ before ++ opens ∷ behind → begins opens ≡ true
+    → if_entry t entry opens + total share (round_behind cuts t behind) ≤ most
+
 -- each first round of task t has at most this sum, with the entry that it begins with
 abbrev pub EachFirst : List Stage → (cuts : Bool) → (t : ℕ) → (Stage → ℕ) → (most : ℕ) → Type 0
-EachFirst run cuts t f most =
-    (before behind : List Stage) (opens : Stage) → run ≡ before ++ opens ∷ behind → begins_first t opens ≡ true
-    → if_entry t f opens + total (if_turn t f) (round_behind cuts t behind) ≤ most
+EachFirst run cuts t f most = EachOf run cuts t (begins_first t) f (if_turn t f) most
 
 -- each round of it behind a WaitEvent
 abbrev pub EachNext : List Stage → (cuts : Bool) → (t : ℕ) → (Stage → ℕ) → (most : ℕ) → Type 0
-EachNext run cuts t f most =
-    (before behind : List Stage) (opens : Stage) → run ≡ before ++ opens ∷ behind → begins_next cuts t opens ≡ true
-    → if_entry t f opens + total (if_turn t f) (round_behind cuts t behind) ≤ most
+EachNext run cuts t f most = EachOf run cuts t (begins_next cuts t) f (if_turn t f) most
 
 -- Where WaitEvents that go on cut the turns of task t, each round behind one has a setting of its own in front of it: in any part of the run whose first
 -- stage finds the task neither Ready nor Active.
@@ -36,11 +39,12 @@ HasSettings run t =
 abbrev pub IsOfLevel : Config → (h t : ℕ) → Type 0
 IsOfLevel config h t = (t < length config.tasks) × (is_over config h t ≡ true)
 
--- the costs bound the rounds and ticks of a run, and how often rounds of tasks of at least the static priority of h make such tasks Ready
+-- The costs bound the rounds of a run, by the entries' and the tasks' own counts, and the ticks' own, and how often rounds of tasks of at least the static
+-- priority of h make such tasks Ready.
 pub record BoundsRounds (config : Config) (h : ℕ) (cuts : ℕ → Bool) (costs : Costs) (run : List Stage) : Type 0 where
-  pub firsts : (t : ℕ) → t < length config.tasks → is_over config h t ≡ true → EachFirst run (cuts t) t charged (costs.first t)
-  pub nexts : (t : ℕ) → t < length config.tasks → is_over config h t ≡ true → EachNext run (cuts t) t charged (costs.next t)
-  pub ticks : (c : ℕ) → AllByRecursion (λ x. at_tick c x ≡ true → charged x ≤ costs.tick c) run
+  pub firsts : (t : ℕ) → t < length config.tasks → is_over config h t ≡ true → EachOf run (cuts t) t (begins_first t) spanned (share_of config t) (costs.first t)
+  pub nexts : (t : ℕ) → t < length config.tasks → is_over config h t ≡ true → EachOf run (cuts t) t (begins_next (cuts t) t) spanned (share_of config t) (costs.next t)
+  pub ticks : (c : ℕ) → AllByRecursion (λ x. at_tick c x ≡ true → spanned x ≤ costs.tick c) run
   pub first_acts : (k j : ℕ) → IsOfLevel config h k → IsOfLevel config h j → EachFirst run (cuts k) k (activated j) (costs.first_acts k j)
   pub next_acts : (k j : ℕ) → IsOfLevel config h k → IsOfLevel config h j → EachNext run (cuts k) k (activated j) (costs.next_acts k j)
   pub first_sets : (k j : ℕ) → IsOfLevel config h k → IsOfLevel config h j → EachFirst run (cuts k) k (was_set j) (costs.first_sets k j)
@@ -53,9 +57,13 @@ pub record BoundsRounds (config : Config) (h : ℕ) (cuts : ℕ → Bool) (costs
 abbrev pub BeginsWithin : (l : ℕ) → (first : Stage) → Stage → Type 0
 BeginsWithin l first x = x.start ≤ end_of first + l
 
+-- what the stages of the round of h that ends in these have, where h leaves as they begin
+abbrev pub left_of : (once : Bool) → (h : ℕ) → (share : Stage → ℕ) → List Stage → ℕ
+left_of once h share xs = cond once (total share (round_behind false h xs)) 0
+
 -- a number of the turn of h that ends in these stages, where h leaves as they begin
 abbrev pub left_over : (once : Bool) → (h : ℕ) → (Stage → ℕ) → List Stage → ℕ
-left_over once h f xs = cond once (total (if_turn h f) (round_behind false h xs)) 0
+left_over once h f xs = left_of once h (if_turn h f) xs
 
 -- what comes into the busy period from outside is within these numbers
 pub record IsWithinInflow (config : Config) (h : ℕ) (once : Bool) (inflow : Inflow) (first : Stage) (period : List Stage) : Type 0 where
@@ -65,7 +73,7 @@ pub record IsWithinInflow (config : Config) (h : ℕ) (once : Bool) (inflow : In
       → total_where (at_tick c) (activated j) (first ∷ period) ≤ inflow.alarm_acts c j
   pub alarm_sets : (c j : ℕ) → count (at_tick c) (first ∷ period) ≤ inflow.arrivals (counter_line c)
       → total_where (at_tick c) (was_set j) (first ∷ period) ≤ inflow.alarm_sets c j
-  pub front : total_where (is_other config h) charged period + left_over once h charged period ≤ inflow.front
+  pub front : total (lower_counts config h) period + left_of once h (share_of config h) period ≤ inflow.front
   pub acts : (j : ℕ) → is_over config h j ≡ true → total_where (is_other config h) (activated j) (first ∷ period) + left_over once h (activated j) (first ∷ period) ≤ inflow.acts j
   pub sets : (j : ℕ) → is_over config h j ≡ true → total_where (is_other config h) (was_set j) (first ∷ period) + left_over once h (was_set j) (first ∷ period) ≤ inflow.sets j
 

@@ -6,7 +6,7 @@ use Rattle.response_laws.specs.Sums.{is_over, sum_over, sum_counters}
 
 -- The greatest costs of a round of each task, and what it makes: of a first round, and of one behind a WaitEvent.
 pub record Costs : Type 0 where
-  -- counts, those of the entry that it begins with included
+  -- own counts, and those of the entry that it begins with
   pub first : (t : ℕ) → ℕ
   pub next : (t : ℕ) → ℕ
   -- counts of a tick of a counter
@@ -25,7 +25,7 @@ pub record Inflow : Type 0 where
   -- ticks of counter c that make task j Ready to begin anew, and that set events of it
   pub alarm_acts : (c j : ℕ) → ℕ
   pub alarm_sets : (c j : ℕ) → ℕ
-  -- counts of other events behind the first: those of lower tasks
+  -- counts of lower tasks behind the first event, and of other events
   pub front : ℕ
   -- other events, the first included, that make task j Ready to begin anew, and that set events of it
   pub acts : (j : ℕ) → ℕ

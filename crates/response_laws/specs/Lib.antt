@@ -1,6 +1,7 @@
 pub mod Sums
 pub mod Turns
 pub mod Busy
+pub mod Shares
 pub mod Starts
 pub mod Demand
 pub mod Bounded

@@ -1,4 +1,5 @@
 -- Response times of runs whose arrivals keep a load.
+use Rattle.std.specs.List.{AllByRecursion}
 use Rattle.std.specs.Prelude.{ℕ, ◌<◌, ◌≤◌, ◌≡◌, List, [], ◌++◌, Bool, true}
 use Rattle.sloth_base.specs.declared.config.Config.{Config}
 use Rattle.sloth_base.specs.declared.app.App.{App}
@@ -11,6 +12,8 @@ use Rattle.load_text.specs.Loads.{KeepDistances, arrivals_within}
 use Rattle.osek_scheduler.specs.InTime.{InTime}
 use Rattle.osek_scheduler.specs.Runs.{OsekRun}
 use Rattle.run_counts.specs.Stages.{Stage, run_stages}
+use Rattle.run_counts.specs.OwnCounts.{IsShared}
+use Rattle.response_laws.specs.Shares.{LowerSpendWithin}
 use Rattle.response_laws.specs.Sums.{total_where, count}
 use Rattle.response_laws.specs.Turns.{at_tick, activated, was_set}
 use Rattle.response_laws.specs.Demand.{Costs, Start, IsEnough}
@@ -41,10 +44,11 @@ pub record IsStartFor (config : Config) (load : List Entry) (late heaviest h r :
 -- In every run of well-formed task code whose arrivals keep a load, whose rounds are within the costs, and in which lower tasks come into busy periods as
 -- one of the starts says, task h responds within the longest of the starts in which it has a round, and an event.
 abbrev pub RespondsUnderLoad : Type 0
-RespondsUnderLoad = (config : Config) (app : App) (load : List Entry) (n late more heaviest : ℕ) (arrivals : List Arrival) (events : List Stamped) (h r : ℕ)
+RespondsUnderLoad = (config : Config) (app : App) (load : List Entry) (n late more heaviest longest : ℕ) (arrivals : List Arrival) (events : List Stamped) (h r : ℕ)
     (cuts : ℕ → Bool) (costs : Costs) (once : Bool) (starts : ℕ) (start : ℕ → Start)
     → (once ≡ true → EntersOnce config h cuts) → WellFormed config app → OsekRun config app events → InTime config n arrivals events → HasPace n late more events → more ≤ heaviest
     → AreCharged heaviest (run_stages config app events) → HasDistances load → KeepDistances load arrivals
-    → BoundsRounds config h cuts costs (run_stages config app events) → HaveStarts config h once starts start (run_stages config app events)
+    → AllByRecursion (IsShared config) (run_stages config app events) → LowerSpendWithin config h longest (run_stages config app events)
+    → BoundsRounds config h cuts costs (run_stages config app events) → HaveStarts config h longest once starts start (run_stages config app events)
     → ((i : ℕ) → i < starts → IsStartFor config load late heaviest h r once costs (run_stages config app events) (start i))
     → RespondsWithin config app n more h r events

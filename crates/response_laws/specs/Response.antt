@@ -15,6 +15,7 @@ use Rattle.osek_blocking.specs.Blocking.{MakesReady}
 use Rattle.raised_sections.specs.Pace.{last_count}
 use Rattle.run_counts.specs.Stages.{run_stages}
 use Rattle.run_counts.specs.Rounds.{is_left}
+use Rattle.run_counts.specs.OwnCounts.{IsShared}
 use Rattle.response_laws.specs.Demand.{Costs, Start, IsEnough}
 use Rattle.response_laws.specs.Bounded.{BoundsRounds, StartsInOne}
 
@@ -52,12 +53,12 @@ pub record EntersOnce (config : Config) (h : ℕ) (cuts : ℕ → Bool) : Type 0
   pub alone : (t : ℕ) → t < length config.tasks → static_priority config t ≡ static_priority config h → t ≡ h
   pub whole : cuts h ≡ false
 
--- In a run whose rounds are within the costs, and each busy period of which starts in one of these ways, each with enough, task h responds within
+-- In a run each count of which is an event's or one task's own, whose rounds are within the costs, and each busy period of which starts in one of these ways, each with enough, task h responds within
 -- the longest of the starts in which it has a round.
 abbrev pub RespondsInTime : Type 0
 RespondsInTime = (config : Config) (app : App) (n late more : ℕ) (arrivals : List Arrival) (events : List Stamped) (h r : ℕ) (cuts : ℕ → Bool) (costs : Costs)
     (once : Bool) (starts : ℕ) (start : ℕ → Start)
     → (once ≡ true → EntersOnce config h cuts) → WellFormed config app → OsekRun config app events → InTime config n arrivals events → HasPace n late more events
-    → BoundsRounds config h cuts costs (run_stages config app events) → StartsInOne config h once starts start (run_stages config app events)
+    → AllByRecursion (IsShared config) (run_stages config app events) → BoundsRounds config h cuts costs (run_stages config app events) → StartsInOne config h once starts start (run_stages config app events)
     → ((i : ℕ) → i < starts → IsEnough config h once costs (start i)) → ((i : ℕ) → i < starts → LastsWithin h late r (start i))
     → RespondsWithin config app n more h r events

@@ -58,8 +58,8 @@ KeepsWork config load cuts run =
 abbrev pub WorksWithin : (load : List Entry) → (t most : ℕ) → Type 0
 WorksWithin load t most = (counts : ℕ) × (work load t ≡ Some counts) × (counts ≤ most)
 
--- What the costs say of the task code: in front of each entry and tick the longest item may have begun, whose counts are taken as theirs too.
-pub record FitsRounds (config : Config) (app : App) (longest : ℕ) (weights : List BodyWeights) (load : List Entry) (h : ℕ) (cuts : ℕ → Bool) (costs : Costs)
+-- What the costs say of the task code. The pieces of items in front of entries and ticks are their tasks' own counts.
+pub record FitsRounds (config : Config) (app : App) (weights : List BodyWeights) (load : List Entry) (h : ℕ) (cuts : ℕ → Bool) (costs : Costs)
     : Type 0 where
   -- the counts of rounds without the entries: by what the load says of the task, or by walks of its code
   pub first_round : (t : ℕ) → ℕ
@@ -69,9 +69,9 @@ pub record FitsRounds (config : Config) (app : App) (longest : ℕ) (weights : L
   pub nexts : (t : ℕ) → t < length config.tasks → is_over config h t ≡ true
       → WorksWithin load t (next_round t) ⊎ LaterRoundsSum app (cuts t) t weights (next_round t)
   -- with them
-  pub first : (t : ℕ) → longest + enter_counts config app false t + first_round t ≤ costs.first t
-  pub next : (t : ℕ) → longest + enter_counts config app true t + next_round t ≤ costs.next t
-  pub tick : (c : ℕ) → longest + tick_path config c ≤ costs.tick c
+  pub first : (t : ℕ) → enter_counts config app false t + first_round t ≤ costs.first t
+  pub next : (t : ℕ) → enter_counts config app true t + next_round t ≤ costs.next t
+  pub tick : (c : ℕ) → tick_path config c ≤ costs.tick c
   -- what rounds make of tasks of this level, by walks; or once, where the task cannot be entered meanwhile
   pub first_acts : (k j : ℕ) → IsOfLevel config h k → IsOfLevel config h j
       → FirstRoundsSum app (cuts k) k (activation_weights app k j) (costs.first_acts k j) ⊎ (StaysOut config app k j × (1 ≤ costs.first_acts k j))
@@ -95,8 +95,8 @@ ImagesRespond = (config : Config) (app : App) (image : Image) (weights : List Bo
     → (once ≡ true → EntersOnce config h cuts) → WellFormed config app → IsTaskCode app → Sound config app image → Weighed config app image → InPace config app image → AreCounts app weights
     → AreArrivals (owners_in config) arrivals → n ≤ count_limit → NoStretchIsAbove config app late
     → HasDistances load → KeepDistances load arrivals → KeepsWork config load cuts (run_stages config app (events_of image arrivals n))
-    → FitsRounds config app item_instructions weights load h cuts costs
-    → HaveStarts config h once starts start (run_stages config app (events_of image arrivals n))
+    → FitsRounds config app weights load h cuts costs
+    → HaveStarts config h item_instructions once starts start (run_stages config app (events_of image arrivals n))
     → ((i : ℕ) → i < starts → IsStartFor config load late (item_instructions + late) h r once costs (run_stages config app (events_of image arrivals n)) (start i))
     → RespondsWithin config app n (item_instructions + late) h r (events_of image arrivals n)
 
@@ -122,6 +122,6 @@ ImagesRespondByCode = (config : Config) (app : App) (image : Image) (weights : L
     → (once ≡ true → EntersOnce config h cuts) → WellFormed config app → IsTaskCode app → Sound config app image → Weighed config app image → InPace config app image → AreCounts app weights
     → MarksAlarms app is_set → IsLongestItem app longest → AreArrivals (owners_in config) arrivals → n ≤ count_limit → NoStretchIsAbove config app late
     → HasDistances load → KeepDistances load arrivals → KeepsWork config load cuts (run_stages config app (events_of image arrivals n))
-    → FitsRounds config app longest weights load h cuts costs → FitsStarts config app longest weights h once starts start
+    → FitsRounds config app weights load h cuts costs → FitsStarts config app longest weights h once starts start
     → ((i : ℕ) → i < starts → IsCodeStart config is_set load late (longest + late) h r once costs (start i))
     → RespondsWithin config app n (longest + late) h r (events_of image arrivals n)

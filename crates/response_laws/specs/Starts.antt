@@ -1,5 +1,5 @@
 -- In which ways a busy period starts: how lower tasks come into it.
-use Rattle.std.specs.Prelude.{ℕ, ◌+◌, ◌<◌, ◌≤◌, ◌≡◌, ◌⊎◌, ◌==◌, ◌&&◌, List, [], ◌∷◌, ◌++◌, Bool, true, false, is_some}
+use Rattle.std.specs.Prelude.{ℕ, ◌+◌, ◌<◌, ◌≤◌, ◌≡◌, ◌⊎◌, ◌==◌, ◌&&◌, List, [], ◌∷◌, ◌++◌, Bool, true, false, cond, is_some}
 use Rattle.std.specs.List.{AllByRecursion}
 use Rattle.sloth_base.specs.declared.config.Config.{Config}
 use Rattle.sloth_base.specs.declared.app.App.{App}
@@ -17,9 +17,10 @@ use Rattle.osek_scheduler.specs.State.{task}
 use Rattle.osek_scheduler.specs.Apart.{priority_of, static_priority}
 use Rattle.raised_sections.specs.Sections.{IsLower}
 use Rattle.run_counts.specs.Stages.{Stage, charged, run_stages}
-use Rattle.run_counts.specs.Rounds.{is_left}
+use Rattle.run_counts.specs.Rounds.{is_left, total}
 use Rattle.response_laws.specs.Sums.{total_where, count, is_over}
 use Rattle.response_laws.specs.Turns.{in_turn, is_other, activated, was_set}
+use Rattle.response_laws.specs.Shares.{lower_counts}
 use Rattle.response_laws.specs.Busy.{IsBusyPeriod}
 use Rattle.response_laws.specs.Demand.{Start}
 
@@ -53,9 +54,19 @@ abbrev pub AreOfSection : Config → (h b : ℕ) → List Stage → Type 0
 AreOfSection config h b [] = Unit {0}
 AreOfSection config h b (x ∷ xs) = OpensSection config h b (is_admit x.stamped) (AreOfSection config h b xs) x xs
 
+-- no event is another one, or where the stage before them is an admission, this holds of the rest
+abbrev pub IsAlone : Config → (h : ℕ) → (admits : Bool) → (rest : Type 0) → List Stage → Type 0
+IsAlone config h true rest xs = rest
+IsAlone config h false rest xs = count (is_other config h) xs ≤ 0
+
+-- Behind admissions stands an event, and no other one behind it.
+abbrev pub AreOfOne : Config → (h : ℕ) → List Stage → Type 0
+AreOfOne config h [] = Unit {0}
+AreOfOne config h (x ∷ xs) = IsAlone config h (is_admit x.stamped) (AreOfOne config h xs) xs
+
 -- how lower tasks come into the stages of a busy period, its first stage included: with one event at most, boot among them, or with a section of one task
 pub data Comes (config : Config) (h : ℕ) (xs : List Stage) : Type 0 where
-  with_one : count (is_other config h) xs ≤ 1 → Comes config h xs
+  with_one : AreOfOne config h xs → Comes config h xs
   with_section : (b : ℕ) → IsLower config h b → AreOfSection config h b xs → Comes config h xs
 
 -- in every run of well-formed task code they come so into each busy period
@@ -65,26 +76,31 @@ PeriodsStartSo = (config : Config) (app : App) (events : List Stamped) (h : ℕ)
 
 -- ---- their numbers
 
--- What comes in with one other event is within a start. Only a service comes behind the first event of a period, where no task is raised.
-pub record IsWithinStart (config : Config) (h : ℕ) (s : Start) (x : Stage) : Type 0 where
-  pub front : is_some (served_task x.stamped.event) ≡ true → charged x ≤ s.inflow.front
+-- what an event is charged with, where it is a service
+abbrev pub charged_served : Stage → ℕ
+charged_served x = cond (is_some (served_task x.stamped.event)) (charged x) 0
+
+-- What comes in with one other event is within a start, with an item that a lower task has begun. Only a service comes behind the first event of a period,
+-- where no task is raised.
+pub record IsWithinStart (config : Config) (h longest : ℕ) (s : Start) (x : Stage) : Type 0 where
+  pub front : charged_served x + longest ≤ s.inflow.front
   pub acts : (j : ℕ) → is_over config h j ≡ true → activated j x ≤ s.inflow.acts j
   pub sets : (j : ℕ) → is_over config h j ≡ true → was_set j x ≤ s.inflow.sets j
 
--- what comes in with a section of task b is, in each part of the run that such a section is in
+-- what comes in with a section of task b is, in each part of the run that such a section is in: the counts of lower tasks, their items' pieces among them
 pub record IsSectionWithin (config : Config) (h : ℕ) (run : List Stage) (b : ℕ) (s : Start) : Type 0 where
   pub front : (before behind : List Stage) (first : Stage) (xs : List Stage) → run ≡ before ++ ((first ∷ xs) ++ behind) → AreOfSection config h b (first ∷ xs)
-      → total_where (is_other config h) charged xs ≤ s.inflow.front
+      → total (lower_counts config h) xs ≤ s.inflow.front
   pub acts : (before behind : List Stage) (j : ℕ) (xs : List Stage) → is_over config h j ≡ true → run ≡ before ++ (xs ++ behind) → AreOfSection config h b xs
       → total_where (is_other config h) (activated j) xs ≤ s.inflow.acts j
   pub sets : (before behind : List Stage) (j : ℕ) (xs : List Stage) → is_over config h j ≡ true → run ≡ before ++ (xs ++ behind) → AreOfSection config h b xs
       → total_where (is_other config h) (was_set j) xs ≤ s.inflow.sets j
 
--- for each way in which lower tasks may come into a busy period there is a start, which is boot only for boot
-pub record HaveStarts (config : Config) (h : ℕ) (once : Bool) (starts : ℕ) (start : ℕ → Start) (run : List Stage) : Type 0 where
-  pub some : (i : ℕ) × (i < starts) × ((start i).is_boot ≡ false)
-  pub single : AllByRecursion (λ x. is_other config h x ≡ true → (i : ℕ) × (i < starts) × IsWithinStart config h (start i) x × ((start i).is_boot ≡ true → is_boot x.stamped.event ≡ true)) run
+-- For each way in which lower tasks may come into a busy period there is a start, which is boot only for boot. No item has more instructions than `longest`.
+pub record HaveStarts (config : Config) (h longest : ℕ) (once : Bool) (starts : ℕ) (start : ℕ → Start) (run : List Stage) : Type 0 where
+  pub some : (i : ℕ) × (i < starts) × ((start i).is_boot ≡ false) × (longest ≤ (start i).inflow.front)
+  pub single : AllByRecursion (λ x. is_other config h x ≡ true → (i : ℕ) × (i < starts) × IsWithinStart config h longest (start i) x × ((start i).is_boot ≡ true → is_boot x.stamped.event ≡ true)) run
   pub section : (b : ℕ) → IsLower config h b → (i : ℕ) × (i < starts) × ((start i).is_boot ≡ false) × IsSectionWithin config h run b (start i)
   -- where h leaves as a period begins
   pub leaves : once ≡ true
-      → AllByRecursion (λ x. is_left h x.stamped.event ≡ true → (i : ℕ) × (i < starts) × ((start i).is_boot ≡ false) × IsWithinStart config h (start i) x) run
+      → AllByRecursion (λ x. is_left h x.stamped.event ≡ true → (i : ℕ) × (i < starts) × ((start i).is_boot ≡ false) × IsWithinStart config h longest (start i) x) run

@@ -13,11 +13,12 @@ use Rattle.osek_scheduler.specs.Runs.{OsekRun}
 use Rattle.raised_sections.specs.Walks.{Position, place}
 use Rattle.raised_sections.specs.Sections.{IsSection}
 use Rattle.bound_rules.specs.declared.weights.BodyWeights.{BodyWeights}
-use Rattle.walk_sums.specs.Weights.{going_at, ending_at}
 use Rattle.walk_sums.specs.Rounds.{is_wait, IsPart, IsFirst, IsBehindWait, Anywhere}
 use Rattle.walk_sums.specs.Told.{NoneIsAbove}
+use Rattle.event_weights.specs.Pace.{ItemSizes}
 use Rattle.run_counts.specs.Stages.{Stage, run_stages}
 use Rattle.run_counts.specs.Rounds.{is_left, round_of, total}
+use Rattle.run_counts.specs.OwnCounts.{is_preempted, begun, left_begun}
 use Rattle.response_laws.specs.Turns.{begins_first, begins_next, if_turn}
 
 -- ---- walks
@@ -82,6 +83,23 @@ pub record FitsItem (t : ℕ) (f : Stage → ℕ) (going ending : Position → �
   pub goes : is_executed t x.stamped.event ≡ true → f x ≤ going (standing (task x.found t).frames)
   pub leaves : is_left t x.stamped.event ≡ true → f x ≤ ending (standing (task x.found t).frames)
   pub returns : is_back t x.stamped.event ≡ true → f x ≤ 0
+
+-- the item that task t has begun where it is preempted has at most what a walk weighs that may end with it
+abbrev pub FitsBegun : Config → ItemSizes → (t : ℕ) → (ending : Position → ℕ) → Stage → Type 0
+FitsBegun config size t ending x = is_preempted config t x ≡ true → begun size t x ≤ ending (standing (task x.found t).frames)
+
+-- In every run of well-formed task code: where each event of a task has at most what its item weighs, and an item that it has begun too, a round with the
+-- item that it has begun and not ended has at most what walks weigh.
+abbrev pub RoundsFollowWalksOn : Type 0
+RoundsFollowWalksOn = (config : Config) (app : App) (events : List Stamped) (t : ℕ) (cuts : Bool) (f : Stage → ℕ) (going ending : Position → ℕ) (size : ItemSizes)
+    → WellFormed config app → OsekRun config app events → AllByRecursion (FitsItem t f going ending) (run_stages config app events)
+    → AllByRecursion (FitsBegun config size t ending) (run_stages config app events)
+    → ((at : Position) → going at ≤ ending at)
+    → (before behind : List Stage) (opens : Stage) → run_stages config app events ≡ before ++ opens ∷ behind
+    → ((most : ℕ) → FirstRoundsWeigh app cuts t going ending most → begins_first t opens ≡ true
+    → total (if_turn t f) (round_of cuts t behind) + left_begun config size t 0 (round_of cuts t behind) ≤ most)
+    × ((most : ℕ) → LaterRoundsWeigh app cuts t going ending most → begins_next cuts t opens ≡ true
+    → total (if_turn t f) (round_of cuts t behind) + left_begun config size t 0 (round_of cuts t behind) ≤ most)
 
 -- In every run of well-formed task code: where each event of a task has at most what its item weighs, a round has at most what walks weigh.
 abbrev pub RoundsFollowWalks : Type 0

@@ -9,6 +9,7 @@ ghost use Rattle.response_laws.specs.Expiries.{TicksMakeAsAlarmsExpire};
 ghost use Rattle.response_laws.specs.Settings.{CleanTasksHaveSettings};
 ghost use Rattle.response_laws.specs.Response.{RespondsInTime};
 ghost use Rattle.response_laws.specs.Loaded.{RespondsUnderLoad};
+ghost use Rattle.response_laws.specs.Shares.{LowerTasksSpendOneItem};
 ghost use Rattle.response_laws.specs.CodeStarts.{CodeFitsStarts};
 ghost use Rattle.response_laws.specs.SoundRuns.{ImagesRespond, ImagesRespondByCode};
 
@@ -79,8 +80,13 @@ pub fn images_respond()
     ensures { ImagesRespond }
 {}
 
+/// In every run of well-formed task code, where no event is of a lower task, lower tasks have no more counts than one item has instructions.
+pub fn lower_tasks_spend_one_item()
+    ensures { LowerTasksSpendOneItem }
+{}
+
 /// In every run of well-formed task code that keeps the pace, what lower tasks bring into busy periods is within starts that fit the task code: each
-/// item that they reach, and each of their raised sections, with what raises them.
+/// item that they reach, and each of their raised sections, with what raises them; and one item that is begun.
 pub fn code_fits_starts()
     ensures { CodeFitsStarts }
 {}

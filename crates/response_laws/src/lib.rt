@@ -21,8 +21,9 @@
 //! - What lower tasks bring into a period follows from their code (`code_fits_starts`; `specs/CodeStarts`), so the response time of a task does
 //!   (`images_respond_by_code`).
 //!
-//! What an entry or a tick takes counts here with the longest item, which may have begun in front of it. Stages, rounds and own counts: `run_counts`; loads:
-//! `load_text`.
+//! What a task has begun of an item in front of an entry or a tick that preempts it is of its own counts, and within the item's weight. In a busy period that
+//! holds of lower tasks' sections too; besides them lower tasks spend one item at most (`lower_tasks_spend_one_item`; `specs/Shares`). Stages, rounds and own
+//! counts: `run_counts`; loads: `load_text`.
 #![tactic(auto)]
 
 pub mod laws;

@@ -215,15 +215,15 @@ module _ (config : Config) (app : App) (w : Facts config app) (load : List Entry
 
   room_at : (boot : Bool) (c : ℕ) (makes signals : ℕ → ℕ) (s : Start) → Has all_starts s → (is_boot s ≡ true → boot ≡ true) → c ≤ run_front costs h s
       → ((j : ℕ) → is_over config h j ≡ true → makes j ≤ (begun_by costs h s j).activations) → ((j : ℕ) → is_over config h j ≡ true → signals j ≤ (begun_by costs h s j).settings)
-      → SomeHasRoom config h (length all_starts) begins boot c makes signals
+      → SomeHasRoom config h longest (length all_starts) begins boot c makes signals
   room_at boot c makes signals s (i, lt, is) boots front acts sets = (
     i,
     lt,
     subst (λ v. is_boot v ≡ true → boot ≡ true) (sym is) boots,
-    subst (λ v. HasRoom config h c makes signals (start_by config load longest late costs h v (numbers i) (lasting i))) (sym is) (record { front = front; acts = acts; sets = sets }),
+    subst (λ v. HasRoom config h longest c makes signals (start_by config load longest late costs h v (numbers i) (lasting i))) (sym is) (record { front = omega (arith, front); acts = acts; sets = sets }),
   )
 
-  boots : SomeHasRoom config h (length all_starts) begins true 0 (autostarted config) none
+  boots : SomeHasRoom config h longest (length all_starts) begins true 0 (autostarted config) none
   boots = room_at true 0 (autostarted config) none start.Boot (has_boot costs h) (λ e. refl) (omega arith) (λ j over. by j (cases_lt j (length config.tasks))) (λ j over. omega arith)
     where
       by : (j : ℕ) → (j < length config.tasks) ⊎ (length config.tasks ≤ j) → autostarted config j ≤ cond (task costs j).is_autostarted 1 0
@@ -319,7 +319,7 @@ module _ (config : Config) (app : App) (w : Facts config app) (load : List Entry
     sets_is j = counted_ending (counts.Settings j) app at ∙ ap (λ o. one_if (is_ending_counted (counts.Settings j) o)) is
 
     abbrev Room : Type 0
-    Room = SomeHasRoom config h (length all_starts) begins false (ending_at weights at) (λ j. ending_at (activation_weights app t j) at) (λ j. ending_at (setting_weights app j) at)
+    Room = SomeHasRoom config h longest (length all_starts) begins false (ending_at weights at) (λ j. ending_at (activation_weights app t j) at) (λ j. ending_at (setting_weights app j) at)
 
     -- it makes none of the level
     frees : ((j : ℕ) → is_over config h j ≡ true → one_if ((is_service call.service service.ActivateTask && (call.object == j)) || (is_service call.service service.ChainTask && (call.object == j))) ≤ 0)
@@ -451,11 +451,11 @@ module _ (config : Config) (app : App) (w : Facts config app) (load : List Entry
             (λ j over. let none = ap (λ s. one_if (s && (call.object == j))) g in omega (arith, none))
 
   serves : (t : ℕ) → Serves t → (at : Position) → Reaches app t at → is_call (operation_at app at) ≡ true
-      → SomeHasRoom config h (length all_starts) begins false (ending_at weights at) (λ j. ending_at (activation_weights app t j) at) (λ j. ending_at (setting_weights app j) at)
+      → SomeHasRoom config h longest (length all_starts) begins false (ending_at weights at) (λ j. ending_at (activation_weights app t j) at) (λ j. ending_at (setting_weights app j) at)
   serves t serving at reach = by (operation_at app at) refl
     where
       by : (o : Op) → operation_at app at ≡ o → is_call o ≡ true
-          → SomeHasRoom config h (length all_starts) begins false (ending_at weights at) (λ j. ending_at (activation_weights app t j) at) (λ j. ending_at (setting_weights app j) at)
+          → SomeHasRoom config h longest (length all_starts) begins false (ending_at weights at) (λ j. ending_at (activation_weights app t j) at) (λ j. ending_at (setting_weights app j) at)
       by (op.Serve call) is e = served t serving at reach call is
       by op.Return is e = absurd (false≢true e)
       by o is e = absurd (false≢true e)
@@ -588,7 +588,7 @@ module _ (config : Config) (app : App) (w : Facts config app) (load : List Entry
 
   pub fits_starts : FitsStarts config app longest weights h (task costs h).is_preemptable (length all_starts) begins
   fits_starts = record {
-    some = (0, omega arith, refl);
+    some = (0, omega arith, refl, omega arith);
     boots = boots;
     serves = λ t low. serves t (lower_serves t low);
     sections = sections;

@@ -224,17 +224,17 @@ module _ (config : Config) (app : App) (w : Facts config app) (load : List Entry
   counted_task t lt = let same = are.tasks.count in omega (arith, lt, same)
 
   abbrev pub first_entry : ℕ → ℕ
-  first_entry t = longest + enter_counts config app false t
+  first_entry t = enter_counts config app false t
 
   abbrev pub next_entry : ℕ → ℕ
-  next_entry t = longest + enter_counts config app true t
+  next_entry t = enter_counts config app true t
 
   -- what the law takes as costs
   abbrev pub law_costs : Demand.Costs
   law_costs = record {
     first = λ t. first_entry t + (reckoned (task costs t).first - first_entry t);
     next = λ t. next_entry t + (reckoned (task costs t).next - next_entry t);
-    tick = λ c. longest + tick_path config c;
+    tick = λ c. tick_path config c;
     first_acts = λ k j. reckoned (making costs k j).first_activations;
     next_acts = λ k j. reckoned (making costs k j).next_activations;
     first_sets = λ k j. reckoned (making costs k j).first_settings;
@@ -255,11 +255,11 @@ module _ (config : Config) (app : App) (w : Facts config app) (load : List Entry
         same_from_decides (b && (declaration config t).extended) (cuts t) (and_decided b (declaration config t).extended decides (is_true (declaration config t).extended)) (cut t lt)
 
     -- an entry in front of a round behind a WaitEvent is no shorter than that
-    resumed_least : (b : Bool) (t : ℕ) → next_entry t ≤ round_entry config app longest b true t
+    resumed_least : (b : Bool) (t : ℕ) → next_entry t ≤ round_entry config app b true t
     resumed_least true t = omega arith
     resumed_least false t = omega arith
 
-    fresh_is : (b : Bool) (t : ℕ) → round_entry config app longest b false t ≡ first_entry t
+    fresh_is : (b : Bool) (t : ℕ) → round_entry config app b false t ≡ first_entry t
     fresh_is true t = refl
     fresh_is false t = refl
 
@@ -278,7 +278,7 @@ module _ (config : Config) (app : App) (w : Facts config app) (load : List Entry
         × (WorksWithin load t (reckoned (task costs t).next - next_entry t) ⊎ LaterRoundsSum app (cuts t) t are.weights (reckoned (task costs t).next - next_entry t))
     next_told t over =
         by (cost_told (LaterRoundsSum app (cuts t) t are.weights) (λ n m. weaker (IsLaterRound app (cuts t) t) are.weights n m)
-        (round_entry config app longest own.clean true t) (work load t) own.told.later (task costs t).next own.next
+        (round_entry config app own.clean true t) (work load t) own.told.later (task costs t).next own.next
         (told.rounds t (counted_task t over.0) (level_upper t over)).next
         (λ n is. subst (λ c. LaterRoundsSum app c t are.weights n) (cut_as t over.0 own.clean own.clears)
         (later_above app t are.weights n (counts_lighter app are.weights are.are_counts) own.clean (declaration config t).extended own.told (never t over.0) own.rounds is)))
@@ -286,9 +286,9 @@ module _ (config : Config) (app : App) (w : Facts config app) (load : List Entry
         own : AreRunTaskCosts config app load longest are.weights t (task costs t)
         own = are.tasks.each t over.0
 
-        by : (round_entry config app longest (are.tasks.each t over.0).clean true t ≤ reckoned (task costs t).next)
-            × (WorksWithin load t (reckoned (task costs t).next - round_entry config app longest (are.tasks.each t over.0).clean true t)
-            ⊎ LaterRoundsSum app (cuts t) t are.weights (reckoned (task costs t).next - round_entry config app longest (are.tasks.each t over.0).clean true t))
+        by : (round_entry config app (are.tasks.each t over.0).clean true t ≤ reckoned (task costs t).next)
+            × (WorksWithin load t (reckoned (task costs t).next - round_entry config app (are.tasks.each t over.0).clean true t)
+            ⊎ LaterRoundsSum app (cuts t) t are.weights (reckoned (task costs t).next - round_entry config app (are.tasks.each t over.0).clean true t))
             → (next_entry t ≤ reckoned (task costs t).next)
             × (WorksWithin load t (reckoned (task costs t).next - next_entry t) ⊎ LaterRoundsSum app (cuts t) t are.weights (reckoned (task costs t).next - next_entry t))
         by (le, inl (work_counts, said, few)) =
@@ -298,7 +298,7 @@ module _ (config : Config) (app : App) (w : Facts config app) (load : List Entry
             let least = resumed_least (are.tasks.each t over.0).clean t in (
               omega (arith, le, least),
               inr (weaker (IsLaterRound app (cuts t) t) are.weights
-                  (reckoned (task costs t).next - round_entry config app longest (are.tasks.each t over.0).clean true t) (reckoned (task costs t).next - next_entry t)
+                  (reckoned (task costs t).next - round_entry config app (are.tasks.each t over.0).clean true t) (reckoned (task costs t).next - next_entry t)
                   (omega (arith, least)) sums),
             )
 
@@ -326,7 +326,7 @@ module _ (config : Config) (app : App) (w : Facts config app) (load : List Entry
     once_out k j once decides (inl g) = inl g
     once_out k j once decides (inr (is, le)) = inr (decides.0 is, le)
 
-    pub fits_rounds : FitsRounds config app longest are.weights load h cuts law_costs
+    pub fits_rounds : FitsRounds config app are.weights load h cuts law_costs
     fits_rounds = record {
       first_round = λ t. reckoned (task costs t).first - first_entry t;
       next_round = λ t. reckoned (task costs t).next - next_entry t;
@@ -381,12 +381,12 @@ alike app true false t weights told whole are = are.2
 alike app false extended t weights told whole are = are.1
 
 -- and so are its entries
-entries_alike : (config : Config) (app : App) (longest : ℕ) (clean : Bool) (t : ℕ) → (clean && (declaration config t).extended) ≡ false
-    → round_entry config app longest clean true t ≡ round_entry config app longest clean false t
-entries_alike config app longest false t whole = refl
-entries_alike config app longest true t whole =
-    subst (λ e. longest + max (entry_path e true (function app (body_of app.funcs t)).frame_words) (entry_path e true (function app (body_of app.funcs t)).frame_words)
-    ≡ longest + max (entry_path e false (function app (body_of app.funcs t)).frame_words) (entry_path e true (function app (body_of app.funcs t)).frame_words)) (sym whole) refl
+entries_alike : (config : Config) (app : App) (clean : Bool) (t : ℕ) → (clean && (declaration config t).extended) ≡ false
+    → round_entry config app clean true t ≡ round_entry config app clean false t
+entries_alike config app false t whole = refl
+entries_alike config app true t whole =
+    subst (λ e. max (entry_path e true (function app (body_of app.funcs t)).frame_words) (entry_path e true (function app (body_of app.funcs t)).frame_words)
+    ≡ max (entry_path e false (function app (body_of app.funcs t)).frame_words) (entry_path e true (function app (body_of app.funcs t)).frame_words)) (sym whole) refl
 
 module _ (config : Config) (app : App) (load : List Entry) (longest : ℕ) (costs : Costs) (are : AreRunCosts config app load longest costs) (h : ℕ)
     (there : h < length config.tasks) (once : (task costs h).is_preemptable ≡ true) where
@@ -404,8 +404,8 @@ module _ (config : Config) (app : App) (load : List Entry) (longest : ℕ) (cost
 
   pub costs_alike : (task costs h).next ≡ (task costs h).first
   costs_alike =
-      own.next ∙ ap (λ e. round_cost e (work load h) own.told.later) (entries_alike config app longest own.clean h is_whole)
-      ∙ ap (λ s. round_cost (round_entry config app longest own.clean false h) (work load h) s)
+      own.next ∙ ap (λ e. round_cost e (work load h) own.told.later) (entries_alike config app own.clean h is_whole)
+      ∙ ap (λ s. round_cost (round_entry config app own.clean false h) (work load h) s)
       (alike app own.clean (declaration config h).extended h are.weights own.told is_whole own.rounds) ∙ sym own.first
 
   whole_by : (b : Bool) → Decides b (IsClean app h) → (b && (declaration config h).extended) ≡ false

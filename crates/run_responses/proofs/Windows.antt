@@ -47,7 +47,7 @@ module _ (config : Config) (load : List Entry) (longest late : ℕ) (costs : Cos
           (Arrivals.expiring (is_boot s) false c j (arrivals counts (distance load (counter_line c))) costs.alarms);
       alarm_sets = λ c j. min (arrivals counts (distance load (counter_line c)))
           (Arrivals.expiring (is_boot s) true c j (arrivals counts (distance load (counter_line c))) costs.alarms);
-      front = run_front costs h s;
+      front = longest + run_front costs h s;
       acts = λ j. (begun_by costs h s j).activations;
       sets = λ j. (begun_by costs h s j).settings;
     };
@@ -84,13 +84,13 @@ module _ (config : Config) (app : App) (w : Facts config app) (load : List Entry
   law = law_costs config app w load longest costs are h there
 
   -- what fills the window
-  filled : margin longest late + run_front costs h s + round_counts n 0 costs.tasks + Arrivals.tick_counts counts costs.counters ≤ counts
+  filled : margin longest late + (longest + run_front costs h s) + round_counts n 0 costs.tasks + Arrivals.tick_counts counts costs.counters ≤ counts
   filled = solves.filled
 
   room : margin longest late ≤ counts
   room = let all = filled in omega (arith, all)
 
-  counter_is : (c : ℕ) → c < length config.counters → get_or costs.counters c no_counter ≡ record { distance = distance load (counter_line c); tick = longest + tick_path config c }
+  counter_is : (c : ℕ) → c < length config.counters → get_or costs.counters c no_counter ≡ record { distance = distance load (counter_line c); tick = tick_path config c }
   counter_is c lt = are.counters.each c lt
 
   -- the sums of the law are at most those of the window

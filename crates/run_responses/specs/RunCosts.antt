@@ -1,5 +1,5 @@
--- Costs that runs keep: of entries and ticks with the longest item, which may have begun in front of them; of rounds and sections by the counts of items; of
--- makings by walks alone.
+-- Costs that runs keep: of entries and ticks their own counts; of rounds and sections those of items, with what is begun of them in front of entries and ticks
+-- that preempt them; of makings by walks alone.
 use Rattle.std.specs.Prelude.{ℕ, ◌+◌, ◌≤◌, ◌≡◌, ◌⊎◌, ◌&&◌, not, cond, Bool, true, false, List, [], length, Decides}
 use Rattle.sloth_base.specs.declared.config.Config.{Config}
 use Rattle.sloth_base.specs.declared.app.App.{App}
@@ -31,9 +31,9 @@ use Rattle.response_costs.specs.CostsOf.{AreEach, IsGreatest, AreMade, AreServic
 
 -- ---- tasks
 
--- what an entry takes, with the longest item: that of a round behind a WaitEvent where rounds of the task begin so; else the longer one
-abbrev pub round_entry : Config → App → (longest : ℕ) → (clean resumed : Bool) → (t : ℕ) → ℕ
-round_entry config app longest clean resumed t = longest + enter_counts config app (clean && resumed) t
+-- what an entry takes: that of a round behind a WaitEvent where rounds of the task begin so; else the longer one
+abbrev pub round_entry : Config → App → (clean resumed : Bool) → (t : ℕ) → ℕ
+round_entry config app clean resumed t = enter_counts config app (clean && resumed) t
 
 -- what raises a task: its entry, with the longest item, where it is not preemptable, or else a GetResource
 abbrev pub raising_counts : Config → App → (longest t : ℕ) → ℕ
@@ -53,8 +53,8 @@ pub record AreRunTaskCosts (config : Config) (app : App) (load : List Entry) (lo
   pub distance : c.distance ≡ distance load t
   pub told : RoundSums
   pub rounds : AreRounds app clean (declaration config t).extended t weights told
-  pub first : c.first ≡ round_cost (round_entry config app longest clean false t) (work load t) told.first
-  pub next : c.next ≡ round_cost (round_entry config app longest clean true t) (work load t) told.later
+  pub first : c.first ≡ round_cost (round_entry config app clean false t) (work load t) told.first
+  pub next : c.next ≡ round_cost (round_entry config app clean true t) (work load t) told.later
   pub entry : c.entry ≡ raising_counts config app longest t
   pub service : IsGreatest app t call_path c.service
 
@@ -82,8 +82,8 @@ pub record IsRunLevel (config : Config) (app : App) (weights : List BodyWeights)
 
 -- ---- counters and alarms
 
-abbrev pub IsRunCounter : Config → List Entry → (longest c : ℕ) → CounterCosts → Type 0
-IsRunCounter config load longest c costs = costs ≡ record { distance = distance load (counter_line c); tick = longest + tick_path config c }
+abbrev pub IsRunCounter : Config → List Entry → (c : ℕ) → CounterCosts → Type 0
+IsRunCounter config load c costs = costs ≡ record { distance = distance load (counter_line c); tick = tick_path config c }
 
 -- An alarm that an item sets may expire at each tick.
 abbrev pub IsRunAlarm : Config → App → (a : ℕ) → AlarmCosts → Type 0
@@ -96,7 +96,7 @@ pub record AreRunCosts (config : Config) (app : App) (load : List Entry) (longes
   pub weights : List BodyWeights
   pub are_counts : AreCounts app weights
   pub tasks : AreEach (length config.tasks) no_task (AreRunTaskCosts config app load longest weights) costs.tasks
-  pub counters : AreEach (length config.counters) no_counter (IsRunCounter config load longest) costs.counters
+  pub counters : AreEach (length config.counters) no_counter (IsRunCounter config load) costs.counters
   pub alarms : AreEach (length config.alarms) no_alarm (IsRunAlarm config app) costs.alarms
   pub makings : AreEach (length config.tasks) [] (λ j. AreEach (length config.tasks) no_makings (AreRunMakings config app j)) costs.makings
   pub services : AreEach (length config.tasks) [] (λ j. AreEach (length config.tasks) no_services (AreServices app j)) costs.services

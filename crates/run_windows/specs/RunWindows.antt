@@ -1,4 +1,5 @@
--- Windows that hold what comes into a run of a start, with the longest item and two stretches in front of all; and the numbers that they tell.
+-- Windows that hold what comes into a run of a start, with an item that a lower task has begun, and the longest item and two stretches, in front of all; and
+-- the numbers that they tell.
 use Rattle.std.specs.Prelude.{ℕ, ◌+◌, ◌<◌, ◌≤◌, ◌≡◌, ◌==◌, ◌&&◌, ◌||◌, not, max, cond, Bool, true, false, List, [], ◌∷◌, ◌++◌, length, Option, Some, None}
 use Rattle.sloth_base.specs.declared.service.Service.{Service}
 use Rattle.sloth_base.specs.declared.service.Service.TheVariants as service
@@ -98,8 +99,9 @@ run_starts costs h = start.Free ∷ start.Boot ∷ run_task_starts costs h 0 cos
 abbrev pub margin : (longest late : ℕ) → ℕ
 margin longest late = longest + (late + late)
 
+-- in front of all stands the item that a lower task has begun where the window begins
 abbrev pub run_window : (longest late : ℕ) → Costs → (h : ℕ) → Start → Window
-run_window longest late costs h s = record { target = Some h; start = s; front = margin longest late + run_front costs h s; span = None }
+run_window longest late costs h s = record { target = Some h; start = s; front = margin longest late + (longest + run_front costs h s); span = None }
 
 -- the bound of a start is at most this
 abbrev pub IsBoundWithin : (longest late : ℕ) → Costs → (h most : ℕ) → Start → Type 0

@@ -1,6 +1,6 @@
 //! Response times by windows that hold what comes into runs.
 //!
-//! From a record of costs as `response_bounds` has it: the fronts of starts with the longest item, and windows with a stretch in front and an item and a stretch
+//! From a record of costs as `response_bounds` has it: the fronts of starts, and windows with the longest item and a stretch in front and an item and a stretch
 //! behind (`specs/RunWindows`). `run_response` tells a number only where all that it is computed from has one, and the bounds of all starts are within it
 //! (`IsRunResponse`). That runs keep it, where they keep the costs: `run_responses`.
 #![tactic(auto)]

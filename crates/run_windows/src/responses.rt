@@ -17,13 +17,14 @@ use sloth_base::memory::NoMemory;
 use std::alloc::Global;
 use text_pieces::growth::push;
 
-// These counts in front, with the margin.
+// These counts in front, with an item that a lower task has begun, and the margin.
 fn with_margin(longest: u32, late: u32, front: u64) -> u64
     requires { front ≤ count_limit }
-    ensures { result ≡ margin longest late + front }
+    ensures { result ≡ margin longest late + (longest + front) }
 {
     let stretches = u64::from(late) + u64::from(late);
-    u64::from(longest) + stretches + front
+    let items = u64::from(longest) + u64::from(longest);
+    items + stretches + front
 }
 
 // The bound of a start.
