@@ -12,12 +12,12 @@ mod numerals;
 mod operands;
 mod reader;
 mod registers;
-mod rules;
+pub mod rules;
 mod source_line;
 mod table;
 
 pub use laws::{lines_are_parts, one_number, one_place, one_remains, one_shape, register_rows};
 pub use operands::Operand;
-pub use reader::read;
+pub use reader::{read, read_lines};
 pub use source_line::SourceLine;
 pub use statement_forms::{Mnemonic, closes, opens};

@@ -28,9 +28,9 @@ fn read_parts(alloc: Global, parts: &[&[u8]]) -> Result<Vec<SourceLine>, NoMemor
     Ok(read)
 }
 
-// What the lines of a text are.
+/// What the lines of a text are, whatever their faults.
 #[tactic(auto, unfolding(crate::specs::Lines::lines))]
-fn read_lines(alloc: Global, text: &[u8]) -> Result<List<SourceLine>, NoMemory>
+pub fn read_lines(alloc: Global, text: &[u8]) -> Result<List<SourceLine>, NoMemory>
     ensures { IfOk result (λ read. read ≡ source_lines text.now) }
 {
     let parts = split(alloc, text, b'\n')?;

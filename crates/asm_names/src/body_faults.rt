@@ -15,13 +15,15 @@ use sloth_base::refusal::{Code, Part, Refusal};
 use std::alloc::Global;
 use text_pieces::names::Names;
 
-fn is_too_great(count: usize, header: &SourceLine) -> bool
+/// A6 of a header behind so many bodies: one body too many, a frame of too many words, or a long name.
+pub fn is_too_great(count: usize, header: &SourceLine) -> bool
     ensures { result ≡ is_too_great count header.now }
 {
     count == BODY_LIMIT || number_of(header) > FRAME_LIMIT as u32 || has_long(header)
 }
 
-fn is_strange(scope: &Scope, header: &SourceLine) -> bool
+/// A7 of a header: the body of a task that the configuration has not.
+pub fn is_strange(scope: &Scope, header: &SourceLine) -> bool
     ensures { result ≡ is_strange scope.now header.now }
 {
     is_task(header) && !scope.tasks.has(name_of(header))
@@ -38,15 +40,16 @@ fn header_fault(scope: &Scope, count: usize, number: u32, header: &SourceLine) -
     merge(doubled, merge(great, strange))
 }
 
-// Whether the line is a label of the name of one of the first `count`, or uses a name that nothing has.
-fn is_misnamed(scope: &Scope, labels: &Names, count: usize, line: &SourceLine) -> bool
+/// A5 of a line: a label of the name of one of the first `count`, or a use of a name that nothing has.
+pub fn is_misnamed(scope: &Scope, labels: &Names, count: usize, line: &SourceLine) -> bool
     ensures { result ≡ is_misnamed scope.now labels.now (take count labels.now) line.now }
 {
     (is_label(line) && labels.is_among_first(count, name_of(line)))
         || scope.has_unknown(labels, line)
 }
 
-fn is_beyond(items: usize, line: &SourceLine) -> bool
+/// A6 of a line behind so many items: one item too many, or a long name.
+pub fn is_beyond(items: usize, line: &SourceLine) -> bool
     ensures { result ≡ is_beyond items line.now }
 {
     (is_item(line) && items == ITEM_LIMIT) || has_long(line)

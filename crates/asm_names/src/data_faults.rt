@@ -13,15 +13,16 @@ use sloth_base::refusal::{Code, Part, Refusal};
 use text_pieces::bytes::same;
 use text_pieces::names::Names;
 
-// Whether a symbol takes the name of one of the first `count`, or `frame`.
-fn is_taken(symbols: &Names, count: usize, line: &SourceLine) -> bool
+/// A5 of a symbol: it takes the name of one of the first `count`, or `frame`.
+pub fn is_taken(symbols: &Names, count: usize, line: &SourceLine) -> bool
     ensures { result ≡ is_taken (take count symbols.now) line.now }
 {
     let name = name_of(line);
     is_data(line) && (symbols.is_among_first(count, name) || same(name, b"frame"))
 }
 
-fn is_too_much(count: usize, bytes: usize, line: &SourceLine) -> bool
+/// A6 of a symbol behind so many, of so many bytes: one symbol too many, one that brings the sum of sizes above the limit, or a long name.
+pub fn is_too_much(count: usize, bytes: usize, line: &SourceLine) -> bool
     requires { bytes < 2 ^ 63 }
     ensures { result ≡ is_too_much count bytes line.now }
 {

@@ -24,8 +24,8 @@ fn any_without(names: &Names, tasks: &[TaskDecl]) -> bool
     tasks.iter().any(|task| !names.has(task.name.bytes()))
 }
 
-// Whether a task of the configuration has no body.
-fn is_body_missing(alloc: Global, config: &Config, bodies: &[Body]) -> Result<bool, NoMemory>
+/// A7 of line 1: a task of the configuration has no body.
+pub fn is_body_missing(alloc: Global, config: &Config, bodies: &[Body]) -> Result<bool, NoMemory>
     ensures { IfOk result (λ lacks. lacks ≡ is_body_missing config.now bodies.now) }
 {
     let names = task_body_names(alloc, bodies)?;

@@ -3,9 +3,9 @@
 //! `judge` finds the least of A5 to A7, or none (`specs/NameFaults`). Lines and names: `asm_lines` (`Lines`), `asm_scopes` (`Scopes`).
 #![tactic(auto)]
 
-mod body_faults;
-mod data_faults;
-mod judging;
-mod limits;
+pub mod body_faults;
+pub mod data_faults;
+pub mod judging;
+pub mod limits;
 
 pub use judging::judge;

@@ -118,7 +118,8 @@ impl<'t> Scope<'t> {
         }
     }
 
-    fn is_lacking(&self, labels: &Names, kind: Kind, operand: &Operand) -> bool
+    /// Whether the operand writes a name that no object of this kind has.
+    pub fn is_lacking(&self, labels: &Names, kind: Kind, operand: &Operand) -> bool
         ensures { result ≡ is_lacking self.now labels.now kind (written_name operand.now) }
     {
         match written(operand) {

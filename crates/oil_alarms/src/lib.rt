@@ -5,12 +5,12 @@
 //! objects meanwhile (`specs/Indexes`), and all faults of a tree (`specs/ModelFaults`). Rows of the table of attributes: `oil_table` (`Table`).
 #![tactic(auto)]
 
-mod alarm_faults;
+pub mod alarm_faults;
 mod block_faults;
-mod blocks;
+pub mod blocks;
 mod judging;
-mod limits;
-mod task_events;
+pub mod limits;
+pub mod task_events;
 
 pub use blocks::{first_block, first_in, number_in};
 pub use judging::judge;

@@ -111,7 +111,8 @@ fn mask_by(taken: u32, event: &OilObject) -> u32
     }
 }
 
-fn taken_more(taken: u32, object: &OilObject) -> u32
+/// The bits that are taken behind an object.
+pub fn taken_more(taken: u32, object: &OilObject) -> u32
     ensures { result ≡ taken_more taken object.now }
 {
     if is_event(object) {
@@ -121,7 +122,8 @@ fn taken_more(taken: u32, object: &OilObject) -> u32
     }
 }
 
-fn lacks_bit(taken: u32, object: &OilObject) -> bool
+/// O15: an AUTO event, where no bit is free.
+pub fn lacks_bit(taken: u32, object: &OilObject) -> bool
     ensures { result ≡ lacks_bit taken object.now }
 {
     is_event(object) && is_auto(object) && free_bit(taken).is_none()

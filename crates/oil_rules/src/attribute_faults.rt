@@ -14,7 +14,8 @@ use sloth_base::refusal::{Code, Part, Refusal};
 use std::alloc::Global;
 use text_pieces::bytes::same;
 
-fn opened(place: Place, inner: Place, attr: &OilAttr) -> Place
+/// The place of the block behind an attribute of the own block; else as before.
+pub fn opened(place: Place, inner: Place, attr: &OilAttr) -> Place
     ensures { result ≡ opened_place place inner attr.now }
 {
     if attr.depth == 0 {
@@ -24,7 +25,8 @@ fn opened(place: Place, inner: Place, attr: &OilAttr) -> Place
     }
 }
 
-fn place_by(place: Place, inner: Place, attr: &OilAttr) -> Place
+/// The place in which an attribute stands, by its depth.
+pub fn place_by(place: Place, inner: Place, attr: &OilAttr) -> Place
     ensures { result ≡ place_by place inner attr.now }
 {
     match attr.depth {
@@ -34,7 +36,8 @@ fn place_by(place: Place, inner: Place, attr: &OilAttr) -> Place
     }
 }
 
-fn is_unlisted(row: Option<Attribute>) -> bool
+/// O8: the table has no row of this attribute.
+pub fn is_unlisted(row: Option<Attribute>) -> bool
     ensures { result ≡ is_none row }
 {
     row.is_none()
@@ -74,7 +77,8 @@ fn misses_value(objects: &Front, scheduler: bool, attribute: Attribute, value: &
     }
 }
 
-fn refers_to_none(
+/// O10: the value is a word that names no object of the kind.
+pub fn refers_to_none(
     objects: &Front,
     scheduler: bool,
     row: Option<Attribute>,
@@ -88,7 +92,8 @@ fn refers_to_none(
     }
 }
 
-fn is_refused(row: Option<Attribute>, value: &OilValue) -> bool
+/// O12: the value is none that the row allows.
+pub fn is_refused(row: Option<Attribute>, value: &OilValue) -> bool
     ensures { result ≡ is_refused row value.now }
 {
     match row {

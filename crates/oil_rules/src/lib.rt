@@ -5,12 +5,12 @@
 //! (`Events`); the least fault: `least_fault` (`Order`).
 #![tactic(auto)]
 
-mod attribute_faults;
+pub mod attribute_faults;
 mod front;
 mod judging;
-mod object_faults;
-mod references;
-mod task_faults;
+pub mod object_faults;
+pub mod references;
+pub mod task_faults;
 
 pub use front::Front;
 pub use judging::judge;

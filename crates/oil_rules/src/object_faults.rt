@@ -47,7 +47,8 @@ fn takes_scheduler(scheduler: bool, object: &OilObject) -> bool
     scheduler && declares(object, b"RESOURCE", b"RES_SCHEDULER")
 }
 
-fn is_doubled(scheduler: bool, front: &Front, object: &OilObject) -> bool
+/// O9: an earlier object has its name, or it is a second OS, or a RES_SCHEDULER beside that of the system.
+pub fn is_doubled(scheduler: bool, front: &Front, object: &OilObject) -> bool
     ensures { result ≡ is_doubled scheduler front.now object.now }
 {
     is_second(front, object) || shares_name(front, object) || takes_scheduler(scheduler, object)
@@ -66,7 +67,8 @@ fn is_idle(object: &OilObject) -> bool
     is_of_kind(object, b"ALARM") && !(is_used(attrs, b"COUNTER") && is_used(attrs, b"ACTION"))
 }
 
-fn lacks_attribute(object: &OilObject) -> bool
+/// O11: it lacks an attribute that its kind must have.
+pub fn lacks_attribute(object: &OilObject) -> bool
     ensures { result ≡ lacks_attribute object.now }
 {
     lacks_task_attribute(object) || is_endless(object) || is_idle(object)
@@ -83,7 +85,8 @@ fn lacks_task_attribute(object: &OilObject) -> bool
             && is_used(attrs, b"AUTOSTART"))
 }
 
-fn is_strange_mode(object: &OilObject) -> bool
+/// O12: an application mode other than OSDEFAULTAPPMODE.
+pub fn is_strange_mode(object: &OilObject) -> bool
     ensures { result ≡ is_strange_mode object.now }
 {
     is_of_kind(object, b"APPMODE") && !same(object.name.bytes(), b"OSDEFAULTAPPMODE")
@@ -95,7 +98,8 @@ fn is_clock_above(front: &Front, object: &OilObject) -> bool
     is_clock_more(front.counters(), front.alarms(), object)
 }
 
-fn is_above(front: &Front, object: &OilObject) -> bool
+/// O14: one object too many of its kind, or a long name.
+pub fn is_above(front: &Front, object: &OilObject) -> bool
     ensures { result ≡ is_above front.now object.now }
 {
     comes_behind(b"TASK", TASK_LIMIT, front.tasks(), object)

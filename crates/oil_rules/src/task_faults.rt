@@ -23,15 +23,15 @@ fn is_taken(front: &Front, priority: Option<u32>) -> bool
     }
 }
 
-/// Whether the attribute is the priority of the task, and an earlier task has it.
-fn repeats_priority(front: &Front, given: bool, attr: &OilAttr) -> bool
+/// O13: the attribute is the priority of the task, and an earlier task has it.
+pub fn repeats_priority(front: &Front, given: bool, attr: &OilAttr) -> bool
     ensures { result ≡ ((is_use (codes "PRIORITY") attr.now && not given) && is_taken front.now (number_of attr.now.value)) }
 {
     is_use(attr, b"PRIORITY") && !given && is_taken(front, number_of(&attr.value))
 }
 
 /// Whether a priority was given, or this attribute gives one.
-fn is_given_with(given: bool, attr: &OilAttr) -> bool
+pub fn is_given_with(given: bool, attr: &OilAttr) -> bool
     ensures { result ≡ (given || is_use (codes "PRIORITY") attr.now) }
 {
     given || is_use(attr, b"PRIORITY")
