@@ -1,11 +1,9 @@
-//! Where sections begin and go on: levels that are reached, and items behind which sections go on.
-ghost use Rattle.std.specs.Prelude.{◌≡◌, ◌<◌, length};
+//! Levels that are reached, and tasks that chain themselves.
+ghost use Rattle.std.specs.Prelude.{◌≡◌};
 ghost use Rattle.sloth_base.specs.Options.{is_number};
 ghost use Rattle.raised_sections.specs.Walks.{chains_itself};
-ghost use Rattle.raised_sections.specs.Sections.{is_schedule};
-ghost use Rattle.bound_rules.specs.Items.{reaches_level, is_going};
+ghost use Rattle.bound_rules.specs.Items.{reaches_level};
 
-use crate::marks::is_marked;
 use sloth_base::app::{Func, Op};
 use sloth_base::service::Service;
 
@@ -16,15 +14,6 @@ pub fn reaches_level(level: Option<u32>, ceiling: u32) -> bool
     match level {
         Some(priority) => priority <= ceiling,
         None => true,
-    }
-}
-
-fn is_schedule(op: Op) -> bool
-    ensures { result ≡ is_schedule op }
-{
-    match op {
-        Op::Serve(call) => call.service.code() == Service::Schedule.code(),
-        _ => false,
     }
 }
 
@@ -47,14 +36,4 @@ pub fn chains_itself(func: &Func, op: Op) -> bool
         }
         _ => false,
     }
-}
-
-/// Whether parts go on behind the item.
-pub fn is_going(func: &Func, alive: &[bool], number: usize) -> bool
-    requires { number < length func.now.items }
-    ensures { result ≡ is_going func.now alive.now number }
-{
-    let items = func.items.items();
-    is_marked(alive, number)
-        && (!is_schedule(items[number].op) && !chains_itself(func, items[number].op))
 }

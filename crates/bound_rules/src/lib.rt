@@ -1,6 +1,6 @@
-//! The single steps of blocking bounds: behind which item sections go on, the summary of a function that is called and of a task's body, what an item
-//! adds to a sum by its weight, and what is told of a greatest size (`is_going`, `callee`, `task_summary`, `going_size`, `told`; `specs/Items`,
-//! `specs/Summaries`, `specs/Tasks`, `specs/Weights`). Walks and sections: `raised_sections` (`Walks`, `Sections`).
+//! The single steps of blocking bounds: the summary of a function that is called and of a task's body, sums that are counted up to a limit, and what is told
+//! of a greatest size (`callee`, `task_summary`, `joined`, `told`; `specs/Items`, `specs/Summaries`, `specs/Tasks`, `specs/Weights`). Walks and sections:
+//! `raised_sections` (`Walks`, `Sections`).
 #![tactic(auto)]
 
 pub mod bodies;
