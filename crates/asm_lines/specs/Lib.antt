@@ -7,3 +7,6 @@ pub mod Operands
 pub mod SourceLines
 pub mod Faults
 pub mod Grammar
+pub mod Forms
+pub mod Places
+pub mod LabelLines

@@ -3,6 +3,7 @@ ghost use Rattle.std.specs.Prelude.{◌≡◌, IfOk};
 ghost use Rattle.asm_lines.specs.Operands.{small_of, register_operand, number_operand, frame_operand, name_operand, direct_operand, indexed_operand, in_brackets, bracketed_operand, place, bytes_operand, read_operand};
 ghost use Rattle.hex.specs.Hex.{decode_of};
 
+use crate::Form;
 use crate::bytes::trim;
 use crate::numerals::{is_within, number};
 use crate::registers::register;
@@ -12,7 +13,6 @@ use sloth_base::list::List;
 use sloth_base::memory::NoMemory;
 use sloth_base::name::Name;
 use sloth_base::numbers::Reg;
-use statement_forms::Form;
 use std::alloc::Global;
 use text_pieces::bytes::{before, behind, front, has, is_name, same};
 

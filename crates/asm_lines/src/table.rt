@@ -2,9 +2,9 @@
 ghost use Rattle.std.specs.Prelude.{◌≡◌};
 ghost use Rattle.asm_lines.specs.Table.{alu_of, imm_of, shift_of, load_of, store_of, branch_of, plain_of, mnemonic_of};
 
+use crate::Mnemonic;
 use sloth_base::app::{AluKind, BranchKind, ImmKind, Width};
 use sloth_base::service::service_named;
-use statement_forms::Mnemonic;
 use text_pieces::bytes::same;
 
 #[tactic(auto, unfolding(crate::specs::Table::alu_of))]

@@ -19,11 +19,11 @@ use Rattle.sloth_base.specs.declared.service.Service.{Service}
 use Rattle.sloth_base.specs.declared.service.Service.TheVariants as service
 use Rattle.asm_lines.specs.declared.operands.Operand.{Operand}
 use Rattle.asm_lines.specs.declared.operands.Operand.TheVariants.{Register, Number, Name, Frame, Direct, Indexed}
-use Rattle.statement_forms.specs.declared.forms.Mnemonic.{Mnemonic}
-use Rattle.statement_forms.specs.declared.forms.Mnemonic.TheVariants as m
+use Rattle.asm_lines.specs.declared.forms.Mnemonic.{Mnemonic}
+use Rattle.asm_lines.specs.declared.forms.Mnemonic.TheVariants as m
 use Rattle.asm_lines.specs.Numbers.{is_within}
-use Rattle.statement_forms.specs.declared.forms.Form.TheVariants as form
-use Rattle.statement_forms.specs.Forms.{is_operand_count, form_of}
+use Rattle.asm_lines.specs.declared.forms.Form.TheVariants as form
+use Rattle.asm_lines.specs.Forms.{is_operand_count, form_of}
 use Rattle.asm_scopes.specs.declared.scope.Kind.TheVariants as kind
 use Rattle.asm_scopes.specs.declared.scope.Scope.{Scope}
 use Rattle.asm_scopes.specs.Statements.{is_action, written_name}

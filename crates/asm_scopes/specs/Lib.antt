@@ -1,3 +1,4 @@
 pub mod Statements
 pub mod Scopes
 pub mod Bodies
+pub mod NameFaults

@@ -14,7 +14,7 @@ is_on_events GetEvent = true
 is_on_events WaitEvent = true
 is_on_events _ = false
 
--- the objects with which services on tasks, resources and events have generated code; those of services on alarms stand in `alarm_gen` Block
+-- the objects with which services on tasks, resources and events have generated code; those of services on alarms stand in `service_gen` Block
 abbrev pub HasServiceCode : ObjectKind → ℕ → Type 0
 HasServiceCode object.Alarm number = ⊥
 HasServiceCode object.Nothing number = IsObjectNumber object.Nothing number

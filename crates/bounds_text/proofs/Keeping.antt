@@ -8,13 +8,13 @@ use Rattle.sloth_base.specs.ConfigRange.{InRange}
 use Rattle.sloth_base.specs.Named.{undeclared_task}
 use Rattle.code_rules.specs.WellFormed.{WellFormed}
 use Rattle.osek_scheduler.specs.Apart.{static_priority}
-use Rattle.run_bounds.proofs.Runs.{keeps_blocking_bounds}
+use Rattle.run_counts.proofs.Runs.{keeps_blocking_bounds}
 use Rattle.bound_rules.specs.declared.bound.Bound.{Bound}
-use Rattle.block_bounds.specs.Bounds.{AreToldBounds}
-use Rattle.block_bounds.proofs.KeptTold.{told-bound}
+use Rattle.bounds_text.specs.Bounds.{AreToldBounds}
+use Rattle.bounds_text.proofs.KeptTold.{told-bound}
 use Rattle.bounds_text.specs.BoundsText.{HasLines, bound_lines}
 use Rattle.bounds_text.specs.KeptRuns.{RunsKeepAll}
-use Rattle.block_bounds.specs.Highest.{IsHighestAmong}
+use Rattle.bounds_text.specs.Highest.{IsHighestAmong}
 use Rattle.bounds_text.specs.Latency.{IsHighestTask}
 
 pub runs-keep-all : (config : Config) (app : App) (bounds : List Bound) → WellFormed config app → AreToldBounds config app bounds → RunsKeepAll config app bounds

@@ -20,12 +20,12 @@ use Rattle.event_weights.specs.Items.{length_of}
 use Rattle.event_weights.proofs.BodyLengths.{short}
 use Rattle.walk_sums.specs.declared.sum.Sum.{Sum}
 use Rattle.walk_sums.specs.declared.sum.Sum.TheVariants as sum
-use Rattle.section_counts.specs.Counts.{AreCounts}
+use Rattle.run_counts.specs.Counts.{AreCounts}
 use Rattle.walk_sums.specs.Told.{IsToldSum}
 use Rattle.walk_sums.specs.Sections.{AreToldSums, AreAllSums, greatest_of}
 use Rattle.walk_sums.proofs.Greatest.{greatest_told}
 use Rattle.sim_induction.specs.Sound.{events_of}
-use Rattle.block_bounds.specs.Bounds.{is_below}
+use Rattle.bounds_text.specs.Bounds.{is_below}
 use Rattle.run_counts.specs.Spending.{NoSumIsAbove, NoneIsLower}
 use Rattle.run_counts.proofs.Counted.{counts_weigh}
 use Rattle.run_counts.proofs.Spending.{spends_on_lower, spends_nothing}

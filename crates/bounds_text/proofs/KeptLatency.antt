@@ -22,7 +22,7 @@ use Rattle.event_weights.specs.Items.{length_of, AreLengths}
 use Rattle.event_weights.proofs.BodyLengths.{short}
 use Rattle.walk_sums.specs.declared.sum.Sum.{Sum}
 use Rattle.walk_sums.specs.declared.sum.Sum.TheVariants as sum
-use Rattle.section_counts.specs.Counts.{AreCountsBy}
+use Rattle.run_counts.specs.Counts.{AreCountsBy}
 use Rattle.walk_sums.specs.Sections.{AreAllSums}
 use Rattle.sim_induction.specs.Paced.{AreStretchesWithin}
 use Rattle.sim_induction.specs.Sound.{events_of}
@@ -32,8 +32,8 @@ use Rattle.run_counts.specs.Spending.{NoneIsLower}
 use Rattle.run_counts.proofs.Counted.{counts_weigh, counts_end}
 use Rattle.run_counts.proofs.Entered.{enters_by_weights}
 use Rattle.run_counts.proofs.Stretches.{stretches_within}
-use Rattle.block_bounds.specs.Bounds.{AreToldBounds, is_below}
-use Rattle.block_bounds.specs.Stretches.{running_counts}
+use Rattle.bounds_text.specs.Bounds.{AreToldBounds, is_below}
+use Rattle.bounds_text.specs.Stretches.{running_counts}
 use Rattle.bounds_text.specs.BoundsText.{bound_lines}
 use Rattle.bounds_text.specs.Latency.{IsHighestTask, heaviest_ending, longest_item, taken_counts, told_of, tick_lines, last_line, RunsKeepLatency, IsShortTick, RunsKeepTicks, HasLatency}
 use Rattle.bounds_text.specs.LowerCounts.{heaviest}

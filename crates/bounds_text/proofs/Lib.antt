@@ -7,3 +7,6 @@ mod TickLines
 pub mod OneLatency
 mod CountLines
 pub mod OneLowerCounts
+mod Told
+pub mod OneTold
+pub mod KeptTold

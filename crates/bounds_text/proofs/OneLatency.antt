@@ -8,8 +8,8 @@ use Rattle.bound_rules.specs.declared.bound.Bound.{Bound}
 use Rattle.bound_rules.specs.declared.bound.Bound.TheVariants as bound
 use Rattle.event_weights.specs.Items.{AreLengths}
 use Rattle.walk_sums.specs.Sections.{AreAllSums}
-use Rattle.block_bounds.specs.Bounds.{AreToldBounds}
-use Rattle.block_bounds.proofs.OneTold.{one_told}
+use Rattle.bounds_text.specs.Bounds.{AreToldBounds}
+use Rattle.bounds_text.proofs.OneTold.{one_told}
 use Rattle.bounds_text.specs.BoundsText.{bound_lines}
 use Rattle.bounds_text.specs.Latency.{tick_lines, last_line, HasLatency, OneLatencyText}
 use Rattle.bounds_text.proofs.Lines.{same-lines}

@@ -14,7 +14,7 @@ use Rattle.rv32_expand.proofs.Agreeing.{size_same}
 use Rattle.rv32_expand.proofs.Least.{least_is_one}
 use Rattle.event_weights.specs.Items.{length_of, AreLengths, going_counts, ending_counts}
 use Rattle.walk_sums.specs.declared.sum.Sum.{Sum}
-use Rattle.section_counts.specs.Counts.{AreBodyCounts, AreCounts}
+use Rattle.run_counts.specs.Counts.{AreBodyCounts, AreCounts}
 use Rattle.walk_sums.specs.Sections.{AreToldSums, AreAllSums, no_sum}
 use Rattle.walk_sums.proofs.OneTold.{one_told}
 use Rattle.bounds_text.specs.LowerCounts.{count_lines, heaviest, HasLowerCounts, OneLowerCountsText}

@@ -3,8 +3,8 @@ use Rattle.std.proofs.Common.{◌∙◌, get_or, length, sym, ap, subst}
 use Rattle.sloth_base.specs.declared.config.Config.{Config}
 use Rattle.sloth_source.proofs.Unique.{one_meaning}
 use Rattle.bound_rules.specs.declared.bound.Bound.TheVariants as bound
-use Rattle.block_bounds.specs.Bounds.{AreToldBounds}
-use Rattle.block_bounds.proofs.OneTold.{one_told}
+use Rattle.bounds_text.specs.Bounds.{AreToldBounds}
+use Rattle.bounds_text.proofs.OneTold.{one_told}
 use Rattle.bounds_text.specs.BoundsText.{bound_lines, OneText}
 use Rattle.bounds_text.proofs.Lines.{same-lines}
 

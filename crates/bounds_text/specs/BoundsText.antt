@@ -8,7 +8,7 @@ use Rattle.sloth_base.specs.Limits.{count_limit, item_counts}
 use Rattle.sloth_source.specs.Texts.{AreAccepted}
 use Rattle.bound_rules.specs.declared.bound.Bound.{Bound}
 use Rattle.bound_rules.specs.declared.bound.Bound.TheVariants as bound
-use Rattle.block_bounds.specs.Bounds.{AreToldBounds}
+use Rattle.bounds_text.specs.Bounds.{AreToldBounds}
 use Rattle.bounds_text.specs.KeptRuns.{RunsKeepAll}
 
 -- a bound in items is small enough to be told

@@ -12,7 +12,7 @@ use Rattle.osek_blocking.specs.Blocking.{events_up_to_entry, MakesReady}
 use Rattle.raised_sections.specs.Pace.{last_count}
 use Rattle.raised_sections.specs.Spent.{spent_counts}
 use Rattle.sim_induction.specs.Sound.{IsSoundRun, events_of}
-use Rattle.block_bounds.specs.Kept.{WaitsForItems}
+use Rattle.bounds_text.specs.Kept.{WaitsForItems}
 use Rattle.bound_rules.specs.declared.bound.Bound.{Bound}
 use Rattle.bound_rules.specs.declared.bound.Bound.TheVariants as bound
 

@@ -27,15 +27,15 @@ use Rattle.event_weights.specs.Events.{enter_counts}
 use Rattle.event_weights.specs.Items.{AreLengths}
 use Rattle.walk_sums.specs.declared.sum.Sum.{Sum}
 use Rattle.walk_sums.specs.declared.sum.Sum.TheVariants as sum
-use Rattle.section_counts.specs.Counts.{AreCountsBy}
+use Rattle.run_counts.specs.Counts.{AreCountsBy}
 use Rattle.walk_sums.specs.Sections.{AreAllSums}
 use Rattle.sim_induction.specs.Paced.{InPace}
 use Rattle.sim_induction.specs.Sound.{Sound, events_of}
 use Rattle.sim_induction.specs.Weighed.{Weighed}
-use Rattle.run_bounds.specs.Latency.{IsHighest, EntersBefore}
+use Rattle.run_counts.specs.EntryLatency.{IsHighest, EntersBefore}
 use Rattle.run_counts.specs.Latency.{tick_weights, weighed_latency, IsBehindBoot}
-use Rattle.block_bounds.specs.Bounds.{AreToldBounds, is_below}
-use Rattle.block_bounds.specs.Stretches.{running_counts}
+use Rattle.bounds_text.specs.Bounds.{AreToldBounds, is_below}
+use Rattle.bounds_text.specs.Stretches.{running_counts}
 use Rattle.bounds_text.specs.declared.latency.Parts.{Parts}
 use Rattle.bounds_text.specs.BoundsText.{bound_lines}
 use Rattle.bounds_text.specs.KeptRuns.{RunsKeepAll}

@@ -17,11 +17,11 @@ use Rattle.bound_rules.specs.Weights.{no_weights}
 use Rattle.bound_rules.specs.Tasks.{task_at}
 use Rattle.walk_sums.specs.declared.sum.Sum.{Sum}
 use Rattle.walk_sums.specs.declared.sum.Sum.TheVariants as sum
-use Rattle.section_counts.specs.Counts.{AreCounts}
+use Rattle.run_counts.specs.Counts.{AreCounts}
 use Rattle.walk_sums.specs.Sections.{AreAllSums, greatest_of}
 use Rattle.sim_induction.specs.Paced.{InPace}
 use Rattle.sim_induction.specs.Sound.{Sound, events_of}
-use Rattle.block_bounds.specs.Bounds.{is_below}
+use Rattle.bounds_text.specs.Bounds.{is_below}
 use Rattle.bounds_text.specs.KeptRuns.{WaitsForCounts}
 
 -- ---- counts

@@ -6,8 +6,19 @@
 //! promises `Sound` and `InPace` lower tasks spend at most so many counts; if `Weighed` too, from an arrival behind boot the task of the last line is entered,
 //! where the run has a stretch more, within its latency and the ticks' counts, each with the longest item; no tick takes more than its line says. Texts have
 //! one list of lines of each kind (`one_text`, `one_latency_text`, `one_lower_counts_text`). Definitions: `specs/BoundsText`, ticks and latency
-//! `specs/Latency`, counts `specs/LowerCounts`, what bounds promise of runs `specs/KeptRuns`. Bounds: `block_bounds` (`Bounds`, `Kept`, `Stretches`); sums:
-//! `walk_sums` (`Sections`); what runs spend, and the latency: `run_counts` (`Spending`, `Latency`).
+//! `specs/Latency`, counts `specs/LowerCounts`, what bounds promise of runs `specs/KeptRuns`. Sums: `walk_sums`
+//! (`Sections`); what runs spend, and the latency: `run_counts` (`Spending`, `Latency`).
+//!
+//! Blocking bounds: how much work of lower tasks may stand between a task's becoming Ready and its entry; and the latency of the task of highest
+//! priority.
+//!
+//! Of well-formed task code `bounds` tells exactly (clause `exact`): the bound of each task up to 1,000,000; that it is above that and sections have
+//! a greatest size; or that they have none. In every run of the abstract scheduler each task of which a number is told waits for at most so many
+//! items (clause `kept`). What is told: `specs/Bounds`; what that promises: `specs/Kept`.
+//!
+//! A task of highest priority, or that there is no task (`highest_among`, `specs/Highest`); the counts of its latency by those of its parts
+//! (`latency_of`), and the most counts of a stretch behind boot (`running_counts`, `specs/Stretches`). Sizes: `walk_sums`; bounds: `raised_sections`
+//! (`Sections`); the latency: `run_counts` (`Latency`); paths of entries and ticks: `code_lengths` (`LongestPaths`).
 #![tactic(auto)]
 
 ghost use Rattle.std.specs.Prelude.{◌≡◌, ◌<◌, length, IfOk, IfErr};
@@ -15,19 +26,22 @@ ghost use Rattle.call_graph.specs.Ranks.{RanksOf};
 ghost use Rattle.sloth_source.specs.Texts.{SourcesErrorIs};
 ghost use Rattle.bounds_text.specs.BoundsText.{IsTellable, AreTellable, HasLines, bound_text, bound_line, bound_lines, IsBoundsText};
 
+pub mod bound;
+pub mod entry_latency;
 pub mod latency;
 pub mod laws;
 pub mod lower_counts;
+pub mod stretches;
 
-use block_bounds::bound::Bound;
-use block_bounds::bounds;
+use crate::bound::Bound;
+pub use bound::bounds;
 use call_graph::ranking::Ranks;
-use checked_source::read_checked;
 use itoa::Buffer;
 use sloth_base::config::TaskDecl;
 use sloth_base::limits::ITEM_COUNTS;
 use sloth_base::memory::NoMemory;
 use sloth_base::refusal::BuildError;
+use sloth_source::read_checked;
 use std::alloc::Global;
 use task_verify::verified::Verified;
 

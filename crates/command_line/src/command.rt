@@ -6,7 +6,7 @@ ghost use Rattle.command_line.specs.Words.{command_of, execution_of};
 
 use crate::tool::ToolWords;
 use crate::tool_words::tool_command;
-use line_words::number::{instructions, number};
+use trace_text::number::{instructions, number};
 use trace_text::printing::Form;
 
 /// How an image is run.

@@ -10,7 +10,7 @@ ghost use Rattle.command_line.specs.Words.{use_of};
 
 use crate::counts::{Counts, Limit, Window};
 use crate::tool::{ToolWords, tool_named};
-use line_words::number::number_below;
+use trace_text::number::number_below;
 
 // The words behind the first ones, so many of them.
 fn words_behind(words: &[String], count: usize) -> &[String]

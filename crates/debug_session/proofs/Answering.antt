@@ -2,7 +2,7 @@
 use Rattle.std.proofs.Common.{◌≡◌, ◌≤◌, ◌+◌, inl, inr, ◌==◌, ℕ, List, [], ◌∷◌, ◌++◌, length, Option, None, Some, Bool, true, false, if◌then◌else◌, suc, refl, sym, ◌∙◌, ap, arith, append_assoc, append-nil}
 use Rattle.sloth_io.specs.Sink.{Output, output_with}
 use Rattle.sloth_io.proofs.Gains.{gains-gains, gains-nil, part-behind}
-use Rattle.session_input.specs.Input.{Coming, Gives, Ends}
+use Rattle.sloth_io.specs.Input.{Coming, Gives, Ends}
 use Rattle.gdb_packets.specs.Messages.{Message, Packet, Wrong, Again, Interrupt, messages, message_of}
 use Rattle.gdb_packets.specs.Reading.{Reading, fresh, reading_after, reading_at, event_after, event_at}
 use Rattle.gdb_packets.specs.declared.reading.Place.{Place}

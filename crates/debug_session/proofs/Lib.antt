@@ -4,3 +4,4 @@ pub mod Continuing
 pub mod Exchanging
 pub mod Growing
 pub mod Reading
+pub mod Sides

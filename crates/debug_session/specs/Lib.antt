@@ -8,3 +8,4 @@ pub mod Sessions
 pub mod Standing
 pub mod Texts
 pub mod Wishes
+pub mod Around

@@ -5,10 +5,10 @@ use Rattle.osek_scheduler.specs.declared.state.TaskState.{TaskState}
 use Rattle.osek_scheduler.specs.declared.state.TaskState.TheVariants as mode
 use Rattle.rv32_instr.specs.declared.stop.Stop.{Stop}
 use Rattle.rv32_instr.specs.declared.stop.Stop.TheVariants as stops
-use Rattle.line_words.specs.StopLine.{stopped_line}
+use Rattle.trace_text.specs.StopLine.{stopped_line}
 use Rattle.gdb_packets.specs.Hex.{hex_of}
 use Rattle.sloth_base.specs.Limits.{count_limit}
-use Rattle.debug_events.specs.Around.{around}
+use Rattle.debug_session.specs.Around.{around}
 use Rattle.debug_ways.specs.Runs.{Run}
 use Rattle.debug_session.specs.Causes.{thread_of}
 use Rattle.debug_session.specs.Description.{description}

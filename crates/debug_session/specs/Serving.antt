@@ -1,7 +1,7 @@
 -- A session over bytes that come.
 use Rattle.std.specs.Prelude.{◌≡◌, ◌≤◌, ◌+◌, ◌⊎◌, ℕ, List, [], ◌++◌, length, Option, None, Some, true}
 use Rattle.sloth_io.specs.Sink.{Output, output_with, GainsPart}
-use Rattle.session_input.specs.Input.{Coming}
+use Rattle.sloth_io.specs.Input.{Coming}
 use Rattle.gdb_packets.specs.Messages.{Packet, Wrong, Again, Interrupt, messages}
 use Rattle.gdb_packets.specs.Reading.{Reading, fresh}
 use Rattle.gdb_packets.specs.declared.reading.Event.{Event}

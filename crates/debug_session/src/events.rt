@@ -5,8 +5,8 @@ ghost use Rattle.debug_ways.specs.Cursor.{cursor_run};
 ghost use Rattle.debug_session.specs.Texts.{least_of};
 ghost use Rattle.debug_session.specs.Replies.{events_text, trace_counts};
 
+use crate::around::push_around;
 use crate::texts::least_of;
-use debug_events::around::push_around;
 use debug_ways::{Cursor, Machine};
 use sloth_base::limits::COUNT_LIMIT;
 use sloth_base::memory::NoMemory;

@@ -7,11 +7,18 @@
 //! them, with the cause (`specs/Serving`). Nothing that is sent changes
 //! the run: the clauses `run`. In words: continues and other ways end at the least hit behind, those back at the greatest below, and a packet has one
 //! reply, which is read back (`laws`). What packets ask, and how they are framed: `gdb_packets`.
+//!
+//! The events around a count: lines of a run's text, as `exec` prints it.
+//!
+//! Of the lines, none of an idle directly behind an idle, the last ones of events that end before the count, the count, and the first ones of the others
+//! (`push_around`, `specs/Around`).
 #![tactic(auto)]
 
+pub mod around;
 mod description;
 mod events;
 pub mod laws;
+mod merging;
 mod passages;
 pub mod points;
 mod replies;

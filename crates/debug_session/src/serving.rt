@@ -9,9 +9,9 @@ ghost use Rattle.debug_session.specs.Serving.{behind_event, event_answer, IsWhol
 use crate::session::Session;
 use debug_ways::{Cursor, Machine};
 use gdb_packets::reading::{Event, PacketReader};
-use session_input::input::Input;
 use sloth_base::memory::NoMemory;
 use sloth_base::name::Name;
+use sloth_io::input::Input;
 use sloth_io::sink::Sink;
 use std::alloc::Global;
 

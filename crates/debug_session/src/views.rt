@@ -11,13 +11,13 @@ use crate::threads::Seen;
 use debug_ways::{Cursor, Machine};
 use gdb_packets::hex::push_hex;
 use gdb_packets::request::Window;
-use line_words::stop_line::stopped_line;
 use osek_scheduler::state::TaskState;
 use rv32_instr::Stop;
 use sloth_base::limits::TASK_LIMIT;
 use sloth_base::memory::NoMemory;
 use sloth_base::name::Name;
 use std::alloc::Global;
+use trace_text::stop_line::stopped_line;
 
 /// The most bytes of memory that are shown at once.
 const BYTE_LIMIT: u32 = 8_184;

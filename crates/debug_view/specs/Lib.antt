@@ -4,3 +4,4 @@ pub mod Registers
 pub mod ShownRun
 pub mod Standing
 pub mod States
+pub mod ShownStates

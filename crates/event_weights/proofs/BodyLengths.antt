@@ -5,8 +5,8 @@ use Rattle.std.proofs.lemmas.List.{get_or_push, get_or_append_left, get_or_past,
 use Rattle.sloth_base.specs.Named.{function, item_of}
 use Rattle.sloth_base.specs.declared.app.App.{App}
 use Rattle.code_rules.specs.AppRange.{IsTaskCode}
-use Rattle.expansion_parts.specs.Passes.{AreShortest}
-use Rattle.expansion_parts.proofs.Counts.{size_few}
+use Rattle.rv32_expand.specs.Passes.{AreShortest}
+use Rattle.rv32_expand.proofs.Counts.{size_few}
 use Rattle.rv32_expand.proofs.InRangeOf.{frame_of}
 use Rattle.event_weights.specs.Items.{length_of, AreLengths}
 

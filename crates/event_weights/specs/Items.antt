@@ -7,7 +7,7 @@ use Rattle.sloth_base.specs.declared.app.Op.TheVariants as op
 use Rattle.sloth_base.specs.declared.service.Service.{Service}
 use Rattle.sloth_base.specs.declared.service.Service.TheVariants as service
 use Rattle.sloth_base.specs.Named.{function}
-use Rattle.expansion_parts.specs.Passes.{AreShortest}
+use Rattle.rv32_expand.specs.Passes.{AreShortest}
 use Rattle.code_lengths.specs.LongestPaths.{served_path, leaving_path}
 use Rattle.raised_sections.specs.Walks.{chains_itself}
 

@@ -5,7 +5,7 @@ ghost use Rattle.event_weights.specs.Items.{length_of, AreLengths, served_counts
 
 use bound_rules::items::chains_itself;
 use code_lengths::{leaving_path, served_path};
-use expansion_parts::long_branches::shortest;
+use rv32_expand::long_branches::shortest;
 use sloth_base::app::{App, Func, Op};
 use sloth_base::list::List;
 use sloth_base::memory::NoMemory;

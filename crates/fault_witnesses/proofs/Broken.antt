@@ -9,14 +9,14 @@ use Rattle.sloth_base.specs.Named.{function, operation, no_function, no_item, no
 use Rattle.code_rules.specs.AppRange.{AppInRange, IsOp}
 use Rattle.code_rules.specs.Code.{held_list_at}
 use Rattle.code_rules.specs.WellFormed.{IsBreach, is_access_past, is_uneven, is_mask_past, is_run_out, is_wrong_release, is_second_take, is_leave_with_resource, is_wrong_leave, is_undeclared_use}
-use Rattle.body_faults.specs.Ways.{HasBodyLabel}
-use Rattle.body_faults.specs.Uses.{OperandsOf}
-use Rattle.body_faults.specs.Labels.{ArePlaced}
+use Rattle.task_verify.specs.Ways.{HasBodyLabel}
+use Rattle.task_verify.specs.Uses.{OperandsOf}
+use Rattle.task_verify.specs.Labels.{ArePlaced}
 use Rattle.call_graph.specs.declared.ranking.Ranks.{Ranks}
 use Rattle.call_graph.specs.Ranks.{RanksOf}
-use Rattle.body_faults.specs.Cases.{AreUsers}
-use Rattle.body_faults.proofs.Tests.{Decides-is_access_past, Decides-is_uneven, Decides-is_mask_past, Decides-is_run_out, Decides-is_wrong_leave, Decides-is_wrong_release, Decides-is_second_take, Decides-is_leave_with_resource, leads, operands}
-use Rattle.body_faults.proofs.Uses.{Decides-is_undeclared_use}
+use Rattle.task_verify.specs.Cases.{AreUsers}
+use Rattle.task_verify.proofs.Tests.{Decides-is_access_past, Decides-is_uneven, Decides-is_mask_past, Decides-is_run_out, Decides-is_wrong_leave, Decides-is_wrong_release, Decides-is_second_take, Decides-is_leave_with_resource, leads, operands}
+use Rattle.task_verify.proofs.Uses.{Decides-is_undeclared_use}
 use Rattle.fault_witnesses.specs.BreachTests.{plain_test, held_test}
 
 pub plain_broken : (config : Config) (app : App) (users b i : ℕ) (c : Code) → AppInRange config app → AreUsers app b users

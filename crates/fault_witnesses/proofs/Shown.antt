@@ -7,9 +7,9 @@ use Rattle.sloth_base.specs.declared.app.Op.TheVariants as op
 use Rattle.sloth_base.specs.declared.refusal.Code.{Code}
 use Rattle.sloth_base.specs.Named.{function, operation, IsBodyOf}
 use Rattle.code_rules.specs.Code.{held_list_at}
-use Rattle.fault_ways.specs.CallChains.{IsChain, chain_end}
+use Rattle.fault_witnesses.specs.CallChains.{IsChain, chain_end}
 use Rattle.fault_witnesses.specs.Witnesses.{is_lacking, names_task, LeadsFromTask, IsLackedEvent, IsUser, AreCallsBehind, is_culprit}
-use Rattle.fault_ways.specs.declared.chains.Calls.{Calls}
+use Rattle.fault_witnesses.specs.declared.chains.Calls.{Calls}
 use Rattle.fault_witnesses.specs.declared.users.User.{User}
 
 -- a task that lacks what an item uses, which does not name it

@@ -7,8 +7,8 @@ use Rattle.sloth_base.specs.declared.refusal.Code.{Code}
 use Rattle.sloth_base.specs.declared.refusal.Code.TheVariants as code
 use Rattle.sloth_base.specs.Named.{item_of}
 use Rattle.call_graph.specs.declared.ranking.Ranks.{Ranks}
-use Rattle.body_faults.specs.Tests.{is_access_past, is_uneven, is_mask_past, is_run_out, is_wrong_leave, is_wrong_release, is_second_take, is_leave_with_resource}
-use Rattle.body_faults.specs.Uses.{is_undeclared_use}
+use Rattle.task_verify.specs.Tests.{is_access_past, is_uneven, is_mask_past, is_run_out, is_wrong_leave, is_wrong_release, is_second_take, is_leave_with_resource}
+use Rattle.task_verify.specs.Uses.{is_undeclared_use}
 
 -- V2 to V5, V11, and V12 where these tasks reach the item
 abbrev pub plain_test : Config → App → (users : ℕ) → Func → ℕ → Code → Bool

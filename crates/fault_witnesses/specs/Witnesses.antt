@@ -15,15 +15,15 @@ use Rattle.sloth_base.specs.Named.{declaration, function, item_of, label_of, ope
 use Rattle.code_rules.specs.Code.{IsPath, held_list_at, is_followed, is_in}
 use Rattle.code_rules.specs.WellFormed.{IsUnreached}
 use Rattle.call_graph.specs.Rows.{is_pause}
-use Rattle.body_faults.specs.Uses.{lacks}
-use Rattle.fault_ways.specs.CleanWays.{IsShownWay, is_own_second_take}
-use Rattle.fault_ways.specs.CallChains.{IsChain, chain_end}
+use Rattle.task_verify.specs.Uses.{lacks}
+use Rattle.fault_witnesses.specs.CleanWays.{IsShownWay, is_own_second_take}
+use Rattle.fault_witnesses.specs.CallChains.{IsChain, chain_end}
 use Rattle.fault_witnesses.specs.Places.{IsPlaceOfFault}
-use Rattle.fault_ways.specs.declared.chains.Calls.{Calls}
+use Rattle.fault_witnesses.specs.declared.chains.Calls.{Calls}
 use Rattle.fault_witnesses.specs.declared.places.Place.{Place}
 use Rattle.fault_witnesses.specs.declared.places.Place.TheVariants as place
 use Rattle.fault_witnesses.specs.declared.users.User.{User}
-use Rattle.fault_ways.specs.declared.ways.Way.{Way}
+use Rattle.fault_witnesses.specs.declared.ways.Way.{Way}
 use Rattle.fault_witnesses.specs.declared.witnesses.Witness.{Witness}
 
 -- ---- the way

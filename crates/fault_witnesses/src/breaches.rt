@@ -7,30 +7,30 @@ ghost use Rattle.code_rules.specs.AppRange.{AppInRange};
 ghost use Rattle.code_rules.specs.Code.{held_list_at, IsPath};
 ghost use Rattle.code_rules.specs.WellFormed.{IsBreach, IsOtherListJump, IsUnreached, HasOtherList};
 ghost use Rattle.call_graph.specs.Ranks.{RanksOf};
-ghost use Rattle.body_faults.specs.Cases.{AreUsers};
-ghost use Rattle.body_faults.specs.Labels.{ArePlaced};
-ghost use Rattle.body_faults.specs.Uses.{OperandsOf};
-ghost use Rattle.body_faults.specs.Ways.{HasBodyLabel, IsMarked, IsReachedItem};
+ghost use Rattle.task_verify.specs.Cases.{AreUsers};
+ghost use Rattle.task_verify.specs.Labels.{ArePlaced};
+ghost use Rattle.task_verify.specs.Uses.{OperandsOf};
+ghost use Rattle.task_verify.specs.Ways.{HasBodyLabel, IsMarked, IsReachedItem};
 ghost use Rattle.fault_witnesses.specs.BreachTests.{plain_test, held_test};
 ghost use Rattle.fault_witnesses.specs.Places.{IsPlace, IsBrokenAt, IsPlaceOfFault, line_of_place};
 
+use crate::chains::function_at;
 use crate::label_rules::{has_other_list, held_at};
 use crate::places::{Place, place_on};
-use body_faults::accesses::{is_access_past, is_mask_past, is_uneven};
-use body_faults::endings::is_wrong_leave;
-use body_faults::held_resources::{
-    is_leave_with_resource, is_other_list_jump, is_second_take, is_wrong_release,
-};
-use body_faults::reachable::reached;
-use body_faults::tasks::is_undeclared_use;
-use body_faults::ways::is_run_out;
 use call_graph::ranking::Ranks;
-use fault_ways::chains::function_at;
 use sloth_base::app::{App, Func};
 use sloth_base::config::Config;
 use sloth_base::memory::NoMemory;
 use sloth_base::refusal::{Code, Part, Refusal};
 use std::alloc::Global;
+use task_verify::accesses::{is_access_past, is_mask_past, is_uneven};
+use task_verify::endings::is_wrong_leave;
+use task_verify::held_resources::{
+    is_leave_with_resource, is_other_list_jump, is_second_take, is_wrong_release,
+};
+use task_verify::reachable::reached;
+use task_verify::tasks::is_undeclared_use;
+use task_verify::ways::is_run_out;
 
 // V2 to V5, V11 and V12 of an item that these tasks reach.
 fn plain_test(config: &Config, app: &App, users: u64, func: &Func, item: usize, code: Code) -> bool

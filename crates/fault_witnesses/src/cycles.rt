@@ -1,9 +1,9 @@
 //! The calls by which a function calls itself (V1).
 ghost use Rattle.std.specs.Prelude.{◌≡◌, ◌<◌, length, true, IfOk, IfSome};
-ghost use Rattle.fault_ways.specs.CallChains.{IsChain, IsCycle, chain_end};
+ghost use Rattle.fault_witnesses.specs.CallChains.{IsChain, IsCycle, chain_end};
 
-use fault_ways::chain_search::{Aim, shortest_chain};
-use fault_ways::chains::{Calls, Link, chain_end, function_at, is_chain};
+use crate::chain_search::{Aim, shortest_chain};
+use crate::chains::{Calls, Link, chain_end, function_at, is_chain};
 use sloth_base::app::App;
 use sloth_base::list::List;
 use sloth_base::memory::NoMemory;

@@ -3,14 +3,14 @@ ghost use Rattle.std.specs.Prelude.{◌≡◌, ◌<◌, ◌≤◌, ◌+◌, ◌|
 ghost use Rattle.sloth_base.specs.Named.{label_of, item_of};
 ghost use Rattle.code_rules.specs.Code.{held_list_at, held_list_fallen_into, held_list_entering, is_entered, is_fallen_into};
 ghost use Rattle.code_rules.specs.WellFormed.{HasOtherList};
-ghost use Rattle.body_faults.specs.Labels.{last_label_below, list_of, ArePlaced};
+ghost use Rattle.task_verify.specs.Labels.{last_label_below, list_of, ArePlaced};
 
-use body_faults::held_resources::{held_after, held_at_label, is_held};
-use body_faults::labels::last_labels;
-use body_faults::ways::falls;
 use sloth_base::app::{Func, Label};
 use sloth_base::memory::NoMemory;
 use std::alloc::Global;
+use task_verify::held_resources::{held_after, held_at_label, is_held};
+use task_verify::labels::last_labels;
+use task_verify::ways::falls;
 
 // By the last label at each place.
 fn fallen_by(

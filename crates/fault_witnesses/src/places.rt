@@ -3,7 +3,7 @@ ghost use Rattle.std.specs.Prelude.{◌≡◌, ◌<◌, length, IfSome};
 ghost use Rattle.sloth_base.specs.Named.{function};
 ghost use Rattle.fault_witnesses.specs.Places.{IsPlace};
 
-use fault_ways::chains::function_at;
+use crate::chains::function_at;
 use sloth_base::app::{App, Func};
 
 /// A place of task code, by the number of its body, and of the label or item in it.

@@ -4,12 +4,12 @@ ghost use Rattle.std.specs.List.{list_any};
 ghost use Rattle.sloth_base.specs.ConfigRange.{no_event};
 ghost use Rattle.sloth_base.specs.Named.{operation, function, IsBodyOf};
 ghost use Rattle.code_rules.specs.Code.{is_in};
-ghost use Rattle.body_faults.specs.Uses.{lacks};
+ghost use Rattle.task_verify.specs.Uses.{lacks};
 ghost use Rattle.fault_witnesses.specs.Witnesses.{lacks_used, is_lacking, names_task, LeadsFromTask, IsLackedEvent, IsUser};
-ghost use Rattle.fault_ways.specs.CallChains.{IsChain, chain_end};
+ghost use Rattle.fault_witnesses.specs.CallChains.{IsChain, chain_end};
 
-use fault_ways::chain_search::{Aim, shortest_chain};
-use fault_ways::chains::{Calls, Link, chain_end, function_at, is_chain};
+use crate::chain_search::{Aim, shortest_chain};
+use crate::chains::{Calls, Link, chain_end, function_at, is_chain};
 use sloth_base::app::{App, Call, Func, Op};
 use sloth_base::config::{Config, TaskDecl};
 use sloth_base::list::List;

@@ -1,7 +1,7 @@
 //! What is shown of a fault.
 ghost use Rattle.std.specs.Prelude.{◌<◌, ℕ, length, IfOk, IfSome};
 ghost use Rattle.sloth_base.specs.Named.{item_of};
-ghost use Rattle.body_faults.specs.Ways.{HasBodyLabel};
+ghost use Rattle.task_verify.specs.Ways.{HasBodyLabel};
 ghost use Rattle.code_rules.specs.AppRange.{AppInRange};
 ghost use Rattle.call_graph.specs.Ranks.{RanksOf};
 ghost use Rattle.fault_witnesses.specs.declared.places.Place.TheVariants as place;
@@ -10,18 +10,18 @@ ghost use Rattle.fault_witnesses.specs.Witnesses.{IsShownWayTo, IsBehind, IsShow
 
 use crate::breaches::{place_at_fault, stands_behind};
 use crate::calls_behind::calls_of;
+use crate::chains::{Calls, function_at};
 use crate::label_rules::label_before;
 use crate::places::Place;
 use crate::users::{User, user_of};
-use body_faults::ways::falls;
+use crate::ways::{Way, way_to};
 use call_graph::ranking::Ranks;
-use fault_ways::chains::{Calls, function_at};
-use fault_ways::ways::{Way, way_to};
 use sloth_base::app::{App, Func};
 use sloth_base::config::Config;
 use sloth_base::memory::NoMemory;
 use sloth_base::refusal::{Code, Refusal};
 use std::alloc::Global;
+use task_verify::ways::falls;
 
 /// What is shown of a fault of V2 to V12.
 #[derive(Drop)]

@@ -15,14 +15,14 @@ use Rattle.code_rules.specs.AppRange.{IsResource, AppInRange}
 use Rattle.code_rules.specs.WellFormed.{RuleFault}
 use Rattle.call_graph.specs.declared.ranking.Ranks.{Ranks}
 use Rattle.call_graph.specs.Ranks.{RanksOf}
-use Rattle.body_faults.specs.Cases.{AreOps}
+use Rattle.task_verify.specs.Cases.{AreOps}
 use Rattle.task_verify.proofs.Acyclic.{no_cycle}
-use Rattle.body_faults.proofs.Tests.{leads}
+use Rattle.task_verify.proofs.Tests.{leads}
 use Rattle.code_rules.specs.Code.{held_list_at}
-use Rattle.body_faults.proofs.Paths.{reached_of}
+use Rattle.task_verify.proofs.Paths.{reached_of}
 use Rattle.holds_infer.specs.Filling.{bare_label, bare_func, SameButLists, IsClear, AreClear, IsFilling}
 use Rattle.holds_infer.specs.RightLists.{HasRightLists}
-use Rattle.label_lists.specs.Places.{PlaceLists, list_or, list_at}
+use Rattle.asm_lines.specs.Places.{PlaceLists, list_or, list_at}
 use Rattle.holds_infer.specs.Spread.{AreLists, relisted_label, relisted_func}
 use Rattle.holds_infer.specs.BodyFilling.{HaveTheirLabels, HasResourceLists, IsBodyFilling, AreBodyFillings}
 use Rattle.holds_infer.proofs.Held.{held_of_label}

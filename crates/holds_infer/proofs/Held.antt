@@ -9,7 +9,7 @@ use Rattle.sloth_base.specs.declared.app.Func.{Func}
 use Rattle.sloth_base.specs.declared.app.Label.{Label}
 use Rattle.sloth_base.specs.Named.{no_label, label_of, item_of}
 use Rattle.code_rules.specs.Code.{held_list_at_labels, mark_at_labels, held_list_at, held_after, held_list_fallen_into, is_followed, way, is_fallen_into, is_entered, held_list_entering}
-use Rattle.body_faults.proofs.Labelled.{labelled_snoc, marked_snoc}
+use Rattle.task_verify.proofs.Labelled.{labelled_snoc, marked_snoc}
 use Rattle.holds_infer.specs.RightLists.{HasRightLists}
 
 marked_true : (i : ℕ) (xs : List Label) → mark_at_labels i xs true ≡ true

@@ -8,7 +8,7 @@ use Rattle.sloth_base.specs.declared.app.Func.{Func}
 use Rattle.sloth_base.specs.declared.app.Item.{Item}
 use Rattle.sloth_base.specs.Named.{label_of, item_of}
 use Rattle.code_rules.specs.Code.{is_followed, way, held_list_at, held_after, IsPathStep, IsPath}
-use Rattle.body_faults.proofs.Paths.{goes_from_inside}
+use Rattle.task_verify.proofs.Paths.{goes_from_inside}
 use Rattle.holds_infer.specs.Filling.{bare_func}
 use Rattle.holds_infer.specs.RightLists.{HasRightLists}
 use Rattle.holds_infer.proofs.Held.{held_first, held_falls, held_of_label, held_turns}

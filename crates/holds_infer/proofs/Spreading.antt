@@ -18,12 +18,12 @@ use Rattle.sloth_base.specs.declared.service.Service.TheVariants as service
 use Rattle.sloth_base.specs.Named.{item_of}
 use Rattle.code_rules.specs.AppRange.{IsResource, IsOp, AreOperands}
 use Rattle.code_rules.specs.Code.{way, is_in, without_last, held_behind, held_after, held_list_at, IsPathStep}
-use Rattle.body_faults.specs.Ways.{next_of, jump_of, IsMarkVisit, unmarked_count}
-use Rattle.body_faults.proofs.Paths.{next_goes, jump_goes, goes_from_inside}
-use Rattle.body_faults.proofs.Searches.{taken, gone_on, begun, ended, next_inside, jump_inside}
+use Rattle.task_verify.specs.Ways.{next_of, jump_of, IsMarkVisit, unmarked_count}
+use Rattle.task_verify.proofs.Paths.{next_goes, jump_goes, goes_from_inside}
+use Rattle.task_verify.proofs.Searches.{taken, gone_on, begun, ended, next_inside, jump_inside}
 use Rattle.holds_infer.specs.Filling.{bare_func}
 use Rattle.holds_infer.specs.RightLists.{HasRightLists}
-use Rattle.label_lists.specs.Places.{PlaceLists, list_or, list_at}
+use Rattle.asm_lines.specs.Places.{PlaceLists, list_or, list_at}
 use Rattle.holds_infer.specs.Spread.{list_behind, list_after, marks, IsListVisit, AreTrueLists, AreSpreading, AreLists}
 use Rattle.holds_infer.proofs.Held.{held_first, held_falls, held_turns}
 use Rattle.holds_infer.proofs.Bare.{item_same, goes_same}

@@ -13,7 +13,7 @@ use Rattle.sloth_base.specs.declared.refusal.Code.TheVariants as code
 use Rattle.sloth_base.specs.Named.{no_function, function, label_of, item_of, no_item}
 use Rattle.code_rules.specs.Code.{is_in, held_list_at}
 use Rattle.code_rules.specs.WellFormed.{WellFormed, at_header, at_label, at_item, HasOtherList, falling_in, IsBreach, is_other_list_jump, is_second_take, is_unreached, IsSecondTake, fault_at_line}
-use Rattle.body_faults.proofs.Tests.{leads}
+use Rattle.task_verify.proofs.Tests.{leads}
 use Rattle.holds_infer.specs.Filling.{AreClear, IsFilling}
 use Rattle.holds_infer.specs.RightLists.{HasRightLists}
 use Rattle.holds_infer.proofs.OneBody.{stable, one_body}

@@ -6,7 +6,7 @@ use Rattle.sloth_base.specs.declared.app.Func.{Func}
 use Rattle.sloth_base.specs.declared.app.Label.{Label}
 use Rattle.sloth_base.specs.Named.{no_function}
 use Rattle.code_rules.specs.AppRange.{IsResource}
-use Rattle.body_faults.specs.Cases.{AreOps}
+use Rattle.task_verify.specs.Cases.{AreOps}
 use Rattle.holds_infer.specs.Filling.{bare_func, IsClear}
 use Rattle.holds_infer.specs.RightLists.{HasItsLabels, HasRightLists}
 

@@ -7,7 +7,7 @@ use Rattle.sloth_base.specs.declared.app.Call.{Call}
 use Rattle.sloth_base.specs.Named.{item_of, label_of}
 use Rattle.code_rules.specs.Code.{way, is_in, held_list_at, is_entered, held_list_entering}
 use Rattle.code_rules.specs.WellFormed.{IsUnreached}
-use Rattle.body_faults.specs.Ways.{HasBodyLabel}
+use Rattle.task_verify.specs.Ways.{HasBodyLabel}
 use Rattle.holds_infer.specs.Filling.{IsClear}
 
 -- each branch and jump leads to a label of the body

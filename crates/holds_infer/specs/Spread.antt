@@ -8,11 +8,11 @@ use Rattle.sloth_base.specs.declared.app.Op.{Op}
 use Rattle.sloth_base.specs.declared.app.Op.TheVariants as op
 use Rattle.sloth_base.specs.declared.service.Service.{Service}
 use Rattle.sloth_base.specs.declared.service.Service.TheVariants as service
-use Rattle.label_lists.specs.Places.{PlaceLists, list_at}
+use Rattle.asm_lines.specs.Places.{PlaceLists, list_at}
 use Rattle.code_rules.specs.AppRange.{IsResource}
 use Rattle.code_rules.specs.Code.{is_in, without_last, held_list_at}
-use Rattle.body_faults.specs.Ways.{IsReachedItem, IsMarked, IsMarking}
-use Rattle.body_faults.specs.Cases.{AreOps}
+use Rattle.task_verify.specs.Ways.{IsReachedItem, IsMarked, IsMarking}
+use Rattle.task_verify.specs.Cases.{AreOps}
 use Rattle.holds_infer.specs.Filling.{bare_func}
 use Rattle.holds_infer.specs.RightLists.{HasRightLists}
 

@@ -5,7 +5,7 @@ ghost use Rattle.holds_infer.specs.Spread.{AreLists, relisted_label, relisted_fu
 ghost use Rattle.holds_infer.specs.BodyFilling.{HaveTheirLabels, IsBodyFilling, AreBodyFillings};
 
 use crate::spread::places;
-use label_lists::held_list;
+use asm_lines::held_list;
 use sloth_base::app::{Func, Label};
 use sloth_base::copy::TryCopy;
 use sloth_base::list::List;

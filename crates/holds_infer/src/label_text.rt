@@ -1,11 +1,10 @@
 //! Writes the line of a label.
 ghost use Rattle.std.specs.Prelude.{◌≡◌, ◌++◌, OnOk};
-ghost use Rattle.label_lists.specs.LabelLines.{label_text, resource_names};
+ghost use Rattle.asm_lines.specs.LabelLines.{label_text, resource_names};
 ghost use Rattle.holds_infer.specs.FilledText.{filled_part};
 
-use asm_lines::SourceLine;
+use asm_lines::{SourceLine, line_end, write_resources};
 use asm_scopes::{is_label, name_of};
-use label_lists::{line_end, write_resources};
 use sloth_base::config::Config;
 use sloth_base::memory::NoMemory;
 use sloth_base::numbers::ResId;

@@ -6,14 +6,14 @@ ghost use Rattle.code_rules.specs.Code.{is_in};
 ghost use Rattle.holds_infer.specs.RightLists.{HasItsLabels};
 ghost use Rattle.holds_infer.specs.Spread.{list_behind, list_after, IsListVisit, AreLists, AreSpreading};
 
-use body_faults::ways::{jump_of, next_of};
-use label_lists::list_at;
+use asm_lines::list_at;
 use sloth_base::app::{Call, Func, Op};
 use sloth_base::list::List;
 use sloth_base::memory::NoMemory;
 use sloth_base::numbers::ResId;
 use sloth_base::service::Service;
 use std::alloc::Global;
+use task_verify::ways::{jump_of, next_of};
 use text_pieces::growth::push;
 
 fn is_one_of(held: &[ResId], resource: u32) -> bool

@@ -4,7 +4,7 @@
 //! lane are its longest stretches of counts that show the same, and no others, as its counts come; places in hundredths of a pixel, the axis' step
 //! and multiples, and the lines of arrivals, wakings and expiries are as defined (`Strip`, `Scale`, `push_pixels`, `arrival_line`, `wake_line`, `expiry_line`; `specs/Bars`, `specs/Strips`,
 //! `specs/Scale`, `specs/Arrivals`, `specs/Marks`); and so is what a bar shows of a task's state (`task_look`; `specs/TaskLooks`),
-//! and whether a task is woken or an alarm's ticks are over (`is_woken`, `is_over`; `specs/Signs`). A line in its buffer: `line_words`.
+//! and whether a task is woken or an alarm's ticks are over (`is_woken`, `is_over`; `specs/Signs`). A line in its buffer: `trace_text`.
 #![tactic(auto)]
 
 pub mod arrivals;

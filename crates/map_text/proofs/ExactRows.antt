@@ -20,12 +20,12 @@ use Rattle.mem_map.specs.Starts.{starts, end_of}
 use Rattle.mem_map.specs.Stacks.{address_behind_data}
 use Rattle.mem_map.proofs.Starts.{length_starts}
 use Rattle.map_text.specs.ExactRows.{RowsAreExact, behind_symbols, exact_rows, function_bytes, row_alone, rows_of}
-use Rattle.map_rows.specs.Rows.{address_behind_code, code_places, map_rows, numbered_starts, own_rows, prologues_of, shared_rows, single_start, starts_of, ticks_of}
-use Rattle.map_rows.specs.PieceRows.{first_at, row_to, rows_between}
-use Rattle.map_rows.specs.declared.piece_rows.Kind.{Kind}
-use Rattle.map_rows.specs.declared.piece_rows.Kind.TheVariants as kind
-use Rattle.map_rows.specs.declared.piece_rows.Row.{Row}
-use Rattle.map_rows.specs.declared.piece_rows.Start.{Start}
+use Rattle.map_text.specs.Rows.{address_behind_code, code_places, map_rows, numbered_starts, own_rows, prologues_of, shared_rows, single_start, starts_of, ticks_of}
+use Rattle.map_text.specs.PieceRows.{first_at, row_to, rows_between}
+use Rattle.map_text.specs.declared.piece_rows.Kind.{Kind}
+use Rattle.map_text.specs.declared.piece_rows.Kind.TheVariants as kind
+use Rattle.map_text.specs.declared.piece_rows.Row.{Row}
+use Rattle.map_text.specs.declared.piece_rows.Start.{Start}
 
 -- ---- one row
 

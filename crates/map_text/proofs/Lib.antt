@@ -2,3 +2,8 @@ pub mod ExactRows
 pub mod Listing
 pub mod OneNeed
 pub mod OneText
+pub mod OneRow
+pub mod OneTotal
+pub mod OnePieceRow
+pub mod Services
+pub mod Starts

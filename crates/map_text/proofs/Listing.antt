@@ -8,7 +8,7 @@ use Rattle.sloth_region.specs.declared.map.Map.{Map}
 use Rattle.code_rules.specs.WellFormed.{WellFormed}
 use Rattle.mem_map.specs.Planned.{IsPlanned}
 use Rattle.mem_map.specs.StackParts.{no_extent}
-use Rattle.map_rows.specs.Listable.{IsListable}
+use Rattle.map_text.specs.Listable.{IsListable}
 
 pub listable : (config : Config) (app : App) (bounds : Bounds) (m : Map) → WellFormed config app → IsPlanned config app bounds m → IsListable config m
 listable config app bounds m well p =

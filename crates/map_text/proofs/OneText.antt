@@ -16,11 +16,11 @@ use Rattle.mem_map.specs.StackParts.{is_extended}
 use Rattle.mem_map.specs.Zones.{stack_of}
 use Rattle.mem_map.proofs.OnePlan.{AreAlike, one_plan}
 use Rattle.map_text.specs.MapText.{OneText, lines_of, map_text}
-use Rattle.map_rows.specs.Rows.{map_rows, own_rows, row_of, shared_rows, starts_of}
-use Rattle.map_rows.specs.PieceRows.{rows_between}
-use Rattle.map_rows.specs.declared.piece_rows.Kind.TheVariants as kind
-use Rattle.map_rows.specs.declared.piece_rows.Row.{Row}
-use Rattle.map_rows.specs.declared.piece_rows.Start.{Start}
+use Rattle.map_text.specs.Rows.{map_rows, own_rows, row_of, shared_rows, starts_of}
+use Rattle.map_text.specs.PieceRows.{rows_between}
+use Rattle.map_text.specs.declared.piece_rows.Kind.TheVariants as kind
+use Rattle.map_text.specs.declared.piece_rows.Row.{Row}
+use Rattle.map_text.specs.declared.piece_rows.Start.{Start}
 
 -- ---- rows
 

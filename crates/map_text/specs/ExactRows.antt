@@ -13,10 +13,10 @@ use Rattle.mem_map.specs.Starts.{code_byte_count}
 use Rattle.mem_map.specs.Plan.{code_end, idle_at, idle_bytes, items_at, prologues_at, services_at, symbol_bytes, ticks_at}
 use Rattle.mem_map.specs.Planned.{IsPlanned}
 use Rattle.mem_map.specs.Starts.{end_of}
-use Rattle.map_rows.specs.Rows.{map_rows, own_rows, shared_rows}
-use Rattle.map_rows.specs.declared.piece_rows.Kind.{Kind}
-use Rattle.map_rows.specs.declared.piece_rows.Kind.TheVariants as kind
-use Rattle.map_rows.specs.declared.piece_rows.Row.{Row}
+use Rattle.map_text.specs.Rows.{map_rows, own_rows, shared_rows}
+use Rattle.map_text.specs.declared.piece_rows.Kind.{Kind}
+use Rattle.map_text.specs.declared.piece_rows.Kind.TheVariants as kind
+use Rattle.map_text.specs.declared.piece_rows.Row.{Row}
 
 -- the rows of pieces of a kind, each right behind the one before it and of so many bytes: the first at an address and with a number. One
 -- without bytes has no row

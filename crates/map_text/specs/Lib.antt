@@ -1,2 +1,9 @@
 pub mod ExactRows
 pub mod MapText
+pub mod Listable
+pub mod Rows
+pub mod PieceRows
+pub mod Totals
+pub mod Borders
+pub mod PieceNames
+pub mod LineRows

@@ -11,19 +11,19 @@ use Rattle.sloth_base.specs.Blocks.{block_service, block_object}
 use Rattle.sloth_base.specs.Named.{alarm_declaration, counter_declaration, declaration, function, no_symbol}
 use Rattle.sloth_base.specs.ServiceCodes.{object_kind, service_name}
 use Rattle.sloth_region.specs.declared.map.Map.{Map}
-use Rattle.line_words.specs.MarkWords.{word_text}
+use Rattle.trace_text.specs.MarkWords.{word_text}
 use Rattle.code_rules.specs.WellFormed.{WellFormed}
 use Rattle.stack_bounds.specs.Bounds.{AreBounds, bytes_of}
 use Rattle.mem_map.specs.Planned.{IsPlanned}
 use Rattle.sloth_source.specs.Texts.{AreAccepted}
-use Rattle.map_rows.specs.PieceNames.{resource_name}
-use Rattle.map_rows.specs.Rows.{map_rows, sum_of}
-use Rattle.map_rows.specs.Totals.{all_parts, filled_rows, part_sum}
-use Rattle.map_rows.specs.declared.totals.Part.{Part}
-use Rattle.map_rows.specs.declared.totals.Part.TheVariants as part
-use Rattle.map_rows.specs.declared.piece_rows.Kind.{Kind}
-use Rattle.map_rows.specs.declared.piece_rows.Kind.TheVariants as kind
-use Rattle.map_rows.specs.declared.piece_rows.Row.{Row}
+use Rattle.map_text.specs.PieceNames.{resource_name}
+use Rattle.map_text.specs.Rows.{map_rows, sum_of}
+use Rattle.map_text.specs.Totals.{all_parts, filled_rows, part_sum}
+use Rattle.map_text.specs.declared.totals.Part.{Part}
+use Rattle.map_text.specs.declared.totals.Part.TheVariants as part
+use Rattle.map_text.specs.declared.piece_rows.Kind.{Kind}
+use Rattle.map_text.specs.declared.piece_rows.Kind.TheVariants as kind
+use Rattle.map_text.specs.declared.piece_rows.Row.{Row}
 
 -- ---- what stands in a row
 

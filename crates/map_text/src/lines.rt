@@ -3,12 +3,12 @@ ghost use Rattle.std.specs.Prelude.{◌≡◌, ◌<◌, ◌++◌, IfOk, OnOk, le
 ghost use Rattle.sloth_base.specs.Blocks.{block_object, block_service};
 ghost use Rattle.map_text.specs.MapText.{behind_part, need_line, object_text, part_text, piece_text, row_line, service_text, sum_line, total_line};
 
-use itoa::Buffer;
-use map_rows::object_names::{
+use crate::object_names::{
     alarm_name, counter_name, function_name, resource_name, symbol_name, task_name,
 };
-use map_rows::piece_rows::{Kind, Row};
-use map_rows::totals::{Part, part_sum};
+use crate::piece_rows::{Kind, Row};
+use crate::totals::{Part, part_sum};
+use itoa::Buffer;
 use sloth_base::app::App;
 use sloth_base::config::Config;
 use sloth_base::memory::NoMemory;
@@ -61,7 +61,7 @@ fn service_text(
 }
 
 // The service with its object that has a place in the table of the services' code.
-#[tactic(auto, using(map_rows::proofs::Services::no_service))]
+#[tactic(auto, using(crate::proofs::Services::no_service))]
 fn block_text(alloc: Global, config: &Config, number: usize) -> Result<Vec<u8>, NoMemory>
     ensures { IfOk result (λ text. text.items ≡ service_text config.now (block_service number) (block_object number)) }
 {

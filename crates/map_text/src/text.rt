@@ -4,13 +4,13 @@ ghost use Rattle.std.specs.List.{flat_map};
 ghost use Rattle.code_rules.specs.WellFormed.{WellFormed};
 ghost use Rattle.stack_bounds.specs.Bounds.{AreBounds};
 ghost use Rattle.sloth_source.specs.Texts.{SourcesErrorIs};
-ghost use Rattle.map_rows.specs.Listable.{IsListable};
+ghost use Rattle.map_text.specs.Listable.{IsListable};
 ghost use Rattle.map_text.specs.MapText.{HasMap, IsMapText, lines_with, map_text, need_lines, row_line, total_line};
 
 use crate::lines::{need_line, row_line, sum_line, total_line};
-use map_rows::piece_rows::Row;
-use map_rows::rows::{map_rows, sum_of};
-use map_rows::totals::{PARTS, Part, filled_rows};
+use crate::piece_rows::Row;
+use crate::rows::{map_rows, sum_of};
+use crate::totals::{PARTS, Part, filled_rows};
 use mem_map::plan;
 use sloth_base::app::App;
 use sloth_base::config::Config;

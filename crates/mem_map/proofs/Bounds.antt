@@ -18,7 +18,7 @@ use Rattle.sloth_base.specs.Limits.{task_limit, alarm_limit, resource_limit}
 use Rattle.code_rules.specs.AppRange.{AppInRange}
 use Rattle.rv32_expand.specs.InPlace.{IsAppItem}
 use Rattle.rv32_expand.specs.Sizes.{AreItemSizes, items_before}
-use Rattle.expansion_parts.proofs.Counts.{size_few}
+use Rattle.rv32_expand.proofs.Counts.{size_few}
 use Rattle.rv32_expand.proofs.InRangeOf.{frame_of}
 use Rattle.rv32_expand.proofs.Locating.{locate}
 use Rattle.mem_map.specs.Starts.{end_of}

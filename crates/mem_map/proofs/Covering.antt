@@ -21,10 +21,10 @@ use Rattle.sloth_base.specs.MemoryMap.{vectors_base, memory_end}
 use Rattle.sloth_base.specs.Limits.{resource_limit}
 use Rattle.code_rules.specs.AppRange.{AppInRange, AreOperands, IsOp}
 use Rattle.code_rules.proofs.Objects.{object_number}
-use Rattle.expansion_parts.specs.Expansion.{item_address, block_address, is_long}
+use Rattle.rv32_expand.specs.Expansion.{item_address, block_address, is_long}
 use Rattle.rv32_expand.specs.InPlace.{IsAppItem}
 use Rattle.rv32_expand.specs.Sizes.{AreItemSizes, AgreeWithSizes, HasWordAddresses, IsWordAddress, items_before}
-use Rattle.expansion_parts.proofs.Counts.{size_few, size_is}
+use Rattle.rv32_expand.proofs.Counts.{size_few, size_is}
 use Rattle.rv32_expand.proofs.InRangeOf.{frame_of}
 use Rattle.mem_map.specs.Starts.{starts, end_of}
 use Rattle.mem_map.specs.Starts.{code_byte_count}

@@ -21,7 +21,7 @@ use Rattle.text_pieces.proofs.Tests.{any_insert}
 use Rattle.oil_table.specs.Table.{is_word}
 use Rattle.oil_table.specs.Objects.{is_use, is_of_kind, is_declaration, names_of}
 use Rattle.oil_table.specs.declared.alarm_limits.Limits.{Limits}
-use Rattle.oil_events.proofs.Names.{place_in, declared_at}
+use Rattle.oil_table.proofs.Names.{place_in, declared_at}
 use Rattle.oil_rules.specs.References.{event_word, referred_word}
 use Rattle.oil_alarms.specs.Limits.{object_of_value, object_named, limits_in, limits_given}
 use Rattle.oil_alarms.specs.AlarmFaults.{lists_event, leaves_out}

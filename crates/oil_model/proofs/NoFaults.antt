@@ -15,7 +15,7 @@ use Rattle.oil_parse.specs.declared.tree.OilObject.{OilObject}
 use Rattle.oil_parse.specs.declared.tree.OilTree.{OilTree}
 use Rattle.oil_table.specs.Table.{place_of, is_nowhere}
 use Rattle.oil_table.specs.Objects.{is_of_kind, has_scheduler, names_of}
-use Rattle.oil_events.specs.Events.{events_of}
+use Rattle.oil_table.specs.Events.{events_of}
 use Rattle.oil_rules.specs.ObjectFaults.{is_known, is_above, is_clock_above, comes_behind}
 use Rattle.oil_model.specs.Configs.{resource_names}
 use Rattle.oil_rules.specs.TreeFaults.{KnownObjectFault, ObjectFault}

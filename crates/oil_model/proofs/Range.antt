@@ -15,7 +15,7 @@ use Rattle.least_fault.specs.Order.{NoFault}
 use Rattle.oil_parse.specs.declared.tree.OilObject.{OilObject}
 use Rattle.oil_parse.specs.declared.tree.OilTree.{OilTree}
 use Rattle.oil_table.specs.Objects.{is_of_kind, has_scheduler, names_of}
-use Rattle.oil_events.specs.Events.{number_masks, events_of}
+use Rattle.oil_table.specs.Events.{number_masks, events_of}
 use Rattle.oil_alarms.specs.ModelFaults.{ModelFault}
 use Rattle.oil_model.specs.Clocks.{declared_counter, declared_alarm}
 use Rattle.oil_model.specs.Configs.{resource_names, declared_task, tasks_of, config_of}

@@ -13,7 +13,7 @@ use Rattle.oil_table.specs.declared.table.Attribute.TheVariants.{Counter, Action
 use Rattle.oil_table.specs.Table.{is_allowed}
 use Rattle.oil_table.specs.Objects.{is_of_kind, is_declared, names_of}
 use Rattle.oil_rules.specs.AttributeFaults.{misses_value}
-use Rattle.oil_events.proofs.Names.{place_in, declared_at, numbered}
+use Rattle.oil_table.proofs.Names.{place_in, declared_at, numbered}
 use Rattle.oil_alarms.specs.Limits.{object_of_value}
 use Rattle.oil_model.specs.Clocks.{number_of_value}
 

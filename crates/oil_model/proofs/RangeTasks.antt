@@ -17,7 +17,7 @@ use Rattle.oil_parse.specs.declared.tree.OilTree.{OilTree}
 use Rattle.oil_table.specs.declared.table.Attribute.TheVariants.{Priority}
 use Rattle.oil_table.specs.Table.{is_allowed}
 use Rattle.oil_table.specs.Objects.{is_of_kind, is_use, is_used, first_number, number_of, number_given}
-use Rattle.oil_events.specs.Events.{events_of}
+use Rattle.oil_table.specs.Events.{events_of}
 use Rattle.oil_rules.specs.ObjectFaults.{lacks_task_attribute, lacks_attribute}
 use Rattle.oil_rules.specs.TaskFaults.{has_priority, is_taken, repeats_priority, shares_bit, TaskFault}
 use Rattle.sloth_base.specs.Options.{is_number}

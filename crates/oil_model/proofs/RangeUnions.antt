@@ -15,9 +15,9 @@ use Rattle.oil_parse.specs.declared.tree.OilValue.TheVariants.{Word, Number, Tex
 use Rattle.oil_parse.specs.declared.tree.OilAttr.{OilAttr}
 use Rattle.oil_table.specs.Table.{is_word}
 use Rattle.oil_table.specs.Objects.{is_use}
-use Rattle.oil_events.specs.Events.{mask_named, mask_given}
+use Rattle.oil_table.specs.Events.{mask_named, mask_given}
 use Rattle.oil_rules.specs.TaskFaults.{have_common_bit, is_event_clash, shares_with, shares_bit}
-use Rattle.oil_events.specs.Masks.{mask_of_value, listed_mask, event_mask}
+use Rattle.oil_table.specs.Masks.{mask_of_value, listed_mask, event_mask}
 use Rattle.oil_model.proofs.Lists.{IsFirst, first_of}
 use Rattle.text_pieces.proofs.Tests.{none_pass}
 use Rattle.oil_model.proofs.Unions.{Within, within_both, within_zero, within_or, within_left, within_right, and_swapped, union_of, AreApart, union_is, within_union, union_within}

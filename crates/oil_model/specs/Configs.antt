@@ -12,8 +12,8 @@ use Rattle.oil_parse.specs.declared.tree.OilAttr.{OilAttr}
 use Rattle.oil_parse.specs.declared.tree.OilObject.{OilObject}
 use Rattle.oil_parse.specs.declared.tree.OilTree.{OilTree}
 use Rattle.oil_table.specs.Objects.{names_of, is_of_kind, is_use, is_used, first_is, first_number, has_scheduler}
-use Rattle.oil_events.specs.Events.{events_of}
-use Rattle.oil_events.specs.Masks.{event_mask}
+use Rattle.oil_table.specs.Events.{events_of}
+use Rattle.oil_table.specs.Masks.{event_mask}
 use Rattle.oil_model.specs.Clocks.{counters_of, alarms_of}
 
 -- the names of the resources, in the order of their numbers

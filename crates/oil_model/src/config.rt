@@ -4,9 +4,8 @@ ghost use Rattle.std.specs.List.{list_any};
 ghost use Rattle.sloth_base.specs.Limits.{resource_limit};
 ghost use Rattle.oil_model.specs.Configs.{resource_names, resource_number, listed_resource, with_number, with_resource, resources_of, declared_task, tasks_of};
 
-use oil_events::{EventTable, event_mask};
 use oil_parse::tree::{OilAttr, OilObject, OilValue};
-use oil_table::{first_is, first_number, is_of_kind, is_use, is_used};
+use oil_table::{EventTable, event_mask, first_is, first_number, is_of_kind, is_use, is_used};
 use sloth_base::config::TaskDecl;
 use sloth_base::list::List;
 use sloth_base::memory::NoMemory;

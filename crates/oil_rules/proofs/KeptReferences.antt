@@ -15,7 +15,7 @@ use Rattle.oil_parse.specs.declared.tree.OilValue.{OilValue}
 use Rattle.oil_parse.specs.declared.tree.OilValue.TheVariants.{Word, Number, Text}
 use Rattle.oil_parse.specs.declared.tree.OilAttr.{OilAttr}
 use Rattle.oil_table.specs.Objects.{is_use}
-use Rattle.oil_events.specs.Events.{mask_named}
+use Rattle.oil_table.specs.Events.{mask_named}
 use Rattle.oil_rules.specs.TaskFaults.{have_common_bit, is_event_clash, shares_bit}
 use Rattle.oil_rules.specs.References.{event_word, refers_to_clash, referred_word}
 use Rattle.oil_rules.specs.KeptReferences.{is_to, has_bit, is_clash, AreKept}

@@ -5,7 +5,7 @@ use Rattle.std.specs.List.{list_any}
 use Rattle.std.specs.Str.{bytes_eq}
 use Rattle.sloth_base.specs.declared.config.EventDecl.{EventDecl}
 use Rattle.oil_parse.specs.declared.tree.OilAttr.{OilAttr}
-use Rattle.oil_events.specs.Events.{mask_named}
+use Rattle.oil_table.specs.Events.{mask_named}
 use Rattle.oil_rules.specs.References.{refers_to_clash}
 use Rattle.oil_rules.specs.declared.references.Reference.{Reference}
 

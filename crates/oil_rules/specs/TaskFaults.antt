@@ -12,7 +12,7 @@ use Rattle.oil_parse.specs.declared.tree.OilAttr.{OilAttr}
 use Rattle.oil_parse.specs.declared.tree.OilObject.{OilObject}
 use Rattle.oil_table.specs.Cases.{OilCase}
 use Rattle.oil_table.specs.Objects.{is_of_kind, is_use, is_used, number_of, first_number}
-use Rattle.oil_events.specs.Events.{mask_named}
+use Rattle.oil_table.specs.Events.{mask_named}
 
 -- a task of this priority
 abbrev pub has_priority : ℕ → OilObject → Bool

@@ -11,7 +11,7 @@ use Rattle.oil_parse.specs.declared.tree.OilTree.{OilTree}
 use Rattle.oil_table.specs.Cases.{OilCase}
 use Rattle.oil_table.specs.Table.{place_of}
 use Rattle.oil_table.specs.Objects.{is_of_kind, has_scheduler}
-use Rattle.oil_events.specs.Events.{events_of, BitFault}
+use Rattle.oil_table.specs.Events.{events_of, BitFault}
 use Rattle.oil_rules.specs.ObjectFaults.{is_known, KindFault, KnownFault}
 use Rattle.oil_rules.specs.AttributeFaults.{AttributeFault}
 use Rattle.oil_rules.specs.TaskFaults.{TaskFault}

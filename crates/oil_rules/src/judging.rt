@@ -2,7 +2,7 @@
 ghost use Rattle.std.specs.Prelude.{◌≡◌, IfOk, true};
 ghost use Rattle.least_fault.specs.Search.{IsSearchResult, Somewhere};
 ghost use Rattle.oil_table.specs.Objects.{has_scheduler};
-ghost use Rattle.oil_events.specs.Events.{events_of};
+ghost use Rattle.oil_table.specs.Events.{events_of};
 ghost use Rattle.oil_rules.specs.ObjectFaults.{is_known};
 ghost use Rattle.oil_rules.specs.TreeFaults.{TaskFaults, KnownObjectFault, ObjectFault, TreeFault};
 
@@ -11,11 +11,10 @@ use crate::front::Front;
 use crate::object_faults::{kind_fault, known_fault};
 use crate::task_faults::task_faults;
 use least_fault::{fault_if, merge};
-use oil_events::EventTable;
-use oil_events::events::events_without_bit;
 use oil_parse::tree::{OilObject, OilTree};
-use oil_table::is_of_kind;
+use oil_table::events::events_without_bit;
 use oil_table::table::{is_nowhere, place_of};
+use oil_table::{EventTable, is_of_kind};
 use sloth_base::memory::NoMemory;
 use sloth_base::refusal::{Code, Part, Refusal};
 use std::alloc::Global;

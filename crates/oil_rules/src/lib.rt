@@ -1,7 +1,7 @@
 //! The faults of the objects of an OIL tree (OIL 2.5, section 3).
 //!
 //! `judge` finds the least of O7 to O15 but for the blocks of alarms, or none. The faults: `specs/TreeFaults` and the files that it names; what is
-//! kept of earlier objects and attributes: `specs/Fronts`, `specs/KeptReferences`. Rows of the table: `oil_table` (`Table`); events: `oil_events`
+//! kept of earlier objects and attributes: `specs/Fronts`, `specs/KeptReferences`. Rows of the table: `oil_table` (`Table`); events: `oil_table`
 //! (`Events`); the least fault: `least_fault` (`Order`).
 #![tactic(auto)]
 

@@ -5,9 +5,8 @@ ghost use Rattle.oil_rules.specs.TaskFaults.{shares_bit};
 ghost use Rattle.oil_rules.specs.References.{ReferenceContext, event_word, refers_to_clash};
 ghost use Rattle.oil_rules.specs.KeptReferences.{is_to, is_clash};
 
-use oil_events::EventTable;
 use oil_parse::tree::{OilAttr, OilValue};
-use oil_table::is_use;
+use oil_table::{EventTable, is_use};
 use sloth_base::memory::NoMemory;
 use std::alloc::Global;
 use std::marker::Model;

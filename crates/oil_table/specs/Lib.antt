@@ -3,3 +3,5 @@ pub mod Table
 pub mod Objects
 pub mod Uses
 pub mod Beyond
+pub mod Events
+pub mod Masks

@@ -4,9 +4,18 @@
 //! `first_use`, `first_number`, `declares`, `is_of_kind`, .. (`specs/Objects`). The limits: an object of a kind comes behind as many of it as there
 //! may be, or not (`comes_behind`, `is_clock_more`); a number in a block of an alarm lies outside the limits of its counter, or not (`is_beyond`,
 //! `specs/Beyond`). Trees: `oil_parse` (`Grammar`).
+//!
+//! The events of an OIL tree, and their masks (OIL 2.5, section 3).
+//!
+//! `events_of` gives the EVENT objects with their masks: a number as it stands, AUTO the lowest bit that no number mask of the text and no earlier
+//! AUTO event has; or no bit is free (`specs/Events`). The mask of the event that a value names, and the union of those that a task lists
+//! (`mask_of_value`, `event_mask`, `specs/Masks`).
 #![tactic(auto)]
 
 pub mod alarm_limits;
+pub mod event_table;
+pub mod events;
+pub mod masks;
 pub mod numbers;
 pub mod object_limits;
 pub mod objects;
@@ -15,6 +24,9 @@ pub mod table;
 pub mod uses;
 
 pub use alarm_limits::{Limits, is_beyond};
+pub use event_table::EventTable;
+pub use events::events_of;
+pub use masks::{event_mask, mask_of_value};
 pub use numbers::names_of;
 pub use objects::{
     declares, first_is, first_number, first_use, has_scheduler, is_of_kind, is_use, is_used,

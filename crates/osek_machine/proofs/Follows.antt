@@ -36,9 +36,9 @@ use Rattle.osek_scheduler.specs.declared.change.TaskChange.TheVariants as change
 use Rattle.osek_scheduler.specs.declared.plan.Other.TheVariants as other
 use Rattle.osek_scheduler.specs.declared.plan.Plan.{Plan}
 use Rattle.osek_scheduler.specs.Changes.{changed_task, woken_task_state, with_change}
-use Rattle.osek_plans.specs.Plans.{with_other, planned_system, write_plan, service_plan, item_plan, item_behind, is_inside}
-use Rattle.osek_plans.specs.Running.{next_operation, own_operation, run_plan, call_in, call_plan, serving_plan, running_plan, entry_change, entry_plan, back_plan}
-use Rattle.osek_plans.specs.Steps.{answer_plan, leave_plan, followed_state}
+use Rattle.osek_machine.specs.Plans.{with_other, planned_system, write_plan, service_plan, item_plan, item_behind, is_inside}
+use Rattle.osek_machine.specs.Running.{next_operation, own_operation, run_plan, call_in, call_plan, serving_plan, running_plan, entry_change, entry_plan, back_plan}
+use Rattle.osek_machine.specs.PlanSteps.{answer_plan, leave_plan, followed_state}
 
 -- ---- options
 

@@ -52,13 +52,13 @@ use Rattle.osek_scheduler.specs.declared.change.TaskChange.TheVariants as change
 use Rattle.osek_scheduler.specs.declared.plan.Other.{Other}
 use Rattle.osek_scheduler.specs.declared.plan.Other.TheVariants as other
 use Rattle.osek_scheduler.specs.declared.plan.Plan.{Plan}
-use Rattle.osek_plans.specs.Clocked.{NamesTask, IsClocked}
-use Rattle.osek_plans.specs.Frames.{CanMove, HasWord}
+use Rattle.osek_machine.specs.Clocked.{NamesTask, IsClocked}
+use Rattle.osek_machine.specs.Frames.{CanMove, HasWord}
 use Rattle.osek_scheduler.specs.Changes.{outer_frames, changed_task, with_change}
-use Rattle.osek_plans.specs.Changes.{HasChangeRoom}
-use Rattle.osek_plans.specs.Plans.{with_other, planned_system, write_plan, service_plan, item_plan, item_behind, load_of, is_inside, HasOther, HasPlanRoom}
-use Rattle.osek_plans.specs.Running.{IsComputed, own_operation, run_plan, call_in, call_plan, serving_plan, running_plan, entry_change, entry_plan, back_plan}
-use Rattle.osek_plans.specs.Steps.{answer_plan, leave_plan, followed_state, IsRead}
+use Rattle.osek_machine.specs.Changes.{HasChangeRoom}
+use Rattle.osek_machine.specs.Plans.{with_other, planned_system, write_plan, service_plan, item_plan, item_behind, load_of, is_inside, HasOther, HasPlanRoom}
+use Rattle.osek_machine.specs.Running.{IsComputed, own_operation, run_plan, call_in, call_plan, serving_plan, running_plan, entry_change, entry_plan, back_plan}
+use Rattle.osek_machine.specs.PlanSteps.{answer_plan, leave_plan, followed_state, IsRead}
 use Rattle.osek_machine.specs.Steps.{IsSound}
 use Rattle.osek_machine.proofs.Follows.{InFunction, own-operation, enter-follows, run-follows, call-follows, left-follows, back-follows}
 

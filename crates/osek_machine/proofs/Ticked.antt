@@ -11,7 +11,7 @@ use Rattle.osek_scheduler.specs.State.{System, task, alarm}
 use Rattle.osek_scheduler.specs.Services.{if_suspended, with_left, acted_state, alarm_ticked_state, alarms_ticked_state, ticked_state, counted_on_state}
 use Rattle.osek_scheduler.proofs.Outcomes.{by_suspended}
 use Rattle.osek_scheduler.specs.declared.change.TaskChange.TheVariants as change
-use Rattle.osek_plans.specs.Clocked.{NamesTask}
+use Rattle.osek_machine.specs.Clocked.{NamesTask}
 use Rattle.osek_scheduler.specs.Changes.{with_change}
 use Rattle.osek_machine.specs.Ticks.{acted_system, alarm_ticked_system, alarms_ticked_system, ticked_system}
 use Rattle.osek_machine.proofs.Follows.{events-set}

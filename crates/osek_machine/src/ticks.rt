@@ -4,10 +4,10 @@ ghost use Rattle.sloth_base.specs.Named.{alarm_declaration};
 ghost use Rattle.osek_scheduler.specs.State.{counter};
 ghost use Rattle.osek_scheduler.specs.Services.{counted_on_state, next_value, ticked_state};
 ghost use Rattle.osek_scheduler.specs.Steps.{due_state};
-ghost use Rattle.osek_plans.specs.Clocked.{IsClocked, NamesTask};
+ghost use Rattle.osek_machine.specs.Clocked.{IsClocked, NamesTask};
 ghost use Rattle.osek_machine.specs.Ticks.{acted_system, alarm_ticked_system, alarms_ticked_system, ticked_system};
 
-use osek_plans::store::{Store, is_suspended};
+use crate::store::{Store, is_suspended};
 use osek_scheduler::change::TaskChange;
 use osek_scheduler::state::{Alarm, Counter};
 use sloth_base::config::{Action, Config};

@@ -10,8 +10,8 @@ use Rattle.sloth_base.specs.declared.service.Service.{Service}
 use Rattle.sloth_base.specs.declared.service.Service.TheVariants as service
 use Rattle.sloth_base.specs.Named.{function, item_of, operation}
 use Rattle.code_rules.specs.Code.{IsItem}
-use Rattle.expansion_parts.specs.Long.{size, no_places}
-use Rattle.expansion_parts.proofs.Counts.{expanded_some}
+use Rattle.rv32_expand.specs.Long.{size, no_places}
+use Rattle.rv32_expand.proofs.Counts.{expanded_some}
 use Rattle.code_lengths.specs.LongestPaths.{served_path, leaving_path}
 use Rattle.raised_sections.specs.Walks.{chains_itself}
 use Rattle.event_weights.specs.Items.{length_of, AreLengths}

@@ -34,7 +34,7 @@ use Rattle.sloth_base.specs.Limits.{count_limit}
 use Rattle.sloth_base.specs.Owners.{owners_in}
 use Rattle.code_rules.specs.AppRange.{IsTaskCode}
 use Rattle.load_text.specs.Loads.{KeepDistances}
-use Rattle.section_counts.specs.Counts.{AreCounts}
+use Rattle.run_counts.specs.Counts.{AreCounts}
 use Rattle.response_laws.specs.CodeStarts.{FitsStarts}
 use Rattle.response_laws.specs.Starts.{HaveStarts}
 use Rattle.response_laws.specs.Expiries.{MarksAlarms, HasExpiries}

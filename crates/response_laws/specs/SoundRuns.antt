@@ -16,7 +16,7 @@ use Rattle.code_lengths.specs.LongestPaths.{tick_path, boot_path}
 use Rattle.event_weights.specs.Events.{enter_counts}
 use Rattle.event_weights.specs.Items.{length_of, AreLengths}
 use Rattle.event_weights.specs.Pace.{AreAtMost}
-use Rattle.section_counts.specs.Counts.{AreCounts}
+use Rattle.run_counts.specs.Counts.{AreCounts}
 use Rattle.sim_induction.specs.Paced.{AreStretchesWithin, InPace}
 use Rattle.sim_induction.specs.Sound.{Sound, events_of}
 use Rattle.sim_induction.specs.Weighed.{Weighed}

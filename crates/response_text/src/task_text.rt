@@ -17,7 +17,6 @@ use crate::lines::{is_open, push_line};
 use crate::parts::{push_made, task_named};
 use crate::told::Told;
 use call_graph::ranking::Ranks;
-use checked_source::read_checked;
 use load_text::{Entry, deadline_of};
 use response_bounds::costs::Costs;
 use response_bounds::longest::Longest;
@@ -28,6 +27,7 @@ use sloth_base::config::Config;
 use sloth_base::list::List;
 use sloth_base::memory::NoMemory;
 use sloth_base::refusal::BuildError;
+use sloth_source::read_checked;
 use std::alloc::Global;
 use task_verify::verified::Verified;
 

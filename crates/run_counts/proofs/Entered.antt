@@ -29,10 +29,10 @@ use Rattle.event_weights.specs.Pace.{ItemSizes, paced_counts}
 use Rattle.sim_induction.specs.Paced.{ArePacedTo, AreStretchesWithin, GoesInPace}
 use Rattle.sim_induction.specs.Weighed.{AreWithinWeights}
 use Rattle.sim_induction.proofs.Pacing.{last-append}
-use Rattle.run_bounds.specs.Latency.{is_tick, EntersBefore}
-use Rattle.run_bounds.proofs.Awaiting.{Awaits, is_outside}
-use Rattle.run_bounds.proofs.Waiting.{IsOnTheWay, on_the_way}
-use Rattle.run_bounds.proofs.Entering.{stand_before, entry_facts, Entry, enters, enters_not, find_entry}
+use Rattle.run_counts.specs.EntryLatency.{is_tick, EntersBefore}
+use Rattle.run_counts.proofs.Awaiting.{Awaits, is_outside}
+use Rattle.run_counts.proofs.Waiting.{IsOnTheWay, on_the_way}
+use Rattle.run_counts.proofs.Entering.{stand_before, entry_facts, Entry, enters, enters_not, find_entry}
 use Rattle.run_counts.specs.Spending.{NoneIsLower}
 use Rattle.run_counts.specs.Latency.{tick_weight, tick_weights, TakesWithin, IsEntryLimit, IsBehindBoot, RunsEnterByWeights}
 use Rattle.run_counts.proofs.Spending.{paced_behind, leads_behind}

@@ -18,3 +18,12 @@ pub mod OwnItems
 pub mod Taken
 pub mod Entered
 pub mod Stretches
+pub mod Continuing
+pub mod Paced
+pub mod Awaiting
+pub mod Turns
+pub mod Waiting
+pub mod Entering
+pub mod Runs
+pub mod PacedRun
+pub mod CountsFit

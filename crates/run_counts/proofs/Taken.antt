@@ -30,10 +30,10 @@ use Rattle.bound_rules.specs.Weights.{going_weight, ending_weight}
 use Rattle.walk_sums.specs.Weights.{ending_at}
 use Rattle.event_weights.specs.Pace.{ItemSizes, paced_counts}
 use Rattle.sim_induction.specs.Paced.{GoesInPace, ArePacedTo}
-use Rattle.run_bounds.specs.Latency.{IsHighest, is_tick}
-use Rattle.run_bounds.proofs.Awaiting.{Awaits, is_outside, next_awaits}
-use Rattle.run_bounds.proofs.Turns.{IsLeft, Working, Leaving, Turn, turn_outside, turn_work, turn_leave, turn}
-use Rattle.run_bounds.proofs.Waiting.{waiting, goes_on, out_next, no_new, works_blocks, leaves_blocks, nobody_waits, none_waits}
+use Rattle.run_counts.specs.EntryLatency.{IsHighest, is_tick}
+use Rattle.run_counts.proofs.Awaiting.{Awaits, is_outside, next_awaits}
+use Rattle.run_counts.proofs.Turns.{IsLeft, Working, Leaving, Turn, turn_outside, turn_work, turn_leave, turn}
+use Rattle.run_counts.proofs.Waiting.{waiting, goes_on, out_next, no_new, works_blocks, leaves_blocks, nobody_waits, none_waits}
 use Rattle.run_counts.specs.Spending.{WeighsItems, NoSumIsAbove, NoneIsLower}
 use Rattle.run_counts.specs.Rounds.{next_ending, WeighsEndings}
 use Rattle.run_counts.specs.Latency.{TakesWithin}

@@ -19,7 +19,7 @@ use Rattle.event_weights.specs.Events.{enter_counts}
 use Rattle.event_weights.specs.Pace.{ItemSizes}
 use Rattle.sim_induction.specs.Paced.{AreStretchesWithin, KeepsPace}
 use Rattle.sim_induction.specs.Weighed.{AreWithinWeights}
-use Rattle.run_bounds.specs.Latency.{IsHighest, EntersBefore}
+use Rattle.run_counts.specs.EntryLatency.{IsHighest, EntersBefore}
 use Rattle.run_counts.specs.Spending.{NoSumIsAbove, NoneIsLower, WeighsItems}
 use Rattle.run_counts.specs.Rounds.{WeighsEndings}
 use Rattle.sloth_base.specs.declared.event.Arrival.{Arrival}

@@ -4,3 +4,6 @@ pub mod Spending
 pub mod Rounds
 pub mod OwnCounts
 pub mod Latency
+pub mod EntryLatency
+pub mod BlockingBounds
+pub mod Counts

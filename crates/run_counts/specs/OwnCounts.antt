@@ -18,7 +18,7 @@ use Rattle.raised_sections.specs.Pace.{takes_line}
 use Rattle.bound_rules.specs.declared.weights.BodyWeights.{BodyWeights}
 use Rattle.event_weights.specs.Items.{length_of, AreLengths}
 use Rattle.event_weights.specs.Pace.{ItemSizes, next_size_of, paced_counts}
-use Rattle.section_counts.specs.Counts.{AreCountsBy}
+use Rattle.run_counts.specs.Counts.{AreCountsBy}
 use Rattle.sim_induction.specs.Paced.{KeepsPace, InPace}
 use Rattle.sim_induction.specs.Spent.{SpendsOnItems}
 use Rattle.sim_induction.specs.Sound.{Sound, events_of}

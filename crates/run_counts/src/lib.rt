@@ -14,6 +14,26 @@
 //!
 //! The sums: `walk_sums` (`Told`). Weights and pace of events: `event_weights` (`Events`, `Pace`); that runs of a built image keep it: `sim_induction`
 //! (`InPace`).
+//!
+//! The bounds of raised sections over the runs of an image follow from the promise that the builder makes of every run
+//! (`sound_runs_keep_blocking_bounds`). Of well-formed task code: each event but the boot ends at most 200 counts behind the one before it, and one that the taking of a line begins at
+//! most 40 and its own, which are at most 160 and 40 for each alarm of the counter that has the most; so the bounds are kept in events and in counts
+//! (`proofs/PacedRun`, `specs/BlockingBounds`).
+//!
+//! And from the moment of an arrival that makes the task of highest priority Ready, if it has a bound, its entry ends within: the longest stretch
+//! that may be running (160 and 40 for each alarm of that counter; while boot runs 400, if that is more), 200 for each item of its bound, that
+//! stretch behind boot with 40 more for the entry itself, and for each tick on the way its own counts and 40, if the run has that many counts. A tick
+//! has at most 160, and 40 for each alarm of its counter (`specs/EntryLatency`). Bounds: `raised_sections` (`Sections`); the promise of every run: `sim_induction` (`Sound`, `Short`).
+//!
+//! The counts of items, as weights by which walks are summed.
+//!
+//! Of each item where its task goes on behind it, and where it may leave with it: the length of its expansion, and of a service its code
+//! (`count_weights`, with the fewest long branches; `weights_by`, by the lengths of items; `specs/Counts`). Lengths and services: `event_weights`; sums:
+//! `walk_sums`.
 #![tactic(auto)]
 
+pub mod blocking_laws;
 pub mod laws;
+mod weights;
+
+pub use weights::{count_weights, weights_by};

@@ -17,9 +17,9 @@ use Rattle.sloth_base.specs.declared.service.ObjectKind.TheVariants as object
 use Rattle.sloth_base.specs.ServiceCodes.{is_service, code_of, object_kind, has_mask}
 use Rattle.code_rules.specs.AppRange.{IsObject}
 use Rattle.sloth_base.proofs.Services.{same_service}
-use Rattle.expansion_parts.specs.Long.{size}
-use Rattle.expansion_parts.specs.Expansion.{number_in, mask_of}
-use Rattle.expansion_parts.proofs.Counts.{size_serve}
+use Rattle.rv32_expand.specs.Long.{size}
+use Rattle.rv32_expand.specs.Expansion.{number_in, mask_of}
+use Rattle.rv32_expand.proofs.Counts.{size_serve}
 use Rattle.load_text.specs.declared.entry.Entry.{Entry}
 use Rattle.code_lengths.specs.LongestPaths.{going_path, leaving_path, served_path, entry_path}
 use Rattle.osek_scheduler.specs.Apart.{static_priority}
@@ -29,7 +29,7 @@ use Rattle.raised_sections.specs.Walks.{Position, first_position, chains_itself}
 use Rattle.raised_sections.specs.Sections.{operation_at, held_list_along, IsLower, IsSection}
 use Rattle.bound_rules.specs.declared.weights.BodyWeights.{BodyWeights}
 use Rattle.bound_rules.specs.Weights.{no_weights}
-use Rattle.section_counts.specs.Counts.{AreBodyCounts}
+use Rattle.run_counts.specs.Counts.{AreBodyCounts}
 use Rattle.walk_sums.specs.Weights.{going_at, ending_at}
 use Rattle.event_weights.specs.Items.{length_of, served_counts, going_counts, ending_counts}
 use Rattle.event_weights.specs.Events.{enter_counts}

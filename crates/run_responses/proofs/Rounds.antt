@@ -16,7 +16,7 @@ use Rattle.raised_sections.specs.Walks.{Position, AreConsecutive, IsWalk}
 use Rattle.raised_sections.specs.Sections.{operation_at}
 use Rattle.bound_rules.specs.declared.weights.BodyWeights.{BodyWeights}
 use Rattle.bound_rules.specs.Weights.{no_weights, going_weight, ending_weight}
-use Rattle.section_counts.specs.Counts.{AreBodyCounts, AreCounts}
+use Rattle.run_counts.specs.Counts.{AreBodyCounts, AreCounts}
 use Rattle.walk_sums.specs.Weights.{going_at, ending_at, sum_of}
 use Rattle.event_weights.specs.Events.{enter_counts}
 use Rattle.code_lengths.specs.LongestPaths.{entry_path, tick_path}

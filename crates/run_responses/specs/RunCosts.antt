@@ -13,7 +13,7 @@ use Rattle.osek_scheduler.specs.Apart.{static_priority}
 use Rattle.raised_sections.specs.Sections.{IsLower}
 use Rattle.bound_rules.specs.declared.weights.BodyWeights.{BodyWeights}
 use Rattle.event_weights.specs.Events.{enter_counts}
-use Rattle.section_counts.specs.Counts.{AreCounts}
+use Rattle.run_counts.specs.Counts.{AreCounts}
 use Rattle.walk_sums.specs.declared.tasks.RoundSums.{RoundSums}
 use Rattle.walk_sums.specs.declared.counted.Counted.TheVariants as counts
 use Rattle.walk_sums.specs.Rounds.{IsClean, IsSteady}

@@ -9,13 +9,13 @@ use Rattle.sloth_base.specs.declared.app.Op.{Op}
 use Rattle.sloth_base.specs.declared.app.Op.TheVariants as op
 use Rattle.sloth_base.specs.declared.places.Places.{Places}
 use Rattle.sloth_base.specs.Named.{item_of}
-use Rattle.expansion_parts.specs.Expansion.{item_address, is_long, expansion}
+use Rattle.rv32_expand.specs.Expansion.{item_address, is_long, expansion}
 use Rattle.sloth_base.specs.Named.{operation}
 use Rattle.rv32_expand.specs.InPlace.{IsAppItem}
-use Rattle.expansion_parts.specs.Long.{BranchSet, size, size_at, place, target_of, IsBranchTo, IsInBranchReach, AreLongBranches}
+use Rattle.rv32_expand.specs.Long.{BranchSet, size, size_at, place, target_of, IsBranchTo, IsInBranchReach, AreLongBranches}
 use Rattle.rv32_expand.specs.Sizes.{AgreeWithSizes}
-use Rattle.expansion_parts.proofs.Counts.{size_is}
-use Rattle.expansion_parts.proofs.Growth.{place_first, place_next, size_alike}
+use Rattle.rv32_expand.proofs.Counts.{size_is}
+use Rattle.rv32_expand.proofs.Growth.{place_first, place_next, size_alike}
 
 abbrev one_or_six : Bool → ℕ
 one_or_six true = 6

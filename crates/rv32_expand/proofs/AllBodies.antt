@@ -4,8 +4,8 @@ use Rattle.std.proofs.lemmas.List.{append-nil, drop_all, get_or_append_left, get
 use Rattle.sloth_base.specs.Named.{no_function}
 use Rattle.sloth_base.specs.declared.app.App.{App}
 use Rattle.sloth_base.specs.declared.app.Func.{Func}
-use Rattle.expansion_parts.specs.Long.{BranchSet, size_at, AreLongBranches}
-use Rattle.expansion_parts.specs.Passes.{AreShortest}
+use Rattle.rv32_expand.specs.Long.{BranchSet, size_at, AreLongBranches}
+use Rattle.rv32_expand.specs.Passes.{AreShortest}
 use Rattle.rv32_expand.specs.Sizes.{items_before, AreItemSizes}
 
 -- the lengths of the first body, and those of the others

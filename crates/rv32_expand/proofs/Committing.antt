@@ -15,8 +15,8 @@ use Rattle.sloth_base.specs.declared.app.Width.TheVariants as width
 use Rattle.rv32_instr.specs.Access.{load, store}
 use Rattle.rv32_instr.specs.declared.InstrKind.{InstrKind}
 use Rattle.rv32_instr.specs.declared.InstrKind.TheVariants.{Jal, Jalr}
-use Rattle.expansion_parts.specs.FarAccesses.{far_indexed}
-use Rattle.expansion_parts.specs.Expansion.{register_operation, number_operation, test, number_in, index_code, zeros, mask_of, distance, symbol_address, item_address, label_address, block_address}
+use Rattle.rv32_expand.specs.FarAccesses.{far_indexed}
+use Rattle.rv32_expand.specs.Expansion.{register_operation, number_operation, test, number_in, index_code, zeros, mask_of, distance, symbol_address, item_address, label_address, block_address}
 use Rattle.rv32_expand.specs.ItemLengths.{register_of, EndsWithRegister, LastCommits}
 
 alu_result : (kind : AluKind) (rd a b : ℕ) → register_of (register_operation kind rd a b) ≡ rd

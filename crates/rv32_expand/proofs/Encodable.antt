@@ -24,8 +24,8 @@ use Rattle.rv32_instr.specs.Access.{load, store}
 use Rattle.rv32_instr.specs.Range.{IsSigned, IsEven, InRange, AreInRange}
 use Rattle.rv32_instr.specs.declared.InstrKind.{InstrKind}
 use Rattle.rv32_instr.specs.declared.InstrKind.TheVariants.{Auipc, Jal, Jalr, Sw}
-use Rattle.expansion_parts.specs.FarAccesses.{wide}
-use Rattle.expansion_parts.specs.Expansion.{amount, register_operation, number_operation, test, opposite, number_in, index_code, block_address, zeros, mask_of, symbol_address, item_address, label_address, distance, operation_code}
+use Rattle.rv32_expand.specs.FarAccesses.{wide}
+use Rattle.rv32_expand.specs.Expansion.{amount, register_operation, number_operation, test, opposite, number_in, index_code, block_address, zeros, mask_of, symbol_address, item_address, label_address, distance, operation_code}
 use Rattle.rv32_expand.specs.NumberRange.{HasNumbersInRange}
 
 -- ---- numbers

@@ -5,7 +5,7 @@ use Rattle.std.proofs.Math.Seq.{set-append_seam}
 use Rattle.std.proofs.lemmas.List.{length-take-le, take_more}
 use Rattle.rv32_instr.specs.declared.InstrKind.{InstrKind}
 use Rattle.rv32_instr.specs.Range.{InRange, AreInRange}
-use Rattle.expansion_parts.specs.Nothing.{nop}
+use Rattle.rv32_expand.specs.Nothing.{nop}
 
 -- each of these instructions is in range
 pub one_in_range : (kinds : List InstrKind) (i : ℕ) (d : InstrKind) → AreInRange kinds → i < length kinds → InRange (get_or kinds i d)

@@ -10,7 +10,7 @@ use Rattle.sloth_base.specs.declared.app.Label.{Label}
 use Rattle.sloth_base.specs.Named.{label_of, no_label}
 use Rattle.sloth_base.specs.Limits.{frame_limit}
 use Rattle.code_rules.specs.AppRange.{IsTaskCode}
-use Rattle.expansion_parts.specs.Passes.{IsCountable}
+use Rattle.rv32_expand.specs.Passes.{IsCountable}
 
 -- a frame has no more words than the limit
 pub frame_of : (app : App) → IsTaskCode app → (func : ℕ) → (function app func).frame_words ≤ frame_limit

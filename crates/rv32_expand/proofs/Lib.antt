@@ -7,3 +7,7 @@ pub mod Verified
 pub mod Locating
 pub mod Least
 pub mod Committing
+pub mod Counts
+pub mod Growth
+pub mod Passing
+pub mod PassTo

@@ -18,16 +18,16 @@ use Rattle.code_rules.specs.Code.{is_followed, way}
 use Rattle.sloth_base.specs.Named.{item_of, label_of, no_item}
 use Rattle.code_rules.specs.WellFormed.{IsAccessPast, IsMaskPast, WellFormed, IsBreach, BodyFault, fault_at_line}
 use Rattle.rv32_instr.specs.Range.{IsEven}
-use Rattle.expansion_parts.specs.Expansion.{item_address, symbol_address, block_address, label_address, distance, mask_of, is_long, operation_code, expansion}
+use Rattle.rv32_expand.specs.Expansion.{item_address, symbol_address, block_address, label_address, distance, mask_of, is_long, operation_code, expansion}
 use Rattle.sloth_base.specs.Named.{operation}
 use Rattle.sloth_base.specs.Limits.{mask_limit, frame_limit, operand_limit}
 use Rattle.rv32_expand.specs.NumberRange.{HasBranchRoom, HasNumbersInRange}
 use Rattle.rv32_expand.specs.InPlace.{IsAppItem}
-use Rattle.expansion_parts.specs.Long.{target_of, IsBranchTo, AreLongBranches, IsInBranchReach}
+use Rattle.rv32_expand.specs.Long.{target_of, IsBranchTo, AreLongBranches, IsInBranchReach}
 use Rattle.rv32_expand.specs.ItemLengths.{ShortBranchesReach}
 use Rattle.rv32_expand.specs.Sizes.{AgreeWithSizes, HasWordAddresses, IsVerified, IsWordAddress}
 use Rattle.rv32_expand.proofs.Agreeing.{told, reaches, least_same}
-use Rattle.expansion_parts.proofs.Counts.{calls_length, served_length, expanded_some}
+use Rattle.rv32_expand.proofs.Counts.{calls_length, served_length, expanded_some}
 use Rattle.rv32_expand.proofs.InRangeOf.{frame_of, small}
 
 -- ---- branches

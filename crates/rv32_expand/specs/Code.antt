@@ -2,7 +2,7 @@
 use Rattle.std.specs.Prelude.{◌-◌, ◌≡◌, List, ◌++◌, length}
 use Rattle.std.proofs.Math.ListN.{replicate}
 use Rattle.rv32_instr.specs.declared.InstrKind.{InstrKind}
-use Rattle.expansion_parts.specs.Nothing.{nop}
+use Rattle.rv32_expand.specs.Nothing.{nop}
 use Rattle.rv32_expand.specs.declared.draft.Expansion.{Expansion}
 
 -- these instructions, and behind them ones that do nothing

@@ -13,8 +13,8 @@ use Rattle.sloth_base.specs.declared.places.Places.{Places}
 use Rattle.rv32_instr.specs.Encode.{Encode}
 use Rattle.rv32_instr.specs.Ram.{word_at}
 use Rattle.rv32_instr.specs.declared.InstrKind.{InstrKind}
-use Rattle.expansion_parts.specs.Long.{AreLongBranches}
-use Rattle.expansion_parts.specs.Expansion.{is_long, expansion, item_address}
+use Rattle.rv32_expand.specs.Long.{AreLongBranches}
+use Rattle.rv32_expand.specs.Expansion.{is_long, expansion, item_address}
 use Rattle.sloth_base.specs.Named.{operation, function}
 use Rattle.sloth_base.specs.MemoryMap.{memory_base}
 

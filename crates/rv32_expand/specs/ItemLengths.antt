@@ -10,9 +10,9 @@ use Rattle.code_rules.specs.AppRange.{IsTaskCode}
 use Rattle.rv32_instr.specs.Range.{AreInRange}
 use Rattle.rv32_instr.specs.declared.InstrKind.{InstrKind}
 use Rattle.rv32_instr.specs.declared.InstrKind.TheVariants.{Lui, Auipc, Jal, Jalr, Beq, Bne, Blt, Bge, Bltu, Bgeu, Lb, Lh, Lw, Lbu, Lhu, Sb, Sh, Sw, Addi, Slti, Sltiu, Xori, Ori, Andi, Slli, Srli, Srai, Add, Sub, Sll, Slt, Sltu, Xor, Srl, Sra, Or, And, Fence, Csrrw, Csrrs, Csrrc, Csrrwi, Csrrsi, Csrrci, Ecall, Ebreak, Mret}
-use Rattle.expansion_parts.specs.Expansion.{item_address, is_long, operation_code, expansion}
+use Rattle.rv32_expand.specs.Expansion.{item_address, is_long, operation_code, expansion}
 use Rattle.rv32_expand.specs.InPlace.{IsAppItem, result_register}
-use Rattle.expansion_parts.specs.Long.{BranchSet, size, IsBranchTo, IsInBranchReach, AreLongBranches}
+use Rattle.rv32_expand.specs.Long.{BranchSet, size, IsBranchTo, IsInBranchReach, AreLongBranches}
 use Rattle.rv32_expand.specs.Sizes.{AreItemSizes, AgreeWithSizes, HasWordAddresses, IsVerified}
 
 -- ---- lengths

@@ -3,3 +3,8 @@ pub mod Sizes
 pub mod NumberRange
 pub mod Code
 pub mod ItemLengths
+pub mod Expansion
+pub mod Long
+pub mod Passes
+pub mod Nothing
+pub mod FarAccesses

@@ -8,7 +8,7 @@ use Rattle.sloth_base.specs.declared.places.Places.{Places}
 use Rattle.sloth_base.specs.Limits.{mask_limit, frame_limit}
 use Rattle.code_rules.specs.AppRange.{IsNumberOf}
 use Rattle.rv32_instr.specs.Range.{IsEven}
-use Rattle.expansion_parts.specs.Expansion.{distance, item_address, symbol_address, block_address, label_address, mask_of}
+use Rattle.rv32_expand.specs.Expansion.{distance, item_address, symbol_address, block_address, label_address, mask_of}
 
 -- a long branch always has room
 abbrev pub HasBranchRoom : (long : Bool) → (from to : ℕ) → Type 0

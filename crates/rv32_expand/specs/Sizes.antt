@@ -8,11 +8,11 @@ use Rattle.sloth_base.specs.declared.app.Op.TheVariants as op
 use Rattle.sloth_base.specs.declared.config.Config.{Config}
 use Rattle.sloth_base.specs.declared.places.Places.{Places}
 use Rattle.code_rules.specs.WellFormed.{WellFormed}
-use Rattle.expansion_parts.specs.Expansion.{item_address, symbol_address, block_address, expansion}
+use Rattle.rv32_expand.specs.Expansion.{item_address, symbol_address, block_address, expansion}
 use Rattle.sloth_base.specs.Named.{operation}
 use Rattle.sloth_base.specs.MemoryMap.{memory_base, memory_end}
 use Rattle.rv32_expand.specs.InPlace.{IsAppItem}
-use Rattle.expansion_parts.specs.Long.{BranchSet, size_at, AreLongBranches}
+use Rattle.rv32_expand.specs.Long.{BranchSet, size_at, AreLongBranches}
 
 -- how many items stand before those of a function
 abbrev pub items_before : List Func → ℕ → ℕ

@@ -1,9 +1,9 @@
 //! Where items, symbols and blocks of services stand.
 ghost use Rattle.std.specs.Prelude.{◌≡◌};
-ghost use Rattle.expansion_parts.specs.Expansion.{item_address, symbol_address, block_address, label_address};
+ghost use Rattle.rv32_expand.specs.Expansion.{item_address, symbol_address, block_address, label_address};
 
-pub use expansion_parts::calls::distance;
-use expansion_parts::long_branches::item_behind;
+pub use crate::calls::distance;
+use crate::long_branches::item_behind;
 use sloth_base::app::App;
 use sloth_base::numbers::SymId;
 use sloth_base::places::{Places, block_number};

@@ -3,7 +3,7 @@ ghost use Rattle.std.specs.Prelude.{IfOk};
 ghost use Rattle.code_rules.specs.AppRange.{IsTaskCode};
 ghost use Rattle.rv32_expand.specs.Sizes.{AreItemSizes};
 
-use expansion_parts::long_branches::shortest;
+use crate::long_branches::shortest;
 use sloth_base::app::App;
 use sloth_base::memory::NoMemory;
 use std::alloc::Global;

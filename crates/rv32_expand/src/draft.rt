@@ -3,7 +3,7 @@ ghost use Rattle.std.specs.Prelude.{◌≤◌, length};
 ghost use Rattle.rv32_instr.specs.Range.{AreInRange};
 ghost use Rattle.rv32_expand.specs.Code.{IsCode};
 
-use expansion_parts::draft::{LONGEST, nop};
+use crate::draft_lengths::{LONGEST, nop};
 use rv32_instr::{Instr, InstrKind};
 
 /// The instructions of an item, the one that commits it last.

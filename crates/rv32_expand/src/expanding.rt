@@ -4,7 +4,7 @@ ghost use Rattle.sloth_base.specs.Named.{function};
 ghost use Rattle.sloth_base.specs.Named.{item_of};
 ghost use Rattle.sloth_base.specs.Limits.{item_limit};
 ghost use Rattle.rv32_expand.specs.Code.{IsCode};
-ghost use Rattle.expansion_parts.specs.Expansion.{item_address, is_long, expansion};
+ghost use Rattle.rv32_expand.specs.Expansion.{item_address, is_long, expansion};
 ghost use Rattle.rv32_expand.specs.InPlace.{IsAppItem};
 ghost use Rattle.rv32_expand.specs.Sizes.{AgreeWithSizes, HasWordAddresses, IsVerified};
 

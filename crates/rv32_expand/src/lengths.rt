@@ -1,9 +1,9 @@
 //! The length of an item.
 ghost use Rattle.std.specs.Prelude.{◌≡◌, true};
 ghost use Rattle.code_rules.specs.AppRange.{IsTaskCode};
-ghost use Rattle.expansion_parts.specs.Long.{size};
+ghost use Rattle.rv32_expand.specs.Long.{size};
 
-use expansion_parts::lengths::size;
+use crate::item_lengths::size;
 use sloth_base::app::{App, Item};
 
 /// The length of an item. A branch may be shorter.

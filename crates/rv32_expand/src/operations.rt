@@ -1,7 +1,7 @@
 //! Instructions of one kind of operation.
 ghost use Rattle.std.specs.Prelude.{◌≡◌};
 ghost use Rattle.code_rules.specs.AppRange.{IsNumberOf};
-ghost use Rattle.expansion_parts.specs.Expansion.{register_operation, number_operation, test, opposite};
+ghost use Rattle.rv32_expand.specs.Expansion.{register_operation, number_operation, test, opposite};
 
 use rv32_instr::InstrKind;
 use rv32_instr::asm::{

@@ -2,17 +2,17 @@
 ghost use Rattle.std.specs.Prelude.{◌≡◌, ◌≤◌, ◌<◌, ◌+◌, ◌*◌, ◌^◌, ◌++◌, ◌∷◌, [], length, pos};
 ghost use Rattle.sloth_base.specs.Arithmetic.{hi};
 ghost use Rattle.sloth_base.specs.Limits.{frame_limit};
-ghost use Rattle.expansion_parts.specs.FarAccesses.{wide, IsWide};
+ghost use Rattle.rv32_expand.specs.FarAccesses.{wide, IsWide};
 ghost use Rattle.rv32_instr.specs.Range.{IsSigned};
 ghost use Rattle.rv32_instr.specs.declared.InstrKind.TheVariants.{Lui, Addi, Lw, Jalr};
-ghost use Rattle.expansion_parts.specs.Expansion.{distance, block_address, index_code, branch_code, mask_of, service_jump, operation_code};
+ghost use Rattle.rv32_expand.specs.Expansion.{distance, block_address, index_code, branch_code, mask_of, service_jump, operation_code};
 ghost use Rattle.rv32_expand.specs.NumberRange.{HasBranchRoom, HasNumbersInRange};
 
 use crate::addresses::{block_address, item_address, label_address, symbol_address};
+use crate::calls::{call, distance, frame_offset, one};
+use crate::draft_lengths::Draft;
+use crate::item_lengths::{NEAR_MASK, frame_words, mask_length};
 use crate::operations::{number_operation, opposite, register_operation, test};
-use expansion_parts::calls::{call, distance, frame_offset, one};
-use expansion_parts::draft::Draft;
-use expansion_parts::lengths::{NEAR_MASK, frame_words, mask_length};
 use rv32_instr::InstrKind;
 use rv32_instr::access::{load, store};
 use rv32_instr::asm::{X2, X30, X31, ZERO, add, addi, andi, jal, jalr, lui, lw, sw};
@@ -48,7 +48,7 @@ fn far_indexed(item: &Item, address: u32) -> Draft
     ensures { result ≡ wide item.now.op address }
 {
     let mut draft = Draft::of(&[]);
-    for instr in &expansion_parts::far_accesses::wide(item, address)[..] {
+    for instr in &crate::far_accesses::wide(item, address)[..] {
         draft.push(instr.kind());
     }
     draft

@@ -5,7 +5,7 @@ use Rattle.sloth_base.specs.declared.image.Image.{Image}
 use Rattle.sloth_base.specs.declared.image.Mark.{Mark}
 use Rattle.sloth_base.specs.declared.image.MarkKind.{MarkKind}
 use Rattle.sloth_base.specs.declared.image.MarkKind.TheVariants as kind
-use Rattle.line_words.specs.MarkWords.{mark_text}
+use Rattle.trace_text.specs.MarkWords.{mark_text}
 use Rattle.trace_text.specs.Listing.{mark_on}
 use Rattle.lane_drawing.specs.declared.bars.Bar.{Bar}
 use Rattle.lane_drawing.specs.declared.bars.Look.{Look}

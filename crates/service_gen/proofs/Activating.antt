@@ -14,7 +14,7 @@ use Rattle.masked_code.proofs.Routines.{masked}
 use Rattle.block_parts.proofs.Busy.{Finds, looks_owe}
 use Rattle.block_parts.proofs.Returning.{goes_back}
 use Rattle.block_parts.proofs.Serving.{opens}
-use Rattle.service_gen.specs.Pieces.{status_code}
+use Rattle.service_gen.specs.TaskPieces.{status_code}
 use Rattle.block_parts.specs.Pieces.{looking_code, raising_code, back_code}
 use Rattle.service_gen.specs.ActivateTask.{MayActivate, ActivateTaskEffect, IsActivateTaskCode}
 use Rattle.block_parts.specs.SuspensionTest.{IsFoundSuspended}

@@ -23,7 +23,7 @@ use Rattle.block_parts.proofs.Landing.{lands}
 use Rattle.block_parts.proofs.Returning.{goes_back_with}
 use Rattle.block_parts.proofs.Serving.{opens_within}
 use Rattle.block_parts.specs.Services.{resting_telling_code}
-use Rattle.service_gen.specs.Pieces.{active_task_test, active_telling_code, waiting_task_test}
+use Rattle.service_gen.specs.TaskPieces.{active_task_test, active_telling_code, waiting_task_test}
 use Rattle.block_parts.specs.Pieces.{back_code}
 use Rattle.service_gen.specs.GetTaskState.{MayTellState, IsStateNumber, GetTaskStateEffect, IsGetTaskStateCode}
 use Rattle.service_gen.specs.GetTaskState.IsStateNumber.{running, preempted, waiting, ready, suspended}

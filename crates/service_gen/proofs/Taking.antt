@@ -19,7 +19,7 @@ use Rattle.block_parts.proofs.Returning.{goes_back_to}
 use Rattle.block_parts.proofs.Landing.{lands}
 use Rattle.block_parts.proofs.Serving.{opens}
 use Rattle.block_parts.specs.Services.{taking_code}
-use Rattle.service_gen.specs.Pieces.{ok_back_code}
+use Rattle.service_gen.specs.TaskPieces.{ok_back_code}
 use Rattle.service_gen.specs.GetResource.{MayTakeResource, GetResourceEffect, IsGetResourceCode}
 
 -- the code behind the masking instruction

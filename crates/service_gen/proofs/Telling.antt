@@ -12,7 +12,7 @@ use Rattle.masked_code.proofs.Spread.{based}
 use Rattle.masked_code.proofs.Routines.{masked}
 use Rattle.block_parts.proofs.Returning.{goes_back_with}
 use Rattle.block_parts.proofs.Serving.{opens}
-use Rattle.service_gen.specs.Pieces.{own_telling_code}
+use Rattle.service_gen.specs.TaskPieces.{own_telling_code}
 use Rattle.block_parts.specs.Pieces.{back_code}
 use Rattle.service_gen.specs.GetTaskID.{MayTell, GetTaskIDEffect, IsGetTaskIDCode}
 

@@ -18,7 +18,7 @@ use Rattle.masked_code.proofs.Routines.{masked}
 use Rattle.block_parts.proofs.Landing.{lands}
 use Rattle.block_parts.proofs.Serving.{opens_within}
 use Rattle.block_parts.specs.Services.{level_code}
-use Rattle.service_gen.specs.Pieces.{way_back_address_code, way_back_code, way_back_stop_code}
+use Rattle.service_gen.specs.TaskPieces.{way_back_address_code, way_back_code, way_back_stop_code}
 use Rattle.block_parts.specs.Back.{a0}
 use Rattle.service_gen.specs.Schedule.{start_register, way_back, MayYield, ScheduleEffect, MayComeBack, WayBackEffect, IsScheduleCode}
 

@@ -1,6 +1,6 @@
-pub mod Block
+pub mod TaskBlock
 pub mod TerminateTask
-pub mod Pieces
+pub mod TaskPieces
 pub mod ActivateTask
 pub mod GetTaskID
 pub mod GetTaskState
@@ -8,3 +8,18 @@ pub mod ReleaseResource
 pub mod ChainTask
 pub mod GetResource
 pub mod Schedule
+pub mod EventBlock
+pub mod EventPieces
+pub mod ClearEvent
+pub mod GetEvent
+pub mod SetEvent
+pub mod WaitEvent
+pub mod Alarms
+pub mod AlarmPieces
+pub mod Tick
+pub mod ServicePieces
+pub mod SetAlarm
+pub mod CancelAlarm
+pub mod GetAlarm
+pub mod AlarmBlock
+pub mod Calls

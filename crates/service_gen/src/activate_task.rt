@@ -1,7 +1,7 @@
 //! ActivateTask: the task's line is raised, and the status tells whether the task was Suspended.
 ghost use Rattle.std.specs.Prelude.{◌≡◌, ◌<◌, ◌++◌, IfOk, OnOk};
 ghost use Rattle.sloth_base.specs.Limits.{task_limit};
-ghost use Rattle.service_gen.specs.Pieces.{status_code};
+ghost use Rattle.service_gen.specs.TaskPieces.{status_code};
 ghost use Rattle.service_gen.specs.ActivateTask.{IsActivateTaskCode};
 
 use block_parts::pieces::{go_back, look_at, open, raise};

@@ -1,7 +1,7 @@
 //! GetResource: the level that runs is saved, and at least the resource's ceiling runs.
 ghost use Rattle.std.specs.Prelude.{◌≡◌, ◌≤◌, ◌++◌, IfOk, OnOk};
 ghost use Rattle.sloth_base.specs.ConfigRange.{scheduler_number};
-ghost use Rattle.service_gen.specs.Pieces.{ok_back_code};
+ghost use Rattle.service_gen.specs.TaskPieces.{ok_back_code};
 ghost use Rattle.service_gen.specs.GetResource.{IsGetResourceCode};
 
 use block_parts::pieces::{go_back, open};

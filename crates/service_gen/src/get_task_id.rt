@@ -1,6 +1,6 @@
 //! GetTaskID: the number of the running task.
 ghost use Rattle.std.specs.Prelude.{◌≡◌, ◌++◌, IfOk, OnOk};
-ghost use Rattle.service_gen.specs.Pieces.{own_telling_code};
+ghost use Rattle.service_gen.specs.TaskPieces.{own_telling_code};
 ghost use Rattle.service_gen.specs.GetTaskID.{IsGetTaskIDCode};
 
 use block_parts::pieces::{go_back, open};

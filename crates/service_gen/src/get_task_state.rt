@@ -1,7 +1,7 @@
 //! GetTaskState: the number of a task's state, 0 where it runs, 1 Waiting, 2 Ready or preempted, 3 Suspended.
 ghost use Rattle.std.specs.Prelude.{◌≡◌, ◌<◌, ◌++◌, IfOk, OnOk};
 ghost use Rattle.sloth_base.specs.Limits.{task_limit};
-ghost use Rattle.service_gen.specs.Pieces.{active_task_test, active_telling_code, waiting_task_test};
+ghost use Rattle.service_gen.specs.TaskPieces.{active_task_test, active_telling_code, waiting_task_test};
 ghost use Rattle.service_gen.specs.GetTaskState.{IsGetTaskStateCode};
 
 use block_parts::pieces::{BACK, go_back, open};

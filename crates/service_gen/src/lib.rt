@@ -1,41 +1,53 @@
-//! The code of the operating system services on tasks and resources (OSEK OS 2.2.3, sections 13.2 and 13.4).
+//! The code of the operating system services (OSEK OS 2.2.3, section 13), and of the ticks of counters.
 //!
-//! From an opening mark, with any arrivals: the effect within 160 instructions, and the length, of TerminateTask, ActivateTask, ChainTask, GetTaskID,
-//! GetTaskState, GetResource, ReleaseResource and Schedule, and from the mark of the way back from Schedule (`block`; a file of `specs/` for each).
+//! Of each of the sixteen services: its block at its place with its marks, and with the effect that one table says (`block`, `specs/Calls`, which
+//! also says with which objects a service is called). From an opening mark, with any arrivals: the effect within 160 instructions, and the length, a
+//! file of `specs/` for each: services on tasks and resources (`task_block`, `specs/TaskBlock`), on events (`event_block`, `specs/EventBlock`), on alarms
+//! (`alarm_block`, `specs/AlarmBlock`); there the tick of a counter too, from the taking of its line (`alarm_block::tick`).
 //! What all blocks share: `block_parts` (`ServiceBlock`); leaving: `masked_code` (`Kernel`).
 #![tactic(auto)]
 
-ghost use Rattle.std.specs.Prelude.{◌≡◌, ◌∷◌, IfOk, length};
-ghost use Rattle.sloth_base.specs.ServiceCodes.{code_of};
-ghost use Rattle.code_lengths.specs.CodeLengths.{service_length};
-ghost use Rattle.block_parts.specs.Marks.{opening};
+ghost use Rattle.std.specs.Prelude.{IfOk};
+ghost use Rattle.sloth_base.specs.ConfigRange.{InRange};
 ghost use Rattle.block_parts.specs.ServiceBlock.{IsServiceBlock};
-ghost use Rattle.service_gen.specs.Block.{further_marks, HasBlock, IsTaskServiceBlock};
+ghost use Rattle.service_gen.specs.TaskBlock.{further_marks};
+ghost use Rattle.service_gen.specs.Calls.{IsCalledWith, IsAnyServiceBlock};
 
+mod actions;
 mod activate_task;
+pub mod alarm_block;
+mod alarm_pieces;
+pub mod alarms;
+mod cancel_alarm;
 mod chain_task;
+mod clear_event;
+pub mod event_block;
+mod event_pieces;
+mod get_alarm;
+mod get_event;
 mod get_resource;
 mod get_task_id;
 mod get_task_state;
 mod release_resource;
 mod schedule;
+mod set_abs_alarm;
+mod set_event;
+mod set_rel_alarm;
+mod task_bits;
+pub mod task_block;
 mod terminate_task;
+mod tick_code;
+mod wait_event;
 
-use crate::schedule::WAY_BACK;
-use block_parts::marks::{back_mark, opening};
-use rv32_instr::{Block, Instr};
+use rv32_instr::Block;
 use sloth_base::config::Config;
-use sloth_base::image::Mark;
-use sloth_base::list::List;
 use sloth_base::memory::NoMemory;
-use sloth_base::places::{Levels, block_number};
+use sloth_base::places::Levels;
 use sloth_base::service::Service;
 use sloth_region::map::Map;
-use std::alloc::{AllocError, Global};
+use std::alloc::Global;
 
-/// The block of a service with its object, at its address in the map. Its first instruction, under an opening mark,
-/// masks interrupts.
-#[tactic(auto, using(block_parts::proofs::Objects::few_objects))]
+/// The block of a service with its object, at its address in the map.
 pub fn block(
     alloc: Global,
     service: Service,
@@ -44,54 +56,16 @@ pub fn block(
     levels: &Levels,
     map: &Map,
 ) -> Result<Block, NoMemory>
-    requires { HasBlock service object }
+    requires called { IsCalledWith config.now service object }
+    requires range { InRange config.now }
     ensures block { IfOk result (IsServiceBlock service object map.now.places.blocks (further_marks service)) }
-    ensures effect { IfOk result (λ block. IsTaskServiceBlock service object levels.now block.code) }
-{
-    let at = map.places.blocks[block_number(service, object)];
-    let code = code(alloc, service, object as u8, levels)?;
-    let marks = marks(alloc, service, at)?;
-    Ok(Block {
-        at,
-        code: List::from_vec(code),
-        marks: List::from_vec(marks),
-    })
-}
-
-/// The opening mark of a block at this address, and behind Schedule's the mark of the way back.
-fn marks(alloc: Global, service: Service, at: u32) -> Result<Vec<Mark>, AllocError>
-    ensures { IfOk result (λ marks. marks.items ≡ opening at (code_of service) ∷ further_marks service at) }
-{
-    let mut marks = Vec::new(alloc);
-    marks.push(opening(at, service))?;
-    if let Service::Schedule = service {
-        marks.push(back_mark(at.wrapping_add(WAY_BACK)))?;
-    }
-    Ok(marks)
-}
-
-/// The instructions.
-fn code(
-    alloc: Global,
-    service: Service,
-    object: u8,
-    levels: &Levels,
-) -> Result<Vec<Instr>, AllocError>
-    requires { HasBlock service object }
-    ensures long { IfOk result (λ code. length code.items ≡ service_length service) }
-    ensures serves { IfOk result (λ code. IsTaskServiceBlock service object levels.now code.items) }
+    ensures serves { IfOk result (λ block. IsAnyServiceBlock config.now service object levels.now block.code) }
 {
     match service {
-        Service::ActivateTask => activate_task::code(alloc, object),
-        Service::TerminateTask => terminate_task::code(alloc),
-        Service::ChainTask => chain_task::code(alloc, object),
-        Service::Schedule => schedule::code(alloc),
-        Service::GetTaskID => get_task_id::code(alloc),
-        Service::GetTaskState => get_task_state::code(alloc, object),
-        Service::GetResource => {
-            get_resource::code(alloc, object, levels.ceiling[object as usize])
-        }
-        Service::ReleaseResource => release_resource::code(alloc, object),
-        _ => unreachable!(),
+        Service::SetEvent | Service::ClearEvent | Service::GetEvent | Service::WaitEvent =>
+            crate::event_block::block(alloc, service, object, config, levels, map),
+        Service::SetRelAlarm | Service::SetAbsAlarm | Service::CancelAlarm | Service::GetAlarm =>
+            crate::alarm_block::block(alloc, service, object, config, levels, map),
+        _ => crate::task_block::block(alloc, service, object, config, levels, map),
     }
 }

@@ -1,6 +1,6 @@
 //! Schedule: the running task gives way to those above its own level, and then comes back.
 ghost use Rattle.std.specs.Prelude.{◌≡◌, ◌++◌, IfOk, OnOk};
-ghost use Rattle.service_gen.specs.Pieces.{way_back_address_code, way_back_code, way_back_stop_code};
+ghost use Rattle.service_gen.specs.TaskPieces.{way_back_address_code, way_back_code, way_back_stop_code};
 ghost use Rattle.service_gen.specs.Schedule.{IsScheduleCode};
 
 use block_parts::pieces::open;

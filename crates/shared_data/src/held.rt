@@ -4,12 +4,10 @@ ghost use Rattle.sloth_base.specs.Limits.{ceiling_count};
 ghost use Rattle.sloth_base.specs.Named.{function};
 ghost use Rattle.code_rules.specs.WellFormed.{WellFormed};
 ghost use Rattle.osek_scheduler.specs.Priority.{greatest, ceiling};
-ghost use Rattle.body_faults.specs.Labels.{last_label_below, ArePlaced};
+ghost use Rattle.task_verify.specs.Labels.{last_label_below, ArePlaced};
 ghost use Rattle.shared_data.specs.Sites.{IsHeld, AreHeld, AreAllHeld, AreResourceCeilings};
 
 use crate::sets::set_of;
-use body_faults::held_resources::{held_after, held_at_label};
-use body_faults::labels::last_labels;
 use osek_scheduler::ceilings::ceiling;
 use sloth_base::app::{App, Func};
 use sloth_base::config::Config;
@@ -17,6 +15,8 @@ use sloth_base::list::List;
 use sloth_base::memory::NoMemory;
 use sloth_base::numbers::RES_SCHEDULER;
 use std::alloc::Global;
+use task_verify::held_resources::{held_after, held_at_label};
+use task_verify::labels::last_labels;
 use text_pieces::growth::push;
 
 /// Resources, and the greatest of their ceilings, 0 where there is none.

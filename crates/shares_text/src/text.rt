@@ -8,13 +8,13 @@ ghost use Rattle.shares_text.specs.SharesText.{HasShares, IsSharesText, IsTellab
 
 use crate::lines::push_verdict;
 use call_graph::ranking::Ranks;
-use checked_source::read_checked;
 use shared_data::data_verdicts;
 use shared_data::verdict::Verdict;
 use sloth_base::app::{App, Symbol};
 use sloth_base::config::Config;
 use sloth_base::memory::NoMemory;
 use sloth_base::refusal::BuildError;
+use sloth_source::read_checked;
 use std::alloc::Global;
 use task_verify::verified::Verified;
 

@@ -22,7 +22,7 @@ use Rattle.rv32_instr.specs.Ram.{word_at, with_word}
 use Rattle.masked_code.specs.Place.{offset_state}
 use Rattle.masked_code.proofs.Machine.{next_at}
 use Rattle.masked_code.proofs.Words.{word_at-other, word_at-same, get_or-with_word}
-use Rattle.expansion_parts.specs.Expansion.{item_address, distance, zeros, call_code, expansion}
+use Rattle.rv32_expand.specs.Expansion.{item_address, distance, zeros, call_code, expansion}
 use Rattle.rv32_expand.specs.InPlace.{result_register, mark_of}
 use Rattle.observe.specs.Observe.{View}
 use Rattle.osek_scheduler.specs.State.{Frame, System, task, entry_frame}

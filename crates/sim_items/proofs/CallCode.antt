@@ -6,8 +6,8 @@ use Rattle.sloth_base.specs.Named.{operation, function}
 use Rattle.sloth_base.specs.declared.app.Op.TheVariants as op
 use Rattle.rv32_instr.specs.declared.InstrKind.{InstrKind}
 use Rattle.rv32_instr.specs.declared.InstrKind.TheVariants.{Auipc, Sw, Jal, Addi}
-use Rattle.expansion_parts.specs.Expansion.{item_address, distance, zeros, call_code, is_long, operation_code, expansion}
-use Rattle.expansion_parts.proofs.Counts.{zeros_length, calls_length}
+use Rattle.rv32_expand.specs.Expansion.{item_address, distance, zeros, call_code, is_long, operation_code, expansion}
+use Rattle.rv32_expand.proofs.Counts.{zeros_length, calls_length}
 use Rattle.sim_relation.specs.Build.{Build}
 
 -- x2 is lowered

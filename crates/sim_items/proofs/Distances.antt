@@ -12,8 +12,8 @@ use Rattle.rv32_instr.specs.declared.InstrKind.{InstrKind}
 use Rattle.rv32_instr.specs.declared.effect.Effect.TheVariants.{Branch}
 use Rattle.rv32_instr.specs.Effect.{effect}
 use Rattle.rv32_instr.specs.Execute.{Going, next_at_target}
-use Rattle.expansion_parts.specs.Expansion.{item_address, is_long, distance, test, opposite, expansion}
-use Rattle.expansion_parts.proofs.Counts.{expanded_some}
+use Rattle.rv32_expand.specs.Expansion.{item_address, is_long, distance, test, opposite, expansion}
+use Rattle.rv32_expand.proofs.Counts.{expanded_some}
 use Rattle.sloth_base.specs.Named.{operation}
 use Rattle.sloth_base.specs.MemoryMap.{memory_base, memory_end}
 use Rattle.observe.specs.Observe.{View}

@@ -21,8 +21,8 @@ use Rattle.rv32_instr.specs.Effect.{effect}
 use Rattle.rv32_instr.specs.Execute.{perform, touched_line_by, next_behind, with_register}
 use Rattle.rv32_instr.specs.Ram.{with_word}
 use Rattle.masked_code.proofs.Parts.{hi_lo}
-use Rattle.expansion_parts.specs.Expansion.{item_address, symbol_address, register_operation, number_operation, index_code, operation_code}
-use Rattle.expansion_parts.specs.FarAccesses.{far_indexed}
+use Rattle.rv32_expand.specs.Expansion.{item_address, symbol_address, register_operation, number_operation, index_code, operation_code}
+use Rattle.rv32_expand.specs.FarAccesses.{far_indexed}
 use Rattle.rv32_expand.specs.InPlace.{result_register}
 use Rattle.osek_scheduler.specs.State.{Frame, Task, System, task}
 use Rattle.osek_scheduler.specs.Meaning.{ItemMeaning, meaning, execution, registers_of, register, shown_value, going_on_frame, write_meaning, load_meaning, store_meaning, loaded_word, bytes_after_store, on_some, if_true}

@@ -21,7 +21,7 @@ use Rattle.rv32_instr.specs.Execute.{Going, perform, touched_line_by, next_at_ta
 use Rattle.masked_code.specs.Place.{offset_state}
 use Rattle.masked_code.proofs.Machine.{next_at, jump_at}
 use Rattle.masked_code.proofs.Parts.{hi_lo}
-use Rattle.expansion_parts.specs.Expansion.{item_address, label_address, distance, test, opposite, operation_code}
+use Rattle.rv32_expand.specs.Expansion.{item_address, label_address, distance, test, opposite, operation_code}
 use Rattle.rv32_expand.specs.InPlace.{result_register, mark_of}
 use Rattle.observe.specs.Observe.{View}
 use Rattle.osek_scheduler.specs.State.{Frame}

@@ -9,7 +9,7 @@ use Rattle.sloth_base.specs.declared.event.Arrival.{Arrival}
 use Rattle.code_rules.specs.AppRange.{IsRegister}
 use Rattle.sloth_base.specs.MemoryMap.{memory_base}
 use Rattle.rv32_instr.specs.Encode.{Encode}
-use Rattle.expansion_parts.specs.Expansion.{item_address, is_long, expansion}
+use Rattle.rv32_expand.specs.Expansion.{item_address, is_long, expansion}
 use Rattle.observe.specs.Observe.{View}
 use Rattle.osek_scheduler.specs.State.{Frame, System, task}
 use Rattle.osek_scheduler.specs.Meaning.{register}

@@ -11,7 +11,7 @@ use Rattle.rv32_instr.proofs.Table.{decode_encode}
 use Rattle.masked_code.specs.Place.{offset_state}
 use Rattle.masked_code.proofs.Words.{word_at-agree}
 use Rattle.masked_code.proofs.Machine.{Here, step_at, touched_at}
-use Rattle.expansion_parts.specs.Expansion.{item_address, expansion}
+use Rattle.rv32_expand.specs.Expansion.{item_address, expansion}
 use Rattle.observe.specs.Observe.{View}
 use Rattle.osek_scheduler.specs.State.{System}
 use Rattle.sim_relation.specs.Build.{Build, HasFittingPlaces}

@@ -8,7 +8,7 @@ use Rattle.sloth_base.specs.Arithmetic.{plus}
 use Rattle.rv32_instr.specs.Execute.{Going, step, touched, touched_line_by, perform, next_at_target}
 use Rattle.masked_code.specs.Place.{offset_state}
 use Rattle.masked_code.proofs.Machine.{Here, step_at, touched_at, jump_at}
-use Rattle.expansion_parts.specs.Expansion.{item_address, block_address, mask_of, distance, is_long, operation_code, expansion}
+use Rattle.rv32_expand.specs.Expansion.{item_address, block_address, mask_of, distance, is_long, operation_code, expansion}
 use Rattle.sloth_base.specs.Named.{operation}
 use Rattle.rv32_expand.specs.InPlace.{item_mark, last_address, mark_kind}
 use Rattle.sloth_base.specs.declared.image.Mark.{Mark}

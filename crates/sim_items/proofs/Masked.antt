@@ -11,8 +11,8 @@ use Rattle.sloth_base.specs.declared.app.Width.TheVariants as width
 use Rattle.sloth_base.specs.declared.places.Places.{Places}
 use Rattle.rv32_instr.specs.Access.{load, store}
 use Rattle.masked_code.proofs.Parts.{hi_lo}
-use Rattle.expansion_parts.specs.FarAccesses.{far_indexed, wide}
-use Rattle.expansion_parts.specs.Expansion.{symbol_address, index_code, operation_code}
+use Rattle.rv32_expand.specs.FarAccesses.{far_indexed, wide}
+use Rattle.rv32_expand.specs.Expansion.{symbol_address, index_code, operation_code}
 use Rattle.sim_items.specs.Place.{IsAccess, IsMasked}
 
 masked_even : (v mask k : ℕ) → mask % 2 ^ k ≡ 0 → bit_and v mask % 2 ^ k ≡ 0

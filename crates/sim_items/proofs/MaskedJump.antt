@@ -20,7 +20,7 @@ use Rattle.rv32_instr.specs.declared.effect.Effect.TheVariants.{Write}
 use Rattle.masked_code.specs.Place.{offset_state}
 use Rattle.masked_code.proofs.Machine.{jump_at}
 use Rattle.masked_code.proofs.Parts.{hi_lo}
-use Rattle.expansion_parts.specs.Expansion.{item_address, block_address, distance, is_long, operation_code, expansion}
+use Rattle.rv32_expand.specs.Expansion.{item_address, block_address, distance, is_long, operation_code, expansion}
 use Rattle.rv32_expand.specs.InPlace.{item_mark, last_address, mark_kind}
 use Rattle.observe.specs.Observe.{View, mark_at, events_of_kind}
 use Rattle.osek_scheduler.specs.State.{System, task}

@@ -14,7 +14,7 @@ use Rattle.rv32_instr.specs.Ram.{word_at}
 use Rattle.rv32_instr.specs.Execute.{Going, step, touched}
 use Rattle.rv32_machine.specs.Run.{state_with_arrivals}
 use Rattle.masked_code.specs.Place.{offset_state, InPlace}
-use Rattle.expansion_parts.specs.Expansion.{item_address, expansion}
+use Rattle.rv32_expand.specs.Expansion.{item_address, expansion}
 use Rattle.sloth_base.specs.Named.{operation, function}
 use Rattle.sloth_base.specs.declared.lines.Owners.{Owners}
 use Rattle.sloth_base.specs.MemoryMap.{memory_base, memory_bytes, line_count}

@@ -9,7 +9,7 @@ use Rattle.sloth_base.specs.MemoryMap.{memory_base, memory_bytes}
 use Rattle.sloth_region.specs.Layout.{cur, context_bytes}
 use Rattle.rv32_instr.specs.Execute.{Going, step, touched, touched_line_by, perform}
 use Rattle.rv32_instr.specs.Ram.{word_at}
-use Rattle.expansion_parts.specs.Expansion.{item_address, expansion}
+use Rattle.rv32_expand.specs.Expansion.{item_address, expansion}
 use Rattle.sloth_base.specs.Named.{function}
 use Rattle.observe.specs.Observe.{View, mark_at, outside_events}
 use Rattle.osek_scheduler.specs.State.{Frame, Task, System, task, sleeping_task}

@@ -19,8 +19,8 @@ use Rattle.rv32_instr.specs.Execute.{Going, perform, touched_line_by, next_behin
 use Rattle.masked_code.specs.Place.{offset_state}
 use Rattle.masked_code.proofs.Machine.{next_at}
 use Rattle.masked_code.proofs.Parts.{hi_lo}
-use Rattle.expansion_parts.specs.FarAccesses.{far_indexed}
-use Rattle.expansion_parts.specs.Expansion.{item_address, symbol_address, index_code, operation_code}
+use Rattle.rv32_expand.specs.FarAccesses.{far_indexed}
+use Rattle.rv32_expand.specs.Expansion.{item_address, symbol_address, index_code, operation_code}
 use Rattle.osek_scheduler.specs.State.{Frame}
 use Rattle.osek_scheduler.specs.Meaning.{register}
 use Rattle.sim_relation.specs.Build.{Build}

@@ -7,7 +7,7 @@ use Rattle.sloth_base.specs.Arithmetic.{size_of, extended_number}
 use Rattle.sloth_base.specs.declared.app.Width.{Width}
 use Rattle.sloth_base.specs.declared.app.Width.TheVariants as width
 use Rattle.sloth_base.specs.MemoryMap.{memory_base, memory_bytes}
-use Rattle.expansion_parts.specs.Expansion.{symbol_address}
+use Rattle.rv32_expand.specs.Expansion.{symbol_address}
 use Rattle.osek_scheduler.specs.Meaning.{loaded_word, bytes_after_store, accessed_bytes}
 use Rattle.sim_relation.specs.Build.{Build, HasFittingPlaces}
 use Rattle.sim_relation.specs.DataStands.{DataStands, ByteStands}

@@ -7,7 +7,7 @@ use Rattle.sloth_base.specs.declared.app.Op.{Op}
 use Rattle.sloth_region.specs.Layout.{cur}
 use Rattle.rv32_instr.specs.Execute.{Going, step, touched}
 use Rattle.rv32_instr.specs.Ram.{word_at}
-use Rattle.expansion_parts.specs.Expansion.{item_address}
+use Rattle.rv32_expand.specs.Expansion.{item_address}
 use Rattle.rv32_expand.specs.InPlace.{result_register}
 use Rattle.osek_scheduler.specs.State.{Frame, Task, System, task}
 use Rattle.osek_scheduler.specs.Meaning.{ItemMeaning, meaning}

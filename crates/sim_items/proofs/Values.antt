@@ -16,7 +16,7 @@ use Rattle.code_rules.specs.AppRange.{IsRegister, IsShort, IsNumberOf}
 use Rattle.rv32_instr.specs.declared.effect.Effect.TheVariants.{Write}
 use Rattle.rv32_instr.specs.Effect.{effect}
 use Rattle.rv32_instr.proofs.Words.{signed_pos, signed_neg}
-use Rattle.expansion_parts.specs.Expansion.{register_operation, number_operation}
+use Rattle.rv32_expand.specs.Expansion.{register_operation, number_operation}
 use Rattle.osek_scheduler.specs.State.{Frame}
 use Rattle.osek_scheduler.specs.Meaning.{is_own, if_true, execution, registers_of, meaning}
 

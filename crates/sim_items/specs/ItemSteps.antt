@@ -6,7 +6,7 @@ use Rattle.sloth_region.specs.Layout.{cur}
 use Rattle.rv32_instr.specs.Execute.{Going, step, touched}
 use Rattle.rv32_instr.specs.Ram.{word_at}
 use Rattle.sloth_base.specs.Named.{operation, function}
-use Rattle.expansion_parts.specs.Expansion.{expansion}
+use Rattle.rv32_expand.specs.Expansion.{expansion}
 use Rattle.rv32_expand.specs.InPlace.{result_register}
 use Rattle.observe.specs.Observe.{View}
 use Rattle.osek_scheduler.specs.State.{System}

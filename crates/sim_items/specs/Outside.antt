@@ -11,7 +11,7 @@ use Rattle.sloth_region.specs.Layout.{cur}
 use Rattle.rv32_instr.specs.declared.InstrKind.{InstrKind}
 use Rattle.rv32_instr.specs.Ram.{word_at}
 use Rattle.rv32_machine.specs.Run.{state_with_arrivals}
-use Rattle.expansion_parts.specs.Expansion.{item_address, block_address, mask_of, number_in, expansion}
+use Rattle.rv32_expand.specs.Expansion.{item_address, block_address, mask_of, number_in, expansion}
 use Rattle.sloth_base.specs.Named.{operation, function}
 use Rattle.sloth_base.specs.MemoryMap.{memory_base, memory_bytes}
 use Rattle.observe.specs.Observe.{View, mark_at}

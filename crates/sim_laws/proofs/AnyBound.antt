@@ -3,7 +3,7 @@ use Rattle.std.proofs.Common.{ℕ, ◌+◌, List, [], ◌∷◌}
 use Rattle.sloth_base.specs.declared.image.Image.{Image}
 use Rattle.sloth_base.specs.declared.service.Service.{Service}
 use Rattle.rv32_instr.specs.declared.InstrKind.{InstrKind}
-use Rattle.expansion_parts.specs.Expansion.{item_address, expansion}
+use Rattle.rv32_expand.specs.Expansion.{item_address, expansion}
 use Rattle.observe.specs.Observe.{View, view_of_image}
 use Rattle.sim_relation.specs.Build.{Build, HasFittingPlaces, with_passed}
 use Rattle.sim_relation.specs.Placed.{IsPlaced}

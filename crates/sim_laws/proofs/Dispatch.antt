@@ -14,7 +14,7 @@ use Rattle.rv32_machine.specs.Run.{state_with_arrivals}
 use Rattle.sloth_region.specs.Layout.{cur}
 use Rattle.rv32_instr.specs.Ram.{word_at}
 use Rattle.masked_code.specs.Trace.{late_arrivals}
-use Rattle.expansion_parts.specs.Expansion.{expansion}
+use Rattle.rv32_expand.specs.Expansion.{expansion}
 use Rattle.sloth_base.specs.Named.{operation, function}
 use Rattle.observe.specs.Observe.{View, view_of_image}
 use Rattle.osek_scheduler.specs.declared.state.TaskState.TheVariants as mode
@@ -81,12 +81,12 @@ use Rattle.osek_scheduler.specs.Services.{is_there}
 use Rattle.osek_scheduler.specs.Steps.{IsAt}
 use Rattle.prio_levels.specs.Levels.{AreLevels}
 use Rattle.rv32_instr.specs.declared.InstrKind.{InstrKind}
-use Rattle.service_blocks.specs.Calls.{IsAnyServiceBlock}
-use Rattle.alarm_gen.specs.Block.{IsAlarmServiceBlock}
-use Rattle.event_gen.specs.ClearEvent.{IsClearEventCode}
-use Rattle.event_gen.specs.GetEvent.{IsGetEventCode}
-use Rattle.event_gen.specs.SetEvent.{IsSetEventCode}
-use Rattle.event_gen.specs.WaitEvent.{IsWaitEventCode}
+use Rattle.service_gen.specs.Calls.{IsAnyServiceBlock}
+use Rattle.service_gen.specs.AlarmBlock.{IsAlarmServiceBlock}
+use Rattle.service_gen.specs.ClearEvent.{IsClearEventCode}
+use Rattle.service_gen.specs.GetEvent.{IsGetEventCode}
+use Rattle.service_gen.specs.SetEvent.{IsSetEventCode}
+use Rattle.service_gen.specs.WaitEvent.{IsWaitEventCode}
 use Rattle.service_gen.specs.ActivateTask.{IsActivateTaskCode}
 use Rattle.service_gen.specs.ChainTask.{IsChainTaskCode}
 use Rattle.service_gen.specs.GetResource.{IsGetResourceCode}

@@ -15,7 +15,7 @@ use Rattle.sloth_base.specs.Named.{undeclared_task}
 use Rattle.sloth_base.specs.MemoryMap.{memory_base, vectors_base, line_count}
 use Rattle.vector_gen.specs.Boot.{IsBootCode}
 use Rattle.vector_gen.specs.Vectors.{AreJumps}
-use Rattle.prologue_gen.specs.Fresh.{vector}
+use Rattle.vector_gen.specs.Fresh.{vector}
 use Rattle.sim_relation.specs.Build.{Build}
 use Rattle.sim_relation.specs.Placed.{IsPlaced}
 use Rattle.sim_routines.specs.Codes.{PrologueStands}

@@ -24,16 +24,16 @@ use Rattle.sloth_base.specs.declared.places.Levels.{Levels}
 use Rattle.sloth_region.specs.declared.map.Map.{Map}
 use Rattle.rv32_instr.specs.declared.block.Block.{Block}
 use Rattle.rv32_instr.specs.Range.{InRange}
-use Rattle.expansion_parts.specs.Expansion.{expansion, item_address, block_address}
+use Rattle.rv32_expand.specs.Expansion.{expansion, item_address, block_address}
 use Rattle.rv32_expand.specs.InPlace.{IsAppItem, ItemsInPlace, item_mark, mark_kind}
 use Rattle.rv32_expand.proofs.InRangeOf.{frame_of}
 use Rattle.rv32_expand.proofs.Verified.{has_first}
 use Rattle.osek_scheduler.proofs.Stacks.{body_is}
 use Rattle.observe.specs.Observe.{mark_at, view_of_image}
 use Rattle.vector_gen.specs.Idle.{idle_mark}
-use Rattle.service_gen.specs.Block.{further_marks}
+use Rattle.service_gen.specs.TaskBlock.{further_marks}
 use Rattle.block_parts.specs.Marks.{opening, back_mark}
-use Rattle.service_blocks.specs.Calls.{IsAnyServiceBlock}
+use Rattle.service_gen.specs.Calls.{IsAnyServiceBlock}
 use Rattle.sloth_base.specs.Arithmetic.{sum32}
 use Rattle.service_gen.specs.Schedule.{way_back, IsScheduleCode}
 use Rattle.sim_routines.specs.Stretch.{HasWayBack}

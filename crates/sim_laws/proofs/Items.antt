@@ -11,7 +11,7 @@ use Rattle.sloth_base.specs.declared.places.Places.{Places}
 use Rattle.rv32_instr.specs.declared.InstrKind.{InstrKind}
 use Rattle.rv32_instr.specs.Ram.{word_at}
 use Rattle.rv32_instr.specs.Range.{InRange}
-use Rattle.expansion_parts.specs.Expansion.{item_address, expansion}
+use Rattle.rv32_expand.specs.Expansion.{item_address, expansion}
 use Rattle.rv32_expand.specs.InPlace.{IsAppItem, CodeAt, item_mark, last_address}
 use Rattle.observe.specs.Observe.{mark_at, view_of_image}
 use Rattle.sloth_base.specs.ImageRange.{AreAscending}

@@ -11,9 +11,9 @@ use Rattle.rv32_instr.specs.Ram.{word_at}
 use Rattle.rv32_machine.specs.Start.{start}
 use Rattle.rv32_machine.specs.Run.{state_after, state_with_arrivals}
 use Rattle.masked_code.specs.Trace.{late_arrivals}
-use Rattle.expansion_parts.proofs.Counts.{size_is, size_few}
+use Rattle.rv32_expand.proofs.Counts.{size_is, size_few}
 use Rattle.rv32_expand.proofs.InRangeOf.{frame_of}
-use Rattle.expansion_parts.specs.Expansion.{item_address, is_long, expansion}
+use Rattle.rv32_expand.specs.Expansion.{item_address, is_long, expansion}
 use Rattle.sloth_base.specs.Named.{operation}
 use Rattle.sloth_base.specs.Limits.{count_limit, unseen_counts}
 use Rattle.sloth_base.specs.MemoryMap.{line_count}

@@ -16,8 +16,8 @@ use Rattle.sloth_base.specs.MemoryMap.{memory_base}
 use Rattle.code_rules.specs.AppRange as ranges
 use Rattle.code_rules.specs.Code.{IsItem}
 use Rattle.rv32_instr.specs.declared.InstrKind.{InstrKind}
-use Rattle.expansion_parts.specs.Expansion.{item_address, mask_of, number_in, is_long, operation_code, expansion}
-use Rattle.expansion_parts.proofs.Counts.{served_length}
+use Rattle.rv32_expand.specs.Expansion.{item_address, mask_of, number_in, is_long, operation_code, expansion}
+use Rattle.rv32_expand.proofs.Counts.{served_length}
 use Rattle.observe.specs.Observe.{View}
 use Rattle.osek_scheduler.proofs.Facts.{Facts}
 use Rattle.sim_relation.specs.Build.{Build}

@@ -5,7 +5,7 @@ use Rattle.sloth_base.specs.declared.places.Levels.{Levels}
 use Rattle.sloth_base.specs.declared.service.Service.{Service}
 use Rattle.sloth_base.specs.declared.service.Service.TheVariants as service
 use Rattle.rv32_instr.specs.declared.InstrKind.{InstrKind}
-use Rattle.service_blocks.specs.Calls.{IsAnyServiceBlock}
+use Rattle.service_gen.specs.Calls.{IsAnyServiceBlock}
 
 -- the code of a service has an instruction
 pub some_code : (config : Config) (s : Service) (object : ℕ) (levels : Levels) (code : List InstrKind) → IsAnyServiceBlock config s object levels code → 0 < length code

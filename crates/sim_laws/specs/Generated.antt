@@ -16,7 +16,7 @@ use Rattle.sloth_base.specs.Limits.{frame_limit}
 use Rattle.prio_levels.specs.Levels.{AreLevels}
 use Rattle.vector_gen.specs.Boot.{IsBootCode}
 use Rattle.vector_gen.specs.Vectors.{AreJumps}
-use Rattle.prologue_gen.specs.Places.{IsTaskPrologue}
+use Rattle.vector_gen.specs.Places.{IsTaskPrologue}
 use Rattle.sim_relation.specs.Bounds.{AreBelow}
 use Rattle.sim_relation.specs.Build.{Build, HasFittingPlaces}
 use Rattle.sim_relation.specs.Placed.{IsPlaced}

@@ -20,18 +20,18 @@ use Rattle.code_rules.specs.WellFormed.{WellFormed}
 use Rattle.sloth_base.specs.declared.places.Bounds.{Bounds}
 use Rattle.rv32_instr.specs.declared.InstrKind.{InstrKind}
 use Rattle.rv32_instr.specs.declared.block.Block.{Block}
-use Rattle.expansion_parts.specs.Expansion.{block_address}
+use Rattle.rv32_expand.specs.Expansion.{block_address}
 use Rattle.rv32_expand.specs.InPlace.{IsAppItem, ItemsInPlace}
 use Rattle.rv32_expand.specs.Sizes.{AgreeWithSizes}
 use Rattle.prio_levels.specs.Levels.{AreLevels}
 use Rattle.vector_gen.specs.Boot.{IsBootCode}
 use Rattle.vector_gen.specs.Idle.{IsIdleCode, idle_mark}
 use Rattle.vector_gen.specs.Vectors.{AreJumps}
-use Rattle.prologue_gen.specs.Places.{IsTaskPrologue}
-use Rattle.service_gen.specs.Block.{further_marks}
+use Rattle.vector_gen.specs.Places.{IsTaskPrologue}
+use Rattle.service_gen.specs.TaskBlock.{further_marks}
 use Rattle.block_parts.specs.Marks.{opening}
 use Rattle.service_gen.specs.Schedule.{way_back}
-use Rattle.service_blocks.specs.Calls.{IsAnyServiceBlock}
+use Rattle.service_gen.specs.Calls.{IsAnyServiceBlock}
 use Rattle.sim_relation.specs.Bounds.{AreBelow}
 use Rattle.sim_routines.specs.TickSteps.{IsTick}
 use Rattle.sim_laws.specs.Generated.{IsGenerated}

@@ -11,8 +11,8 @@ use Rattle.code_rules.specs.WellFormed.{WellFormed}
 use Rattle.stack_bounds.specs.Bounds.{MayMeet}
 use Rattle.sim_laws.specs.Nested.{HasNestedParts}
 use Rattle.prio_levels.specs.Levels.{AreLevels}
-use Rattle.expansion_parts.specs.Expansion.{item_address, expansion}
-use Rattle.service_blocks.specs.Calls.{IsAnyServiceBlock}
+use Rattle.rv32_expand.specs.Expansion.{item_address, expansion}
+use Rattle.service_gen.specs.Calls.{IsAnyServiceBlock}
 use Rattle.observe.specs.Observe.{View, view_of_image}
 use Rattle.sim_induction.specs.Sound.{Sound}
 use Rattle.sim_induction.specs.Weighed.{Weighed}

@@ -6,7 +6,7 @@ use Rattle.sloth_base.specs.declared.app.App.{App}
 use Rattle.sloth_base.specs.MemoryMap.{memory_base}
 use Rattle.sloth_region.specs.declared.map.Map.{Map}
 use Rattle.sloth_region.specs.Region.{FollowWithin}
-use Rattle.expansion_parts.specs.Expansion.{symbol_address}
+use Rattle.rv32_expand.specs.Expansion.{symbol_address}
 use Rattle.mem_map.specs.Plan.{data_extents}
 use Rattle.mem_map.specs.Zones.{data_zone}
 use Rattle.sloth_link.specs.declared.datum.Datum.{Datum}

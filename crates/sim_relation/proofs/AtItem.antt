@@ -2,8 +2,8 @@
 use Rattle.std.proofs.Common.{◌≡◌, ℕ, ◌+◌, ◌<◌, List, ◌∷◌, length, ◌∙◌, arith, inl, false}
 use Rattle.std.specs.Prelude.{slice_index}
 use Rattle.rv32_instr.specs.Ram.{word_at}
-use Rattle.expansion_parts.specs.Expansion.{item_address, is_long}
-use Rattle.expansion_parts.proofs.Counts.{expanded_some}
+use Rattle.rv32_expand.specs.Expansion.{item_address, is_long}
+use Rattle.rv32_expand.proofs.Counts.{expanded_some}
 use Rattle.sloth_base.specs.Named.{operation, function}
 use Rattle.sloth_base.specs.MemoryMap.{memory_base}
 use Rattle.osek_scheduler.specs.State.{Frame, Task}

@@ -4,7 +4,7 @@ use Rattle.sloth_base.specs.Machine.{State}
 use Rattle.sloth_base.specs.MemoryMap.{memory_bytes}
 use Rattle.sloth_region.specs.Layout.{idle_context, context_bytes}
 use Rattle.rv32_instr.specs.Ram.{word_at}
-use Rattle.expansion_parts.specs.Expansion.{item_address}
+use Rattle.rv32_expand.specs.Expansion.{item_address}
 use Rattle.masked_code.specs.Kernel.{IsContextBelow}
 use Rattle.osek_scheduler.specs.State.{Task, System, task}
 use Rattle.sim_induction.specs.Mirror.{priority_of}

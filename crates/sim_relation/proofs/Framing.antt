@@ -5,7 +5,7 @@ use Rattle.sloth_base.specs.declared.app.Op.{Op}
 use Rattle.sloth_base.specs.declared.app.Op.TheVariants as op
 use Rattle.rv32_instr.specs.Ram.{word_at}
 use Rattle.masked_code.proofs.Words.{word_at-agree}
-use Rattle.expansion_parts.specs.Expansion.{item_address}
+use Rattle.rv32_expand.specs.Expansion.{item_address}
 use Rattle.sloth_base.specs.Named.{operation, function}
 use Rattle.osek_scheduler.specs.State.{Frame, Task}
 use Rattle.sim_relation.specs.Build.{Build}

@@ -7,7 +7,7 @@ use Rattle.sloth_base.specs.declared.app.Call.{Call}
 use Rattle.sloth_base.specs.declared.app.Op.TheVariants as op
 use Rattle.sloth_region.specs.Layout.{context_bytes}
 use Rattle.code_rules.specs.Code.{IsCalledBy}
-use Rattle.expansion_parts.specs.Expansion.{item_address, symbol_address, block_address}
+use Rattle.rv32_expand.specs.Expansion.{item_address, symbol_address, block_address}
 use Rattle.sloth_base.specs.Named.{operation, function, symbol_size}
 use Rattle.sloth_base.specs.Named.{declaration}
 use Rattle.osek_scheduler.specs.Priority.{highest_priority}

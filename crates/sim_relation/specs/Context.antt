@@ -3,7 +3,7 @@ use Rattle.std.specs.Prelude.{ℕ, ◌+◌, ◌*◌, ◌%◌, ◌<◌, ◌≤◌
 use Rattle.sloth_base.specs.Machine.{State}
 use Rattle.sloth_region.specs.Layout.{cur, below_word, resume, idle_context, context_bytes}
 use Rattle.rv32_instr.specs.Ram.{word_at}
-use Rattle.expansion_parts.specs.Expansion.{item_address}
+use Rattle.rv32_expand.specs.Expansion.{item_address}
 use Rattle.osek_scheduler.specs.State.{Frame, Task, System, task}
 use Rattle.sloth_base.specs.Named.{function}
 use Rattle.sim_induction.specs.Mirror.{priority_of}

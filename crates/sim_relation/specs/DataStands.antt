@@ -1,6 +1,6 @@
 -- The bytes of the symbols.
 use Rattle.std.specs.Prelude.{ℕ, ◌+◌, ◌-◌, ◌<◌, ◌≤◌, ◌≡◌, List, [], length, slice_index, get_or, true}
-use Rattle.expansion_parts.specs.Expansion.{symbol_address}
+use Rattle.rv32_expand.specs.Expansion.{symbol_address}
 use Rattle.sim_relation.specs.Build.{Build}
 use Rattle.sloth_base.specs.MemoryMap.{memory_base}
 

@@ -3,7 +3,7 @@ use Rattle.std.specs.Prelude.{ℕ, ◌+◌, ◌*◌, ◌%◌, ◌<◌, ◌≤◌
 use Rattle.sloth_base.specs.declared.event.Arrival.{Arrival}
 use Rattle.sloth_base.specs.MemoryMap.{memory_bytes}
 use Rattle.sloth_base.specs.Named.{function}
-use Rattle.expansion_parts.specs.Expansion.{expansion}
+use Rattle.rv32_expand.specs.Expansion.{expansion}
 use Rattle.rv32_instr.specs.declared.InstrKind.{InstrKind}
 use Rattle.masked_code.specs.Place.{InPlace}
 use Rattle.observe.specs.Observe.{View}

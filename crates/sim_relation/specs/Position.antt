@@ -8,7 +8,7 @@ use Rattle.sloth_base.specs.declared.app.Op.{Op}
 use Rattle.sloth_base.specs.declared.app.Op.TheVariants as op
 use Rattle.sloth_region.specs.Layout.{context_bytes}
 use Rattle.rv32_instr.specs.Ram.{word_at}
-use Rattle.expansion_parts.specs.Expansion.{item_address, symbol_address, block_address, label_address, mask_of, expansion}
+use Rattle.rv32_expand.specs.Expansion.{item_address, symbol_address, block_address, label_address, mask_of, expansion}
 use Rattle.sloth_base.specs.Named.{operation, function}
 use Rattle.sloth_base.specs.MemoryMap.{memory_base}
 use Rattle.osek_scheduler.specs.State.{Frame, Task}

@@ -13,8 +13,8 @@ use Rattle.sloth_region.specs.Layout.{active, events, wait}
 use Rattle.rv32_instr.specs.Ram.{word_at, with_word}
 use Rattle.masked_code.proofs.Words.{word_at-same, get_or-with_word, length-with_word, word_below}
 use Rattle.block_parts.specs.SuspensionTest.{IsFoundSuspended}
-use Rattle.alarm_gen.specs.Tick.{Ground, core_with_ground}
-use Rattle.alarm_gen.specs.Tick as code
+use Rattle.service_gen.specs.Tick.{Ground, core_with_ground}
+use Rattle.service_gen.specs.Tick as code
 use Rattle.osek_scheduler.specs.declared.state.TaskState.{TaskState}
 use Rattle.osek_scheduler.specs.declared.state.TaskState.TheVariants as mode
 use Rattle.osek_scheduler.specs.State.{System, task}

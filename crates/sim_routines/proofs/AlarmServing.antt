@@ -16,9 +16,9 @@ use Rattle.sloth_region.specs.Layout.{cur, counter_value, alarm_left, alarm_cycl
 use Rattle.rv32_instr.specs.Ram.{word_at, with_word}
 use Rattle.masked_code.proofs.Words.{word_at-same, length-with_word, get_or-with_word}
 use Rattle.block_parts.specs.Back.{BackEffect, a0, a1}
-use Rattle.alarm_gen.specs.CancelAlarm.{left_ticks, HasNoAlarm, HasCancelled, CancelAlarmEffect}
-use Rattle.alarm_gen.specs.GetAlarm.{HasToldLeft, GetAlarmEffect}
-use Rattle.alarm_gen.specs.SetAlarm.{CycleFits, TicksFit, AlarmValueFits, first_operand, second_operand, ticks_until, HasAlarm, HasNoFit, HasAlarmSet, SetAlarmEffect}
+use Rattle.service_gen.specs.CancelAlarm.{left_ticks, HasNoAlarm, HasCancelled, CancelAlarmEffect}
+use Rattle.service_gen.specs.GetAlarm.{HasToldLeft, GetAlarmEffect}
+use Rattle.service_gen.specs.SetAlarm.{CycleFits, TicksFit, AlarmValueFits, first_operand, second_operand, ticks_until, HasAlarm, HasNoFit, HasAlarmSet, SetAlarmEffect}
 use Rattle.osek_scheduler.specs.declared.state.Alarm.{Alarm}
 use Rattle.osek_scheduler.specs.State.{Task, System, task, counter, alarm, with_alarm}
 use Rattle.osek_scheduler.specs.Services.{is_in_use, allows_cycle, allows_relative, allows_absolute, is_there, ServiceOutcome, GoesOn}

@@ -11,9 +11,9 @@ use Rattle.sloth_base.specs.Limits.{alarm_limit}
 use Rattle.sloth_region.specs.Layout.{alarm_left, alarm_cycle, counter_value, below_word}
 use Rattle.rv32_instr.specs.Ram.{word_at}
 use Rattle.masked_code.proofs.Words.{word_below}
-use Rattle.alarm_gen.specs.Alarms.{alarms_from}
-use Rattle.alarm_gen.specs.Tick.{Ground}
-use Rattle.alarm_gen.specs.Tick as code
+use Rattle.service_gen.specs.Alarms.{alarms_from}
+use Rattle.service_gen.specs.Tick.{Ground}
+use Rattle.service_gen.specs.Tick as code
 use Rattle.osek_scheduler.specs.declared.state.Alarm.{Alarm}
 use Rattle.osek_scheduler.specs.State.{System, alarm, no_alarm}
 use Rattle.osek_scheduler.specs.Services.{acted_state, with_left, alarm_ticked_state, alarms_ticked_state}

@@ -9,9 +9,9 @@ use Rattle.sloth_base.specs.Status.{E_OK}
 use Rattle.sloth_base.specs.declared.service.Service.TheVariants as service
 use Rattle.sloth_region.specs.Layout.{events}
 use Rattle.rv32_instr.specs.Ram.{word_at}
-use Rattle.expansion_parts.specs.Expansion.{mask_of}
+use Rattle.rv32_expand.specs.Expansion.{mask_of}
 use Rattle.masked_code.proofs.Words.{word_below}
-use Rattle.event_gen.specs.ClearEvent.{ClearEventEffect, mask_register}
+use Rattle.service_gen.specs.ClearEvent.{ClearEventEffect, mask_register}
 use Rattle.osek_scheduler.specs.State.{Task, System, task, with_task}
 use Rattle.osek_scheduler.specs.Services.{answered_task, is_there}
 use Rattle.osek_scheduler.proofs.ServiceStates.{answered_state}

@@ -35,7 +35,7 @@ use Rattle.sim_routines.specs.Entries.{IsNewEntry, StandsAlone, body_frame_words
 use Rattle.sim_routines.proofs.EntryRam.{IsStored}
 use Rattle.sim_routines.proofs.Saving.{preempted, cleared, cleared_long, saved, is_saved, entry_ram, entry_machine}
 use Rattle.sim_routines.proofs.Spot.{zero_at, stored_apart}
-use Rattle.prologue_gen.specs.Fresh.{saved_registers}
+use Rattle.vector_gen.specs.Fresh.{saved_registers}
 
 -- a function that has items is there
 pub there : (app : App) (f : ℕ) → 0 < length (function app f).items → f < length app.funcs

@@ -21,7 +21,7 @@ use Rattle.masked_code.specs.Kernel.{CanRun}
 use Rattle.masked_code.specs.Place.{offset_state}
 use Rattle.masked_code.specs.Masked.{Masked, WithArrivals}
 use Rattle.masked_code.specs.Trace.{Trace, lines_of, touched_lines, early_arrivals, late_arrivals}
-use Rattle.expansion_parts.specs.Expansion.{item_address}
+use Rattle.rv32_expand.specs.Expansion.{item_address}
 use Rattle.observe.specs.Observe.{View}
 use Rattle.osek_scheduler.specs.State.{Frame, System, task}
 use Rattle.sloth_base.specs.Named.{declaration, body_of}
@@ -29,10 +29,10 @@ use Rattle.sloth_base.specs.MemoryMap.{memory_base, vectors_base, memory_bytes, 
 use Rattle.osek_scheduler.specs.Priority.{is_active}
 use Rattle.osek_scheduler.specs.Services as services
 use Rattle.osek_scheduler.specs.Steps.{OsekStep, settled_state}
-use Rattle.prologue_gen.specs.Fresh.{vector, IsTaken, MayEnter, EntryEffect}
-use Rattle.prologue_gen.specs.Resuming.{MayResume, ResumeEffect}
-use Rattle.prologue_gen.specs.Places.{IsPrologueCode}
-use Rattle.prologue_gen.proofs.BothKinds as kinds
+use Rattle.vector_gen.specs.Fresh.{vector, IsTaken, MayEnter, EntryEffect}
+use Rattle.vector_gen.specs.Resuming.{MayResume, ResumeEffect}
+use Rattle.vector_gen.specs.Places.{IsPrologueCode}
+use Rattle.vector_gen.proofs.BothKinds as kinds
 use Rattle.code_lengths.specs.LongestPaths.{entry_path, enter_path}
 use Rattle.event_weights.specs.Events.{has_frames, enter_counts, stretch_counts}
 use Rattle.sim_induction.specs.Admits.{IsSetting, lines_at, with_admits}

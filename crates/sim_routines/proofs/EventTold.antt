@@ -6,7 +6,7 @@ use Rattle.std.proofs.lemmas.Bool.{ltb-true}
 use Rattle.sloth_base.specs.Machine.{State}
 use Rattle.sloth_base.specs.Status.{E_OK, E_OS_STATE}
 use Rattle.sloth_base.specs.declared.service.Service.TheVariants as service
-use Rattle.event_gen.specs.GetEvent.{HasNotTold, HasTold, GetEventEffect}
+use Rattle.service_gen.specs.GetEvent.{HasNotTold, HasTold, GetEventEffect}
 use Rattle.osek_scheduler.specs.State.{Task, System, task}
 use Rattle.osek_scheduler.specs.Services.{is_there, GoesOn}
 use Rattle.osek_scheduler.proofs.ServiceStates.{answered_state, answered_state_with}

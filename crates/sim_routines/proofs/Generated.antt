@@ -10,12 +10,12 @@ use Rattle.sloth_base.specs.declared.config.TaskDecl.{TaskDecl}
 use Rattle.sloth_base.specs.declared.places.Levels.{Levels}
 use Rattle.sloth_region.specs.declared.map.Map.{Map}
 use Rattle.rv32_instr.specs.declared.InstrKind.{InstrKind}
-use Rattle.expansion_parts.specs.Expansion.{item_address}
+use Rattle.rv32_expand.specs.Expansion.{item_address}
 use Rattle.sloth_base.specs.Named.{declaration, undeclared_task, body_of}
 use Rattle.sloth_base.specs.Named.{function, no_function}
 use Rattle.osek_scheduler.specs.Priority.{greatest, highest_priority}
-use Rattle.prologue_gen.specs.Places.{IsTaskPrologue, IsPrologueCode, frame_at, first_item}
-use Rattle.prologue_gen.specs.Places as generator
+use Rattle.vector_gen.specs.Places.{IsTaskPrologue, IsPrologueCode, frame_at, first_item}
+use Rattle.vector_gen.specs.Places as generator
 use Rattle.sloth_base.specs.PriorityLevels.{level_of}
 use Rattle.sim_relation.specs.Build.{Build, HasFittingPlaces, start_level}
 use Rattle.sim_relation.proofs.Levels.{levels_in}

@@ -9,7 +9,7 @@ use Rattle.sloth_base.specs.Choose.{choose}
 use Rattle.sloth_base.specs.Status.{E_OK}
 use Rattle.sloth_region.specs.Layout.{cur, resume, idle_context}
 use Rattle.rv32_instr.specs.Ram.{word_at, with_word}
-use Rattle.prologue_gen.specs.Fresh.{saved_registers}
+use Rattle.vector_gen.specs.Fresh.{saved_registers}
 use Rattle.masked_code.proofs.Words.{word_at-same, get_or-with_word, length-with_word}
 use Rattle.osek_scheduler.specs.declared.state.TaskState.TheVariants as mode
 use Rattle.osek_scheduler.specs.State.{Frame, Task, System, HasBody, task, with_task}

@@ -12,8 +12,8 @@ use Rattle.rv32_instr.specs.Ram.{word_at}
 use Rattle.masked_code.specs.Kernel.{IsOpenedCore}
 use Rattle.masked_code.specs.Pieces.{registers_from}
 use Rattle.masked_code.proofs.Words.{word_below}
-use Rattle.prologue_gen.specs.Fresh.{saved_registers}
-use Rattle.prologue_gen.proofs.SavedRegisters.{none_saved, all_saved, few_saved}
+use Rattle.vector_gen.specs.Fresh.{saved_registers}
+use Rattle.vector_gen.proofs.SavedRegisters.{none_saved, all_saved, few_saved}
 use Rattle.osek_scheduler.specs.State.{System}
 use Rattle.sim_relation.specs.Build.{Build, HasFittingPlaces, start_level}
 use Rattle.sim_relation.specs.Stands.{Stands}

@@ -21,7 +21,7 @@ use Rattle.masked_code.specs.Masked.{FromOpening}
 use Rattle.masked_code.specs.Place.{offset_state, InPlace}
 use Rattle.masked_code.specs.Trace.{touched_lines, early_arrivals, late_arrivals}
 use Rattle.masked_code.proofs.Machine.{touched_at}
-use Rattle.expansion_parts.specs.Expansion.{block_address, item_address, expansion}
+use Rattle.rv32_expand.specs.Expansion.{block_address, item_address, expansion}
 use Rattle.event_weights.specs.Events.{stretch_counts}
 use Rattle.observe.specs.Observe.{View, mark_at}
 use Rattle.osek_scheduler.specs.State.{System, task}

@@ -10,12 +10,12 @@ use Rattle.sloth_base.specs.Status.{E_OK, E_OS_STATE}
 use Rattle.sloth_base.specs.declared.service.Service.TheVariants as service
 use Rattle.sloth_region.specs.Layout.{events, wait}
 use Rattle.rv32_instr.specs.Ram.{word_at, with_word}
-use Rattle.expansion_parts.specs.Expansion.{mask_of}
+use Rattle.rv32_expand.specs.Expansion.{mask_of}
 use Rattle.masked_code.proofs.Words.{word_below}
 use Rattle.block_parts.specs.SuspensionTest.{IsFoundSuspended}
 use Rattle.block_parts.specs.Back.{BackEffect, a0}
-use Rattle.event_gen.specs.ClearEvent.{mask_register}
-use Rattle.event_gen.specs.SetEvent.{with_mask, HasNotSet, HasSet, HasWoken, SetEventEffect}
+use Rattle.service_gen.specs.ClearEvent.{mask_register}
+use Rattle.service_gen.specs.SetEvent.{with_mask, HasNotSet, HasSet, HasWoken, SetEventEffect}
 use Rattle.osek_scheduler.specs.declared.state.TaskState.{TaskState}
 use Rattle.osek_scheduler.specs.declared.state.TaskState.TheVariants as mode
 use Rattle.osek_scheduler.specs.State.{Task, System, task}

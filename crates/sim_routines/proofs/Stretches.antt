@@ -8,12 +8,12 @@ use Rattle.sloth_base.specs.declared.service.Service.TheVariants as service
 use Rattle.sloth_base.specs.Arrive.{state_arrive}
 use Rattle.sloth_base.specs.Machine.{State}
 use Rattle.sim_routines.proofs.Touching.{touches_none, touches_one}
-use Rattle.expansion_parts.specs.Expansion.{mask_of}
+use Rattle.rv32_expand.specs.Expansion.{mask_of}
 use Rattle.rv32_machine.specs.Run.{state_with_arrivals}
 use Rattle.observe.specs.Observe.{View}
-use Rattle.event_gen.specs.ClearEvent.{IsClearEventCode, ClearEventEffect, mask_register}
-use Rattle.event_gen.specs.GetEvent.{IsGetEventCode, GetEventEffect}
-use Rattle.event_gen.specs.SetEvent.{IsSetEventCode, SetEventEffect}
+use Rattle.service_gen.specs.ClearEvent.{IsClearEventCode, ClearEventEffect, mask_register}
+use Rattle.service_gen.specs.GetEvent.{IsGetEventCode, GetEventEffect}
+use Rattle.service_gen.specs.SetEvent.{IsSetEventCode, SetEventEffect}
 use Rattle.osek_scheduler.specs.State.{System, task}
 use Rattle.sim_induction.specs.Admits.{IsSetting, lines_at, with_admits}
 use Rattle.sim_relation.specs.Build.{Build, HasFittingPlaces}

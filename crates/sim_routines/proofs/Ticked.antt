@@ -17,9 +17,9 @@ use Rattle.sloth_base.specs.declared.config.AlarmDecl.{AlarmDecl}
 use Rattle.sloth_base.specs.Limits.{counter_limit}
 use Rattle.sloth_region.specs.Layout.{counter_value, below_word}
 use Rattle.rv32_instr.specs.Ram.{word_at}
-use Rattle.alarm_gen.specs.Alarms.{counter_alarms}
-use Rattle.alarm_gen.specs.Tick.{Ground, ground}
-use Rattle.alarm_gen.specs.Tick as code
+use Rattle.service_gen.specs.Alarms.{counter_alarms}
+use Rattle.service_gen.specs.Tick.{Ground, ground}
+use Rattle.service_gen.specs.Tick as code
 use Rattle.osek_scheduler.specs.declared.state.Counter.{Counter}
 use Rattle.osek_scheduler.specs.State.{System, counter, no_counter}
 use Rattle.osek_scheduler.specs.Services.{next_value, counted_on_state, ticked_state}

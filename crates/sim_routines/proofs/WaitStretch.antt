@@ -11,7 +11,7 @@ use Rattle.sloth_region.specs.Layout.{context_bytes}
 use Rattle.rv32_instr.specs.declared.InstrKind.{InstrKind}
 use Rattle.rv32_machine.specs.Run.{state_with_arrivals}
 use Rattle.observe.specs.Observe.{View}
-use Rattle.event_gen.specs.WaitEvent.{IsWaitEventCode, HasNotWaited, HasWaited, WaitEventEffect, MayWait, set_of, wait_length}
+use Rattle.service_gen.specs.WaitEvent.{IsWaitEventCode, HasNotWaited, HasWaited, WaitEventEffect, MayWait, set_of, wait_length}
 use Rattle.osek_scheduler.specs.State.{System, task}
 use Rattle.sim_induction.specs.Admits.{IsSetting, lines_at, with_admits}
 use Rattle.sim_relation.specs.Build.{Build, HasFittingPlaces}

@@ -11,11 +11,11 @@ use Rattle.sloth_base.specs.Limits.{task_limit}
 use Rattle.sloth_base.specs.MemoryMap.{memory_bytes}
 use Rattle.sloth_region.specs.Layout.{cur, events, context_bytes}
 use Rattle.rv32_instr.specs.Ram.{word_at}
-use Rattle.expansion_parts.specs.Expansion.{mask_of}
+use Rattle.rv32_expand.specs.Expansion.{mask_of}
 use Rattle.masked_code.specs.Pieces.{registers_from}
 use Rattle.masked_code.proofs.Words.{word_below}
-use Rattle.event_gen.specs.ClearEvent.{mask_register}
-use Rattle.event_gen.specs.WaitEvent.{set_of, HasNotWaited, HasWaited, WaitEventEffect}
+use Rattle.service_gen.specs.ClearEvent.{mask_register}
+use Rattle.service_gen.specs.WaitEvent.{set_of, HasNotWaited, HasWaited, WaitEventEffect}
 use Rattle.osek_scheduler.specs.declared.state.TaskState.TheVariants as mode
 use Rattle.osek_scheduler.specs.State.{Frame, Task, System, task, with_task}
 use Rattle.osek_scheduler.specs.Meaning.{going_on_frame}

@@ -8,10 +8,10 @@ use Rattle.sloth_base.specs.declared.service.Service.{Service}
 use Rattle.sloth_base.specs.declared.service.Service.TheVariants as service
 use Rattle.rv32_machine.specs.Run.{state_with_arrivals}
 use Rattle.observe.specs.Observe.{View}
-use Rattle.alarm_gen.specs.Block.{IsAlarmServiceBlock}
-use Rattle.alarm_gen.specs.CancelAlarm.{CancelAlarmEffect}
-use Rattle.alarm_gen.specs.GetAlarm.{GetAlarmEffect}
-use Rattle.alarm_gen.specs.SetAlarm.{SetAlarmEffect, TicksFit, AlarmValueFits, first_operand, ticks_until}
+use Rattle.service_gen.specs.AlarmBlock.{IsAlarmServiceBlock}
+use Rattle.service_gen.specs.CancelAlarm.{CancelAlarmEffect}
+use Rattle.service_gen.specs.GetAlarm.{GetAlarmEffect}
+use Rattle.service_gen.specs.SetAlarm.{SetAlarmEffect, TicksFit, AlarmValueFits, first_operand, ticks_until}
 use Rattle.osek_scheduler.specs.State.{Task, System}
 use Rattle.sim_induction.specs.Admits.{IsSetting, lines_at, with_admits}
 use Rattle.sim_relation.specs.Bounds.{AreBelow}

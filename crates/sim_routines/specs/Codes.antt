@@ -8,7 +8,7 @@ use Rattle.sloth_base.specs.Named.{function}
 use Rattle.sloth_base.specs.MemoryMap.{memory_base}
 use Rattle.sloth_base.specs.Limits.{frame_limit}
 use Rattle.vector_gen.specs.Boot.{IsBootCode}
-use Rattle.prologue_gen.specs.Fresh.{vector}
+use Rattle.vector_gen.specs.Fresh.{vector}
 use Rattle.sim_relation.specs.Build.{Build}
 use Rattle.sim_relation.specs.Placed.{IsPlaced}
 use Rattle.sim_routines.specs.Entries.{IsEntryBuilt, body_frame_words}

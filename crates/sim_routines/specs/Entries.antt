@@ -3,13 +3,13 @@ use Rattle.std.specs.Prelude.{ℕ, ◌-◌, ◌*◌, ◌<◌, ◌≢◌, List, [
 use Rattle.sloth_base.specs.Machine.{State}
 use Rattle.sloth_base.specs.Take.{take}
 use Rattle.rv32_instr.specs.declared.InstrKind.{InstrKind}
-use Rattle.expansion_parts.specs.Expansion.{item_address}
+use Rattle.rv32_expand.specs.Expansion.{item_address}
 use Rattle.osek_scheduler.specs.State.{System, task}
 use Rattle.sloth_base.specs.Named.{declaration, body_of}
 use Rattle.sloth_base.specs.Named.{function}
-use Rattle.prologue_gen.specs.Fresh.{EntryEffect}
-use Rattle.prologue_gen.specs.Resuming.{ResumeEffect}
-use Rattle.prologue_gen.specs.Places.{IsPrologueCode}
+use Rattle.vector_gen.specs.Fresh.{EntryEffect}
+use Rattle.vector_gen.specs.Resuming.{ResumeEffect}
+use Rattle.vector_gen.specs.Places.{IsPrologueCode}
 use Rattle.sim_relation.specs.Build.{Build, start_level}
 use Rattle.sim_relation.specs.Stands.{IsAlive, AreStacksApart}
 

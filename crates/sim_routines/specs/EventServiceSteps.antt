@@ -6,10 +6,10 @@ use Rattle.sloth_base.specs.Machine.{State}
 use Rattle.sloth_base.specs.MemoryMap.{memory_base}
 use Rattle.sloth_region.specs.Layout.{below_word, context_bytes}
 use Rattle.rv32_instr.specs.Ram.{word_at}
-use Rattle.event_gen.specs.ClearEvent.{ClearEventEffect}
-use Rattle.event_gen.specs.GetEvent.{GetEventEffect}
-use Rattle.event_gen.specs.SetEvent.{SetEventEffect}
-use Rattle.event_gen.specs.WaitEvent.{WaitEventEffect}
+use Rattle.service_gen.specs.ClearEvent.{ClearEventEffect}
+use Rattle.service_gen.specs.GetEvent.{GetEventEffect}
+use Rattle.service_gen.specs.SetEvent.{SetEventEffect}
+use Rattle.service_gen.specs.WaitEvent.{WaitEventEffect}
 use Rattle.osek_scheduler.specs.State.{Task, System}
 use Rattle.sim_relation.specs.Bounds.{AreBelow}
 use Rattle.sim_relation.specs.Build.{Build, HasFittingPlaces}

@@ -7,10 +7,10 @@ use Rattle.sloth_base.specs.Machine.{State}
 use Rattle.rv32_instr.specs.declared.InstrKind.{InstrKind}
 use Rattle.rv32_machine.specs.Run.{state_with_arrivals}
 use Rattle.observe.specs.Observe.{View}
-use Rattle.event_gen.specs.ClearEvent.{IsClearEventCode}
-use Rattle.event_gen.specs.GetEvent.{IsGetEventCode}
-use Rattle.event_gen.specs.SetEvent.{IsSetEventCode}
-use Rattle.event_gen.specs.WaitEvent.{IsWaitEventCode}
+use Rattle.service_gen.specs.ClearEvent.{IsClearEventCode}
+use Rattle.service_gen.specs.GetEvent.{IsGetEventCode}
+use Rattle.service_gen.specs.SetEvent.{IsSetEventCode}
+use Rattle.service_gen.specs.WaitEvent.{IsWaitEventCode}
 use Rattle.osek_scheduler.specs.State.{System, task}
 use Rattle.sim_induction.specs.Admits.{IsSetting, lines_at, with_admits}
 use Rattle.sim_relation.specs.Bounds.{AreBelow}

@@ -7,7 +7,7 @@ use Rattle.sloth_base.specs.MemoryMap.{memory_base}
 use Rattle.sloth_region.specs.declared.map.Map.{Map}
 use Rattle.rv32_instr.specs.declared.InstrKind.{InstrKind}
 use Rattle.sloth_base.specs.Named.{body_of}
-use Rattle.prologue_gen.specs.Places.{IsTaskPrologue}
+use Rattle.vector_gen.specs.Places.{IsTaskPrologue}
 use Rattle.sim_relation.specs.Build.{Build, HasFittingPlaces}
 use Rattle.sim_routines.specs.Boot.{AreLevelsOf}
 use Rattle.sim_routines.specs.Entries.{IsEntryBuilt}

@@ -8,7 +8,7 @@ use Rattle.sloth_base.specs.Machine.{State}
 use Rattle.sloth_region.specs.Layout.{cur}
 use Rattle.rv32_instr.specs.declared.InstrKind.{InstrKind}
 use Rattle.rv32_instr.specs.Ram.{word_at}
-use Rattle.expansion_parts.specs.Expansion.{item_address, block_address, expansion}
+use Rattle.rv32_expand.specs.Expansion.{item_address, block_address, expansion}
 use Rattle.observe.specs.Observe.{View, mark_at}
 use Rattle.sloth_base.specs.ServiceCodes.{service_of}
 use Rattle.osek_scheduler.specs.State.{Frame, Task, System, task}

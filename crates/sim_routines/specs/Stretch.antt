@@ -12,7 +12,7 @@ use Rattle.sloth_base.specs.Machine.{State}
 use Rattle.sloth_base.specs.MemoryMap.{memory_base}
 use Rattle.rv32_machine.specs.Run.{state_with_arrivals}
 use Rattle.masked_code.specs.Trace.{Trace}
-use Rattle.expansion_parts.specs.Expansion.{block_address}
+use Rattle.rv32_expand.specs.Expansion.{block_address}
 use Rattle.observe.specs.Observe.{View, mark_at}
 use Rattle.rv32_instr.specs.declared.InstrKind.{InstrKind}
 use Rattle.service_gen.specs.ActivateTask.{IsActivateTaskCode}

@@ -16,8 +16,8 @@ use Rattle.rv32_instr.specs.declared.InstrKind.TheVariants.{Jal}
 use Rattle.rv32_machine.specs.Run.{state_with_arrivals}
 use Rattle.masked_code.specs.Trace.{Trace}
 use Rattle.observe.specs.Observe.{View}
-use Rattle.alarm_gen.specs.Alarms.{counter_alarms}
-use Rattle.alarm_gen.specs.Tick.{vector, TickEffect, IsTickCode}
+use Rattle.service_gen.specs.Alarms.{counter_alarms}
+use Rattle.service_gen.specs.Tick.{vector, TickEffect, IsTickCode}
 use Rattle.osek_scheduler.specs.State.{System, counter}
 use Rattle.osek_scheduler.specs.Services.{ticked_state}
 use Rattle.osek_scheduler.specs.Steps.{settled_state}

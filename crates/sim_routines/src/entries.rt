@@ -1,4 +1,4 @@
-//! Boot and the entries of tasks as events of the abstract scheduler, by the effects of their code in `vector_gen` and `prologue_gen`.
+//! Boot and the entries of tasks as events of the abstract scheduler, by the effects of their code in `vector_gen`.
 ghost use Rattle.sim_routines.specs.Generated.{GeneratedEnters};
 ghost use Rattle.sim_routines.specs.EntrySteps.{BootsLaw, BootStretch, EnterLaw, EnterStretch, ResumeLaw, ResumeStretch};
 

@@ -25,12 +25,12 @@ use Rattle.sloth_region.specs.declared.map.Map.{Map}
 use Rattle.code_rules.specs.AppRange.{IsOp, IsRegister}
 use Rattle.rv32_instr.specs.declared.InstrKind.{InstrKind}
 use Rattle.rv32_instr.specs.declared.block.Block.{Block}
-use Rattle.expansion_parts.specs.Expansion.{block_address}
+use Rattle.rv32_expand.specs.Expansion.{block_address}
 use Rattle.rv32_expand.specs.InPlace.{IsAppItem, item_mark, mark_kind, mark_number}
 use Rattle.rv32_expand.specs.Sizes.{items_before}
-use Rattle.service_gen.specs.Block.{further_marks}
+use Rattle.service_gen.specs.TaskBlock.{further_marks}
 use Rattle.block_parts.specs.Marks.{opening, back_mark}
-use Rattle.service_blocks.specs.Calls.{IsAnyServiceBlock}
+use Rattle.service_gen.specs.Calls.{IsAnyServiceBlock}
 use Rattle.service_gen.specs.Schedule.{way_back}
 use Rattle.sloth_base.specs.Arithmetic.{sum32}
 use Rattle.sloth_base.specs.Blocks.{block_number, block_code, block_object}

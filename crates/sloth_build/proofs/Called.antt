@@ -23,7 +23,7 @@ use Rattle.code_rules.proofs.Objects.{object_number}
 use Rattle.stack_bounds.specs.Bounds.{AreBounds}
 use Rattle.rv32_expand.specs.InPlace.{IsAppItem}
 use Rattle.block_parts.proofs.Objects.{code_few}
-use Rattle.service_blocks.specs.Calls.{IsOfKind, IsCalledWith}
+use Rattle.service_gen.specs.Calls.{IsOfKind, IsCalledWith}
 use Rattle.mem_map.specs.Wanted.{wanted_blocks}
 use Rattle.mem_map.proofs.Callers.{called, marked}
 use Rattle.mem_map.proofs.Wanting.{all_places, at_place}

@@ -60,8 +60,8 @@ use Rattle.sloth_build.proofs.Sizing.{words_fit}
 use Rattle.sloth_base.specs.declared.service.Service.TheVariants as service
 use Rattle.sloth_base.specs.Blocks.{block_number}
 use Rattle.sloth_base.specs.MemoryMap.{vectors_base, memory_end, memory_base}
-use Rattle.expansion_parts.specs.Expansion.{block_address}
-use Rattle.service_blocks.specs.Calls.{IsCalledWith}
+use Rattle.rv32_expand.specs.Expansion.{block_address}
+use Rattle.service_gen.specs.Calls.{IsCalledWith}
 use Rattle.service_gen.specs.Schedule.{way_back}
 
 module _ (config : Config) (app : App) (levels : Levels) (map : Map) (bounds : Bounds) (are_bounds : AreBounds config app bounds) (p : IsPlanned config app bounds map) where

@@ -10,10 +10,10 @@ use Rattle.sloth_base.specs.declared.service.Service.{Service}
 use Rattle.code_lengths.specs.CodeLengths.{option_length}
 use Rattle.sloth_region.specs.declared.map.Map.{Map}
 use Rattle.rv32_instr.specs.declared.block.Block.{Block}
-use Rattle.service_gen.specs.Block.{further_marks}
+use Rattle.service_gen.specs.TaskBlock.{further_marks}
 use Rattle.block_parts.specs.Marks.{opening}
 use Rattle.block_parts.specs.ServiceBlock.{IsServiceBlock}
-use Rattle.service_blocks.specs.Calls.{IsCalledWith, IsAnyServiceBlock}
+use Rattle.service_gen.specs.Calls.{IsCalledWith, IsAnyServiceBlock}
 use Rattle.sloth_build.specs.Services.{IsService}
 
 pub some_same : (a b : Service) → Some a ≡ Some b → a ≡ b

@@ -21,17 +21,17 @@ use Rattle.sloth_base.specs.declared.service.Service.{Service}
 use Rattle.sloth_base.specs.declared.service.Service.TheVariants as service
 use Rattle.sloth_region.specs.declared.extent.Extent.{Extent}
 use Rattle.sloth_region.specs.declared.map.Map.{Map}
-use Rattle.prologue_gen.specs.Places.{IsTaskPrologue, start_level, first_item, frame_at}
-use Rattle.prologue_gen.proofs.BothKinds.{length_is}
+use Rattle.vector_gen.specs.Places.{IsTaskPrologue, start_level, first_item, frame_at}
+use Rattle.vector_gen.proofs.BothKinds.{length_is}
 use Rattle.rv32_instr.specs.declared.InstrKind.{InstrKind}
 use Rattle.rv32_instr.specs.declared.block.Block.{Block}
-use Rattle.expansion_parts.specs.Expansion.{is_long, item_address}
+use Rattle.rv32_expand.specs.Expansion.{is_long, item_address}
 use Rattle.rv32_expand.specs.InPlace.{IsAppItem, item_mark}
 use Rattle.rv32_expand.specs.Sizes.{items_before}
-use Rattle.expansion_parts.proofs.Counts.{expanded_some}
-use Rattle.service_gen.specs.Block.{further_marks}
+use Rattle.rv32_expand.proofs.Counts.{expanded_some}
+use Rattle.service_gen.specs.TaskBlock.{further_marks}
 use Rattle.block_parts.specs.Marks.{opening, back_mark}
-use Rattle.service_blocks.specs.Calls.{IsAnyServiceBlock}
+use Rattle.service_gen.specs.Calls.{IsAnyServiceBlock}
 use Rattle.service_gen.specs.Schedule.{way_back}
 use Rattle.masked_code.specs.Kernel.{masking}
 use Rattle.sloth_base.specs.Arithmetic.{sum32}

@@ -6,16 +6,16 @@ use Rattle.sloth_base.specs.Named.{function, no_function, operation}
 use Rattle.sloth_base.specs.declared.app.App.{App}
 use Rattle.sloth_base.specs.declared.app.Func.{Func}
 use Rattle.sloth_base.specs.declared.places.Places.{Places}
-use Rattle.expansion_parts.specs.Expansion.{expansion, is_long, item_address}
+use Rattle.rv32_expand.specs.Expansion.{expansion, is_long, item_address}
 use Rattle.rv32_expand.specs.InPlace.{IsAppItem}
-use Rattle.expansion_parts.specs.Long.{size, target_of}
-use Rattle.expansion_parts.specs.Passes.{AreShortest}
+use Rattle.rv32_expand.specs.Long.{size, target_of}
+use Rattle.rv32_expand.specs.Passes.{AreShortest}
 use Rattle.event_weights.specs.Items.{length_of, AreLengths}
 use Rattle.sim_relation.specs.Build.{Build}
 use Rattle.sim_relation.specs.Placed.{item_words}
 use Rattle.rv32_expand.specs.Sizes.{AgreeWithSizes, AreItemSizes, IsVerified, items_before}
-use Rattle.expansion_parts.proofs.Counts.{size_is}
-use Rattle.expansion_parts.proofs.Growth.{size_alike}
+use Rattle.rv32_expand.proofs.Counts.{size_is}
+use Rattle.rv32_expand.proofs.Growth.{size_alike}
 use Rattle.rv32_expand.proofs.Least.{least_is_one}
 use Rattle.rv32_expand.proofs.Verified.{least_told}
 

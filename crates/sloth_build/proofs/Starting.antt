@@ -10,7 +10,7 @@ use Rattle.sloth_base.specs.declared.app.Func.{Func}
 use Rattle.sloth_base.specs.declared.config.Config.{Config}
 use Rattle.sloth_base.specs.declared.places.Levels.{Levels}
 use Rattle.sloth_region.specs.declared.map.Map.{Map}
-use Rattle.prologue_gen.specs.Places.{IsStackTop}
+use Rattle.vector_gen.specs.Places.{IsStackTop}
 use Rattle.rv32_expand.specs.Sizes.{items_before}
 use Rattle.rv32_expand.proofs.Verified.{has_first}
 use Rattle.mem_map.specs.Starts.{code_byte_count}

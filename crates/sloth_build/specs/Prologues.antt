@@ -7,7 +7,7 @@ use Rattle.sloth_base.specs.Limits.{task_limit, level_count, frame_limit}
 use Rattle.sloth_region.specs.declared.map.Map.{Map}
 use Rattle.rv32_instr.specs.declared.block.Block.{Block}
 use Rattle.code_lengths.specs.Bodies.{IsBodyPlace}
-use Rattle.prologue_gen.specs.Places.{IsTaskPrologue, IsStackTop}
+use Rattle.vector_gen.specs.Places.{IsTaskPrologue, IsStackTop}
 
 -- what the prologue of each task needs
 pub record MayStartTasks (config : Config) (app : App) (levels : Levels) (map : Map) : Type 0 where

@@ -9,9 +9,9 @@ use Rattle.sloth_base.specs.Blocks.{block_code, block_object}
 use Rattle.code_lengths.specs.CodeLengths.{block_length}
 use Rattle.sloth_region.specs.declared.map.Map.{Map}
 use Rattle.rv32_instr.specs.declared.block.Block.{Block}
-use Rattle.service_gen.specs.Block.{further_marks}
+use Rattle.service_gen.specs.TaskBlock.{further_marks}
 use Rattle.block_parts.specs.Marks.{opening}
-use Rattle.service_blocks.specs.Calls.{IsCalledWith, IsAnyServiceBlock}
+use Rattle.service_gen.specs.Calls.{IsCalledWith, IsAnyServiceBlock}
 
 -- the wanted ones, the first of which has this number; a number is a place in the table of blocks
 abbrev pub wanted_services_from : ℕ → List Bool → List ℕ

@@ -2,7 +2,6 @@
 ghost use Rattle.std.specs.Prelude.{◌≡◌, ◌<◌, IfOk, length};
 ghost use Rattle.sloth_build.specs.Prologues.{MayStartTasks, IsPrologue, Each};
 
-use prologue_gen::prologue;
 use rv32_instr::Block;
 use sloth_base::app::App;
 use sloth_base::config::Config;
@@ -12,6 +11,7 @@ use sloth_base::places::Levels;
 use sloth_region::map::Map;
 use std::alloc::Global;
 use text_pieces::growth::push;
+use vector_gen::prologue;
 
 // The prologue of one task.
 fn one(

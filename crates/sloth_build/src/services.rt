@@ -5,7 +5,7 @@ ghost use Rattle.sloth_base.specs.Blocks.{block_count};
 ghost use Rattle.sloth_build.specs.Services.{IsServiceNumber, AreServed, IsService, AreServices};
 
 use rv32_instr::Block;
-use service_blocks::block;
+use service_gen::block;
 use sloth_base::config::Config;
 use sloth_base::memory::NoMemory;
 use sloth_base::places::{BLOCK_COUNT, Levels, block_object, block_service};

@@ -4,8 +4,8 @@ ghost use Rattle.sloth_base.specs.ConfigRange.{InRange};
 ghost use Rattle.sloth_build.specs.Prologues.{Each};
 ghost use Rattle.sloth_build.specs.Ticks.{IsTickBlock};
 
-use alarm_gen::tick;
 use rv32_instr::Block;
+use service_gen::alarm_block::tick;
 use sloth_base::config::Config;
 use sloth_base::memory::NoMemory;
 use sloth_base::places::Levels;

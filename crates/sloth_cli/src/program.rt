@@ -9,7 +9,7 @@ ghost use Rattle.sloth_cli.specs.ProgramRun.{IsProgramRun, HasProgramRun};
 use crate::top::sloth_top;
 use debug_command::debug_words;
 use debug_command::program::debug_over;
-use session_input::byte_reader::ByteReader;
+use sloth_io::byte_reader::ByteReader;
 use sloth_io::file_store::FileStore;
 use sloth_io::out_sink::OutSink;
 use std::alloc::Global;

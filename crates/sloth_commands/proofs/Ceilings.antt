@@ -9,7 +9,7 @@ use Rattle.sloth_base.specs.Owners.{owners_in}
 use Rattle.code_rules.specs.AppRange.{AppInRange}
 use Rattle.code_rules.specs.WellFormed.{WellFormed}
 use Rattle.osek_blocking.proofs.Protocol.{keeps_protocol}
-use Rattle.run_bounds.proofs.Runs.{keeps_blocking_bounds}
+use Rattle.run_counts.proofs.Runs.{keeps_blocking_bounds}
 use Rattle.sim_induction.specs.Sound.{Sound, events_of}
 use Rattle.sloth_source.specs.Texts.{AreAccepted}
 use Rattle.command_line.specs.Command.{Run, IsInLimit}

@@ -25,7 +25,7 @@ use Rattle.oil_parse.proofs.Complete.{file_takes}
 use Rattle.oil_table.specs.Objects.{is_of_kind}
 use Rattle.oil_model.specs.Clocks.{declared_counter}
 use Rattle.oil_model.specs.Configs.{declared_task, resource_names}
-use Rattle.oil_events.specs.Events.{events_of}
+use Rattle.oil_table.specs.Events.{events_of}
 use Rattle.sloth_source.specs.OilText.{OilText}
 
 -- the pieces of a text that is no longer than the first list

@@ -20,7 +20,7 @@ use Rattle.osek_scheduler.specs.State.{System, opening}
 use Rattle.osek_scheduler.specs.Steps.{OsekStep}
 use Rattle.osek_scheduler.specs.Runs.{AreStepsBehind}
 use Rattle.sim_induction.specs.Sound.{events_of}
-use Rattle.line_words.specs.EventNumbers.{Has32Bits, HasEventNumbers, IsNumberOrNone, IsNameNumber}
+use Rattle.trace_text.specs.EventNumbers.{Has32Bits, HasEventNumbers, IsNumberOrNone, IsNameNumber}
 use Rattle.trace_text.specs.Texts.{lines_with}
 use Rattle.trace_text.specs.declared.printing.Form.TheVariants as form
 use Rattle.walked_events.specs.TraceText.{HasLine}

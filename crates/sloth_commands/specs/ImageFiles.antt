@@ -18,7 +18,7 @@ use Rattle.command_line.specs.Tools.{file_names}
 use Rattle.trace_check.specs.Inputs.{AreArrivalsOf}
 use Rattle.sloth_commands.specs.FileInputs.{IsInput}
 use Rattle.sloth_commands.specs.ToolFiles.{ReadsImageFirst, input_deliveries}
-use Rattle.line_words.specs.StopLine.{stopped_line}
+use Rattle.trace_text.specs.StopLine.{stopped_line}
 use Rattle.sloth_runner.specs.Runner.{run_text, run_end}
 use Rattle.sloth_runner.specs.declared.runner.RunEnd.{RunEnd}
 use Rattle.sloth_runner.specs.declared.runner.RunEnd.TheVariants as ends

@@ -12,7 +12,7 @@ use Rattle.sloth_base.specs.Limits.{file_limit, count_limit}
 use Rattle.sloth_commands.specs.CheckedRuns.{RunsAreChecked}
 use Rattle.rv32_expand.specs.InPlace.{ItemsInPlace}
 use Rattle.osek_blocking.specs.Protocol.{KeepsCeilingProtocol}
-use Rattle.run_bounds.specs.BlockingBounds.{KeepsBlockingBounds}
+use Rattle.run_counts.specs.BlockingBounds.{KeepsBlockingBounds}
 use Rattle.osek_blocking.specs.NextEvents.{IsOnlyRun}
 use Rattle.sim_induction.specs.Sound.{Sound, events_of}
 use Rattle.sim_induction.specs.Weighed.{Weighed}

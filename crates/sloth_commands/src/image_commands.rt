@@ -24,7 +24,6 @@ use crate::inputs::fetch;
 use crate::listing::put_listing;
 use command_line::command::ExecWords;
 use image_file::read_image;
-use line_words::stop_line::stopped_line;
 use sloth_base::event::Arrival;
 use sloth_base::image::Image;
 use sloth_io::sink::{Sink, SinkFault};
@@ -34,6 +33,7 @@ use std::alloc::Global;
 use tool_answers::Status;
 use tool_commands::run_inputs::{RunInputs, Unread, read_run};
 use trace_text::printing::Form;
+use trace_text::stop_line::stopped_line;
 
 // An image file and an arrivals file.
 #[derive(Drop)]

@@ -15,7 +15,7 @@
 //! Two laws stand here since the promise cites them. The text of each run of a sound image with its items in place is that of a run of the abstract
 //! scheduler with the arrivals in time, so `check` answers yes (`runs_are_checked`, `specs/CheckedRuns`). And the OIL text of a generated application
 //! of 30 tasks declares 30 tasks and no counter (`all_tasks_are_declared`, `no_counter_is_declared`). The image: `sim_induction` (`Sound`),
-//! `osek_blocking` (`Protocol`), `run_bounds` (`BlockingBounds`), `rv32_expand` (`InPlace`).
+//! `osek_blocking` (`Protocol`), `run_counts` (`BlockingBounds`), `rv32_expand` (`InPlace`).
 #![tactic(auto)]
 
 pub mod build_command;

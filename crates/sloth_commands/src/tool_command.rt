@@ -18,7 +18,6 @@ use crate::failure::Failure;
 use crate::inputs::fetch;
 use command_line::last_line::{no_image_line, refusal_line};
 use command_line::tool::{ToolWords, file_words};
-use line_words::stop_line::stopped_line;
 use sloth_base::list::List;
 use sloth_io::lines::put_lines;
 use sloth_io::sink::Sink;
@@ -27,6 +26,7 @@ use std::alloc::Global;
 use tool_answers::Status;
 use tool_commands::lines::{bad_trace_line, no_elf_line};
 use tool_commands::{Outcome, ToolAnswer, judge};
+use trace_text::stop_line::stopped_line;
 
 // The bytes of these files, in their order.
 fn fetch_all<F: Store>(

@@ -5,3 +5,5 @@ pub mod Passing
 pub mod Files
 pub mod Reading
 pub mod Delivering
+pub mod Giving
+mod NoGivenFields

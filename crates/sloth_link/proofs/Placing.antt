@@ -4,10 +4,10 @@ use Rattle.std.proofs.Math.ListN.{get_or-map, length-map}
 use Rattle.sloth_base.specs.Named.{declaration, undeclared_task}
 use Rattle.sloth_base.specs.declared.config.TaskDecl.{TaskDecl}
 use Rattle.sloth_base.specs.Named.{operation}
-use Rattle.expansion_parts.specs.Expansion.{item_address, is_long}
+use Rattle.rv32_expand.specs.Expansion.{item_address, is_long}
 use Rattle.rv32_expand.specs.InPlace.{IsBodyName}
 use Rattle.rv32_expand.proofs.Agreeing.{adjacent}
-use Rattle.expansion_parts.proofs.Counts.{expanded_some}
+use Rattle.rv32_expand.proofs.Counts.{expanded_some}
 use Rattle.rv32_expand.proofs.Verified.{least_told}
 use Rattle.rv32_expand.specs.InPlace.{ItemsInPlace}
 use Rattle.rv32_expand.specs.Sizes.{AgreeWithSizes}

@@ -12,7 +12,7 @@ use Rattle.rv32_instr.specs.declared.InstrKind.{InstrKind}
 use Rattle.rv32_instr.specs.declared.block.Block.{Block}
 use Rattle.masked_code.specs.Place.{AreWritten}
 use Rattle.rv32_instr.specs.Ram.{word_at}
-use Rattle.expansion_parts.specs.Expansion.{expansion, item_address}
+use Rattle.rv32_expand.specs.Expansion.{expansion, item_address}
 use Rattle.rv32_expand.specs.InPlace.{CodeAt, item_mark}
 use Rattle.sloth_link.specs.Linked.{BlockStands}
 use Rattle.mem_map.specs.Sections.{marks_of, block_section, IsSectionInside}

@@ -6,7 +6,7 @@ use Rattle.sloth_base.specs.declared.app.App.{App}
 use Rattle.sloth_base.specs.declared.image.Mark.{Mark}
 use Rattle.sloth_base.specs.declared.places.Places.{Places}
 use Rattle.rv32_instr.specs.declared.block.Block.{Block}
-use Rattle.expansion_parts.specs.Expansion.{expansion, item_address}
+use Rattle.rv32_expand.specs.Expansion.{expansion, item_address}
 use Rattle.rv32_expand.specs.InPlace.{IsAppItem, IsOfItem, item_mark}
 
 -- an item is a block of its own

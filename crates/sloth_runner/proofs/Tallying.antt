@@ -10,7 +10,7 @@ use Rattle.sloth_base.specs.declared.event.Event.{Event}
 use Rattle.sloth_base.specs.declared.event.Event.TheVariants as event
 use Rattle.sloth_base.specs.declared.event.Stamped.{Stamped}
 use Rattle.sloth_base.specs.Limits.{arrival_limit, count_limit}
-use Rattle.line_words.specs.EventWords.{kind_of}
+use Rattle.trace_text.specs.EventWords.{kind_of}
 use Rattle.trace_text.specs.Summary.{count_of_kind, counts_of}
 use Rattle.observe.specs.Progress.{remaining}
 use Rattle.sim_induction.specs.Sound.{events_of}

@@ -12,7 +12,7 @@ use Rattle.machine_memory.specs.declared.sloth.SlothBus.{SlothBus}
 use Rattle.sloth_inspect.specs.States.{states_in, running_number_in}
 use Rattle.observe.specs.Progress.{Fed, remaining}
 use Rattle.observe.specs.declared.observing.Observer.{Observer}
-use Rattle.line_words.specs.EventWords.{kind_of}
+use Rattle.trace_text.specs.EventWords.{kind_of}
 use Rattle.sloth_runner.specs.declared.machine_states.Seen.{Seen}
 
 -- the state of a machine

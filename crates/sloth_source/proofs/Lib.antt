@@ -7,3 +7,4 @@ pub mod Refusals
 pub mod RankedTexts
 mod FirstRefusal
 mod Named
+pub mod Meaning

@@ -15,7 +15,7 @@ use Rattle.oil_parse.specs.Faults.{GrammarFault}
 use Rattle.oil_parse.specs.Text.{HasGrammarFault}
 use Rattle.oil_table.specs.Cases.{OilCase}
 use Rattle.oil_table.specs.Objects.{has_scheduler}
-use Rattle.oil_events.specs.Events.{events_of, BitFault}
+use Rattle.oil_table.specs.Events.{events_of, BitFault}
 use Rattle.oil_rules.specs.ObjectFaults.{KnownFault}
 use Rattle.oil_rules.specs.AttributeFaults.{AttributeFault}
 use Rattle.oil_rules.specs.TaskFaults.{TaskFault}

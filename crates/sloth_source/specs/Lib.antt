@@ -2,3 +2,4 @@ pub mod OilText
 pub mod SourceText
 pub mod Texts
 pub mod RankedTexts
+pub mod Checked

@@ -4,13 +4,18 @@
 //! meaning or one first refusal, never both, and do not lack both; the same holds without the rules of task code, with the ranks of functions
 //! (`one_meaning`, `one_verdict`, `read_ranked`, `one_ranked`). Definitions: `specs/OilText`, `specs/SourceText`, `specs/Texts`. They join those of
 //! the readers and `code_rules` (`WellFormed`).
+//!
+//! `read_checked` gives the task code of accepted texts, verified, with the ranks of its functions, or the first refusal of both texts. What is said of
+//! it: `specs/Checked`.
 #![tactic(auto)]
 
+mod checked_reading;
 mod configuration;
 mod laws;
 mod ranked_texts;
 mod reading;
 
+pub use checked_reading::{Checked, read_checked};
 pub use configuration::read_config;
 pub use laws::{one_meaning, one_ranked, one_verdict};
 pub use ranked_texts::{Ranked, read_ranked};

@@ -5,7 +5,7 @@ use Rattle.std.specs.Option.{option_map}
 use Rattle.std.proofs.lemmas.Bool.{ne_eqb, eq-eqb}
 use Rattle.std.proofs.lemmas.List.{get_or-map, length-map}
 use Rattle.code_rules.specs.AppRange.{IsResource}
-use Rattle.map_rows.specs.PieceNames.{resource_name}
+use Rattle.map_text.specs.PieceNames.{resource_name}
 use Rattle.sloth_base.proofs.Services.{of_name}
 use Rattle.sloth_base.specs.Blocks.{block_number}
 use Rattle.sloth_base.specs.ConfigRange.{InRange, scheduler_number}
@@ -16,7 +16,7 @@ use Rattle.sloth_base.specs.declared.service.ObjectKind.{ObjectKind}
 use Rattle.sloth_base.specs.declared.service.ObjectKind.TheVariants as object
 use Rattle.sloth_base.specs.declared.service.Service.{Service}
 use Rattle.sloth_base.specs.declared.service.Service.TheVariants as service
-use Rattle.map_rows.specs.PieceNames.{joined}
+use Rattle.map_text.specs.PieceNames.{joined}
 use Rattle.symbol_image.specs.declared.symbol.Symbol.{Symbol}
 use Rattle.text_pieces.proofs.Places.{position_at}
 

@@ -9,7 +9,7 @@ use Rattle.sloth_region.specs.declared.map.Map.{Map}
 use Rattle.asm_lines.specs.Faults.{source_lines}
 use Rattle.code_rules.specs.WellFormed.{WellFormed}
 use Rattle.map_text.proofs.OneText.{rows_alike, same_bounds}
-use Rattle.map_rows.specs.declared.piece_rows.Row.{Row}
+use Rattle.map_text.specs.declared.piece_rows.Row.{Row}
 use Rattle.mem_map.proofs.OnePlan.{AreAlike, one_plan}
 use Rattle.mem_map.specs.Planned.{IsPlanned}
 use Rattle.sloth_source.proofs.Unique.{one_meaning}

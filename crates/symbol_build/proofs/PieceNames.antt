@@ -9,10 +9,10 @@ use Rattle.code_rules.specs.AppRange.{AreOperands, IsObject, IsOp}
 use Rattle.code_rules.specs.WellFormed.{WellFormed}
 use Rattle.map_text.proofs.ExactRows.{rows_exact}
 use Rattle.map_text.specs.ExactRows.{behind_symbols, exact_rows, function_bytes, row_alone, rows_of}
-use Rattle.map_rows.specs.Rows.{has_basic, map_rows, own_rows, row_of, shared_rows}
-use Rattle.map_rows.specs.declared.piece_rows.Kind.{Kind}
-use Rattle.map_rows.specs.declared.piece_rows.Kind.TheVariants as kind
-use Rattle.map_rows.specs.declared.piece_rows.Row.{Row}
+use Rattle.map_text.specs.Rows.{has_basic, map_rows, own_rows, row_of, shared_rows}
+use Rattle.map_text.specs.declared.piece_rows.Kind.{Kind}
+use Rattle.map_text.specs.declared.piece_rows.Kind.TheVariants as kind
+use Rattle.map_text.specs.declared.piece_rows.Row.{Row}
 use Rattle.mem_map.proofs.Callers.{caller}
 use Rattle.mem_map.specs.Lengths.{wanted_length}
 use Rattle.mem_map.specs.Plan.{code_end, items_at, prologues_at, services_at, symbol_bytes, ticks_at}
@@ -33,7 +33,7 @@ use Rattle.sloth_base.specs.declared.places.Bounds.{Bounds}
 use Rattle.sloth_base.specs.declared.service.Service.{Service}
 use Rattle.sloth_base.specs.declared.service.Service.TheVariants as service
 use Rattle.sloth_region.specs.declared.map.Map.{Map}
-use Rattle.map_rows.specs.PieceNames.{block_symbol, service_symbol}
+use Rattle.map_text.specs.PieceNames.{block_symbol, service_symbol}
 use Rattle.symbol_image.specs.Symbols.{local_of, local_symbols, word_symbols}
 use Rattle.symbol_image.specs.declared.symbol.Symbol.{Symbol}
 use Rattle.symbol_build.specs.SymbolNames.{LocalNamesDiffer}

@@ -7,8 +7,8 @@ use Rattle.sloth_base.specs.declared.places.Places.{Places}
 use Rattle.mem_map.proofs.Ends.{end_above}
 use Rattle.mem_map.specs.Starts.{end_of, starts}
 use Rattle.symbol_image.specs.LineMachine.{AreRisingRows}
-use Rattle.map_rows.specs.LineRows.{first_rows, item_address, item_rows, last_row, line_rows, row}
-use Rattle.map_rows.specs.declared.line_rows.LineRow.{LineRow}
+use Rattle.map_text.specs.LineRows.{first_rows, item_address, item_rows, last_row, line_rows, row}
+use Rattle.map_text.specs.declared.line_rows.LineRow.{LineRow}
 use Rattle.symbol_build.proofs.RisingLines.{BodiesRise, ItemsRise}
 
 -- ---- addresses of pieces

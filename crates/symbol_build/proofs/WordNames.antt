@@ -6,7 +6,7 @@ use Rattle.sloth_base.specs.declared.config.AlarmDecl.{AlarmDecl}
 use Rattle.sloth_base.specs.declared.config.Config.{Config}
 use Rattle.sloth_base.specs.declared.config.CounterDecl.{CounterDecl}
 use Rattle.sloth_base.specs.declared.config.TaskDecl.{TaskDecl}
-use Rattle.map_rows.specs.PieceNames.{joined}
+use Rattle.map_text.specs.PieceNames.{joined}
 use Rattle.symbol_image.specs.Symbols.{alarm_words, context_symbol, counter_words, last_words, resume_words, saved_words, scheduler_words, state_words, word_symbols}
 use Rattle.symbol_image.specs.declared.symbol.Symbol.{Symbol}
 use Rattle.symbol_build.proofs.LocalNames.{Active, Cycle, Events, Front, IsLocal, IsThere, Kernel, Left, Resume, Saved, Value, Wait, front_text, object_name, place, resource_is, sort_of}

@@ -9,9 +9,9 @@ use Rattle.sloth_source.specs.Texts.{AreAccepted}
 use Rattle.mem_map.specs.Planned.{IsPlanned}
 use Rattle.mem_map.specs.Zones.{data_zone}
 use Rattle.symbol_image.specs.LineMachine.{HasMatrix, wanted_matrix}
-use Rattle.map_rows.specs.LineRows.{line_rows}
+use Rattle.map_text.specs.LineRows.{line_rows}
 use Rattle.symbol_image.specs.LineSection.{line_program}
-use Rattle.map_rows.specs.declared.line_rows.LineRow.{LineRow}
+use Rattle.map_text.specs.declared.line_rows.LineRow.{LineRow}
 
 -- the rows of task code by its map
 abbrev pub rows_by : App → Map → List LineRow

@@ -1,7 +1,7 @@
 -- The names of local symbols.
 use Rattle.std.specs.Prelude.{◌≢◌, AllPairs}
 use Rattle.code_rules.specs.WellFormed.{WellFormed}
-use Rattle.map_rows.specs.Rows.{map_rows}
+use Rattle.map_text.specs.Rows.{map_rows}
 use Rattle.mem_map.specs.Planned.{IsPlanned}
 use Rattle.sloth_base.specs.declared.app.App.{App}
 use Rattle.sloth_base.specs.declared.config.Config.{Config}

@@ -5,7 +5,7 @@ ghost use Rattle.sloth_base.specs.declared.image.Image.{Image as AnyImage};
 ghost use Rattle.least_fault.specs.Order.{NoFault};
 ghost use Rattle.asm_lines.specs.Faults.{SourceLinesFault, source_lines};
 ghost use Rattle.sloth_build.specs.Gathered.{MayBuild};
-ghost use Rattle.map_rows.specs.Listable.{IsListable};
+ghost use Rattle.map_text.specs.Listable.{IsListable};
 ghost use Rattle.sloth_source.specs.Texts.{SourcesErrorIs};
 ghost use Rattle.symbol_image.specs.DataLines.{data_lines};
 ghost use Rattle.symbol_image.specs.FileParts.{MayShow};
@@ -13,7 +13,7 @@ ghost use Rattle.symbol_image.specs.SymbolFile.{symbol_file};
 ghost use Rattle.symbol_build.specs.SymbolFiles.{IsFileOfImage, IsSymbolFile, parts_of};
 
 use asm_lines::SourceLine;
-use map_rows::rows::map_rows;
+use map_text::rows::map_rows;
 use mem_map::plan;
 use sloth_base::app::App;
 use sloth_base::config::Config;

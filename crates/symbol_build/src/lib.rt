@@ -9,7 +9,7 @@
 //! the tables find each symbol in it (`symbols_stand`, `specs/StandingSymbols`). The source lines of accepted texts make exactly their rows on the
 //! standard's machine: of each item the address of its first instruction and its line (`source_lines_are_rows`, `specs/SourceRows`); they stand in the
 //! file, as do the entries of symbols and bodies (`files_say_source`, `specs/SourceFiles`). The file: `symbol_image` (`SymbolFile`); lines and entries:
-//! `map_rows` (`LineRows`), `symbol_image` (`LineMachine`, `EntryTree`); the image's map: `sloth_build` (`ImageOf`); texts: `sloth_source` (`Texts`).
+//! `map_text` (`LineRows`), `symbol_image` (`LineMachine`, `EntryTree`); the image's map: `sloth_build` (`ImageOf`); texts: `sloth_source` (`Texts`).
 #![tactic(auto)]
 
 mod building;

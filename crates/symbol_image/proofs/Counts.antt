@@ -1,7 +1,7 @@
 -- The items of the first bodies.
 use Rattle.std.proofs.Common.{◌<◌, ◌≤◌, ◌+◌, ℕ, zero, suc, List, [], ◌∷◌, length, get_or, take, arith}
 use Rattle.sloth_base.specs.declared.app.Func.{Func}
-use Rattle.map_rows.specs.LineRows.{item_count}
+use Rattle.map_text.specs.LineRows.{item_count}
 
 -- they are no more than all
 pub counted_within : (funcs : List Func) (n : ℕ) → item_count (take n funcs) ≤ item_count funcs

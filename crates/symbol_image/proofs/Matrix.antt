@@ -3,7 +3,7 @@ use Rattle.std.proofs.Common.{◌≡◌, ◌≤◌, ◌<◌, ◌+◌, ◌-◌, �
 use Rattle.std.specs.List.{flat_map}
 use Rattle.std.proofs.lemmas.List.Elements.{All-cons, All-nil}
 use Rattle.image_file.specs.Fields.{four_bytes}
-use Rattle.map_rows.specs.declared.line_rows.LineRow.{LineRow}
+use Rattle.map_text.specs.declared.line_rows.LineRow.{LineRow}
 use Rattle.symbol_image.specs.Fields.{signed_leb}
 use Rattle.symbol_image.specs.LineMachine.{AdvanceLine, AdvancePc, AreRisingRows, Copy, EndSequence, HasMatrix, IsOperation, MatrixRow, Operation, Registers, SetAddress, at_first, further_matrix, matrix_of, operation_bytes, wanted_matrix}
 use Rattle.symbol_image.specs.LineSection.{address_from, further_rows, line_from, line_program}

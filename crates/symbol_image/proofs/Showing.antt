@@ -18,7 +18,7 @@ use Rattle.symbol_image.specs.Entries.{all_body_bytes, all_symbol_bytes, array_e
 use Rattle.symbol_image.specs.EntryBytes.{End, Entry, HasForms, Of, Reference, Word, entries_bytes, entry_bytes}
 use Rattle.symbol_image.specs.EntryTree.{HasBodyEntry, HasCodeEntries, HasKindIn, HasSymbolEntry, IsByteType, IsTypeOf, IsWordType}
 use Rattle.symbol_image.specs.Fields.{sized}
-use Rattle.map_rows.specs.LineRows.{item_address, item_count}
+use Rattle.map_text.specs.LineRows.{item_address, item_count}
 
 -- ---- the entries behind the types
 

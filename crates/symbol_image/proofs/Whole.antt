@@ -8,7 +8,7 @@ use Rattle.sloth_base.specs.declared.places.Places.{Places}
 use Rattle.symbol_image.specs.Entries.{all_body_bytes, all_symbol_bytes, base_type, byte_name, info_section, place_behind, types_of, unit_bytes, unit_entry, unit_header, unit_names, unit_places, word_name}
 use Rattle.symbol_image.specs.EntryBytes.{entries_bytes, entry_bytes, value_bytes}
 use Rattle.symbol_image.specs.Fields.{sized}
-use Rattle.map_rows.specs.LineRows.{item_address}
+use Rattle.map_text.specs.LineRows.{item_address}
 use Rattle.symbol_image.specs.declared.types.Types.{Types}
 
 header : unit_header ≡ 4 ∷ 0 ∷ 0 ∷ 0 ∷ 0 ∷ 0 ∷ 4 ∷ []

@@ -9,7 +9,7 @@ use Rattle.sloth_base.specs.declared.app.Op.{Op}
 use Rattle.sloth_base.specs.declared.app.Op.TheVariants as op
 use Rattle.sloth_base.specs.declared.places.Places.{Places}
 use Rattle.symbol_image.specs.Fields.{unsigned_leb}
-use Rattle.map_rows.specs.LineRows.{item_address}
+use Rattle.map_text.specs.LineRows.{item_address}
 
 -- the rules go on behind so many instructions (DW_CFA_advance_loc1 and 2)
 abbrev pub advance_by : (instructions : ℕ) → List ℕ

@@ -10,7 +10,7 @@ use Rattle.sloth_base.specs.declared.places.Places.{Places}
 use Rattle.symbol_image.specs.Abbreviations.{array_kind, base_type_kind, body_kind, frame_kind, index_kind, label_kind, plain_body_kind, unit_kind, variable_kind}
 use Rattle.symbol_image.specs.EntryBytes.{Address, Byte, End, Entry, Location, Of, Offset, Present, Reference, Text, Value, Word, entries_bytes}
 use Rattle.symbol_image.specs.Fields.{sized}
-use Rattle.map_rows.specs.LineRows.{item_address}
+use Rattle.map_text.specs.LineRows.{item_address}
 use Rattle.symbol_image.specs.declared.types.Shape.{Shape}
 use Rattle.symbol_image.specs.declared.types.Shape.TheVariants as shape
 use Rattle.symbol_image.specs.declared.types.Types.{Types}

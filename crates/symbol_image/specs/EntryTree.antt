@@ -9,7 +9,7 @@ use Rattle.symbol_image.specs.Abbreviations.{Abbreviation, abbreviations, array_
 use Rattle.symbol_image.specs.Entries.{base_type, body_entry, byte_name, info_section, shape_of, unit_header, variable_entry, word_name}
 use Rattle.symbol_image.specs.EntryBytes.{End, Entry, HasForms, Of, Reference, Word, entries_bytes}
 use Rattle.symbol_image.specs.Fields.{sized}
-use Rattle.map_rows.specs.LineRows.{item_address, item_count}
+use Rattle.map_text.specs.LineRows.{item_address, item_count}
 use Rattle.symbol_image.specs.declared.types.Shape.{Shape}
 use Rattle.symbol_image.specs.declared.types.Shape.TheVariants as shape
 

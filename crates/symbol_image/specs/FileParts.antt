@@ -4,7 +4,7 @@ use Rattle.sloth_base.specs.declared.app.App.{App}
 use Rattle.sloth_base.specs.declared.config.Config.{Config}
 use Rattle.sloth_region.specs.declared.map.Map.{Map}
 use Rattle.mem_map.specs.Zones.{data_zone}
-use Rattle.map_rows.specs.Borders.{HasBorders}
+use Rattle.map_text.specs.Borders.{HasBorders}
 use Rattle.symbol_image.specs.FrameRows.{HasFrames}
 use Rattle.symbol_image.specs.WordSymbols.{HasWords}
 

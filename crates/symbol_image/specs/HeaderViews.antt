@@ -2,8 +2,8 @@
 use Rattle.std.specs.Prelude.{ℕ, ◌+◌, ◌≡◌, ◌≤◌}
 use Rattle.sloth_base.specs.MemoryMap.{memory_base, vectors_base}
 use Rattle.symbol_image.specs.Headers as headers
-use Rattle.map_rows.specs.declared.borders.Borders.{Borders}
-use Rattle.map_rows.specs.declared.segments.Segment.{Segment}
+use Rattle.map_text.specs.declared.borders.Borders.{Borders}
+use Rattle.map_text.specs.declared.segments.Segment.{Segment}
 
 -- a segment
 abbrev pub segment_of : Segment → headers.Segment

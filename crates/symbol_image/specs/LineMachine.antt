@@ -2,7 +2,7 @@
 use Rattle.std.specs.Prelude.{ℕ, ◌≡◌, ◌≤◌, ◌<◌, ◌+◌, ◌^◌, Bool, true, false, List, [], ◌∷◌, All}
 use Rattle.std.specs.List.{flat_map}
 use Rattle.image_file.specs.Fields.{four_bytes}
-use Rattle.map_rows.specs.declared.line_rows.LineRow.{LineRow}
+use Rattle.map_text.specs.declared.line_rows.LineRow.{LineRow}
 use Rattle.symbol_image.specs.Fields.{signed_leb, unsigned_leb}
 use Rattle.symbol_image.specs.LineSection.{line_program}
 

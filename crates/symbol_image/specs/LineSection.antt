@@ -1,7 +1,7 @@
 -- The section of source lines, `.debug_line` (DWARF 4, 6.2).
 use Rattle.std.specs.Prelude.{ℕ, ◌-◌, List, [], ◌∷◌, ◌++◌}
 use Rattle.image_file.specs.Fields.{four_bytes, two_bytes}
-use Rattle.map_rows.specs.declared.line_rows.LineRow.{LineRow}
+use Rattle.map_text.specs.declared.line_rows.LineRow.{LineRow}
 use Rattle.symbol_image.specs.Fields.{signed_leb, sized, text_bytes, unsigned_leb}
 
 -- the operands of the standard opcodes 1 to 12

@@ -3,18 +3,18 @@ use Rattle.std.specs.Prelude.{ℕ, ◌+◌, ◌-◌, List, [], ◌∷◌, ◌++�
 use Rattle.sloth_base.specs.MemoryMap.{memory_base, vectors_base}
 use Rattle.symbol_image.specs.Abbreviations.{abbreviation_section}
 use Rattle.symbol_image.specs.Entries.{info_section}
-use Rattle.map_rows.specs.LineRows.{line_rows}
+use Rattle.map_text.specs.LineRows.{line_rows}
 use Rattle.symbol_image.specs.LineSection.{line_section}
-use Rattle.map_rows.specs.Rows.{map_rows}
-use Rattle.map_rows.specs.declared.piece_rows.Row.{Row}
-use Rattle.map_rows.specs.Borders.{borders_of}
+use Rattle.map_text.specs.Rows.{map_rows}
+use Rattle.map_text.specs.declared.piece_rows.Row.{Row}
+use Rattle.map_text.specs.Borders.{borders_of}
 use Rattle.symbol_image.specs.FileParts.{FileParts}
 use Rattle.symbol_image.specs.Frames.{frame_section}
 use Rattle.symbol_image.specs.Headers.{elf_header, segment_headers}
 use Rattle.symbol_image.specs.Layout.{Laid, Section, all_laid, front, none_laid, padded, plain, strings, with_names}
 use Rattle.symbol_image.specs.SymbolTable.{name_table, symbol_table}
 use Rattle.symbol_image.specs.Symbols.{locals_of, symbols_of}
-use Rattle.map_rows.specs.declared.borders.Borders.{Borders}
+use Rattle.map_text.specs.declared.borders.Borders.{Borders}
 use Rattle.symbol_image.specs.declared.symbol.Symbol.{Symbol}
 
 -- the rows of the map, and where its zones begin and end

@@ -4,13 +4,13 @@ ghost use Rattle.std.specs.List.{list_any};
 ghost use Rattle.sloth_base.specs.Limits.{item_limit};
 ghost use Rattle.symbol_image.specs.Entries.{all_body_bytes, body_entries, body_entry, end_entries, frame_entries, frame_type_entries, frame_variable_entry, has_below, inner_labels, label_entry, stands_before};
 ghost use Rattle.symbol_image.specs.EntryBytes.{entries_bytes, entry_bytes};
-ghost use Rattle.map_rows.specs.LineRows.{item_count};
+ghost use Rattle.map_text.specs.LineRows.{item_count};
 
 use crate::data::put_array;
 use crate::fields::{put_bytes, put_length, put_text};
 use crate::types::Types;
 use image_file::number_fields::put_u32;
-use map_rows::line_rows::{body_end, item_address};
+use map_text::line_rows::{body_end, item_address};
 use sloth_base::app::{Func, Label};
 use sloth_base::memory::NoMemory;
 use sloth_base::places::Places;

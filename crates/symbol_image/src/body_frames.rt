@@ -2,11 +2,11 @@
 ghost use Rattle.std.specs.Prelude.{ℕ, ◌≡◌, ◌≤◌, ◌<◌, ◌+◌, ◌*◌, ◌++◌, ◌∷◌, [], All, IfOk, OnOk, cond, length, ltb};
 ghost use Rattle.sloth_base.specs.Limits.{frame_limit, item_limit};
 ghost use Rattle.sloth_base.specs.Named.{function};
-ghost use Rattle.map_rows.specs.LineRows.{item_address};
+ghost use Rattle.map_text.specs.LineRows.{item_address};
 ghost use Rattle.symbol_image.specs.BodyFrames.{advance_by, back_rule, body_rules, frame_at, inside, item_rules, items_rules, on_to, own_words, told_at};
 
 use crate::fields::{put_bytes, put_half, put_unsigned};
-use map_rows::line_rows::item_address;
+use map_text::line_rows::item_address;
 use sloth_base::app::{App, Func, Op};
 use sloth_base::memory::NoMemory;
 use sloth_base::memory_map::WORD;

@@ -1,14 +1,14 @@
 //! The section of frames.
 ghost use Rattle.std.specs.Prelude.{◌≡◌, ◌≤◌, ◌<◌, ◌+◌, ◌++◌, [], IfOk, OnOk, cond, get_or, length, ltb, take};
 ghost use Rattle.sloth_base.specs.Limits.{item_limit};
-ghost use Rattle.map_rows.specs.LineRows.{item_count};
+ghost use Rattle.map_text.specs.LineRows.{item_count};
 ghost use Rattle.symbol_image.specs.FrameRows.{HasFrames};
 ghost use Rattle.symbol_image.specs.Frames.{body_entry, entry_of, first_loss, frame_section, has_result, loses, loss_rule, prologue_rules, row_entry, service_rules, word_at, writes, writes_csr};
 
 use crate::body_frames::body_rules;
 use crate::fields::{put_bytes, put_unsigned};
 use crate::frame_entries::{put_common_entry, put_frame_entry, put_unknown};
-use map_rows::{Kind, Row};
+use map_text::{Kind, Row};
 use sloth_base::app::{App, Func};
 use sloth_base::memory::NoMemory;
 use sloth_base::memory_map::{MEMORY_BASE, WORD};

@@ -10,8 +10,8 @@ use crate::fields::{put_bytes, put_length};
 use crate::layout::FRONT;
 use elf_image::headers::put_words;
 use image_file::number_fields::put_u16;
-use map_rows::borders::Borders;
-use map_rows::segments::{Segment, code_segment, data_segment, words_segment};
+use map_text::borders::Borders;
+use map_text::segments::{Segment, code_segment, data_segment, words_segment};
 use sloth_base::memory::NoMemory;
 use sloth_base::memory_map::{BOOT_BASE, MEMORY_BASE};
 

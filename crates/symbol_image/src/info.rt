@@ -4,14 +4,14 @@ ghost use Rattle.std.specs.List.{flat_map};
 ghost use Rattle.sloth_base.specs.Limits.{item_limit};
 ghost use Rattle.symbol_image.specs.Entries.{base_type, byte_name, info_section, unit_bytes, unit_names, unit_places, word_name};
 ghost use Rattle.symbol_image.specs.EntryBytes.{entries_bytes, entry_bytes, value_bytes};
-ghost use Rattle.map_rows.specs.LineRows.{item_count};
+ghost use Rattle.map_text.specs.LineRows.{item_count};
 
 use crate::bodies::put_bodies;
 use crate::data::{put_base_type, put_symbols};
 use crate::fields::{put_bytes, put_text, sized};
 use crate::types::Types;
 use image_file::number_fields::put_u32;
-use map_rows::line_rows::item_address;
+use map_text::line_rows::item_address;
 use sloth_base::app::App;
 use sloth_base::memory::NoMemory;
 use sloth_base::places::Places;

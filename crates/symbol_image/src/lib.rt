@@ -5,12 +5,12 @@
 //! `specs/Loading`); sections of words, code and data have the bytes of the segments (`sections_and_segments_agree`, `specs/Sections`); each symbol
 //! reads back from its tables with its name, address, size and kind (`symbols_read_back`, `specs/Reading`). Which symbols there are:
 //! `specs/Symbols`; their tables: `specs/SymbolTable`; sections one behind the other: `specs/Layout`; headers of the file and of segments:
-//! `specs/Headers`; frames: `specs/Frames`; the lines of data: `data_lines`, `specs/DataLines`. Pieces of an image, their names and where its zones end: `map_rows`
+//! `specs/Headers`; frames: `specs/Frames`; the lines of data: `data_lines`, `specs/DataLines`. Pieces of an image, their names and where its zones end: `map_text`
 //! (`Rows`, `PieceNames`, `Borders`).
 //!
 //! What debuggers read of task code is as DWARF 4 has it, each section exactly the bytes of its definition (`line_section`, `abbreviation_section`,
 //! `info_section`; `specs/LineSection`, `specs/Abbreviations`, `specs/Entries`). On the standard's machine of lines the program of rows whose addresses
-//! and lines do not fall makes exactly them (`lines_are_rows`, `map_rows` `LineRows`, `specs/LineMachine`), and the entries read by the table of kinds
+//! and lines do not fall makes exactly them (`lines_are_rows`, `map_text` `LineRows`, `specs/LineMachine`), and the entries read by the table of kinds
 //! (`entries_show_code`, `specs/EntryTree`, `specs/EntryBytes`). Rules of frames: `put_common_entry`, `put_frame_entry`, `body_rules`,
 //! `specs/FrameEntries`, `specs/BodyFrames`. Fields: `specs/Fields`.
 #![tactic(auto)]

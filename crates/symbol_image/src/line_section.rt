@@ -1,13 +1,13 @@
 //! The section of source lines.
 ghost use Rattle.std.specs.Prelude.{◌≡◌, ◌≤◌, ◌++◌, IfOk, OnOk};
 ghost use Rattle.sloth_base.specs.Limits.{item_limit};
-ghost use Rattle.map_rows.specs.LineRows.{item_count, line_rows};
+ghost use Rattle.map_text.specs.LineRows.{item_count, line_rows};
 ghost use Rattle.symbol_image.specs.LineSection.{address_from, end_behind, first_row, further_rows, line_from, line_header, line_program, line_section, line_unit, row_behind};
 ghost use Rattle.symbol_image.specs.Fields.{sized};
 
 use crate::fields::{put_bytes, put_length, put_signed, put_text, put_unsigned, sized};
 use image_file::number_fields::{put_u16, put_u32};
-use map_rows::line_rows::{LineRow, line_rows};
+use map_text::line_rows::{LineRow, line_rows};
 use sloth_base::app::App;
 use sloth_base::memory::NoMemory;
 use sloth_base::places::Places;

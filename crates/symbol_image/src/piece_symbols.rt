@@ -3,14 +3,14 @@ ghost use Rattle.std.specs.Prelude.{◌≡◌, ◌++◌, OnOk, get_or, length};
 ghost use Rattle.std.specs.List.{flat_map};
 ghost use Rattle.sloth_base.specs.Blocks.{block_object, block_service};
 ghost use Rattle.sloth_base.specs.Named.{no_symbol};
-ghost use Rattle.map_rows.specs.PieceNames.{block_symbol, joined};
+ghost use Rattle.map_text.specs.PieceNames.{block_symbol, joined};
 ghost use Rattle.symbol_image.specs.Symbols.{global_at, global_symbols, local_at, local_symbols};
 ghost use Rattle.symbol_image.specs.declared.symbol.SymbolKind.TheVariants as function;
 
 use crate::symbol::{Binding, Symbol, SymbolKind};
-use map_rows::object_names::{counter_name, function_name, symbol_name, task_name};
-use map_rows::piece_names::{block_symbol, copied, joined};
-use map_rows::{Kind, Row};
+use map_text::object_names::{counter_name, function_name, symbol_name, task_name};
+use map_text::piece_names::{block_symbol, copied, joined};
+use map_text::{Kind, Row};
 use sloth_base::app::App;
 use sloth_base::config::Config;
 use sloth_base::list::List;

@@ -3,12 +3,12 @@ ghost use Rattle.std.specs.Prelude.{◌≡◌, ◌≤◌, ◌<◌, ◌++◌, ◌
 ghost use Rattle.sloth_base.specs.Limits.{alarm_limit, counter_limit, resource_limit, task_limit};
 ghost use Rattle.sloth_base.specs.ConfigRange.{scheduler_number};
 ghost use Rattle.sloth_region.specs.Layout.{saved_level};
-ghost use Rattle.map_rows.specs.PieceNames.{joined};
+ghost use Rattle.map_text.specs.PieceNames.{joined};
 ghost use Rattle.symbol_image.specs.Symbols.{alarm_words, context_symbol, counter_words, first_words, last_words, object_at, resume_words, saved_words, scheduler_word, scheduler_words, state_words, word_symbol, word_symbols};
 ghost use Rattle.symbol_image.specs.WordSymbols.{HasWords};
 
 use crate::symbol::{Binding, Symbol, SymbolKind};
-use map_rows::piece_names::{copied, joined};
+use map_text::piece_names::{copied, joined};
 use sloth_base::config::{AlarmDecl, Config, CounterDecl, TaskDecl};
 use sloth_base::list::List;
 use sloth_base::memory::NoMemory;

@@ -4,13 +4,13 @@ ghost use Rattle.sloth_base.specs.ImageRange.{InFormat};
 ghost use Rattle.sloth_base.specs.Limits.{name_limit, alarm_limit, task_limit};
 ghost use Rattle.system_text.specs.SystemText.{active_text, shown_state, state_line, events_line, task_part, task_parts, counter_line, counter_lines, alarm_line, alarm_lines, system_text};
 
-use line_words::line_text::LineText;
 use osek_scheduler::state::TaskState;
 use sloth_base::image::Image;
 use sloth_base::limits::ALARM_LIMIT;
 use sloth_base::memory::NoMemory;
 use sloth_runner::ServiceWords;
 use sloth_runner::task_states::Seen;
+use trace_text::line_words::LineText;
 
 // The word of an Active task.
 fn active_text(runs: bool) -> &'static [u8]

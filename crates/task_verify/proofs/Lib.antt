@@ -1,1 +1,10 @@
 pub mod Acyclic
+pub mod Lists
+pub mod Paths
+pub mod Searches
+pub mod Tests
+pub mod Uses
+pub mod Labelled
+pub mod Parts
+pub mod Tested
+pub mod EmptyBodies

@@ -5,7 +5,7 @@ ghost use Rattle.code_rules.specs.AppRange.{AppInRange};
 ghost use Rattle.code_rules.specs.WellFormed.{RuleFault};
 ghost use Rattle.call_graph.specs.Ranks.{RanksOf};
 
-use body_faults::faults::body_fault;
+use crate::faults::body_fault;
 use call_graph::ranking::Ranks;
 use least_fault::merge;
 use sloth_base::app::App;

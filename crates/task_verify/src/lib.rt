@@ -1,7 +1,11 @@
 //! The verifier: V2 to V12 judged exactly, and task code that keeps them.
 //!
 //! With ranks that belong to the task code, `verify` gives exactly the least of V2 to V12, or equal copies that are well formed (`Verified`,
-//! `specs/Accepted`). The rules: `code_rules` (`WellFormed`); one body: `body_faults`.
+//! `specs/Accepted`).
+//!
+//! Of one body (where its items go on, what its labels hold, what each item may do):
+//! `body_fault` finds exactly the least of V2 to V12 of a body, or none. How the rules are judged, in parts: `specs/Cases`, `specs/Tests`,
+//! `specs/Ways`, `specs/Labels`. The rules: `code_rules` (`WellFormed`); what a function reaches: `call_graph`.
 #![tactic(auto)]
 
 ghost use Rattle.std.specs.Prelude.{◌≡◌, IfErr, IfOk, OnOk};
@@ -10,8 +14,18 @@ ghost use Rattle.code_rules.specs.AppRange.{AppInRange};
 ghost use Rattle.code_rules.specs.WellFormed.{RuleFault, WellFormed};
 ghost use Rattle.call_graph.specs.Ranks.{RanksOf};
 
+pub mod accesses;
 pub mod bodies;
+pub mod endings;
+pub mod faults;
+pub mod held_resources;
+pub mod items;
+pub mod labels;
+pub mod reachable;
+pub mod tasks;
 pub mod verified;
+pub mod walk;
+pub mod ways;
 
 use crate::bodies::judge;
 use crate::verified::Verified;

@@ -1,10 +1,10 @@
 //! The code of a kernel of one task, at places that are written out.
 ghost use Rattle.std.specs.Prelude.{ℕ, ◌≡◌, ◌<◌, ◌≤◌, ◌∷◌, [], All, IfOk, length, slice_index};
-ghost use Rattle.alarm_gen.specs.Block.{HasAlarmBlock};
+ghost use Rattle.service_gen.specs.AlarmBlock.{HasAlarmBlock};
 ghost use Rattle.code_lengths.specs.Bodies.{IsBodyPlace};
-ghost use Rattle.event_gen.specs.Block.{HasEventBlock};
-ghost use Rattle.prologue_gen.specs.Places.{IsStackTop};
-ghost use Rattle.service_gen.specs.Block.{HasBlock};
+ghost use Rattle.service_gen.specs.EventBlock.{HasEventBlock};
+ghost use Rattle.vector_gen.specs.Places.{IsStackTop};
+ghost use Rattle.service_gen.specs.TaskBlock.{HasBlock};
 ghost use Rattle.sloth_base.specs.ConfigRange.{InRange};
 ghost use Rattle.sloth_base.specs.Limits.{frame_limit, level_count};
 ghost use Rattle.vector_gen.specs.Vectors.{AreInReach};
@@ -12,7 +12,6 @@ ghost use Rattle.vector_gen.specs.Vectors.{AreInReach};
 use crate::plain_values::mark_name;
 use crate::repeats::number_before;
 use crate::rows::{Piece, Rows};
-use prologue_gen::prologue;
 use rv32_instr::{Block, Instr, encode};
 use sloth_base::app::{App, Func};
 use sloth_base::config::Config;
@@ -28,7 +27,7 @@ use sloth_base::service::Service;
 use sloth_region::extent::Extent;
 use sloth_region::map::Map;
 use std::alloc::Global;
-use vector_gen::{boot, idle, vectors};
+use vector_gen::{boot, idle, prologue, vectors};
 
 const IDLE: u32 = 0x8000_0548;
 
@@ -203,7 +202,7 @@ fn list_tick(rows: &mut Rows, config: &Config, levels: &Levels, map: &Map)
     requires { InRange config.now }
 {
     if config.counters.items().len() >= 1 {
-        let made = alarm_gen::tick(rows.alloc(), 0, config, levels, map);
+        let made = service_gen::alarm_block::tick(rows.alloc(), 0, config, levels, map);
         list_made(rows, "tick", made);
     }
 }
@@ -248,7 +247,7 @@ fn list_service(
 )
     requires { HasBlock service object }
 {
-    let made = service_gen::block(rows.alloc(), service, object, config, levels, map);
+    let made = service_gen::task_block::block(rows.alloc(), service, object, config, levels, map);
     list_made(rows, "service", made);
 }
 
@@ -263,7 +262,7 @@ fn list_event_service(
 )
     requires { HasEventBlock service object }
 {
-    let made = event_gen::block(rows.alloc(), service, object, config, levels, map);
+    let made = service_gen::event_block::block(rows.alloc(), service, object, config, levels, map);
     list_made(rows, "service", made);
 }
 
@@ -278,7 +277,7 @@ fn list_alarm_service(
 )
     requires { HasAlarmBlock config.now service object × InRange config.now }
 {
-    let made = alarm_gen::block(rows.alloc(), service, object, config, levels, map);
+    let made = service_gen::alarm_block::block(rows.alloc(), service, object, config, levels, map);
     list_made(rows, "service", made);
 }
 

@@ -18,8 +18,8 @@ use Rattle.sloth_base.specs.Owners.{IsOwned, owners_in}
 use Rattle.sloth_base.specs.Limits.{counter_limit}
 use Rattle.sloth_base.proofs.Owners.{IsCounterLine, owned_cases}
 use Rattle.osek_scheduler.specs.InTime.{InTime}
-use Rattle.line_words.specs.EventNumbers.{HasEventNumbers}
-use Rattle.trace_time.specs.Counts.{AreLinesInRange, IsLineInRange}
+use Rattle.trace_text.specs.EventNumbers.{HasEventNumbers}
+use Rattle.trace_check.specs.Counts.{AreLinesInRange, IsLineInRange}
 use Rattle.walked_events.specs.TraceText.{HasNoFirstLine, HasLine, IsFirstBad, IsEventText}
 use Rattle.sloth_base.specs.DeclaredNames.{AreNamesOf, task_names, counter_names, function_names}
 use Rattle.sloth_base.specs.declared.declared_names.DeclaredNames.{DeclaredNames}

@@ -3,3 +3,12 @@ pub mod Exact
 pub mod Judging
 pub mod Refused
 pub mod OneAnswer
+pub mod Subsequences
+pub mod Scan
+pub mod Order
+pub mod Counts
+pub mod Tail
+pub mod Longer
+pub mod Decided
+pub mod ScanOrder
+pub mod Endings

@@ -3,7 +3,7 @@ use Rattle.std.specs.Prelude.{◌≡◌, ◌≤◌, [], length}
 use Rattle.sloth_base.specs.declared.config.Config.{Config}
 use Rattle.sloth_base.specs.declared.app.App.{App}
 use Rattle.sloth_base.specs.Limits.{counter_limit}
-use Rattle.trace_time.specs.Timed.{KeptPass, TimedBy}
+use Rattle.trace_check.specs.Timed.{KeptPass, TimedBy}
 use Rattle.walked_events.specs.Walk.{IsWalked, Walk}
 use Rattle.sloth_base.specs.DeclaredNames.{AreNamesOf}
 use Rattle.sloth_base.specs.declared.declared_names.DeclaredNames.{DeclaredNames}

@@ -11,6 +11,7 @@ ghost use Rattle.trace_check.specs.Verdicts.{Checked};
 ghost use Rattle.trace_check.specs.Answer.{IsVerdict};
 ghost use Rattle.trace_check.specs.Begun.{IsBegun};
 
+use crate::Timing;
 use sloth_base::app::App;
 use sloth_base::config::Config;
 use sloth_base::declared_names::{DeclaredNames, declared_names};
@@ -18,7 +19,6 @@ use sloth_base::event::{Arrival, Stamped};
 use sloth_base::memory::NoMemory;
 use std::alloc::Global;
 use text_pieces::bytes::behind;
-use trace_time::Timing;
 use walked_events::lines::first_event;
 use walked_events::walk::Walk;
 

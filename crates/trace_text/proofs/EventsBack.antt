@@ -9,10 +9,10 @@ use Rattle.sloth_base.specs.declared.event.Event.TheVariants as event
 use Rattle.sloth_base.specs.declared.event.Stamped.{Stamped}
 use Rattle.text_pieces.specs.Bytes.{is_byte_of}
 use Rattle.text_pieces.proofs.Places.{further, position-cons}
-use Rattle.line_words.specs.EventNumbers.{IsNameNumber, IsNumberOrNone, HasEventNumbers, Has32Bits}
+use Rattle.trace_text.specs.EventNumbers.{IsNameNumber, IsNumberOrNone, HasEventNumbers, Has32Bits}
 use Rattle.trace_text.specs.EventLines.{IsLineOf, counted_line}
 use Rattle.trace_text.specs.EventsRead.{◌>>=◌, first_word, other_words, number, place, place_or_none, more_in, is_single, admission_of, admit_in, tick_in, named_in, event_in, stamped_in, word_of}
-use Rattle.line_words.specs.EventWords.{name_of, event_text, single_in, bare_in}
+use Rattle.trace_text.specs.EventWords.{name_of, event_text, single_in, bare_in}
 use Rattle.trace_text.proofs.Digits.{decimal_lacks, number_back}
 use Rattle.trace_text.proofs.TasksBack.{three, first_is, others_are, is_not_dash, inside, is_name, place_back, number_or_none_back, one_after, cut_there, task_back}
 

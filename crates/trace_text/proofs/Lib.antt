@@ -4,4 +4,4 @@ pub mod TasksBack
 pub mod EventsBack
 pub mod Kept
 pub mod LineByLine
-pub mod Reading
+pub mod LineReading

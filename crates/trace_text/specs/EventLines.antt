@@ -1,7 +1,7 @@
 -- The events that counted lines show.
 use Rattle.std.specs.Prelude.{◌≡◌, ℕ, List, length}
 use Rattle.sloth_base.specs.declared.event.Stamped.{Stamped}
-use Rattle.line_words.specs.EventNumbers.{Has32Bits, HasEventNumbers}
+use Rattle.trace_text.specs.EventNumbers.{Has32Bits, HasEventNumbers}
 use Rattle.trace_text.specs.Lines.{line_with}
 use Rattle.trace_text.specs.declared.printing.Form.TheVariants as form
 

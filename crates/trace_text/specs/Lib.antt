@@ -5,3 +5,7 @@ pub mod Lines
 pub mod Listing
 pub mod Summary
 pub mod Texts
+pub mod EventNumbers
+pub mod EventWords
+pub mod MarkWords
+pub mod StopLine

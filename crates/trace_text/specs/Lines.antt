@@ -2,7 +2,7 @@
 use Rattle.std.specs.Prelude.{ℕ, List, [], ◌++◌, decimal, codes}
 use Rattle.sloth_base.specs.declared.event.Stamped.{Stamped}
 use Rattle.sloth_base.specs.declared.image.Image.{Image}
-use Rattle.line_words.specs.EventWords.{event_text}
+use Rattle.trace_text.specs.EventWords.{event_text}
 use Rattle.trace_text.specs.declared.printing.Form.{Form}
 use Rattle.trace_text.specs.declared.printing.Form.TheVariants as form
 

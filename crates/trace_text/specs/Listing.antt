@@ -4,7 +4,7 @@ use Rattle.hex.specs.Hex.{encode_lower}
 use Rattle.sloth_base.specs.declared.image.Image.{Image}
 use Rattle.sloth_base.specs.declared.image.Mark.{Mark}
 use Rattle.sloth_base.specs.MemoryMap.{memory_base}
-use Rattle.line_words.specs.MarkWords.{word_text, mark_text}
+use Rattle.trace_text.specs.MarkWords.{word_text, mark_text}
 
 -- ---- words and marks
 

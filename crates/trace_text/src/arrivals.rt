@@ -7,8 +7,8 @@ ghost use Rattle.asm_lines.specs.Lines.{lines, without_returns};
 ghost use Rattle.trace_text.specs.ArrivalsText.{arrivals_of, arrivals_in, owners_read, ArrivalLineFault, LinesFault, ArrivalsFault};
 
 use crate::arrival_line::{arrival_of, is_arrival, line_fault};
+use crate::arrival_words::push_arrival;
 use asm_lines::cutting::{line_of, split};
-use line_words::arrivals::push_arrival;
 use sloth_base::event::Arrival;
 use sloth_base::memory::NoMemory;
 use sloth_base::name::Name;

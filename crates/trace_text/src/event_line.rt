@@ -2,16 +2,16 @@
 ghost use Rattle.std.specs.Prelude.{◌≡◌, ℕ, ◌↔◌, Some, IfSome, length};
 ghost use Rattle.sloth_base.specs.ImageRange.{AreNames, AreNamesApart};
 ghost use Rattle.sloth_base.specs.declared.event.Stamped.{Stamped as AnyEvent};
-ghost use Rattle.line_words.specs.EventNumbers.{HasEventNumbers, IsNameNumber, IsNumberOrNone, Has32Bits};
+ghost use Rattle.trace_text.specs.EventNumbers.{HasEventNumbers, IsNameNumber, IsNumberOrNone, Has32Bits};
 ghost use Rattle.trace_text.specs.EventLines.{IsLineOf, counted_line};
 ghost use Rattle.trace_text.specs.EventsRead.{admit_in, call_in, event_in, is_single, left_in, more_in, named_in, number, of_task, place};
 ghost use Rattle.trace_text.specs.EventsRead.{place_or_none, run_in, stamped_in, tick_in};
 
 use crate::arrival_line::position;
+use crate::events::push_event;
+use crate::line_words::LineText;
 use crate::printing::push_counts;
-use line_words::events::push_event;
-use line_words::line_text::LineText;
-use line_words::reading::{bare_in, single_in};
+use crate::reading::{bare_in, single_in};
 use sloth_base::event::{Event, Stamp, Stamped};
 use sloth_base::name::Name;
 use sloth_base::service::service_named;

@@ -1,3 +1,3 @@
 //! A line in a fixed buffer.
 
-pub use line_words::line_text::LineText;
+pub use crate::line_words::LineText;

@@ -4,8 +4,8 @@ ghost use Rattle.hex.specs.Hex.{encode_lower};
 ghost use Rattle.sloth_base.specs.ImageRange.{InFormat, AreAscending};
 ghost use Rattle.trace_text.specs.Listing.{line_at, mark_on, sizes_line, word_bytes, word_line};
 
-use line_words::line_text::LineText;
-use line_words::marks::push_mark;
+use crate::line_words::LineText;
+use crate::marks::push_mark;
 use sloth_base::image::{Image, Mark};
 use sloth_base::memory_map::MEMORY_BASE;
 

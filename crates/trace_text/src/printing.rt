@@ -3,8 +3,8 @@ ghost use Rattle.std.specs.Prelude.{◌≡◌, ◌+◌, ◌≤◌, ◌++◌, len
 ghost use Rattle.sloth_base.specs.ImageRange.{InFormat};
 ghost use Rattle.trace_text.specs.Lines.{counts_text, line_of};
 
-pub use line_words::events::push_event;
-use line_words::line_text::LineText;
+pub use crate::events::push_event;
+use crate::line_words::LineText;
 use sloth_base::event::Stamped;
 use sloth_base::image::Image;
 

@@ -2,3 +2,8 @@ pub mod Booting
 pub mod Idling
 pub mod Jumping
 pub mod Stepping
+pub mod SavedRegisters
+pub mod Entering
+pub mod Starting
+pub mod Resuming
+pub mod BothKinds

@@ -11,9 +11,9 @@ use Rattle.sloth_base.specs.Named.{function, operation, item_of}
 use Rattle.code_rules.specs.Code.{HasCall, is_in}
 use Rattle.code_rules.specs.WellFormed.{WellFormed}
 use Rattle.osek_scheduler.proofs.Facts.{Facts, facts}
-use Rattle.body_faults.specs.Ways.{HasBodyLabel}
-use Rattle.body_faults.specs.Labels.{ArePlaced}
-use Rattle.body_faults.proofs.Tests.{leads}
+use Rattle.task_verify.specs.Ways.{HasBodyLabel}
+use Rattle.task_verify.specs.Labels.{ArePlaced}
+use Rattle.task_verify.proofs.Tests.{leads}
 use Rattle.walk_sums.specs.Graph.{HasMark, ways_of, AreInside}
 use Rattle.walk_sums.specs.CallOrder.{IsCallOrder}
 use Rattle.walk_sums.specs.Activations.{ReachesItem, CanReturn}

@@ -5,7 +5,7 @@ use Rattle.sloth_base.specs.declared.app.App.{App}
 use Rattle.sloth_base.specs.declared.app.Func.{Func}
 use Rattle.sloth_base.specs.Named.{function, item_of}
 use Rattle.sloth_base.specs.Limits.{size_limit}
-use Rattle.body_faults.specs.Ways.{HasBodyLabel}
+use Rattle.task_verify.specs.Ways.{HasBodyLabel}
 use Rattle.walk_sums.specs.declared.graph.Ways.{Ways}
 use Rattle.bound_rules.specs.declared.bodies.Body.{Body}
 use Rattle.bound_rules.specs.declared.sizes.Summary.{Summary}

@@ -2,17 +2,17 @@
 ghost use Rattle.std.specs.Prelude.{◌≡◌, ◌≤◌, ◌<◌, ◌+◌, ℕ, length, map, get_or, None, IfOk};
 ghost use Rattle.code_rules.specs.Code.{held_list_at};
 ghost use Rattle.osek_scheduler.specs.Priority.{greatest, ceiling};
-ghost use Rattle.body_faults.specs.Labels.{last_label_below, ArePlaced};
+ghost use Rattle.task_verify.specs.Labels.{last_label_below, ArePlaced};
 ghost use Rattle.walk_sums.specs.Ceilings.{AreResourceCeilings};
 
-use body_faults::held_resources::{held_after, held_at_label};
-use body_faults::labels::last_labels;
 use osek_scheduler::ceilings::ceiling;
 use sloth_base::app::Func;
 use sloth_base::config::Config;
 use sloth_base::memory::NoMemory;
 use sloth_base::numbers::RES_SCHEDULER;
 use std::alloc::Global;
+use task_verify::held_resources::{held_after, held_at_label};
+use task_verify::labels::last_labels;
 use text_pieces::growth::push;
 
 /// The ceilings of all resources, that of RES_SCHEDULER behind the others.

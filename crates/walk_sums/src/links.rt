@@ -1,16 +1,16 @@
 //! The ways between the items of a body.
 ghost use Rattle.std.specs.Prelude.{◌≡◌, ℕ, ◌<◌, length, IfOk};
 ghost use Rattle.sloth_base.specs.Named.{item_of};
-ghost use Rattle.body_faults.specs.Ways.{HasBodyLabel};
+ghost use Rattle.task_verify.specs.Ways.{HasBodyLabel};
 ghost use Rattle.walk_sums.specs.Graph.{ways_of};
 ghost use Rattle.walk_sums.specs.Links.{open_way, goes_past, next_way, label_way, item_ways};
 
 use crate::graph::Ways;
-use body_faults::ways::{falls, way};
 use bound_rules::marks::is_marked;
 use sloth_base::app::{Func, Op};
 use sloth_base::memory::NoMemory;
 use std::alloc::Global;
+use task_verify::ways::{falls, way};
 use text_pieces::growth::push;
 
 /// The item, where it is open.

@@ -2,7 +2,7 @@
 ghost use Rattle.std.specs.Prelude.{◌≡◌, ◌<◌, ℕ, length, get_or, IfOk};
 ghost use Rattle.sloth_base.specs.Named.{item_of};
 ghost use Rattle.walk_sums.specs.Graph.{AreInside};
-ghost use Rattle.body_faults.specs.Ways.{HasBodyLabel};
+ghost use Rattle.task_verify.specs.Ways.{HasBodyLabel};
 ghost use Rattle.walk_sums.specs.Trails.{AreSizesInLimit};
 ghost use Rattle.walk_sums.specs.Computed.{going_size};
 ghost use Rattle.bound_rules.specs.Summaries.{AreCountedUp};

@@ -12,10 +12,10 @@ use Rattle.sloth_base.specs.declared.service.Service.{Service}
 use Rattle.sloth_base.specs.declared.service.Service.TheVariants as service
 use Rattle.text_pieces.specs.Bytes.{is_byte_of}
 use Rattle.asm_lines.proofs.Cuts.{lacks, has_in}
-use Rattle.line_words.specs.EventNumbers.{HasEventNumbers}
+use Rattle.trace_text.specs.EventNumbers.{HasEventNumbers}
 use Rattle.sloth_base.specs.ServiceCodes.{service_name}
 use Rattle.sloth_base.specs.Events.{named_task}
-use Rattle.line_words.specs.EventWords.{name_of, event_text}
+use Rattle.trace_text.specs.EventWords.{name_of, event_text}
 use Rattle.trace_text.proofs.Digits.{writes}
 
 pub number_lacks : (n : ℕ) → n < 0x1_0000_0000 → is_byte_of 10 (decimal n) ≡ false

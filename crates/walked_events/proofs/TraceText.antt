@@ -13,9 +13,9 @@ use Rattle.sloth_base.specs.declared.event.Stamped.{Stamped}
 use Rattle.text_pieces.specs.Bytes.{is_byte_of}
 use Rattle.asm_lines.specs.Operands.{before, behind}
 use Rattle.asm_lines.proofs.Cuts.{has_here, before_is, behind_is}
-use Rattle.line_words.specs.EventNumbers.{HasEventNumbers}
+use Rattle.trace_text.specs.EventNumbers.{HasEventNumbers}
 use Rattle.trace_text.specs.EventLines.{IsLineOf, counted_line}
-use Rattle.line_words.specs.EventWords.{name_of, event_text}
+use Rattle.trace_text.specs.EventWords.{name_of, event_text}
 use Rattle.trace_text.proofs.EventsBack.{stamped_back}
 use Rattle.walked_events.specs.TraceText.{text_of, HasLine, IsEventText, IsFirstBad, HasFirstLine, HasNoFirstLine}
 use Rattle.walked_events.proofs.OneLine.{number_lacks, fixed, named_lacks, and, task_lacks}

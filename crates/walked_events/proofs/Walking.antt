@@ -25,7 +25,7 @@ use Rattle.osek_scheduler.proofs.Leading.{follows_leads, one_end}
 use Rattle.sloth_base.specs.Owners.{is_counter_line, owners_in, first_counter_line}
 use Rattle.sloth_base.specs.Limits.{task_limit}
 use Rattle.sloth_base.specs.MemoryMap.{line_count}
-use Rattle.osek_plans.specs.Above.{is_above, is_due_line, is_line_above}
+use Rattle.osek_machine.specs.Above.{is_above, is_due_line, is_line_above}
 use Rattle.walked_events.specs.Moments.{KeepsMoments, all_later}
 use Rattle.walked_events.specs.Walk.{Walk, IsWalkStep, IsWalkOrStray, HasStrayAt, IsWalkEnd, IsWalked, task_passes, event_passes}
 use Rattle.walked_events.proofs.Moments.{moments_more, no_moments}

@@ -10,7 +10,7 @@ use Rattle.osek_scheduler.specs.State.{System, task, opening}
 use Rattle.osek_scheduler.specs.Priority.{is_active}
 use Rattle.osek_scheduler.specs.Steps.{OsekStep}
 use Rattle.osek_scheduler.specs.Runs.{OsekRun, AreStepsBehind}
-use Rattle.osek_plans.specs.Above.{is_line_above}
+use Rattle.osek_machine.specs.Above.{is_line_above}
 use Rattle.osek_machine.specs.Steps.{Machine}
 use Rattle.walked_events.specs.Moments.{KeepsMoments, all_later, noted_moments}
 

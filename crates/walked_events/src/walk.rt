@@ -13,9 +13,9 @@ ghost use Rattle.osek_scheduler.specs.Services.{if_suspended};
 ghost use Rattle.walked_events.specs.Moments.{all_later, noted_moments};
 ghost use Rattle.walked_events.specs.Walk.{IsWalkEnd, IsWalked, IsWalkOrStray, IsWalkStep, event_passes, task_passes, with_moment};
 
+use osek_machine::priority::is_active;
+use osek_machine::store::is_suspended;
 use osek_machine::{NotARun, Osek};
-use osek_plans::priority::is_active;
-use osek_plans::store::is_suspended;
 use sloth_base::app::App;
 use sloth_base::config::Config;
 use sloth_base::event::{Event, Stamped};

@@ -15,14 +15,14 @@ use Rattle.sloth_base.specs.ConfigRange.{scheduler_number, no_event}
 use Rattle.sloth_base.specs.Named.{declaration, function, item_of, label_of, no_symbol, symbol_size}
 use Rattle.sloth_base.specs.ServiceCodes.{service_name}
 use Rattle.code_rules.specs.Code.{held_list_at, held_list_entering, is_followed, way}
-use Rattle.body_faults.specs.Labels.{last_label_below}
-use Rattle.fault_ways.specs.CallChains.{chain_end}
-use Rattle.fault_ways.specs.declared.chains.Calls.{Calls}
-use Rattle.fault_ways.specs.declared.chains.Link.{Link}
+use Rattle.task_verify.specs.Labels.{last_label_below}
+use Rattle.fault_witnesses.specs.CallChains.{chain_end}
+use Rattle.fault_witnesses.specs.declared.chains.Calls.{Calls}
+use Rattle.fault_witnesses.specs.declared.chains.Link.{Link}
 use Rattle.fault_witnesses.specs.declared.places.Place.{Place}
 use Rattle.fault_witnesses.specs.declared.places.Place.TheVariants as place
 use Rattle.fault_witnesses.specs.declared.users.User.{User}
-use Rattle.fault_ways.specs.declared.ways.Way.{Way}
+use Rattle.fault_witnesses.specs.declared.ways.Way.{Way}
 use Rattle.fault_witnesses.specs.declared.witnesses.Witness.{Witness}
 
 -- ---- a word and a name

@@ -10,9 +10,9 @@ use Rattle.sloth_source.specs.OilText.{OilText}
 use Rattle.sloth_source.specs.RankedTexts.{HasRanks}
 use Rattle.sloth_source.specs.SourceText.{HasApp}
 use Rattle.sloth_source.specs.Texts.{AreAccepted, FirstRefusal}
-use Rattle.fault_ways.specs.CallChains.{IsCycle}
+use Rattle.fault_witnesses.specs.CallChains.{IsCycle}
 use Rattle.fault_witnesses.specs.Witnesses.{IsWitness}
-use Rattle.fault_ways.specs.declared.chains.Link.{Link}
+use Rattle.fault_witnesses.specs.declared.chains.Link.{Link}
 use Rattle.fault_witnesses.specs.declared.witnesses.Witness.{Witness}
 use Rattle.why_text.specs.NameLines.{AreNameLines}
 use Rattle.why_text.specs.RuleLines.{witness_lines, cycle_line}

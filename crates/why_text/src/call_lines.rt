@@ -4,7 +4,7 @@ ghost use Rattle.why_text.specs.RuleLines.{pair_words, link_words, service_words
 
 use crate::numbered::func_name;
 use crate::pieces::{push_bytes, push_number, push_word};
-use fault_ways::chains::Link;
+use fault_witnesses::chains::Link;
 use sloth_base::app::{App, Item, Op};
 use sloth_base::memory::NoMemory;
 

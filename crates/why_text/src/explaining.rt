@@ -16,7 +16,7 @@ use crate::rule_lines::{cycle_line, witness_lines};
 use asm_lines::{SourceLine, read};
 use asm_parse::parse_app;
 use call_graph::ranking::Ranks;
-use fault_ways::chains::function_at;
+use fault_witnesses::chains::function_at;
 use fault_witnesses::cycles::cycle_calls;
 use fault_witnesses::witnesses::witness_of;
 use sloth_base::app::App;

@@ -10,15 +10,15 @@ use crate::numbered::{
 };
 use crate::pieces::{push_count_line, push_line, push_name, push_number_line};
 use crate::way_lines::push_list_line;
-use body_faults::held_resources::held_by;
-use body_faults::ways::{falls, way};
-use fault_ways::chains::{Calls, Link, chain_end};
+use fault_witnesses::chains::{Calls, Link, chain_end};
 use fault_witnesses::users::User;
 use sloth_base::app::{App, Func, Item, Op};
 use sloth_base::config::Config;
 use sloth_base::memory::NoMemory;
 use sloth_base::service::Service;
 use std::alloc::Global;
+use task_verify::held_resources::held_by;
+use task_verify::ways::{falls, way};
 
 fn push_symbol(text: &mut Vec<u8>, app: &App, symbol: u32) -> Result<(), NoMemory>
     ensures { OnOk result (text.new.items ≡ text.old.items ++ symbol_lines app.now symbol) }

@@ -3,7 +3,7 @@ ghost use Rattle.std.specs.Prelude.{◌≡◌, ◌++◌, ◌<◌, ◌&&◌, ℕ,
 ghost use Rattle.sloth_base.specs.Named.{function, label_of, item_of};
 ghost use Rattle.code_rules.specs.AppRange.{AppInRange};
 ghost use Rattle.code_rules.specs.Code.{held_list_at, held_list_entering};
-ghost use Rattle.body_faults.specs.Labels.{ArePlaced};
+ghost use Rattle.task_verify.specs.Labels.{ArePlaced};
 ghost use Rattle.fault_witnesses.specs.Places.{IsPlace};
 ghost use Rattle.why_text.specs.RuleLines.{own_lines, is_of_held, held_lines, item_lines, lists_at_begin, start_lines, entry_lines, list_line, entered_lines, label_lines, place_lines, witness_lines, cycle_line};
 
@@ -14,17 +14,17 @@ use crate::item_lines::{
 use crate::numbered::{func_line, func_name};
 use crate::pieces::{push_bytes, push_name};
 use crate::way_lines::{push_behind, push_from, push_list_line, push_shown_way, push_way};
-use body_faults::ways::way;
-use fault_ways::chains::{Link, function_at};
-use fault_ways::ways::Way;
+use fault_witnesses::chains::{Link, function_at};
 use fault_witnesses::label_rules::{held_at, held_entering, label_before};
 use fault_witnesses::places::Place;
+use fault_witnesses::ways::Way;
 use fault_witnesses::witnesses::Witness;
 use sloth_base::app::{App, Func};
 use sloth_base::config::Config;
 use sloth_base::memory::NoMemory;
 use sloth_base::refusal::{Code, Refusal};
 use std::alloc::Global;
+use task_verify::ways::way;
 
 fn label_number(label: Option<u32>) -> Option<usize>
     ensures { result ≡ label }

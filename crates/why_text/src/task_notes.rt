@@ -2,9 +2,9 @@
 
 use crate::notes::{Note, add, add_behind};
 use indexmap::IndexSet;
-use oil_events::events::events_of;
 use oil_parse::tree::{OilAttr, OilObject};
 use oil_rules::event_word;
+use oil_table::events::events_of;
 use oil_table::sets::insert;
 use oil_table::{first_use, is_of_kind, is_word, names_of, number_of};
 use sloth_base::config::EventDecl;

@@ -4,7 +4,7 @@ ghost use Rattle.why_text.specs.RuleLines.{item_words, start_line, start_lines, 
 
 use crate::numbered::{item_line, label_line, label_name, resource_name};
 use crate::pieces::{push_bytes, push_number, push_number_line, push_word};
-use fault_ways::ways::Way;
+use fault_witnesses::ways::Way;
 use sloth_base::app::Func;
 use sloth_base::config::Config;
 use sloth_base::memory::NoMemory;

@@ -2,7 +2,7 @@ use Rattle.std.proofs.Common.{◌≡◌, ◌∙◌, List, ◌++◌, ◌∷◌, [
 use Rattle.std.proofs.lemmas.List.{get_or_read_under}
 use Rattle.sloth_base.specs.declared.app.Func.{Func}
 use Rattle.sloth_base.specs.Named.{function, no_function}
-use Rattle.expansion_parts.specs.Passes.{IsCountable, AreShortest}
+use Rattle.rv32_expand.specs.Passes.{IsCountable, AreShortest}
 use Rattle.rv32_expand.proofs.InRangeOf.{small}
 use Rattle.event_weights.specs.Items.{AreLengths}
 use Rattle.event_weights.proofs.BodyLengths.{AreLengthsTo, one_more, whole, short}

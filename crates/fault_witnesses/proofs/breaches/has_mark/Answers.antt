@@ -1,5 +1,5 @@
 use Rattle.std.proofs.Common.{◌∙◌, sym}
-use Rattle.body_faults.proofs.Paths.{path_of}
+use Rattle.task_verify.proofs.Paths.{path_of}
 use Rattle.fault_witnesses.proofs.breaches.has_mark.Goals as goal
 
 pub returns : goal.returns

@@ -2,7 +2,7 @@ use Rattle.std.proofs.Common.{◌<◌, List, ℕ, length, sym, subst}
 use Rattle.sloth_base.specs.declared.app.Func.{Func}
 use Rattle.sloth_base.specs.Named.{function, item_of, operation}
 use Rattle.code_rules.specs.WellFormed.{IsBreach, IsOtherListJump, is_other_list_jump}
-use Rattle.body_faults.specs.Ways.{HasBodyLabel}
+use Rattle.task_verify.specs.Ways.{HasBodyLabel}
 use Rattle.fault_witnesses.proofs.Broken.{all_lead}
 use Rattle.fault_witnesses.proofs.breaches.is_jump_breach.Goals as goal
 

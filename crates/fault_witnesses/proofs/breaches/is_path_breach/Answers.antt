@@ -2,7 +2,7 @@ use Rattle.std.proofs.Common.{ℕ, ◌<◌, length, sym, subst}
 use Rattle.sloth_base.specs.declared.app.Func.{Func}
 use Rattle.sloth_base.specs.Named.{item_of}
 use Rattle.code_rules.specs.WellFormed.{IsBreach, IsUnreached, is_unreached}
-use Rattle.body_faults.specs.Ways.{HasBodyLabel}
+use Rattle.task_verify.specs.Ways.{HasBodyLabel}
 use Rattle.fault_witnesses.proofs.Broken.{all_lead}
 use Rattle.fault_witnesses.proofs.breaches.is_path_breach.Goals as goal
 

@@ -1,8 +1,8 @@
 use Rattle.std.proofs.Common.{◌≡◌, ◌∙◌, ◌<◌, length, sym, subst, true}
 use Rattle.sloth_base.specs.declared.app.Func.{Func}
 use Rattle.sloth_base.specs.Named.{item_of}
-use Rattle.body_faults.specs.Ways.{HasBodyLabel}
-use Rattle.body_faults.specs.Uses.{OperandsOf}
+use Rattle.task_verify.specs.Ways.{HasBodyLabel}
+use Rattle.task_verify.specs.Uses.{OperandsOf}
 use Rattle.fault_witnesses.specs.BreachTests.{plain_test}
 use Rattle.fault_witnesses.proofs.Broken.{plain_broken, all_lead, operands_are}
 use Rattle.fault_witnesses.proofs.breaches.is_plain_breach.Goals as goal

@@ -1,5 +1,5 @@
 use Rattle.std.proofs.Common.{◌∙◌, not, ap, sym}
-use Rattle.body_faults.proofs.Paths.{Decides-unreached}
+use Rattle.task_verify.proofs.Paths.{Decides-unreached}
 use Rattle.fault_witnesses.proofs.breaches.lacks_mark.Goals as goal
 
 pub returns : goal.returns

@@ -1,6 +1,6 @@
 use Rattle.std.proofs.Common.{List, refl, subst}
-use Rattle.fault_ways.specs.CallChains.{IsChain}
-use Rattle.fault_ways.specs.declared.chains.Link.{Link}
+use Rattle.fault_witnesses.specs.CallChains.{IsChain}
+use Rattle.fault_witnesses.specs.declared.chains.Link.{Link}
 use Rattle.fault_witnesses.proofs.calls_behind.leads_to.Goals as goal
 
 pub returns-then-is_chain-clause-chain : goal.returns-then-is_chain-clause-chain

@@ -1,6 +1,6 @@
 use Rattle.std.proofs.Common.{List, subst}
-use Rattle.fault_ways.specs.CallChains.{IsCycle}
-use Rattle.fault_ways.specs.declared.chains.Link.{Link}
+use Rattle.fault_witnesses.specs.CallChains.{IsCycle}
+use Rattle.fault_witnesses.specs.declared.chains.Link.{Link}
 use Rattle.fault_witnesses.proofs.cycles.cycle_if.Goals as goal
 
 pub returns-then-closes : goal.returns-then-closes

@@ -2,9 +2,9 @@ use Rattle.std.proofs.Common.{◌<◌, length, ap, sym, ◌∙◌, add-one, arit
 use Rattle.sloth_base.specs.declared.app.Item.{Item}
 use Rattle.sloth_base.specs.Named.{item_of}
 use Rattle.code_rules.specs.Code.{held_list_fallen_into, held_after}
-use Rattle.body_faults.specs.Labels.{last_label_below, list_of}
-use Rattle.body_faults.proofs.Labelled.{last_inside, held_is}
-use Rattle.body_faults.proofs.Lists.{item_is}
+use Rattle.task_verify.specs.Labels.{last_label_below, list_of}
+use Rattle.task_verify.proofs.Labelled.{last_inside, held_is}
+use Rattle.task_verify.proofs.Lists.{item_is}
 use Rattle.fault_witnesses.proofs.label_rules.fallen_by.Goals as goal
 
 pub held_at_label-requires : goal.held_at_label-requires

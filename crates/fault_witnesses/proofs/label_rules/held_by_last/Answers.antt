@@ -1,6 +1,6 @@
 use Rattle.std.proofs.Common.{◌∙◌, length, ap, sym, arith}
-use Rattle.body_faults.specs.Labels.{last_label_below, list_of}
-use Rattle.body_faults.proofs.Labelled.{last_inside, held_is}
+use Rattle.task_verify.specs.Labels.{last_label_below, list_of}
+use Rattle.task_verify.proofs.Labelled.{last_inside, held_is}
 use Rattle.fault_witnesses.proofs.label_rules.held_by_last.Goals as goal
 
 pub held_at_label-requires : goal.held_at_label-requires

@@ -2,9 +2,9 @@ use Rattle.std.proofs.Common.{◌∙◌, ap, sym, arith}
 use Rattle.sloth_base.specs.declared.app.Label.{Label}
 use Rattle.sloth_base.specs.Named.{label_of}
 use Rattle.code_rules.specs.Code.{held_list_fallen_into}
-use Rattle.body_faults.specs.Labels.{last_label_below, list_of}
-use Rattle.body_faults.proofs.Labelled.{last_inside, entering_is}
-use Rattle.body_faults.proofs.Lists.{label_is}
+use Rattle.task_verify.specs.Labels.{last_label_below, list_of}
+use Rattle.task_verify.proofs.Labelled.{last_inside, entering_is}
+use Rattle.task_verify.proofs.Lists.{label_is}
 use Rattle.fault_witnesses.proofs.label_rules.held_entering.Goals as goal
 
 pub held_at_label-requires : goal.held_at_label-requires

@@ -2,7 +2,7 @@ use Rattle.std.proofs.Common.{◌∙◌, ap, sym}
 use Rattle.std.specs.Prelude.{◌||◌, is_some}
 use Rattle.sloth_base.specs.Named.{label_of}
 use Rattle.code_rules.specs.Code.{is_fallen_into}
-use Rattle.body_faults.proofs.Labelled.{entered_is}
+use Rattle.task_verify.proofs.Labelled.{entered_is}
 use Rattle.fault_witnesses.proofs.label_rules.is_entered.Goals as goal
 
 pub returns : goal.returns

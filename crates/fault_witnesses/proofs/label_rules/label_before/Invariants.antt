@@ -1,6 +1,6 @@
 use Rattle.std.proofs.Common.{◌≡◌}
 use Rattle.sloth_base.specs.Named.{label_of}
-use Rattle.body_faults.specs.Labels.{last_label_below}
+use Rattle.task_verify.specs.Labels.{last_label_below}
 use Rattle.fault_witnesses.proofs.label_rules.label_before.Given as goal
 
 abbrev pub invariant-loop-number : goal.invariant-loop-number

@@ -1,5 +1,5 @@
 use Rattle.std.proofs.Common.{◌∙◌}
-use Rattle.body_faults.proofs.Lists.{any_is_in}
+use Rattle.task_verify.proofs.Lists.{any_is_in}
 use Rattle.fault_witnesses.proofs.users.lists.Goals as goal
 
 pub returns : goal.returns

@@ -1,6 +1,6 @@
 use Rattle.std.proofs.Common.{◌≡◌, List, subst}
-use Rattle.fault_ways.specs.CallChains.{IsChain, chain_end}
-use Rattle.fault_ways.specs.declared.chains.Link.{Link}
+use Rattle.fault_witnesses.specs.CallChains.{IsChain, chain_end}
+use Rattle.fault_witnesses.specs.declared.chains.Link.{Link}
 use Rattle.fault_witnesses.proofs.Shown.{user_is}
 use Rattle.fault_witnesses.proofs.users.user_from.Goals as goal
 

@@ -1,5 +1,5 @@
 use Rattle.std.proofs.Common.{ap, sym, ◌∙◌}
-use Rattle.body_faults.proofs.Lists.{popped}
+use Rattle.task_verify.proofs.Lists.{popped}
 use Rattle.holds_infer.specs.Spread.{list_behind}
 use Rattle.holds_infer.proofs.spread.list_behind.Goals as goal
 

@@ -1,5 +1,5 @@
 use Rattle.std.proofs.Common.{◌+◌, ◌*◌, length}
-use Rattle.body_faults.specs.Ways.{unmarked_count}
+use Rattle.task_verify.specs.Ways.{unmarked_count}
 use Rattle.holds_infer.specs.Spread.{marks, AreSpreading}
 use Rattle.holds_infer.proofs.spread.spread.Given as goal
 

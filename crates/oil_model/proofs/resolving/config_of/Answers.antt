@@ -1,7 +1,7 @@
 use Rattle.std.proofs.Common.{◌∙◌, ap, sym, List}
 use Rattle.std.specs.Prelude.{map}
 use Rattle.sloth_base.specs.declared.config.EventDecl.{EventDecl}
-use Rattle.oil_events.specs.Events.{number_masks}
+use Rattle.oil_table.specs.Events.{number_masks}
 use Rattle.oil_model.proofs.RangeEvents.{event_names}
 use Rattle.oil_model.proofs.resolving.config_of.Goals as goal
 

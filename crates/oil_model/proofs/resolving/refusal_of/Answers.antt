@@ -4,7 +4,7 @@ use Rattle.sloth_base.specs.declared.config.EventDecl.{EventDecl}
 use Rattle.least_fault.specs.Search.{IsSearchResult, Somewhere}
 use Rattle.least_fault.proofs.Kept.{both_are}
 use Rattle.oil_parse.specs.declared.tree.OilObject.{OilObject}
-use Rattle.oil_events.specs.Events.{number_masks}
+use Rattle.oil_table.specs.Events.{number_masks}
 use Rattle.oil_rules.specs.TreeFaults.{TreeFault}
 use Rattle.oil_alarms.specs.AlarmFaults.{AlarmFault}
 use Rattle.oil_model.proofs.RangeEvents.{event_names}

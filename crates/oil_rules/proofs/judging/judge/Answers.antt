@@ -6,7 +6,7 @@ use Rattle.least_fault.proofs.Kept.{both_are}
 use Rattle.oil_parse.specs.declared.tree.OilObject.{OilObject}
 use Rattle.oil_table.specs.Cases.{OilCase}
 use Rattle.oil_table.specs.Objects.{has_scheduler}
-use Rattle.oil_events.specs.Events.{events_of, BitFault}
+use Rattle.oil_table.specs.Events.{events_of, BitFault}
 use Rattle.oil_rules.specs.TreeFaults.{ObjectFault, lacks_os}
 use Rattle.sloth_base.specs.declared.refusal.Part.TheVariants.{Oil}
 use Rattle.least_fault.proofs.Cases.{case_found}

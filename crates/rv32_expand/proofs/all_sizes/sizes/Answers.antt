@@ -1,7 +1,7 @@
 use Rattle.std.proofs.Common.{◌≡◌, ◌∙◌, ◌+◌, List, ◌++◌, length, get_or, sym, ap, subst, arith}
 use Rattle.std.proofs.lemmas.Grind.{common_steps}
 use Rattle.sloth_base.specs.declared.app.Func.{Func}
-use Rattle.expansion_parts.specs.Passes.{IsCountable}
+use Rattle.rv32_expand.specs.Passes.{IsCountable}
 use Rattle.rv32_expand.proofs.InRangeOf.{small}
 use Rattle.rv32_expand.proofs.AllBodies.{one_more, whole, AreSizesTo}
 use Rattle.rv32_expand.proofs.all_sizes.sizes.Goals as goal

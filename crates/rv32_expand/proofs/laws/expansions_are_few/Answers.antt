@@ -1,6 +1,6 @@
 use Rattle.rv32_expand.proofs.InRangeOf.{frame_of}
 use Rattle.std.proofs.Common.{arith}
-use Rattle.expansion_parts.proofs.Counts.{size_is, size_few}
+use Rattle.rv32_expand.proofs.Counts.{size_is, size_few}
 use Rattle.rv32_expand.proofs.laws.expansions_are_few.Goals as goal
 
 pub returns : goal.returns

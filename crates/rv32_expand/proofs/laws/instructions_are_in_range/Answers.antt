@@ -1,4 +1,4 @@
-use Rattle.expansion_parts.specs.Expansion.{item_address, is_long}
+use Rattle.rv32_expand.specs.Expansion.{item_address, is_long}
 use Rattle.sloth_base.specs.Named.{operation}
 use Rattle.rv32_expand.proofs.Encodable.{are_in_range}
 use Rattle.rv32_expand.proofs.Verified.{items_fit}

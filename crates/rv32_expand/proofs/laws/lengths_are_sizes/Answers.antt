@@ -1,4 +1,4 @@
-use Rattle.expansion_parts.proofs.Counts.{size_is}
+use Rattle.rv32_expand.proofs.Counts.{size_is}
 use Rattle.rv32_expand.proofs.laws.lengths_are_sizes.Goals as goal
 
 pub returns : goal.returns

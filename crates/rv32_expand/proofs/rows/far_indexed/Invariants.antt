@@ -1,5 +1,5 @@
 use Rattle.std.proofs.Common.{◌≡◌, ◌++◌, drop, length}
-use Rattle.expansion_parts.specs.FarAccesses.{wide}
+use Rattle.rv32_expand.specs.FarAccesses.{wide}
 use Rattle.rv32_expand.proofs.rows.far_indexed.Given as goal
 
 abbrev pub invariant-loop-instr : goal.invariant-loop-instr

@@ -2,7 +2,7 @@ use Rattle.std.proofs.Common.{◌<◌, List, length, subst, sym}
 use Rattle.sloth_base.specs.declared.app.Func.{Func}
 use Rattle.sloth_base.specs.Named.{function}
 use Rattle.osek_scheduler.proofs.Facts.{facts}
-use Rattle.body_faults.specs.Labels.{ArePlaced}
+use Rattle.task_verify.specs.Labels.{ArePlaced}
 use Rattle.call_graph.proofs.Growing.{held_more}
 use Rattle.shared_data.specs.declared.held.HeldRow.{HeldRow}
 use Rattle.shared_data.specs.Sites.{no_row, AreHeld}

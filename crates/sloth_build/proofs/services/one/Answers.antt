@@ -1,6 +1,6 @@
 use Rattle.std.proofs.Common.{◌∙◌, sym, subst}
 use Rattle.sloth_base.specs.Blocks.{block_object}
-use Rattle.service_blocks.specs.Calls.{IsCalledWith}
+use Rattle.service_gen.specs.Calls.{IsCalledWith}
 use Rattle.sloth_build.proofs.Places.{some_same, served_at}
 use Rattle.sloth_build.proofs.services.one.Goals as goal
 

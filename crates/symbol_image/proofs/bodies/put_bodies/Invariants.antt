@@ -1,6 +1,6 @@
 use Rattle.std.proofs.Common.{◌≡◌, ◌+◌, ◌++◌, drop, length}
 use Rattle.symbol_image.specs.Entries.{all_body_bytes}
-use Rattle.map_rows.specs.LineRows.{item_count}
+use Rattle.map_text.specs.LineRows.{item_count}
 use Rattle.symbol_image.proofs.bodies.put_bodies.Given as goal
 
 abbrev pub invariant-loop-func : goal.invariant-loop-func

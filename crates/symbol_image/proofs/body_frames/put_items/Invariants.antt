@@ -1,6 +1,6 @@
 use Rattle.std.proofs.Common.{◌≡◌, ◌+◌, ◌++◌, drop}
 use Rattle.symbol_image.specs.BodyFrames.{items_rules}
-use Rattle.map_rows.specs.LineRows.{item_address}
+use Rattle.map_text.specs.LineRows.{item_address}
 use Rattle.symbol_image.proofs.body_frames.put_items.Given as goal
 
 abbrev pub invariant-loop-k : goal.invariant-loop-k

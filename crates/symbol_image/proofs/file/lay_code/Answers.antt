@@ -1,6 +1,6 @@
 use Rattle.std.proofs.Common.{◌∙◌, codes, ap}
 use Rattle.std.proofs.lemmas.Result.{on_ok_weaker}
-use Rattle.map_rows.specs.declared.borders.Range.{Range}
+use Rattle.map_text.specs.declared.borders.Range.{Range}
 use Rattle.sloth_base.specs.MemoryMap.{memory_base, vectors_base}
 use Rattle.symbol_image.specs.Layout.{Laid, laid_with}
 use Rattle.symbol_image.specs.LayoutViews.{laid_of}

@@ -1,6 +1,6 @@
 use Rattle.std.proofs.Common.{◌∙◌, ℕ, List, codes, ap}
 use Rattle.std.proofs.lemmas.Result.{on_ok_weaker}
-use Rattle.map_rows.specs.LineRows.{line_rows}
+use Rattle.map_text.specs.LineRows.{line_rows}
 use Rattle.symbol_image.specs.LineSection.{line_section}
 use Rattle.symbol_image.specs.FileParts.{FileParts}
 use Rattle.symbol_image.specs.Layout.{laid_with, plain}

@@ -1,5 +1,5 @@
 use Rattle.std.proofs.Common.{◌≡◌, ◌+◌, drop, take}
-use Rattle.map_rows.specs.LineRows.{item_count}
+use Rattle.map_text.specs.LineRows.{item_count}
 use Rattle.symbol_image.proofs.frames.items_before.Given as goal
 
 abbrev pub invariant-loop-func : goal.invariant-loop-func

@@ -1,7 +1,7 @@
 use Rattle.std.proofs.Common.{◌≤◌, ◌<◌, List, length, ap, subst, sym, arith}
 use Rattle.sloth_base.specs.Limits.{item_limit}
 use Rattle.sloth_base.specs.declared.app.Func.{Func}
-use Rattle.map_rows.specs.LineRows.{item_count}
+use Rattle.map_text.specs.LineRows.{item_count}
 use Rattle.symbol_image.proofs.Counts.{counted_with, counted_within}
 use Rattle.symbol_image.proofs.frames.put_body.Goals as goal
 

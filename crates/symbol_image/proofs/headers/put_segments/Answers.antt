@@ -1,6 +1,6 @@
 use Rattle.std.proofs.Common.{◌∙◌, ◌++◌, ap}
 use Rattle.std.proofs.lemmas.Result.{on_ok_weaker}
-use Rattle.map_rows.specs.declared.segments.Segment.{Segment}
+use Rattle.map_text.specs.declared.segments.Segment.{Segment}
 use Rattle.sloth_base.specs.MemoryMap.{memory_base, vectors_base}
 use Rattle.symbol_image.specs.HeaderViews.{segment_of}
 use Rattle.symbol_image.specs.Headers.{segment_header}

@@ -1,7 +1,7 @@
 use Rattle.std.proofs.Common.{◌≡◌, List, subst, rules}
 use Rattle.std.specs.Result.{IfOk}
-use Rattle.map_rows.specs.declared.line_rows.LineRow.{LineRow}
-use Rattle.map_rows.specs.LineRows.{line_rows}
+use Rattle.map_text.specs.declared.line_rows.LineRow.{LineRow}
+use Rattle.map_text.specs.LineRows.{line_rows}
 use Rattle.symbol_image.specs.LineSection.{line_section}
 use Rattle.symbol_image.proofs.line_section.line_section.Goals as goal
 

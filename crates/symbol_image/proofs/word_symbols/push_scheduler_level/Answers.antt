@@ -1,6 +1,6 @@
 use Rattle.std.proofs.Common.{◌∙◌, ℕ, [], ◌∷◌, ◌++◌, codes, ap}
 use Rattle.std.proofs.lemmas.Result.{on_ok_weaker}
-use Rattle.map_rows.specs.PieceNames.{joined}
+use Rattle.map_text.specs.PieceNames.{joined}
 use Rattle.symbol_image.specs.Symbols.{word_symbol}
 use Rattle.symbol_image.proofs.word_symbols.push_scheduler_level.Goals as goal
 

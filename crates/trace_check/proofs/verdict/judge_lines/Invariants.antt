@@ -2,7 +2,7 @@ use Rattle.std.proofs.Common.{◌≡◌, [], List, length}
 use Rattle.sloth_base.specs.declared.app.App.{App}
 use Rattle.sloth_base.specs.declared.config.Config.{Config}
 use Rattle.sloth_base.specs.declared.event.Stamped.{Stamped}
-use Rattle.trace_time.specs.Timed.{TimedBy}
+use Rattle.trace_check.specs.Timed.{TimedBy}
 use Rattle.walked_events.proofs.ReadEvents.{HasRead}
 use Rattle.walked_events.specs.Walk.{IsWalked, IsWalkOrStray}
 use Rattle.trace_check.proofs.verdict.judge_lines.Given as goal

@@ -5,7 +5,7 @@ use Rattle.sloth_base.specs.declared.event.Arrival.{Arrival}
 use Rattle.text_pieces.specs.Names.{referent}
 use Rattle.trace_text.specs.ArrivalsText.{is_arrival, arrival_of, arrivals_of, ArrivalLineFault}
 use Rattle.trace_text.proofs.LineByLine.{next-of, values-more, one-sound, first-error}
-use Rattle.trace_text.proofs.Reading.{fault_line}
+use Rattle.trace_text.proofs.LineReading.{fault_line}
 use Rattle.trace_text.proofs.arrivals.read_lines.Goals as goal
 
 pub returns-in_err-read_line-clause-refused : goal.returns-in_err-read_line-clause-refused

@@ -3,7 +3,7 @@ use Rattle.std.specs.Prelude.{◌==◌, ◌||◌, not, ltb}
 use Rattle.std.specs.Int.{bit_at}
 use Rattle.sloth_base.specs.MemoryMap.{line_count}
 use Rattle.osek_scheduler.specs.Next.{all_below}
-use Rattle.osek_plans.proofs.Below.{not_all}
+use Rattle.osek_machine.proofs.Below.{not_all}
 use Rattle.walked_events.specs.Moments.{all_later}
 use Rattle.walked_events.proofs.walk.all_later.Goals as goal
 

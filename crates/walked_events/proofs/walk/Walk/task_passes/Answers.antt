@@ -2,7 +2,7 @@ use Rattle.std.proofs.Common.{◌≡◌, ◌∙◌, true, length, cond, sym, ap,
 use Rattle.std.specs.Prelude.{◌&&◌, ltb}
 use Rattle.osek_scheduler.specs.State.{task}
 use Rattle.osek_scheduler.specs.Priority.{is_active}
-use Rattle.osek_plans.specs.Above.{is_line_above}
+use Rattle.osek_machine.specs.Above.{is_line_above}
 use Rattle.walked_events.specs.Moments.{all_later}
 use Rattle.walked_events.specs.Walk.{Walk, task_passes}
 use Rattle.walked_events.proofs.Walking.{same_row}

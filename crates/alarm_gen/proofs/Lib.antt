@@ -1,9 +1,0 @@
-pub mod Passing
-pub mod Flags
-pub mod Looking
-pub mod Acting
-pub mod Lengths
-pub mod Ticking
-pub mod Using
-pub mod Setting
-pub mod Numbering

@@ -1,3 +1,0 @@
-mod Told
-pub mod OneTold
-pub mod KeptTold

@@ -1,4 +1,0 @@
-pub mod Bounds
-pub mod Kept
-pub mod Highest
-pub mod Stretches

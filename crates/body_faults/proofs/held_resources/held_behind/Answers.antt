@@ -1,9 +1,0 @@
-use Rattle.std.proofs.Common.{ap, sym, ◌∙◌}
-use Rattle.code_rules.specs.Code.{held_behind}
-use Rattle.body_faults.proofs.Lists.{popped}
-use Rattle.body_faults.proofs.held_resources.held_behind.Goals as goal
-
-pub returns-in-ReleaseResource : goal.returns-in-ReleaseResource
-returns-in-ReleaseResource c =
-    popped c.args.held.items c.pop.new.self.items c.args.held.len c.args.held.ok.0 c.pop.ensures.rest
-    ∙ sym (ap (λ s. held_behind s c.args.call.object c.args.held.items) c.in-ReleaseResource.is)

@@ -1,5 +1,0 @@
-pub mod Tests
-pub mod Uses
-pub mod Labels
-pub mod Ways
-pub mod Cases

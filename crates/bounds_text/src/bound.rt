@@ -1,0 +1,122 @@
+//! The blocking bound of each task.
+ghost use Rattle.std.specs.Prelude.{◌≡◌, ◌<◌, length, IfOk};
+ghost use Rattle.code_rules.specs.WellFormed.{WellFormed};
+ghost use Rattle.call_graph.specs.Ranks.{RanksOf};
+ghost use Rattle.call_graph.specs.Reached.{any_below};
+ghost use Rattle.walk_sums.specs.Weights.{item_weights};
+ghost use Rattle.walk_sums.specs.Sections.{AreToldSums, AreAllSums};
+ghost use Rattle.bounds_text.specs.Kept.{RunsKeepTold};
+ghost use Rattle.bounds_text.specs.Bounds.{IsTold, AreToldBounds, is_below, bound_by, bound_of};
+
+pub use bound_rules::bound::Bound;
+use bound_rules::bound::told;
+use call_graph::ranking::Ranks;
+use sloth_base::app::App;
+use sloth_base::config::{Config, TaskDecl};
+use sloth_base::list::List;
+use sloth_base::memory::NoMemory;
+use std::alloc::Global;
+use task_verify::verified::Verified;
+use text_pieces::growth::push;
+use walk_sums::sections::{greatest_of, section_sums};
+use walk_sums::sum::Sum;
+use walk_sums::weights::item_weights;
+
+/// Whether the task is lower than this priority.
+fn is_below(tasks: &[TaskDecl], priority: u32, task: usize) -> bool
+    requires { task < length tasks.now }
+    ensures { result ≡ is_below tasks.now priority task }
+{
+    tasks[task].priority < priority
+}
+
+/// Whether some task is lower than this priority.
+pub fn has_lower(tasks: &[TaskDecl], priority: u32) -> bool
+    ensures { result ≡ any_below (length tasks.now) (is_below tasks.now priority) }
+{
+    let mut lower = false;
+    for task in 0..tasks.len() {
+        lower = lower || is_below(tasks, priority, task);
+    }
+    lower
+}
+
+/// The bound by the greatest size of the sections of lower tasks.
+fn bound_by(greatest: Sum) -> Bound
+    ensures { result ≡ bound_by greatest }
+{
+    match greatest {
+        Sum::Counts(size) => told(size),
+        Sum::Huge => Bound::Huge,
+        Sum::Endless => Bound::Endless,
+    }
+}
+
+/// The bound of a task, from the sums of the sections of all tasks for it.
+fn bound_of(tasks: &[TaskDecl], sums: &[Sum], task: usize) -> Bound
+    requires { task < length tasks.now }
+    ensures { result ≡ bound_of tasks.now sums.now task }
+{
+    if has_lower(tasks, tasks[task].priority) {
+        bound_by(greatest_of(sums))
+    } else {
+        Bound::Items(0)
+    }
+}
+
+/// The same, where that is well-formed task code.
+fn bound_in(config: &Config, app: &App, sums: &[Sum], task: usize) -> Bound
+    requires well_formed { WellFormed config.now app.now }
+    requires inside { task < length config.now.tasks }
+    requires sums { AreToldSums config.now app.now (item_weights app.now) task sums.now }
+    ensures { IsTold config.now app.now task result }
+{
+    bound_of(config.tasks.items(), sums, task)
+}
+
+/// The bounds of all tasks.
+fn bounds_by(
+    alloc: Global,
+    config: &Config,
+    app: &App,
+    table: &[List<Sum>],
+) -> Result<Vec<Bound>, NoMemory>
+    requires well_formed { WellFormed config.now app.now }
+    requires table { AreAllSums config.now app.now (item_weights app.now) table.now }
+    ensures { IfOk result (λ bounds. AreToldBounds config.now app.now bounds.items) }
+{
+    let mut bounds = Vec::new(alloc);
+    for task in 0..config.tasks.items().len() {
+        push(
+            &mut bounds,
+            bound_in(config, app, table[task].items(), task),
+        )?;
+    }
+    Ok(bounds)
+}
+
+/// Those of well-formed task code.
+fn bounds_of(
+    alloc: Global,
+    config: &Config,
+    app: &App,
+    ranks: &Ranks,
+) -> Result<Vec<Bound>, NoMemory>
+    requires well_formed { WellFormed config.now app.now }
+    requires belong { RanksOf app.now ranks.now }
+    ensures { IfOk result (λ bounds. AreToldBounds config.now app.now bounds.items) }
+{
+    let weights = item_weights(alloc, app)?;
+    let table = section_sums(alloc, config, app, ranks, &weights)?;
+    bounds_by(alloc, config, app, &table)
+}
+
+/// The blocking bound of each task in items, or that it is above the greatest that is told, or that there is none.
+pub fn bounds(alloc: Global, verified: &Verified, ranks: &Ranks) -> Result<List<Bound>, NoMemory>
+    requires { RanksOf verified.now.app ranks.now }
+    ensures exact { IfOk result (AreToldBounds verified.now.config verified.now.app) }
+    ensures kept { IfOk result (RunsKeepTold verified.now.config verified.now.app) }
+{
+    let bounds = bounds_of(alloc, verified.config(), verified.app(), ranks)?;
+    Ok(List::from_vec(bounds))
+}

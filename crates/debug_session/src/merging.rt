@@ -1,0 +1,83 @@
+//! Lines, without those of an idle behind an idle, and those on each side of a count.
+ghost use Rattle.std.specs.Prelude.{◌≡◌, ◌++◌, ◌-◌, ◌∷◌, [], map, IfOk, OnOk, length, take, nat_lt, false, if◌then◌else◌};
+ghost use Rattle.text_pieces.specs.Names.{referent};
+ghost use Rattle.debug_session.specs.Around.{whole_lines, is_idle, merged_from, merged, end_of, ended, further};
+
+use asm_lines::cutting::split;
+use sloth_base::memory::NoMemory;
+use std::alloc::Global;
+use text_pieces::bytes::{before, behind, same};
+use text_pieces::growth::push;
+use text_pieces::numerals::value;
+
+// Whether a line is that of an idle.
+fn is_idle(line: &[u8]) -> bool
+    ensures { result ≡ is_idle line.now }
+{
+    same(behind(behind(line, b' '), b' '), b"idle")
+}
+
+// Puts a line, unless it is left out.
+fn keep<'a>(lines: &mut Vec<&'a [u8]>, line: &'a [u8], left_out: bool) -> Result<(), NoMemory>
+    ensures { OnOk result (map referent lines.new.items ≡ (if left_out then map referent lines.old.items else map referent lines.old.items ++ line.now ∷ [])) }
+{
+    if left_out {
+        return Ok(());
+    }
+    push(lines, line)
+}
+
+// The lines of parts but the last.
+fn merged_parts<'a>(alloc: Global, parts: &[&'a [u8]]) -> Result<Vec<&'a [u8]>, NoMemory>
+    ensures { IfOk result (λ lines. map referent lines.items ≡ merged_from false (map referent (take (length parts.now - 1) parts.now))) }
+{
+    let mut lines = Vec::new(alloc);
+    let mut after_idle = false;
+    let whole = parts.len().saturating_sub(1);
+    for part in &parts[..whole] {
+        let idle = is_idle(*part);
+        keep(&mut lines, *part, after_idle && idle)?;
+        after_idle = idle;
+    }
+    Ok(lines)
+}
+
+// Whether the event of a line ends before a count.
+fn is_ended(line: &[u8], count: u32) -> bool
+    ensures { result ≡ nat_lt (end_of line.now) count }
+{
+    value(before(behind(line, b' '), b' '), 10) < u64::from(count)
+}
+
+/// The lines of events that end before a count.
+pub fn ended<'a>(alloc: Global, lines: &[&'a [u8]], count: u32) -> Result<Vec<&'a [u8]>, NoMemory>
+    ensures { IfOk result (λ kept. map referent kept.items ≡ ended count (map referent lines.now)) }
+{
+    let mut kept = Vec::new(alloc);
+    for line in lines {
+        let before = is_ended(*line, count);
+        keep(&mut kept, *line, !before)?;
+    }
+    Ok(kept)
+}
+
+/// The lines of the others.
+pub fn further<'a>(alloc: Global, lines: &[&'a [u8]], count: u32) -> Result<Vec<&'a [u8]>, NoMemory>
+    ensures { IfOk result (λ kept. map referent kept.items ≡ further count (map referent lines.now)) }
+{
+    let mut kept = Vec::new(alloc);
+    for line in lines {
+        let before = is_ended(*line, count);
+        keep(&mut kept, *line, before)?;
+    }
+    Ok(kept)
+}
+
+/// The lines of a text, without those of an idle directly behind an idle.
+pub fn merged<'a>(alloc: Global, text: &'a [u8]) -> Result<Vec<&'a [u8]>, NoMemory>
+    ensures { IfOk result (λ lines. map referent lines.items ≡ merged text.now) }
+{
+    let parts = split(alloc, text, b'\n')?;
+    let lines = merged_parts(alloc, parts.as_slice())?;
+    Ok(lines)
+}

@@ -1,4 +1,0 @@
-pub mod Counts
-pub mod Growth
-pub mod Passing
-pub mod PassTo

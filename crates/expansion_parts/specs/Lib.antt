@@ -1,5 +1,0 @@
-pub mod Expansion
-pub mod Long
-pub mod Passes
-pub mod Nothing
-pub mod FarAccesses

@@ -1,6 +1,0 @@
-pub mod Kept
-pub mod Straight
-pub mod Clean
-pub mod Holding
-pub mod Chained
-pub mod Marked

@@ -1,4 +1,0 @@
-pub mod CleanWays
-pub mod BodyLists
-pub mod CallChains
-pub mod WayLaws

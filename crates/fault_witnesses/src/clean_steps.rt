@@ -1,0 +1,140 @@
+//! Steps from item to item that keep the rules on resources.
+ghost use Rattle.std.specs.Prelude.{◌≡◌, ◌==◌, ◌<◌, ◌+◌, ◌&&◌, not, ℕ, length, true, Decides, IfOk};
+ghost use Rattle.sloth_base.specs.Named.{item_of};
+ghost use Rattle.std.specs.List.{list_any};
+ghost use Rattle.code_rules.specs.Code.{IsPathStep, held_after, is_in};
+ghost use Rattle.call_graph.specs.Rows.{is_get};
+ghost use Rattle.task_verify.specs.Ways.{HasBodyLabel};
+ghost use Rattle.fault_witnesses.specs.BodyLists.{AreBodyLists, AreLed};
+ghost use Rattle.fault_witnesses.specs.CleanWays.{is_own_second_take, is_orderly, IsCleanStep, way_item};
+
+use crate::body_lists::{BodyLists, KeptList};
+use sloth_base::app::{Func, Op};
+use sloth_base::memory::NoMemory;
+use sloth_base::service::Service;
+use std::alloc::Global;
+use task_verify::held_resources::{held_after, is_wrong_release};
+use task_verify::ways::{jump_of, next_of};
+
+fn is_get(service: Service) -> bool
+    ensures { result ≡ is_get service }
+{
+    matches!(service, Service::GetResource)
+}
+
+fn is_one_of(held: &[u32], resource: u32) -> bool
+    ensures { result ≡ list_any (λ taken. taken == resource) held.now }
+{
+    held.iter().any(|taken| *taken == resource)
+}
+
+fn is_in(held: &[u32], resource: u32) -> bool
+    ensures { result ≡ is_in resource held.now }
+{
+    is_one_of(held, resource)
+}
+
+/// Whether it is a service that takes one of these.
+pub fn is_own_second_take(held: &[u32], op: Op) -> bool
+    ensures { result ≡ is_own_second_take held.now op }
+{
+    match op {
+        Op::Serve(call) => is_get(call.service) && is_in(held, call.object),
+        _ => false,
+    }
+}
+
+/// Whether the operation takes none of these, and releases none but the last.
+pub fn is_orderly(held: &[u32], op: &Op) -> bool
+    ensures { result ≡ is_orderly held.now op.now }
+{
+    !is_wrong_release(held, *op) && !is_own_second_take(held, *op)
+}
+
+// Whether item `from` goes on or jumps to item `to`, another one.
+fn goes(func: &Func, from: usize, to: usize) -> bool
+    requires inside { from < length func.now.items }
+    requires labels { HasBodyLabel func.now (item_of func.now from).op }
+    ensures { result ≡ true → IsPathStep func.now from to }
+{
+    from != to && (next_of(func, from) == to || jump_of(func, from) == to)
+}
+
+// Whether the operation is orderly with the first list, and makes the second of it.
+fn leads(alloc: Global, before: &[u32], op: &Op, behind: &[u32]) -> Result<bool, NoMemory>
+    ensures { IfOk result (λ clean. clean ≡ true → (is_orderly before.now op.now ≡ true) × (behind.now ≡ held_after op.now before.now)) }
+{
+    if !is_orderly(before, op) {
+        return Ok(false);
+    }
+    let held = before.to_vec(alloc)?;
+    let held = held_after(held, *op)?;
+    Ok(is_same(&held, behind))
+}
+
+fn is_same(one: &[u32], other: &[u32]) -> bool
+    ensures { Decides result (one.now ≡ other.now) }
+{
+    if one.len() != other.len() {
+        return false;
+    }
+    for (number, resource) in one.iter().enumerate() {
+        if *resource != other[number] {
+            return false;
+        }
+    }
+    true
+}
+
+// The same by the lists that are kept.
+fn leads_by(alloc: Global, before: &KeptList, op: &Op, behind: &KeptList) -> Result<bool, NoMemory>
+    ensures { IfOk result (λ clean. clean ≡ true → AreLed before.now op.now behind.now) }
+{
+    if !before.kept || !behind.kept {
+        return Ok(false);
+    }
+    leads(alloc, before.list.items(), op, behind.list.items())
+}
+
+/// Whether item `from` steps cleanly to item `to`. It may answer no where lists are long.
+pub fn is_clean_step(
+    alloc: Global,
+    func: &Func,
+    tables: &BodyLists,
+    from: usize,
+    to: usize,
+) -> Result<bool, NoMemory>
+    requires labels { (i : ℕ) → i < length func.now.items → HasBodyLabel func.now (item_of func.now i).op }
+    requires tables { AreBodyLists func.now tables.now }
+    ensures { IfOk result (λ clean. clean ≡ true → IsCleanStep func.now from to) }
+{
+    let items = func.items.items();
+    let lists = tables.lists.items();
+    let agreed = tables.agreed.items();
+    if from >= items.len() || to >= items.len() || from >= lists.len() || to >= lists.len() {
+        return Ok(false);
+    }
+    if to >= agreed.len() || !agreed[to] || !goes(func, from, to) {
+        return Ok(false);
+    }
+    leads_by(alloc, &lists[from], &items[from].op, &lists[to])
+}
+
+/// Whether each of these items steps cleanly to the next.
+pub fn are_clean_steps(
+    alloc: Global,
+    func: &Func,
+    tables: &BodyLists,
+    way: &[usize],
+) -> Result<bool, NoMemory>
+    requires labels { (i : ℕ) → i < length func.now.items → HasBodyLabel func.now (item_of func.now i).op }
+    requires tables { AreBodyLists func.now tables.now }
+    ensures { IfOk result (λ clean. clean ≡ true → (n : ℕ) → n + 1 < length way.now → IsCleanStep func.now (way_item way.now n) (way_item way.now (n + 1))) }
+{
+    for number in 1..way.len() {
+        if !is_clean_step(alloc, func, tables, way[number - 1], way[number])? {
+            return Ok(false);
+        }
+    }
+    Ok(true)
+}

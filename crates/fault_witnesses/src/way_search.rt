@@ -1,0 +1,155 @@
+//! The search for the shortest clean way: breadth first, lower items first.
+ghost use Rattle.std.specs.Prelude.{◌<◌, ℕ, length};
+ghost use Rattle.sloth_base.specs.Named.{item_of};
+ghost use Rattle.task_verify.specs.Ways.{HasBodyLabel};
+ghost use Rattle.fault_witnesses.specs.BodyLists.{AreBodyLists};
+
+use crate::body_lists::BodyLists;
+use crate::clean_steps::is_clean_step;
+use sloth_base::app::Func;
+use sloth_base::memory::NoMemory;
+use std::alloc::Global;
+use task_verify::ways::{jump_of, next_of};
+use text_pieces::growth::push;
+
+// An item that was reached, and the place of the one before it among those that were reached.
+#[derive(Clone, Copy)]
+struct Visited {
+    item: usize,
+    before: usize,
+}
+
+fn is_marked(marks: &[bool], at: usize) -> bool {
+    at >= marks.len() || marks[at]
+}
+
+fn mark(marks: &mut [bool], at: usize) {
+    if at < marks.len() {
+        marks[at] = true;
+    }
+}
+
+fn no_marks(alloc: Global, count: usize) -> Result<Vec<bool>, NoMemory> {
+    let mut marks = Vec::new(alloc);
+    for _place in 0..count {
+        push(&mut marks, false)?;
+    }
+    Ok(marks)
+}
+
+// Reaches an item from another one, where that is a clean step and it was not reached.
+fn visit(
+    alloc: Global,
+    func: &Func,
+    tables: &BodyLists,
+    marks: &mut [bool],
+    visits: &mut Vec<Visited>,
+    before: usize,
+    from: usize,
+    item: usize,
+) -> Result<(), NoMemory>
+    requires labels { (i : ℕ) → i < length func.now.items → HasBodyLabel func.now (item_of func.now i).op }
+    requires tables { AreBodyLists func.now tables.now }
+{
+    if is_marked(marks, item) || !is_clean_step(alloc, func, tables, from, item)? {
+        return Ok(());
+    }
+    mark(marks, item);
+    push(visits, Visited { item, before })
+}
+
+// The lower and the greater of two items.
+fn lower_first(one: usize, other: usize) -> (usize, usize) {
+    if one < other {
+        (one, other)
+    } else {
+        (other, one)
+    }
+}
+
+// Reaches what an item goes on or jumps to.
+fn visit_nexts(
+    alloc: Global,
+    func: &Func,
+    tables: &BodyLists,
+    marks: &mut [bool],
+    visits: &mut Vec<Visited>,
+    before: usize,
+    from: usize,
+) -> Result<(), NoMemory>
+    requires inside { from < length func.now.items }
+    requires labels { (i : ℕ) → i < length func.now.items → HasBodyLabel func.now (item_of func.now i).op }
+    requires tables { AreBodyLists func.now tables.now }
+{
+    let nexts = lower_first(next_of(func, from), jump_of(func, from));
+    visit(alloc, func, tables, marks, visits, before, from, nexts.0)?;
+    visit(alloc, func, tables, marks, visits, before, from, nexts.1)
+}
+
+// The items back to the first one, and in their order.
+fn way_back(alloc: Global, visits: &[Visited], last: usize) -> Result<Vec<usize>, NoMemory> {
+    let mut back = Vec::new(alloc);
+    let mut at = last;
+    for _turn in 0..visits.len() {
+        if at > 0 && at < visits.len() {
+            push(&mut back, visits[at].item)?;
+            at = visits[at].before;
+        }
+    }
+    in_order(alloc, &back)
+}
+
+fn in_order(alloc: Global, back: &[usize]) -> Result<Vec<usize>, NoMemory> {
+    let mut way = Vec::new(alloc);
+    push(&mut way, 0)?;
+    for number in 0..back.len() {
+        push(&mut way, back[back.len() - 1 - number])?;
+    }
+    Ok(way)
+}
+
+// Goes on from each item that was reached, until it is the goal.
+fn search(
+    alloc: Global,
+    func: &Func,
+    tables: &BodyLists,
+    marks: &mut [bool],
+    visits: &mut Vec<Visited>,
+    goal: usize,
+) -> Result<Option<usize>, NoMemory>
+    requires labels { (i : ℕ) → i < length func.now.items → HasBodyLabel func.now (item_of func.now i).op }
+    requires tables { AreBodyLists func.now tables.now }
+{
+    let count = func.items.items().len();
+    for turn in 0..count {
+        if turn >= visits.len() || visits[turn].item >= count {
+            return Ok(None);
+        }
+        let item = visits[turn].item;
+        if item == goal {
+            return Ok(Some(turn));
+        }
+        visit_nexts(alloc, func, tables, marks, visits, turn, item)?;
+    }
+    Ok(None)
+}
+
+/// The shortest way of clean steps from the first item of a body to another one, of several the one of the lower items; no items, where none is found.
+pub fn shortest_way(
+    alloc: Global,
+    func: &Func,
+    tables: &BodyLists,
+    goal: usize,
+) -> Result<Vec<usize>, NoMemory>
+    requires labels { (i : ℕ) → i < length func.now.items → HasBodyLabel func.now (item_of func.now i).op }
+    requires tables { AreBodyLists func.now tables.now }
+{
+    let mut marks = no_marks(alloc, func.items.items().len())?;
+    let mut visits = Vec::new(alloc);
+    mark(&mut marks, 0);
+    push(&mut visits, Visited { item: 0, before: 0 })?;
+    match search(alloc, func, tables, &mut marks, &mut visits, goal)? {
+        Some(turn) => way_back(alloc, &visits, turn),
+        None => Ok(Vec::new(alloc)),
+    }
+}

@@ -1,0 +1,93 @@
+//! A way to an item.
+ghost use Rattle.std.specs.Prelude.{◌≡◌, ◌<◌, ◌-◌, ℕ, length, true, [], IfOk};
+ghost use Rattle.sloth_base.specs.Named.{item_of};
+ghost use Rattle.code_rules.specs.Code.{held_list_at};
+ghost use Rattle.task_verify.specs.Labels.{ArePlaced};
+ghost use Rattle.task_verify.specs.Ways.{HasBodyLabel};
+ghost use Rattle.fault_witnesses.specs.BodyLists.{AreBodyLists};
+ghost use Rattle.fault_witnesses.specs.CleanWays.{IsWayFromBegin, IsShownWay, way_item};
+
+use crate::body_lists::{BodyLists, body_lists};
+use crate::clean_steps::are_clean_steps;
+use crate::straight_ways::straight_way;
+use crate::way_search::shortest_way;
+use sloth_base::app::Func;
+use sloth_base::list::List;
+use sloth_base::memory::NoMemory;
+use std::alloc::Global;
+
+/// A way through a body: the numbers of its items, and the label that it starts behind, if it does not start where the body begins.
+#[derive(Drop)]
+pub struct Way {
+    pub label: Option<usize>,
+    pub items: List<usize>,
+}
+
+// Whether the way begins with the first item and ends with the goal.
+fn spans(way: &[usize], goal: usize) -> bool
+    ensures some { result ≡ true → 0 < length way.now }
+    ensures first { result ≡ true → way_item way.now 0 ≡ 0 }
+    ensures last { result ≡ true → way_item way.now (length way.now - 1) ≡ goal }
+{
+    !way.is_empty() && way[0] == 0 && way[way.len() - 1] == goal
+}
+
+// Whether nothing is held before the first item.
+fn begins_free(func: &Func, tables: &BodyLists) -> bool
+    requires { AreBodyLists func.now tables.now }
+    ensures { result ≡ true → held_list_at func.now 0 ≡ [] }
+{
+    let lists = tables.lists.items();
+    !lists.is_empty() && lists[0].kept && lists[0].list.items().is_empty()
+}
+
+// Whether it is a clean way from the body's begin to the goal.
+fn is_way_from_begin(
+    alloc: Global,
+    func: &Func,
+    tables: &BodyLists,
+    way: &[usize],
+    goal: usize,
+) -> Result<bool, NoMemory>
+    requires labels { (i : ℕ) → i < length func.now.items → HasBodyLabel func.now (item_of func.now i).op }
+    requires tables { AreBodyLists func.now tables.now }
+    ensures { IfOk result (λ clean. clean ≡ true → IsWayFromBegin func.now goal way.now) }
+{
+    if !spans(way, goal) || !begins_free(func, tables) {
+        return Ok(false);
+    }
+    are_clean_steps(alloc, func, tables, way)
+}
+
+fn way_with(
+    alloc: Global,
+    func: &Func,
+    tables: &BodyLists,
+    goal: usize,
+) -> Result<Option<Way>, NoMemory>
+    requires placed { ArePlaced func.now }
+    requires labels { (i : ℕ) → i < length func.now.items → HasBodyLabel func.now (item_of func.now i).op }
+    requires tables { AreBodyLists func.now tables.now }
+    requires inside { goal < length func.now.items }
+    ensures { IfOk result (IsShownWay func.now goal) }
+{
+    let way = shortest_way(alloc, func, tables, goal)?;
+    if is_way_from_begin(alloc, func, tables, &way, goal)? {
+        return Ok(Some(Way {
+            label: None,
+            items: List::from_vec(way),
+        }));
+    }
+    straight_way(alloc, func, goal)
+}
+
+/// A way of clean steps to an item: the shortest one from the begin of the body, else one from the last label in front, in the order of the text.
+pub fn way_to(alloc: Global, func: &Func, goal: usize) -> Result<Option<Way>, NoMemory>
+    requires placed { ArePlaced func.now }
+    requires labels { (i : ℕ) → i < length func.now.items → HasBodyLabel func.now (item_of func.now i).op }
+    requires inside { goal < length func.now.items }
+    ensures { IfOk result (IsShownWay func.now goal) }
+{
+    let tables = body_lists(alloc, func)?;
+    way_with(alloc, func, &tables, goal)
+}

@@ -1,4 +1,0 @@
-pub mod EventNumbers
-pub mod EventWords
-pub mod MarkWords
-pub mod StopLine

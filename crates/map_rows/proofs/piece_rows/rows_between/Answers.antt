@@ -1,6 +1,0 @@
-use Rattle.map_rows.proofs.OnePieceRow.{between_more}
-use Rattle.map_rows.proofs.piece_rows.rows_between.Goals as goal
-
-pub loop-i-preserved : goal.loop-i-preserved
-loop-i-preserved c =
-    between_more c.args.starts.now c.args.end c.loop-i.i c.loop-i.rows.items _ _ c.first_at.result c.loop-i-test.true c.first_at.ensures c.in_ok-push_to.ensures c.loop-i.invariant

@@ -1,0 +1,18 @@
+-- The rows of pieces of code and data: each piece goes to where the next one begins.
+use Rattle.std.specs.Prelude.{ℕ, ◌-◌, ltb, cond, List, [], ◌∷◌, ◌++◌}
+use Rattle.map_text.specs.declared.piece_rows.Row.{Row}
+use Rattle.map_text.specs.declared.piece_rows.Start.{Start}
+
+-- the row of a piece that goes to an address, if it has any bytes
+abbrev pub row_to : Start → ℕ → List Row
+row_to s to = cond (ltb s.at to) (record { kind = s.kind; number = s.number; base = s.at; len = to - s.at } ∷ []) []
+
+-- where the first of these pieces begins, or an address where there is none
+abbrev pub first_at : List Start → ℕ → ℕ
+first_at [] end = end
+first_at (s ∷ rest) end = s.at
+
+-- the rows of pieces, each of which goes to the next, and the last one to an address
+abbrev pub rows_between : List Start → ℕ → List Row
+rows_between [] end = []
+rows_between (s ∷ rest) end = row_to s (first_at rest end) ++ rows_between rest end

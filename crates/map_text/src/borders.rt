@@ -1,0 +1,90 @@
+//! Where the zones of an image begin and end.
+ghost use Rattle.std.specs.Prelude.{◌≡◌, ◌≤◌, ◌+◌, All, drop, length};
+ghost use Rattle.sloth_base.specs.MemoryMap.{memory_end, vectors_base};
+ghost use Rattle.map_text.specs.Borders.{HasBorders, borders_of, stacks_base, stacks_end};
+
+use sloth_base::memory_map::{MEMORY_BASE, VECTORS_BASE};
+use sloth_region::extent::Extent;
+use sloth_region::map::Map;
+
+/// The place of the zone of data among the extents of a map.
+const DATA: usize = 2;
+
+/// That of the first stack.
+const STACKS: usize = 3;
+
+/// Where the zones behind the code begin, and where they end.
+#[derive(Clone, Copy)]
+pub struct Borders {
+    /// The address of the data, behind the code.
+    pub code_end: u32,
+    /// The address behind the image's memory, which ends with the data.
+    pub end: u32,
+    /// The address of the first stack.
+    pub stacks: u32,
+    /// The address behind the last stack.
+    pub top: u32,
+}
+
+/// The memory from an address to another.
+#[derive(Clone, Copy)]
+pub struct Range {
+    pub from: u32,
+    pub to: u32,
+}
+
+// The stacks, which are the extents behind the zone of data.
+fn stacks_of(extents: &[Extent]) -> &[Extent]
+    requires { 3 ≤ length extents.now }
+    ensures { result.now ≡ drop 3 extents.now }
+{
+    &extents[STACKS..]
+}
+
+// The address of the first stack, or another where there is none.
+fn stacks_base(stacks: &[Extent], end: u32) -> u32
+    ensures { result ≡ stacks_base stacks.now end }
+{
+    let Some((stack, _)) = stacks.split_first() else {
+        return end;
+    };
+    stack.base
+}
+
+// The address behind the last stack, or another where there is none.
+fn stacks_end(stacks: &[Extent], end: u32) -> u32
+    requires { All (λ e. e.base + e.len ≤ memory_end) stacks.now }
+    ensures { result ≡ stacks_end stacks.now end }
+{
+    let mut top = end;
+    for stack in stacks {
+        top = stack.base + stack.len;
+    }
+    top
+}
+
+/// The borders of an image with so many bytes of memory.
+pub fn borders_of(map: &Map, memory: usize) -> Borders
+    requires { HasBorders map.now memory }
+    ensures { result ≡ borders_of map.now memory }
+{
+    let extents = map.extents.items();
+    let stacks = stacks_of(extents);
+    let end = MEMORY_BASE + memory as u32;
+    Borders {
+        code_end: extents[DATA].base,
+        end,
+        stacks: stacks_base(stacks, end),
+        top: stacks_end(stacks, end),
+    }
+}
+
+/// The memory of all code, with the vector words.
+pub fn code_range(borders: &Borders) -> Range
+    ensures { result ≡ record { from = vectors_base; to = borders.now.code_end } }
+{
+    Range {
+        from: VECTORS_BASE,
+        to: borders.code_end,
+    }
+}

@@ -1,0 +1,138 @@
+//! Which line of the source each address of task code comes from.
+ghost use Rattle.std.specs.Prelude.{◌≡◌, ◌≤◌, ◌+◌, ◌++◌, IfOk, OnOk, length};
+ghost use Rattle.sloth_base.specs.Limits.{item_limit};
+ghost use Rattle.map_text.specs.LineRows.{body_rows, first_rows, item_address, item_count, item_rows, last_row, line_rows};
+
+use sloth_base::app::{Func, Item};
+use sloth_base::memory_map::WORD;
+use sloth_base::places::Places;
+use std::alloc::{AllocError, Global};
+
+/// An address, and the line of the source that it comes from.
+#[derive(Clone, Copy)]
+pub struct LineRow {
+    pub address: u32,
+    pub line: u32,
+}
+
+impl LineRow {
+    /// Goes on to another row.
+    pub fn advance(&mut self, next: LineRow)
+        ensures { self.new ≡ next }
+    {
+        self.address = next.address;
+        self.line = next.line;
+    }
+}
+
+/// The address of the first instruction of an item, by its place among the items of all bodies; behind them the address behind the code.
+pub fn item_address(places: &Places, end: u32, number: usize) -> u32
+    ensures { result ≡ item_address places.now end number }
+{
+    match places.items.items().get(number) {
+        Some(address) => *address,
+        None => end,
+    }
+}
+
+/// The address behind the last item of a body, the first of which has this place.
+pub fn body_end(places: &Places, end: u32, number: usize, func: &Func) -> u32
+    requires { number + length func.now.items ≤ item_limit }
+    ensures { result ≡ item_address places.now end (number + length func.now.items) }
+{
+    item_address(places, end, number + func.items.items().len())
+}
+
+// Appends a row for each item, the first of which has this place.
+fn push_items(
+    rows: &mut Vec<LineRow>,
+    places: &Places,
+    end: u32,
+    number: usize,
+    items: &[Item],
+) -> Result<(), AllocError>
+    requires { number + length items.now ≤ item_limit }
+    ensures { OnOk result (rows.new.items ≡ rows.old.items ++ item_rows places.now end number items.now) }
+{
+    for k in 0..items.len() {
+        rows.push(LineRow {
+            address: item_address(places, end, number + k),
+            line: items[k].line,
+        })?;
+    }
+    Ok(())
+}
+
+// Appends the row of the last instruction of an item that has more than one.
+fn push_last(rows: &mut Vec<LineRow>, first: u32, next: u32, line: u32) -> Result<(), AllocError>
+    ensures { OnOk result (rows.new.items ≡ rows.old.items ++ last_row first next line) }
+{
+    if next.saturating_sub(first) > WORD {
+        rows.push(LineRow {
+            address: next - WORD,
+            line,
+        })?;
+    }
+    Ok(())
+}
+
+// Appends the rows of the items of a body.
+fn push_first(
+    rows: &mut Vec<LineRow>,
+    places: &Places,
+    end: u32,
+    number: usize,
+    items: &[Item],
+) -> Result<(), AllocError>
+    requires { number + length items.now ≤ item_limit }
+    ensures { OnOk result (rows.new.items ≡ rows.old.items ++ first_rows places.now end number items.now) }
+{
+    let Some((item, rest)) = items.split_first() else {
+        return Ok(());
+    };
+    let first = item_address(places, end, number);
+    let line = item.line;
+    rows.push(LineRow {
+        address: first,
+        line,
+    })?;
+    push_last(rows, first, item_address(places, end, number + 1), line)?;
+    push_items(rows, places, end, number + 1, rest)
+}
+
+// Appends the rows of a body.
+fn push_body(
+    rows: &mut Vec<LineRow>,
+    places: &Places,
+    end: u32,
+    number: usize,
+    func: &Func,
+) -> Result<(), AllocError>
+    requires { number + length func.now.items ≤ item_limit }
+    ensures { OnOk result (rows.new.items ≡ rows.old.items ++ body_rows places.now end number func.now) }
+{
+    rows.push(LineRow {
+        address: item_address(places, end, number),
+        line: func.line,
+    })?;
+    push_first(rows, places, end, number, func.items.items())
+}
+
+/// The rows of bodies, by rising addresses.
+pub fn line_rows(
+    alloc: Global,
+    places: &Places,
+    end: u32,
+    funcs: &[Func],
+) -> Result<Vec<LineRow>, AllocError>
+    requires { item_count funcs.now ≤ item_limit }
+    ensures { IfOk result (λ rows. rows.items ≡ line_rows places.now end 0 funcs.now) }
+{
+    let mut rows = Vec::new(alloc);
+    let mut number = 0;
+    for func in funcs {
+        push_body(&mut rows, places, end, number, func)?;
+        number += func.items.items().len();
+    }
+    Ok(rows)
+}

@@ -1,0 +1,63 @@
+//! The names of pieces of code, and names that are joined.
+ghost use Rattle.std.specs.Prelude.{◌≡◌, IfOk};
+ghost use Rattle.sloth_base.specs.Blocks.{block_object, block_service};
+ghost use Rattle.sloth_base.specs.ServiceCodes.{object_kind, service_name};
+ghost use Rattle.map_text.specs.PieceNames.{block_symbol, joined, service_symbol};
+
+use crate::object_names::{alarm_name, resource_name, task_name};
+use sloth_base::config::Config;
+use sloth_base::list::List;
+use sloth_base::memory::NoMemory;
+use sloth_base::places::{BLOCK_COUNT, block_object, block_service};
+use sloth_base::service::{ObjectKind, Service};
+use std::alloc::Global;
+
+/// Two names, joined by `$`, which no name of a text has.
+pub fn joined(alloc: Global, one: &[u8], other: &[u8]) -> Result<List<u8>, NoMemory>
+    ensures { IfOk result (λ name. name ≡ joined one.now other.now) }
+{
+    let mut name = Vec::from_slice(alloc, one)?;
+    name.extend_from_slice(b"$")?;
+    name.extend_from_slice(other)?;
+    Ok(List::from_vec(name))
+}
+
+/// A copy of a name.
+pub fn copied(alloc: Global, name: &[u8]) -> Result<List<u8>, NoMemory>
+    ensures { IfOk result (λ copy. copy ≡ name.now) }
+{
+    let name = Vec::from_slice(alloc, name)?;
+    Ok(List::from_vec(name))
+}
+
+// A service joined to its object, or without one to the kernel.
+fn service_symbol(
+    alloc: Global,
+    config: &Config,
+    service: Service,
+    number: u32,
+) -> Result<List<u8>, NoMemory>
+    ensures { IfOk result (λ name. name ≡ service_symbol config.now (service_name service) (object_kind service) number) }
+{
+    let name = service.name();
+    match service.object_kind() {
+        ObjectKind::Nothing => joined(alloc, b"kernel", name),
+        ObjectKind::Task => joined(alloc, name, task_name(config, number as usize)),
+        ObjectKind::Resource => joined(alloc, name, resource_name(config, number)),
+        ObjectKind::Alarm => joined(alloc, name, alarm_name(config, number as usize)),
+    }
+}
+
+/// The service with its object that has a place in the table of the services' code.
+#[tactic(auto, using(crate::proofs::Services::no_service))]
+pub fn block_symbol(alloc: Global, config: &Config, number: usize) -> Result<List<u8>, NoMemory>
+    ensures { IfOk result (λ name. name ≡ block_symbol config.now (block_service number) (block_object number)) }
+{
+    if number >= BLOCK_COUNT {
+        return copied(alloc, b"-");
+    }
+    match block_service(number) {
+        Some(service) => service_symbol(alloc, config, service, block_object(number)),
+        None => copied(alloc, b"-"),
+    }
+}

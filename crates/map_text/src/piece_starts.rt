@@ -1,0 +1,159 @@
+//! Where each piece of code and data begins.
+ghost use Rattle.std.specs.Prelude.{◌≡◌, ◌<◌, ◌≤◌, ◌+◌, ◌++◌, ◌∷◌, [], IfOk, OnOk, drop, get_or, take};
+ghost use Rattle.sloth_base.specs.Owners.{first_counter_line};
+ghost use Rattle.sloth_base.specs.Limits.{counter_limit};
+ghost use Rattle.sloth_base.specs.MemoryMap.{line_count};
+ghost use Rattle.mem_map.specs.StackParts.{no_extent};
+ghost use Rattle.map_text.specs.Listable.{IsListable};
+ghost use Rattle.mem_map.specs.Stacks.{address_behind_data};
+ghost use Rattle.map_text.specs.Rows.{address_behind_code, code_places, first_starts, last_starts, numbered_starts, routine_starts, single_start, starts_of};
+
+use crate::piece_rows::{Kind, Start, tick_count};
+use sloth_base::config::Config;
+use sloth_base::lines::FIRST_COUNTER_LINE;
+use sloth_base::memory_map::{BOOT_BASE, MEMORY_BASE, VECTORS_BASE, WORD};
+use sloth_region::extent::Extent;
+use sloth_region::map::Map;
+use std::alloc::{AllocError, Global};
+
+/// The place of the zone of code among the extents of a map.
+const CODE: usize = 1;
+
+/// That of the zone of data.
+pub const DATA: usize = 2;
+
+/// That of the first stack.
+pub const STACKS: usize = 3;
+
+/// An extent of a list, or none.
+pub fn extent_at(extents: &[Extent], place: usize) -> Extent
+    ensures { result ≡ get_or extents.now place no_extent }
+{
+    match extents.get(place) {
+        Some(extent) => *extent,
+        None => Extent { base: 0, len: 0 },
+    }
+}
+
+/// The address behind an extent.
+pub fn behind(extent: Extent) -> u32
+    requires { extent.base + extent.len < 4294967296 }
+    ensures { result ≡ extent.base + extent.len }
+{
+    extent.base + extent.len
+}
+
+// A number of a list, or another behind its end.
+fn number_or(numbers: &[u32], place: usize, other: u32) -> u32
+    ensures { result ≡ get_or numbers.now place other }
+{
+    match numbers.get(place) {
+        Some(number) => *number,
+        None => other,
+    }
+}
+
+// Where the code of each function begins.
+fn code_places(alloc: Global, map: &Map) -> Result<Vec<u32>, AllocError>
+    requires { address_behind_code map.now < 4294967296 }
+    ensures { IfOk result (λ places. places.items ≡ code_places map.now) }
+{
+    let end = behind(extent_at(map.extents.items(), CODE));
+    let items = map.places.items.items();
+    let mut places = Vec::new(alloc);
+    for first in map.places.first.items() {
+        let place = number_or(items, *first as usize, end);
+        places.push(place)?;
+    }
+    Ok(places)
+}
+
+// Appends where a piece begins of which there is one.
+fn push_single(starts: &mut Vec<Start>, kind: Kind, at: u32) -> Result<(), AllocError>
+    ensures { OnOk result (starts.new.items ≡ starts.old.items ++ single_start kind at ∷ []) }
+{
+    starts.push(Start {
+        kind,
+        number: 0,
+        at,
+    })?;
+    Ok(())
+}
+
+// Appends where the pieces of a kind begin that have these addresses.
+fn push_numbered(starts: &mut Vec<Start>, kind: Kind, addresses: &[u32]) -> Result<(), AllocError>
+    ensures { OnOk result (starts.new.items ≡ starts.old.items ++ numbered_starts kind 0 addresses.now) }
+{
+    for number in 0..addresses.len() {
+        let start = Start {
+            kind,
+            number,
+            at: addresses[number],
+        };
+        starts.push(start)?;
+    }
+    Ok(())
+}
+
+// The addresses of the prologues of so many tasks.
+fn prologues(map: &Map, tasks: usize) -> &[u32]
+    requires { tasks ≤ line_count }
+    ensures { result.now ≡ take tasks map.now.handlers }
+{
+    &map.handlers[..tasks]
+}
+
+// Those of the ticks of so many counters.
+fn ticks(map: &Map, counters: usize) -> &[u32]
+    requires { counters ≤ counter_limit }
+    ensures { result.now ≡ take counters (drop first_counter_line map.now.handlers) }
+{
+    let first = usize::from(FIRST_COUNTER_LINE);
+    &map.handlers[first..first + counters]
+}
+
+// Appends where the pieces begin whose addresses are the same in each image, and the idle loop.
+fn push_first(starts: &mut Vec<Start>, map: &Map) -> Result<(), AllocError>
+    ensures { OnOk result (starts.new.items ≡ starts.old.items ++ first_starts map.now) }
+{
+    push_single(starts, Kind::Words, MEMORY_BASE)?;
+    push_single(starts, Kind::Vectors, VECTORS_BASE)?;
+    push_single(starts, Kind::Boot, BOOT_BASE)?;
+    push_single(starts, Kind::Idle, map.idle)
+}
+
+// Appends where prologues, ticks and services begin.
+fn push_routines(starts: &mut Vec<Start>, config: &Config, map: &Map) -> Result<(), AllocError>
+    requires { IsListable config.now map.now }
+    ensures { OnOk result (starts.new.items ≡ starts.old.items ++ routine_starts config.now map.now) }
+{
+    let tasks = config.tasks.items().len();
+    let counters = tick_count(config);
+    push_numbered(starts, Kind::Prologue, prologues(map, tasks))?;
+    push_numbered(starts, Kind::Tick, ticks(map, counters))?;
+    push_numbered(starts, Kind::Service, &map.places.blocks)
+}
+
+// Appends where functions begin, at these addresses, and symbols, and the end of all.
+fn push_last(starts: &mut Vec<Start>, code: &[u32], map: &Map) -> Result<(), AllocError>
+    requires { address_behind_data map.now < 4294967296 }
+    ensures { OnOk result (starts.new.items ≡ starts.old.items ++ last_starts code.now map.now) }
+{
+    let end = behind(extent_at(map.extents.items(), DATA)).saturating_sub(WORD);
+    push_numbered(starts, Kind::Code, code)?;
+    push_numbered(starts, Kind::Data, map.places.symbols.items())?;
+    push_single(starts, Kind::End, end)
+}
+
+/// Where each piece begins, in the order of the addresses.
+pub fn starts(alloc: Global, config: &Config, map: &Map) -> Result<Vec<Start>, AllocError>
+    requires { IsListable config.now map.now }
+    ensures { IfOk result (λ starts. starts.items ≡ starts_of config.now map.now) }
+{
+    let code = code_places(alloc, map)?;
+    let mut starts = Vec::new(alloc);
+    push_first(&mut starts, map)?;
+    push_routines(&mut starts, config, map)?;
+    push_last(&mut starts, code.as_slice(), map)?;
+    Ok(starts)
+}

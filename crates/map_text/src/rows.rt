@@ -1,0 +1,80 @@
+//! What an image takes of memory: a row for each extent.
+ghost use Rattle.std.specs.Prelude.{◌≡◌, ◌++◌, OnOk, IfOk, length};
+ghost use Rattle.map_text.specs.Rows.{has_basic, map_rows, own_rows, row_of, shared_rows, sum_of};
+ghost use Rattle.map_text.specs.Listable.{IsListable};
+
+use crate::piece_rows::{Kind, Row, rows_between};
+use crate::piece_starts::{DATA, STACKS, behind, extent_at, starts};
+use sloth_base::config::{Config, TaskDecl};
+use sloth_region::extent::Extent;
+use sloth_region::map::Map;
+use std::alloc::{AllocError, Global};
+
+// The row of an extent.
+fn row_of(kind: Kind, number: usize, extent: Extent) -> Row
+    ensures { result ≡ row_of kind number extent }
+{
+    Row {
+        kind,
+        number,
+        base: extent.base,
+        len: extent.len,
+    }
+}
+
+// Whether some task has no events.
+fn has_basic(tasks: &[TaskDecl]) -> bool
+    ensures { result ≡ has_basic tasks.now }
+{
+    tasks.iter().any(|task| !task.extended)
+}
+
+// Appends the row of the stack that all basic tasks share, if there are any.
+fn push_shared(rows: &mut Vec<Row>, config: &Config, map: &Map) -> Result<(), AllocError>
+    ensures { OnOk result (rows.new.items ≡ rows.old.items ++ shared_rows config.now map.now) }
+{
+    if has_basic(config.tasks.items()) {
+        let stack = extent_at(map.extents.items(), STACKS);
+        rows.push(row_of(Kind::Shared, 0, stack))?;
+    }
+    Ok(())
+}
+
+// Appends the rows of the stacks of tasks that have one of their own.
+fn push_own(rows: &mut Vec<Row>, config: &Config, map: &Map) -> Result<(), AllocError>
+    ensures { OnOk result (rows.new.items ≡ rows.old.items ++ own_rows config.now map.now (length config.now.tasks)) }
+{
+    let tasks = config.tasks.items();
+    for task in 0..tasks.len() {
+        if tasks[task].extended {
+            let stack = extent_at(map.stacks.items(), task);
+            rows.push(row_of(Kind::Stack, task, stack))?;
+        }
+    }
+    Ok(())
+}
+
+/// The rows of an image.
+pub fn map_rows(alloc: Global, config: &Config, map: &Map) -> Result<Vec<Row>, AllocError>
+    requires { IsListable config.now map.now }
+    ensures { IfOk result (λ rows. rows.items ≡ map_rows config.now map.now) }
+{
+    let starts = starts(alloc, config, map)?;
+    let end = behind(extent_at(map.extents.items(), DATA));
+    let mut rows = rows_between(alloc, starts.as_slice(), end)?;
+    push_shared(&mut rows, config, map)?;
+    push_own(&mut rows, config, map)?;
+    Ok(rows)
+}
+
+/// The bytes of rows together.
+#[tactic(auto, using(crate::proofs::OneRow::sum_more, crate::proofs::OneRow::sum_end))]
+pub fn sum_of(rows: &[Row]) -> u128
+    ensures { result ≡ sum_of rows.now }
+{
+    let mut sum = 0;
+    for i in 0..rows.len() {
+        sum += u128::from(rows[i].len);
+    }
+    sum
+}

@@ -1,0 +1,200 @@
+//! The plans of events.
+ghost use Rattle.std.specs.Prelude.{◌≡◌, ◌≤◌, length};
+ghost use Rattle.sloth_base.specs.Options.{is_number};
+ghost use Rattle.sloth_base.specs.Named.{body_of};
+ghost use Rattle.sloth_base.specs.Limits.{task_limit};
+ghost use Rattle.osek_scheduler.specs.Next.{is_position};
+ghost use Rattle.osek_machine.specs.Running.{back_plan, entry_change, entry_plan, running_plan, serving_plan};
+ghost use Rattle.osek_machine.specs.PlanSteps.{IsRead, answer_plan, leave_plan};
+
+use crate::items::{own_operation, run_plan};
+use crate::priority::{is_active, is_ready, is_top};
+use crate::room::TaskRoom;
+use crate::services::{call_in, call_plan};
+use crate::store::Store;
+use osek_scheduler::change::TaskChange;
+use osek_scheduler::plan::{Other, Plan};
+use sloth_base::app::{App, Func};
+use sloth_base::config::Config;
+use sloth_base::service::Service;
+
+// Whether a body is that of a task.
+fn is_body_of(func: &Func, t: u32) -> bool
+    ensures { result ≡ is_number t func.now.task }
+{
+    match func.task {
+        Some(task) => task.0 == t,
+        None => false,
+    }
+}
+
+// The number of a task's body, or the number of functions.
+fn body_of(app: &App, t: u32) -> usize
+    ensures { result ≡ body_of app.now.funcs t }
+{
+    let mut place = 0;
+    for func in app.funcs.items() {
+        if is_body_of(func, t) {
+            return place;
+        }
+        place += 1;
+    }
+    place
+}
+
+// The change of a task that is entered, with so many functions in progress.
+fn entry_change(body: u32, words: u32, depth: usize, non: bool) -> Plan
+    ensures { result ≡ entry_change body words depth non }
+{
+    let change = if depth == 0 {
+        TaskChange::Start {
+            func: body,
+            words,
+            non,
+        }
+    } else {
+        TaskChange::Resume(non)
+    };
+    Plan {
+        answer: None,
+        change,
+        other: Other::Nothing,
+    }
+}
+
+/// The plan of an entry.
+pub fn entry_plan(config: &Config, app: &App, store: &Store, t: u32) -> Option<Plan>
+    requires { IsRead config.now app.now store.now }
+    ensures { result ≡ entry_plan config.now app.now t store.now }
+{
+    if !store.booted() || !is_top(config, store, &[], t) {
+        return None;
+    }
+    let task = store.task(t as usize);
+    if !is_ready(task.state()) {
+        return None;
+    }
+    let body = body_of(app, t);
+    let func = app.funcs.items().get(body)?;
+    let non = config.tasks.items()[t as usize].non;
+    Some(entry_change(body as u32, func.frame_words, task.depth(), non))
+}
+
+// Whether the next item of a task is this one of this function.
+fn is_position(task: &TaskRoom, func: u32, item: u32) -> bool
+    ensures { result ≡ is_position func item task.now.frames }
+{
+    match task.innermost() {
+        Some(frame) => frame.func() == func && frame.item() == item,
+        None => false,
+    }
+}
+
+// Whether a plan shows a result or a status.
+fn shows(plan: &Plan, answer: u32) -> bool
+    ensures { result ≡ is_number answer plan.now.answer }
+{
+    match plan.answer {
+        Some(shown) => shown == answer,
+        None => false,
+    }
+}
+
+/// The plan of a run of an item.
+pub fn running_plan(
+    config: &Config,
+    app: &App,
+    store: &Store,
+    t: u32,
+    func: u32,
+    item: u32,
+    shown: u32,
+) -> Option<Plan>
+    requires { IsRead config.now app.now store.now }
+    ensures { result ≡ running_plan config.now app.now t func item shown store.now }
+{
+    if !store.booted() || !is_top(config, store, &[], t) {
+        return None;
+    }
+    let task = store.task(t as usize);
+    if !is_position(task, func, item) {
+        return None;
+    }
+    let op = own_operation(app, task)?;
+    let plan = run_plan(app, store, task, &op)?;
+    if !shows(&plan, shown) {
+        return None;
+    }
+    Some(plan)
+}
+
+// The plan of a service, where that is the next item of the running task.
+fn serving_plan(config: &Config, app: &App, store: &Store, t: u32, served: Service) -> Option<Plan>
+    requires { IsRead config.now app.now store.now }
+    ensures { result ≡ serving_plan config.now app.now t served store.now }
+{
+    if !store.booted() || !is_top(config, store, store.fresh(), t) {
+        return None;
+    }
+    let op = own_operation(app, store.task(t as usize))?;
+    let call = call_in(&op)?;
+    call_plan(config, store, served, t, &call)
+}
+
+/// The plan of a service by which its caller goes on with a status.
+pub fn answer_plan(
+    config: &Config,
+    app: &App,
+    store: &Store,
+    t: u32,
+    served: Service,
+    status: u32,
+) -> Option<Plan>
+    requires { IsRead config.now app.now store.now }
+    ensures { result ≡ answer_plan config.now app.now t served status store.now }
+{
+    let plan = serving_plan(config, app, store, t, served)?;
+    if !shows(&plan, status) {
+        return None;
+    }
+    Some(plan)
+}
+
+/// The plan of a service by which its caller leaves.
+pub fn leave_plan(
+    config: &Config,
+    app: &App,
+    store: &Store,
+    t: u32,
+    served: Service,
+) -> Option<Plan>
+    requires { IsRead config.now app.now store.now }
+    ensures { result ≡ leave_plan config.now app.now t served store.now }
+{
+    let plan = serving_plan(config, app, store, t, served)?;
+    if plan.answer.is_some() {
+        return None;
+    }
+    Some(plan)
+}
+
+/// The plan of a return from Schedule.
+pub fn back_plan(config: &Config, store: &Store, t: u32) -> Option<Plan>
+    requires count { length store.now.tasks ≡ length config.now.tasks }
+    requires few { length config.now.tasks ≤ task_limit }
+    ensures { result ≡ back_plan config.now t store.now }
+{
+    if !store.booted() || !is_top(config, store, &[], t) {
+        return None;
+    }
+    let task = store.task(t as usize);
+    if !is_active(task.state()) || !task.owed() {
+        return None;
+    }
+    let non = config.tasks.items()[t as usize].non;
+    Some(Plan {
+        answer: None,
+        change: TaskChange::ComeBack(non),
+        other: Other::Nothing,
+    })
+}

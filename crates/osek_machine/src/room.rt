@@ -1,0 +1,307 @@
+//! A task as it stands, with room for all that it may become.
+ghost use Rattle.std.specs.Prelude.{◌≡◌, ◌≤◌, IfOk, length, nat_lt, bit_or, slice_get, get_or};
+ghost use Rattle.std.specs.Option.{option_copied};
+ghost use Rattle.sloth_base.specs.Limits.{frame_limit};
+ghost use Rattle.code_rules.specs.Code.{is_last};
+ghost use Rattle.osek_scheduler.specs.State.{sleeping_task};
+ghost use Rattle.osek_scheduler.specs.Meaning.{register, with_register};
+ghost use Rattle.osek_scheduler.specs.Services.{answered_task, answered_task_with, first_operand, second_operand};
+ghost use Rattle.osek_machine.specs.Frames.{CanMove};
+ghost use Rattle.osek_machine.specs.Changes.{HasChangeRoom};
+ghost use Rattle.osek_scheduler.specs.Changes.{changed_task, woken_task_state};
+
+use crate::frame::FrameRoom;
+use crate::held_resources::Held;
+use crate::stack::Stack;
+use osek_scheduler::change::TaskChange;
+use osek_scheduler::state::TaskState;
+use sloth_base::memory::NoMemory;
+use sloth_base::numbers::Reg;
+use sloth_base::service::E_OK;
+use std::alloc::Global;
+use std::marker::Model;
+
+/// The registers of task code besides x0: x5 to x29.
+const REGISTERS: usize = 25;
+
+/// The number of x5, the first register besides x0.
+const FIRST: usize = 5;
+
+/// The place of a0, x10.
+const STATUS: usize = 5;
+
+/// The place of a1, x11.
+const VALUE: usize = 6;
+
+// The state of a task behind a setting of events: one of those that it waits for wakes it.
+fn woken(state: TaskState, events: u32) -> TaskState
+    ensures { result ≡ woken_task_state state events }
+{
+    match state {
+        TaskState::Waiting(mask) if events & mask != 0 => TaskState::Ready,
+        TaskState::Suspended | TaskState::Ready | TaskState::Active | TaskState::Waiting(_) =>
+            state,
+    }
+}
+
+// The number in a place; behind the last one, 0.
+fn number_at(numbers: &[u32], place: usize) -> u32
+    ensures { result ≡ get_or numbers.now place 0 }
+{
+    match numbers.get(place) {
+        Some(number) => *number,
+        None => 0,
+    }
+}
+
+/// A task as it stands.
+#[derive(Drop)]
+pub struct TaskRoom {
+    state: TaskState,
+    registers: [u32; REGISTERS],
+    frames: Stack,
+    events: u32,
+    held: Held,
+    raised: bool,
+    owed: bool,
+}
+
+impl Model for TaskRoom {
+    ghost use Rattle.osek_scheduler.specs.State.{Task};
+
+    ghost Value = { Task };
+
+    ghost view = { λ t. record {
+      state = t.state;
+      registers = t.registers;
+      frames = t.frames;
+      events = t.events;
+      held = t.held;
+      raised = t.raised;
+      owed = t.owed;
+    } };
+}
+
+impl TaskRoom {
+    /// A task that was not activated yet.
+    pub fn new(alloc: Global) -> Result<TaskRoom, NoMemory>
+        ensures { IfOk result (λ t. t ≡ sleeping_task) }
+    {
+        let frames = Stack::new(alloc)?;
+        let held = Held::new(alloc)?;
+        Ok(TaskRoom {
+            state: TaskState::Suspended,
+            registers: [0; REGISTERS],
+            frames,
+            events: 0,
+            held,
+            raised: false,
+            owed: false,
+        })
+    }
+
+    /// Its state.
+    pub fn state(&self) -> TaskState
+        ensures { result ≡ self.now.state }
+    {
+        self.state
+    }
+
+    /// The mask of its events.
+    pub fn events(&self) -> u32
+        ensures { result ≡ self.now.events }
+    {
+        self.events
+    }
+
+    /// The resources that it holds, in the order taken.
+    pub fn held(&self) -> &[u32]
+        ensures { result.now ≡ self.now.held }
+    {
+        self.held.items()
+    }
+
+    /// Whether it took this resource last.
+    pub fn holds_last(&self, resource: u32) -> bool
+        ensures { result ≡ is_last resource self.now.held }
+    {
+        self.held.is_last(resource)
+    }
+
+    /// Whether it has its internal resource.
+    pub fn raised(&self) -> bool
+        ensures { result ≡ self.now.raised }
+    {
+        self.raised
+    }
+
+    /// Whether its Schedule has not come back yet.
+    pub fn owed(&self) -> bool
+        ensures { result ≡ self.now.owed }
+    {
+        self.owed
+    }
+
+    /// How many functions are in progress.
+    pub fn depth(&self) -> usize
+        ensures { result ≡ length self.now.frames }
+    {
+        self.frames.depth()
+    }
+
+    /// Whether a function called its innermost one.
+    pub fn has_caller(&self) -> bool
+        ensures { result ≡ nat_lt 1 (length self.now.frames) }
+    {
+        self.depth() > 1
+    }
+
+    /// Its innermost function.
+    pub fn innermost(&self) -> Option<&FrameRoom>
+        ensures { option_copied result ≡ slice_get self.now.frames 0 }
+    {
+        self.frames.innermost()
+    }
+
+    /// The value of a register of task code.
+    pub fn register(&self, r: Reg) -> u32
+        ensures { result ≡ register self.now.registers r }
+    {
+        if r.0 == 0 {
+            return 0;
+        }
+        number_at(&self.registers, usize::from(r.0).saturating_sub(FIRST))
+    }
+
+    /// What it has in a0, the first operand of a service on an alarm.
+    pub fn first_operand(&self) -> u32
+        ensures { result ≡ first_operand self.now }
+    {
+        number_at(&self.registers, STATUS)
+    }
+
+    /// What it has in a1, the second one.
+    pub fn second_operand(&self) -> u32
+        ensures { result ≡ second_operand self.now }
+    {
+        number_at(&self.registers, VALUE)
+    }
+
+    // Gives a register a value; x0 stays zero.
+    fn write(&mut self, rd: Reg, value: u32)
+        ensures { self.new ≡ record self.old { registers = with_register self.old.registers rd value } }
+    {
+        let place = usize::from(rd.0).saturating_sub(FIRST);
+        if rd.0 != 0 && place < REGISTERS {
+            self.registers[place] = value;
+        }
+    }
+
+    // Goes on behind a service with a status.
+    fn answer(&mut self, status: u32)
+        requires { CanMove self.old.frames }
+        ensures { self.new ≡ answered_task status self.old }
+    {
+        self.registers[STATUS] = status;
+        self.frames.move_on();
+    }
+
+    // Goes on behind a service with a value.
+    fn answer_with(&mut self, value: u32)
+        requires { CanMove self.old.frames }
+        ensures { self.new ≡ answered_task_with value self.old }
+    {
+        self.registers[STATUS] = E_OK;
+        self.registers[VALUE] = value;
+        self.frames.move_on();
+    }
+
+    // Events are set.
+    fn add_events(&mut self, mask: u32)
+        ensures { self.new ≡ record self.old { events = bit_or self.old.events mask; state = woken_task_state self.old.state (bit_or self.old.events mask) } }
+    {
+        self.events |= mask;
+        self.state = woken(self.state, self.events);
+    }
+
+    // Ends.
+    fn end(&mut self)
+        ensures { self.new ≡ changed_task TaskChange.End self.old }
+    {
+        self.state = TaskState::Suspended;
+        self.registers = [0; REGISTERS];
+        self.frames.clear();
+        self.events = 0;
+        self.raised = false;
+    }
+
+    // Is entered at the first item of its body.
+    fn start(&mut self, func: u32, words: u32, non: bool)
+        requires { words ≤ frame_limit }
+        ensures { self.new ≡ changed_task (TaskChange.Start func words non) self.old }
+    {
+        self.registers = [0; REGISTERS];
+        self.frames.clear();
+        self.frames.enter(FrameRoom::entry(func, words));
+        self.state = TaskState::Active;
+        self.raised = non;
+    }
+
+    /// Makes a change.
+    pub fn apply(&mut self, change: &TaskChange)
+        requires { HasChangeRoom change.now self.old }
+        ensures { self.new ≡ changed_task change.now self.old }
+    {
+        match *change {
+            TaskChange::Activate => self.state = TaskState::Ready,
+            TaskChange::AddEvents(mask) => self.add_events(mask),
+            TaskChange::Answer(status) => self.answer(status),
+            TaskChange::AnswerWith(value) => self.answer_with(value),
+            TaskChange::End => self.end(),
+            TaskChange::Wait(mask) => {
+                self.state = TaskState::Waiting(mask);
+                self.frames.move_on();
+                self.raised = false;
+            }
+            TaskChange::Pause => {
+                self.answer(E_OK);
+                self.raised = false;
+                self.owed = true;
+            }
+            TaskChange::Take(resource) => {
+                self.answer(E_OK);
+                self.held.take(resource);
+            }
+            TaskChange::Release => {
+                self.answer(E_OK);
+                self.held.release();
+            }
+            TaskChange::ClearEvents(mask) => {
+                self.answer(E_OK);
+                self.events &= !mask;
+            }
+            TaskChange::Start { func, words, non } => self.start(func, words, non),
+            TaskChange::Resume(non) => {
+                self.registers[STATUS] = E_OK;
+                self.state = TaskState::Active;
+                self.raised = non;
+            }
+            TaskChange::ComeBack(non) => {
+                self.owed = false;
+                self.raised = non;
+            }
+            TaskChange::Write { rd, value } => {
+                self.write(rd, value);
+                self.frames.move_on();
+            }
+            TaskChange::GoTo(item) => self.frames.go_to(item),
+            TaskChange::MoveOn => self.frames.move_on(),
+            TaskChange::StoreWord { word, value } => {
+                self.frames.store(word, value);
+                self.frames.move_on();
+            }
+            TaskChange::Invoke { func, words } => self.frames.enter(FrameRoom::entry(func, words)),
+            TaskChange::Return => self.frames.leave(),
+        }
+    }
+}

@@ -1,0 +1,292 @@
+//! The system as it stands, with room for all that it may become.
+ghost use Rattle.std.specs.Prelude.{◌≡◌, ◌≤◌, ◌<◌, ◌+◌, [], length, get_or, set, map, true, false, IfOk};
+ghost use Rattle.sloth_base.specs.Arithmetic.{size_of};
+ghost use Rattle.sloth_base.specs.Limits.{task_limit};
+ghost use Rattle.osek_scheduler.specs.State.{alarm, counter, opening, sleeping_task, task, with_alarm, with_counter};
+ghost use Rattle.osek_scheduler.specs.declared.state.TaskState.TheVariants as mode;
+ghost use Rattle.osek_scheduler.specs.Steps.{admitted_state, autostarted_tasks, settled_state};
+ghost use Rattle.osek_scheduler.specs.Meaning.{bytes_after_store};
+ghost use Rattle.osek_scheduler.specs.Services.{if_suspended};
+ghost use Rattle.osek_machine.specs.Changes.{HasChangeRoom};
+ghost use Rattle.osek_scheduler.specs.Changes.{changed_task};
+ghost use Rattle.osek_machine.specs.Plans.{HasOther, HasPlanRoom, planned_system, is_inside, load_of, with_other};
+ghost use Rattle.osek_scheduler.specs.Changes.{with_change};
+
+use crate::arithmetic::size_of;
+use crate::clock::ClockRoom;
+use crate::data::Data;
+use crate::fresh::Fresh;
+use crate::room::TaskRoom;
+use osek_scheduler::change::TaskChange;
+use osek_scheduler::plan::{Other, Plan};
+use osek_scheduler::state::{Alarm, Counter, TaskState};
+use sloth_base::app::{App, Width};
+use sloth_base::config::Config;
+use sloth_base::memory::NoMemory;
+use std::alloc::{AllocError, Global};
+use std::marker::Model;
+
+/// The tasks, the data, the counters and the alarms as they stand.
+#[derive(Drop)]
+pub struct Store {
+    tasks: Vec<TaskRoom>,
+    symbols: Vec<Data>,
+    booted: bool,
+    fresh: Fresh,
+    clock: ClockRoom,
+}
+
+impl Model for Store {
+    ghost use Rattle.osek_scheduler.specs.State.{System};
+
+    ghost Value = { System };
+
+    ghost view = { λ s. record {
+      tasks = s.tasks.items;
+      symbols = s.symbols.items;
+      booted = s.booted;
+      fresh = s.fresh;
+      clock = s.clock;
+    } };
+}
+
+// A task for each declaration.
+fn sleeping_tasks(alloc: Global, config: &Config) -> Result<Vec<TaskRoom>, NoMemory>
+    ensures { IfOk result (λ tasks. tasks.items ≡ map (λ _. sleeping_task) config.now.tasks) }
+{
+    let mut tasks = Vec::new(alloc);
+    for _task in config.tasks.items() {
+        match tasks.push(TaskRoom::new(alloc)?) {
+            Ok(()) => {}
+            Err(failed) => return Err(AllocError::from(failed).into()),
+        }
+    }
+    Ok(tasks)
+}
+
+// The data as they are declared.
+fn declared_data(alloc: Global, app: &App) -> Result<Vec<Data>, NoMemory>
+    ensures { IfOk result (λ symbols. symbols.items ≡ map (λ y. y.bytes) app.now.symbols) }
+{
+    let mut symbols = Vec::new(alloc);
+    for symbol in app.symbols.items() {
+        match symbols.push(Data::new(alloc, symbol.bytes.items())?) {
+            Ok(()) => {}
+            Err(failed) => return Err(AllocError::from(failed).into()),
+        }
+    }
+    Ok(symbols)
+}
+
+// Changes a task.
+fn change_task(tasks: &mut [TaskRoom], t: usize, change: &TaskChange)
+    requires declared { t < length tasks.old }
+    requires allows { HasChangeRoom change.now (get_or tasks.old t sleeping_task) }
+    ensures { tasks.new ≡ set tasks.old t (changed_task change.now (get_or tasks.old t sleeping_task)) }
+{
+    tasks[t].apply(change);
+}
+
+// Stores a value in a symbol.
+fn store_value(symbols: &mut [Data], symbol: usize, width: Width, offset: u32, value: u32)
+    requires declared { symbol < length symbols.old }
+    requires inside { offset + size_of width ≤ length (get_or symbols.old symbol []) }
+    ensures { symbols.new ≡ set symbols.old symbol (bytes_after_store width (get_or symbols.old symbol []) offset value) }
+{
+    symbols[symbol].store(width, offset, value);
+}
+
+// Activates the tasks that are to start by themselves.
+fn autostart(tasks: &mut [TaskRoom], config: &Config)
+    requires { length config.now.tasks ≡ length tasks.old }
+    ensures { tasks.new ≡ autostarted_tasks config.now.tasks tasks.old }
+{
+    for t in 0..tasks.len() {
+        if config.tasks.items()[t].autostart {
+            tasks[t].apply(&TaskChange::Activate);
+        }
+    }
+}
+
+/// Whether a task in this state is Suspended.
+pub fn is_suspended(state: TaskState) -> bool
+    ensures { result ≡ if_suspended state true false }
+{
+    match state {
+        TaskState::Suspended => true,
+        TaskState::Ready | TaskState::Active | TaskState::Waiting(_) => false,
+    }
+}
+
+impl Store {
+    /// Before the system has started.
+    pub fn opening(alloc: Global, config: &Config, app: &App) -> Result<Store, NoMemory>
+        ensures { IfOk result (λ s. s ≡ opening config.now app.now) }
+    {
+        let tasks = sleeping_tasks(alloc, config)?;
+        let symbols = declared_data(alloc, app)?;
+        let clock = ClockRoom::opening(alloc, config)?;
+        Ok(Store {
+            tasks,
+            symbols,
+            booted: false,
+            fresh: Fresh::new(),
+            clock,
+        })
+    }
+
+    /// Whether the system has started.
+    pub fn booted(&self) -> bool
+        ensures { result ≡ self.now.booted }
+    {
+        self.booted
+    }
+
+    /// The tasks that arrivals made Ready since the last event of another kind, the newest first.
+    pub fn fresh(&self) -> &[u32]
+        ensures { result.now ≡ self.now.fresh }
+    {
+        self.fresh.items()
+    }
+
+    /// How many tasks there are.
+    pub fn count(&self) -> usize
+        ensures { result ≡ length self.now.tasks }
+    {
+        self.tasks.len()
+    }
+
+    /// A task.
+    pub fn task(&self, t: usize) -> &TaskRoom
+        requires { t < length self.now.tasks }
+        ensures { result.now ≡ task self.now t }
+    {
+        &self.tasks[t]
+    }
+
+    /// Whether an access lies inside a symbol.
+    pub fn is_inside(&self, symbol: u32, width: Width, offset: u32) -> bool
+        ensures { result ≡ is_inside self.now.symbols symbol width offset }
+    {
+        match self.symbols.get(symbol as usize) {
+            Some(data) => offset as usize + size_of(width) as usize <= data.len(),
+            None => false,
+        }
+    }
+
+    /// The word that a load gives, where the access lies inside the symbol.
+    pub fn load(&self, width: Width, symbol: u32, offset: u32) -> Option<u32>
+        ensures { result ≡ load_of self.now.symbols width symbol offset }
+    {
+        if !self.is_inside(symbol, width, offset) {
+            return None;
+        }
+        Some(self.symbols[symbol as usize].load(width, offset))
+    }
+
+    /// A counter; one that is not there is not due.
+    pub fn counter(&self, c: usize) -> Counter
+        ensures { result ≡ counter self.now c }
+    {
+        self.clock.counter(c)
+    }
+
+    /// An alarm; one that is not there is not in use.
+    pub fn alarm(&self, a: usize) -> Alarm
+        ensures { result ≡ alarm self.now a }
+    {
+        self.clock.alarm(a)
+    }
+
+    /// Replaces a counter.
+    pub fn set_counter(&mut self, c: usize, counter: Counter)
+        requires { c < length self.old.clock.counters }
+        ensures { self.new ≡ with_counter self.old c counter }
+    {
+        self.clock.set_counter(c, counter);
+    }
+
+    /// Replaces an alarm.
+    pub fn set_alarm(&mut self, a: usize, alarm: Alarm)
+        requires { a < length self.old.clock.alarms }
+        ensures { self.new ≡ with_alarm self.old a alarm }
+    {
+        self.clock.set_alarm(a, alarm);
+    }
+
+    /// Changes a task.
+    pub fn change(&mut self, t: usize, change: &TaskChange)
+        requires declared { t < length self.old.tasks }
+        requires allows { HasChangeRoom change.now (task self.old t) }
+        ensures { self.new ≡ with_change t change.now self.old }
+    {
+        change_task(self.tasks.as_mut_slice(), t, change);
+    }
+
+    // Does what an event does besides.
+    fn change_other(&mut self, other: &Other)
+        requires { HasOther other.now self.old }
+        ensures { self.new ≡ with_other other.now self.old }
+    {
+        match *other {
+            Other::Nothing => {}
+            Other::Activate(task) => self.change(task as usize, &TaskChange::Activate),
+            Other::AddEvents { task, mask } => {
+                self.change(task as usize, &TaskChange::AddEvents(mask));
+            }
+            Other::Store {
+                symbol,
+                width,
+                offset,
+                value,
+            } => store_value(
+                self.symbols.as_mut_slice(),
+                symbol as usize,
+                width,
+                offset,
+                value,
+            ),
+            Other::SetAlarm { alarm, left, cycle } => {
+                self.set_alarm(alarm as usize, Alarm { left, cycle });
+            }
+        }
+    }
+
+    /// Carries out a plan of a task.
+    pub fn carry_out(&mut self, t: u32, plan: &Plan)
+        requires { HasPlanRoom t plan.now self.old }
+        ensures { self.new ≡ planned_system t plan.now self.old }
+    {
+        self.change(t as usize, &plan.change);
+        self.change_other(&plan.other);
+    }
+
+    /// The system starts.
+    pub fn boot(&mut self, config: &Config)
+        requires { length config.now.tasks ≡ length self.old.tasks }
+        ensures { self.new ≡ settled_state (record self.old { tasks = autostarted_tasks config.now.tasks self.old.tasks; booted = true }) }
+    {
+        autostart(self.tasks.as_mut_slice(), config);
+        self.booted = true;
+        self.settle();
+    }
+
+    /// An arrival activates a task.
+    pub fn admit(&mut self, t: u32)
+        requires declared { t < length self.old.tasks }
+        requires room { (task self.old t).state ≡ mode.Suspended → length self.old.fresh < task_limit }
+        ensures { self.new ≡ admitted_state t self.old }
+    {
+        if is_suspended(self.task(t as usize).state()) {
+            self.change(t as usize, &TaskChange::Activate);
+            self.fresh.add(t);
+        }
+    }
+
+    /// No task is fresh after an event that is no admit.
+    pub fn settle(&mut self)
+        ensures { self.new ≡ settled_state self.old }
+    {
+        self.fresh.clear();
+    }
+}

@@ -1,6 +1,0 @@
-use Rattle.std.proofs.Common.{◌≡◌}
-use Rattle.osek_plans.proofs.Started.{started}
-use Rattle.osek_plans.proofs.store.autostart.Given as goal
-
-abbrev pub invariant-loop-t : goal.invariant-loop-t
-invariant-loop-t l = l.tasks ≡ started l.t l.config.tasks l.initial.tasks

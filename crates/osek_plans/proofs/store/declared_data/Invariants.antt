@@ -1,5 +1,0 @@
-use Rattle.std.proofs.Common.{◌≡◌, map, take}
-use Rattle.osek_plans.proofs.store.declared_data.Given as goal
-
-abbrev pub invariant-loop-symbol : goal.invariant-loop-symbol
-invariant-loop-symbol l = l.symbols.items ≡ map (λ y. y.bytes) (take l.symbol-index l.app.symbols)

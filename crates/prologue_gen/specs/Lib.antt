@@ -1,4 +1,0 @@
-pub mod Fresh
-pub mod Resuming
-pub mod Places
-pub mod Pieces

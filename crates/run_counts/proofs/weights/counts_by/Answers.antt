@@ -1,0 +1,19 @@
+use Rattle.std.proofs.Common.{subst}
+use Rattle.sloth_base.specs.declared.app.Func.{Func}
+use Rattle.sloth_base.specs.Named.{function}
+use Rattle.bound_rules.specs.declared.weights.BodyWeights.{BodyWeights}
+use Rattle.bound_rules.specs.Weights.{no_weights}
+use Rattle.run_counts.specs.Counts.{AreBodyCounts}
+use Rattle.call_graph.proofs.Growing.{held_more}
+use Rattle.run_counts.proofs.weights.counts_by.Goals as goal
+
+pub loop-number-preserved : goal.loop-number-preserved
+loop-number-preserved c =
+    let lengths = c.args.lengths.now.bodies in
+    let app = c.args.app.now in
+    let own = c.in_ok-own.own in
+    let here = subst (λ (f : Func). AreBodyCounts lengths c.loop-number.number f own) c.function_at.ensures c.in_ok-own.ensures in
+    let g =
+    held_more BodyWeights (λ f w. AreBodyCounts lengths f (function app f) w) c.loop-number.weights.items c.push.new.list.items own no_weights c.loop-number.number
+    c.loop-number.invariant.count c.loop-number.invariant.each c.in_ok-push.ensures here in
+    record { count = g.count; each = g.each }

@@ -1,0 +1,126 @@
+//! The weights by which items count what they take.
+ghost use Rattle.std.specs.Prelude.{◌≡◌, ◌≤◌, ◌<◌, ◌+◌, ℕ, length, get_or, IfOk};
+ghost use Rattle.sloth_base.specs.Named.{item_of};
+ghost use Rattle.code_rules.specs.AppRange.{IsTaskCode};
+ghost use Rattle.event_weights.specs.Items.{length_of, going_counts, ending_counts};
+ghost use Rattle.walk_sums.specs.Weights.{AreWeights};
+ghost use Rattle.run_counts.specs.Counts.{AreBodyCounts, AreCountsBy, AreCounts};
+
+use bound_rules::weights::BodyWeights;
+use event_weights::{ItemLengths, ending_counts, going_counts, length_of, lengths};
+use sloth_base::app::{App, Func};
+use sloth_base::list::List;
+use sloth_base::memory::NoMemory;
+use std::alloc::Global;
+use text_pieces::growth::push;
+use walk_sums::bodies::function_at;
+
+/// The counts of an item behind which its task goes on.
+fn going_at(lengths: &ItemLengths, number: usize, func: &Func, item: usize) -> u32
+    requires short { (f i : ℕ) → length_of lengths.now.bodies f i ≤ 36 }
+    requires inside { item < length func.now.items }
+    ensures { result ≡ length_of lengths.now.bodies number item + going_counts (item_of func.now item).op }
+{
+    let length = length_of(lengths, number, item);
+    length + going_counts(&func.items.items()[item].op)
+}
+
+/// The same where it goes on or leaves with it.
+fn ending_at(lengths: &ItemLengths, number: usize, func: &Func, item: usize) -> u32
+    requires short { (f i : ℕ) → length_of lengths.now.bodies f i ≤ 36 }
+    requires inside { item < length func.now.items }
+    ensures { result ≡ length_of lengths.now.bodies number item + ending_counts func.now (item_of func.now item).op }
+{
+    let length = length_of(lengths, number, item);
+    length + ending_counts(func, &func.items.items()[item].op)
+}
+
+/// Those of the items of a body.
+fn going_list(
+    alloc: Global,
+    lengths: &ItemLengths,
+    number: usize,
+    func: &Func,
+) -> Result<Vec<u32>, NoMemory>
+    requires short { (f i : ℕ) → length_of lengths.now.bodies f i ≤ 36 }
+    ensures count { IfOk result (λ counts. length counts.items ≡ length func.now.items) }
+    ensures exact { IfOk result (λ counts. (i : ℕ) → i < length func.now.items
+        → get_or counts.items i 0 ≡ length_of lengths.now.bodies number i + going_counts (item_of func.now i).op) }
+{
+    let mut counts = Vec::new(alloc);
+    for item in 0..func.items.items().len() {
+        push(&mut counts, going_at(lengths, number, func, item))?;
+    }
+    Ok(counts)
+}
+
+fn ending_list(
+    alloc: Global,
+    lengths: &ItemLengths,
+    number: usize,
+    func: &Func,
+) -> Result<Vec<u32>, NoMemory>
+    requires short { (f i : ℕ) → length_of lengths.now.bodies f i ≤ 36 }
+    ensures count { IfOk result (λ counts. length counts.items ≡ length func.now.items) }
+    ensures exact { IfOk result (λ counts. (i : ℕ) → i < length func.now.items
+        → get_or counts.items i 0 ≡ length_of lengths.now.bodies number i + ending_counts func.now (item_of func.now i).op) }
+{
+    let mut counts = Vec::new(alloc);
+    for item in 0..func.items.items().len() {
+        push(&mut counts, ending_at(lengths, number, func, item))?;
+    }
+    Ok(counts)
+}
+
+fn body_counts(
+    alloc: Global,
+    lengths: &ItemLengths,
+    number: usize,
+    func: &Func,
+) -> Result<BodyWeights, NoMemory>
+    requires short { (f i : ℕ) → length_of lengths.now.bodies f i ≤ 36 }
+    ensures { IfOk result (AreBodyCounts lengths.now.bodies number func.now) }
+{
+    let going = going_list(alloc, lengths, number, func)?;
+    let ending = ending_list(alloc, lengths, number, func)?;
+    Ok(BodyWeights {
+        going: List::from_vec(going),
+        ending: List::from_vec(ending),
+    })
+}
+
+/// Those of all bodies, by the lengths of items.
+fn counts_by(alloc: Global, app: &App, lengths: &ItemLengths) -> Result<Vec<BodyWeights>, NoMemory>
+    requires short { (f i : ℕ) → length_of lengths.now.bodies f i ≤ 36 }
+    ensures { IfOk result (λ weights. AreCountsBy app.now lengths.now.bodies weights.items) }
+{
+    let mut weights = Vec::new(alloc);
+    for number in 0..app.funcs.items().len() {
+        let own = body_counts(alloc, lengths, number, function_at(app, number))?;
+        push(&mut weights, own)?;
+    }
+    Ok(weights)
+}
+
+/// The counts of all items by their lengths, as weights by which sections are summed.
+pub fn weights_by(
+    alloc: Global,
+    app: &App,
+    lengths: &ItemLengths,
+) -> Result<Vec<BodyWeights>, NoMemory>
+    requires short { (f i : ℕ) → length_of lengths.now.bodies f i ≤ 36 }
+    ensures are { IfOk result (λ weights. AreCountsBy app.now lengths.now.bodies weights.items) }
+    ensures fit { IfOk result (λ weights. AreWeights app.now weights.items) }
+{
+    counts_by(alloc, app, lengths)
+}
+
+/// The same, with the fewest long branches.
+pub fn count_weights(alloc: Global, app: &App) -> Result<Vec<BodyWeights>, NoMemory>
+    requires { IsTaskCode app.now }
+    ensures are { IfOk result (λ weights. AreCounts app.now weights.items) }
+    ensures fit { IfOk result (λ weights. AreWeights app.now weights.items) }
+{
+    let lengths = lengths(alloc, app)?;
+    weights_by(alloc, app, &lengths)
+}

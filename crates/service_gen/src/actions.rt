@@ -1,0 +1,141 @@
+//! What a tick does with each alarm: it loses a tick, and where it expires it acts.
+ghost use Rattle.std.specs.Prelude.{◌≡◌, ◌<◌, ◌≤◌, ◌++◌, OnOk};
+ghost use Rattle.sloth_base.specs.Limits.{task_limit, alarm_limit};
+ghost use Rattle.service_gen.specs.Alarms.{IsActionInRange, IsAlarmInRange, AreAlarmsInRange};
+ghost use Rattle.service_gen.specs.AlarmPieces.{basing_code, activating_code, event_adding_code, waking_code, action_code, action_size, losing_code, alarm_code, alarms_code};
+ghost use Rattle.block_parts.specs.Ticks.{suspension_test, awaited_events_test};
+
+use crate::alarms::NumberedAlarm;
+use block_parts::ticks::{ask_awaited, ask_busy, start_again};
+use masked_code::emit::{emit, past};
+use rv32_instr::Instr;
+use rv32_instr::asm::{X1, X3, X4, ZERO, addi, beq, bne, lui, lw, or, sb, slli, sw};
+use rv32_instr::constant::{hi, lo};
+use sloth_base::config::Action;
+use sloth_region::layout::{
+    CONTROLLER_HIGH, WORDS_HIGH, alarm_left, enabled_byte, events, pending_byte,
+};
+use std::alloc::AllocError;
+
+/// The alarms in order.
+pub fn run_all(code: &mut Vec<Instr>, alarms: &[NumberedAlarm]) -> Result<(), AllocError>
+    requires { AreAlarmsInRange alarms.now }
+    ensures { OnOk result (code.new.items ≡ code.old.items ++ alarms_code alarms.now) }
+{
+    for i in 0..alarms.len() {
+        run(code, &alarms[i])?;
+    }
+    Ok(())
+}
+
+/// One alarm.
+fn run(code: &mut Vec<Instr>, alarm: &NumberedAlarm) -> Result<(), AllocError>
+    requires { IsAlarmInRange alarm.now }
+    ensures { OnOk result (code.new.items ≡ code.old.items ++ alarm_code alarm.now) }
+{
+    lose(code, alarm.number, action_size(alarm.action))?;
+    act(code, alarm.action)
+}
+
+/// An alarm in use loses a tick, and starts again where it expires; else on behind the instructions of its action.
+fn lose(code: &mut Vec<Instr>, alarm: u8, size: u32) -> Result<(), AllocError>
+    requires { (alarm < alarm_limit) × (size ≤ 17) }
+    ensures { OnOk result (code.new.items ≡ code.old.items ++ losing_code alarm size) }
+{
+    let lost = [
+        lw(X1, X4, alarm_left(alarm)),
+        beq(X1, ZERO, past(5 + size)),
+        addi(X1, X1, -1),
+        sw(X1, X4, alarm_left(alarm)),
+        bne(X1, ZERO, past(2 + size)),
+    ];
+    emit(code, &lost)?;
+    start_again(code, alarm)
+}
+
+/// How many instructions `act` adds.
+fn action_size(action: Action) -> u32
+    ensures is { result ≡ action_size action }
+    ensures small { result ≤ 17 }
+{
+    match action {
+        Action::Activate(_) => 6,
+        Action::Set(_, _) => 17,
+    }
+}
+
+/// What an action does.
+fn act(code: &mut Vec<Instr>, action: Action) -> Result<(), AllocError>
+    requires { IsActionInRange action }
+    ensures { OnOk result (code.new.items ≡ code.old.items ++ action_code action) }
+{
+    match action {
+        Action::Activate(task) => activate(code, task.0 as u8),
+        Action::Set(task, mask) => set(code, task.0 as u8, mask),
+    }
+}
+
+/// The task's line is raised, and the task isn't Suspended.
+fn activate(code: &mut Vec<Instr>, task: u8) -> Result<(), AllocError>
+    requires { task < task_limit }
+    ensures { OnOk result (code.new.items ≡ code.old.items ++ activating_code task) }
+{
+    let activated = [
+        lui(X4, CONTROLLER_HIGH),
+        addi(X1, ZERO, 1),
+        sb(X1, X4, pending_byte(task)),
+        lui(X4, WORDS_HIGH),
+        slli(X1, X1, task),
+        or(X3, X3, X1),
+    ];
+    emit(code, &activated)
+}
+
+/// Events of a task are set.
+fn set(code: &mut Vec<Instr>, task: u8, mask: u32) -> Result<(), AllocError>
+    requires { task < task_limit }
+    ensures { OnOk result (code.new.items ≡ code.old.items ++ (suspension_test task ++ (event_adding_code task mask ++ (awaited_events_test task ++ (waking_code task ++ basing_code))))) }
+{
+    ask_busy(code, task)?;
+    add_events(code, task, mask)?;
+    ask_awaited(code, task)?;
+    wake(code, task)?;
+    base(code)
+}
+
+/// The task's events, with those of the mask, stay in x1.
+fn add_events(code: &mut Vec<Instr>, task: u8, mask: u32) -> Result<(), AllocError>
+    requires { task < task_limit }
+    ensures { OnOk result (code.new.items ≡ code.old.items ++ event_adding_code task mask) }
+{
+    let added = [
+        lw(X1, X4, events(task)),
+        lui(X4, hi(mask)),
+        addi(X4, X4, lo(mask)),
+        or(X1, X1, X4),
+        lui(X4, WORDS_HIGH),
+        sw(X1, X4, events(task)),
+    ];
+    emit(code, &added)
+}
+
+/// The task's line is raised and enabled.
+fn wake(code: &mut Vec<Instr>, task: u8) -> Result<(), AllocError>
+    requires { task < task_limit }
+    ensures { OnOk result (code.new.items ≡ code.old.items ++ waking_code task) }
+{
+    let woken = [
+        lui(X4, CONTROLLER_HIGH),
+        addi(X1, ZERO, 1),
+        sb(X1, X4, pending_byte(task)),
+        sb(X1, X4, enabled_byte(task)),
+    ];
+    emit(code, &woken)
+}
+
+/// x4 := the base of memory.
+pub fn base(code: &mut Vec<Instr>) -> Result<(), AllocError>
+    ensures { OnOk result (code.new.items ≡ code.old.items ++ basing_code) }
+{
+    emit(code, &[lui(X4, WORDS_HIGH)])
+}

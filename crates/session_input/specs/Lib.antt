@@ -1,3 +1,0 @@
-pub mod ByteReader
-pub mod Input
-pub mod MemInput

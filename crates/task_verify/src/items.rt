@@ -1,0 +1,124 @@
+//! V2 to V6, V11 and V12: the items of a body, one by one.
+ghost use Rattle.std.specs.Prelude.{◌≡◌, ℕ, ◌<◌, ◌↔◌, length, IfOk};
+ghost use Rattle.least_fault.specs.Search.{IsSearchResult};
+ghost use Rattle.code_rules.specs.AppRange.{AppInRange, IsOp};
+ghost use Rattle.sloth_base.specs.Named.{item_of};
+ghost use Rattle.task_verify.specs.Ways.{IsMarked, IsReachedItem};
+ghost use Rattle.task_verify.specs.Cases.{AccessFault, FlowFault, PathFault, ItemFaults, AreOps, AreUsers};
+
+use crate::accesses::{is_access_past, is_mask_past, is_uneven};
+use crate::endings::is_wrong_leave;
+use crate::reachable::reached;
+use crate::tasks::is_undeclared_use;
+use crate::ways::is_run_out;
+use least_fault::{fault_if, merge};
+use sloth_base::app::{App, Func};
+use sloth_base::config::Config;
+use sloth_base::memory::NoMemory;
+use sloth_base::refusal::{Code, Part, Refusal};
+use std::alloc::Global;
+
+fn access_fault(app: &App, func: &Func, number: usize) -> Option<Refusal>
+    requires { number < length func.now.items }
+    ensures { IsSearchResult (AccessFault app.now func.now number) result }
+{
+    let item = &func.items.items()[number];
+    let past = fault_if(
+        is_access_past(app, func, item.op),
+        Part::Src,
+        item.line,
+        Code::V2,
+    );
+    let uneven = fault_if(is_uneven(item.op), Part::Src, item.line, Code::V3);
+    let masked = fault_if(is_mask_past(app, item.op), Part::Src, item.line, Code::V4);
+    merge(past, merge(uneven, masked))
+}
+
+fn flow_fault(
+    config: &Config,
+    app: &App,
+    body: usize,
+    users: u64,
+    func: &Func,
+    number: usize,
+) -> Option<Refusal>
+    requires in_range { AppInRange config.now app.now }
+    requires users { AreUsers app.now body users }
+    requires inside { number < length func.now.items }
+    requires items { IsOp config.now app.now func.now (item_of func.now number).op }
+    ensures { IsSearchResult (FlowFault config.now app.now body func.now number) result }
+{
+    let item = &func.items.items()[number];
+    let out = fault_if(is_run_out(func, number), Part::Src, item.line, Code::V5);
+    let wrong = fault_if(
+        is_wrong_leave(func, item.op),
+        Part::Src,
+        item.line,
+        Code::V11,
+    );
+    let undeclared = fault_if(
+        is_undeclared_use(config, users, item.op),
+        Part::Src,
+        item.line,
+        Code::V12,
+    );
+    merge(out, merge(wrong, undeclared))
+}
+
+fn path_fault(func: &Func, marks: &[bool], number: usize) -> Option<Refusal>
+    requires count { length marks.now ≡ length func.now.items }
+    requires exact { (i : ℕ) → IsMarked marks.now i ↔ IsReachedItem func.now i }
+    requires inside { number < length func.now.items }
+    ensures { IsSearchResult (PathFault func.now number) result }
+{
+    let item = &func.items.items()[number];
+    fault_if(!marks[number], Part::Src, item.line, Code::V6)
+}
+
+fn marked_faults(
+    config: &Config,
+    app: &App,
+    body: usize,
+    users: u64,
+    func: &Func,
+    marks: &[bool],
+) -> Option<Refusal>
+    requires in_range { AppInRange config.now app.now }
+    requires users { AreUsers app.now body users }
+    requires items { AreOps config.now app.now func.now }
+    requires count { length marks.now ≡ length func.now.items }
+    requires exact { (i : ℕ) → IsMarked marks.now i ↔ IsReachedItem func.now i }
+    ensures { IsSearchResult (ItemFaults config.now app.now body func.now) result }
+{
+    let mut least = None;
+    for number in 0..func.items.items().len() {
+        let flow = flow_fault(config, app, body, users, func, number);
+        let here = merge(
+            access_fault(app, func, number),
+            merge(flow, path_fault(func, marks, number)),
+        );
+        least = merge(least, here);
+    }
+    least
+}
+
+/// The least of V2 to V6, V11 and V12 of the items of a body that these tasks reach.
+pub fn item_faults(
+    alloc: Global,
+    config: &Config,
+    app: &App,
+    body: usize,
+    users: u64,
+    func: &Func,
+) -> Result<Option<Refusal>, NoMemory>
+    requires in_range { AppInRange config.now app.now }
+    requires users { AreUsers app.now body users }
+    requires items { AreOps config.now app.now func.now }
+    ensures { IfOk result (IsSearchResult (ItemFaults config.now app.now body func.now)) }
+{
+    if func.items.items().is_empty() {
+        return Ok(None);
+    }
+    let marks = reached(alloc, func)?;
+    Ok(marked_faults(config, app, body, users, func, &marks))
+}

@@ -1,0 +1,97 @@
+//! Admissions and arrivals counted by one number for each moment and line.
+ghost use Rattle.std.specs.Prelude.{◌≡◌, ◌<◌, ◌+◌, ◌*◌, ◌++◌, [], IfOk, OnOk, map};
+ghost use Rattle.std.specs.Ordering.{nat_cmp};
+ghost use Rattle.std.specs.List.Sorted.{IsPermutation, IsSorted};
+ghost use Rattle.std.specs.Bool.{Decides};
+ghost use Rattle.trace_check.specs.Counts.{SameCounts, arrival_number, last_moment, may_leave, number_at, with_admit};
+ghost use Rattle.sloth_base.specs.Events.{admitted_line};
+
+use crate::pass::admitted_line;
+use sloth_base::event::{Arrival, Stamped};
+use sloth_base::memory::NoMemory;
+use std::alloc::Global;
+use text_pieces::growth::push;
+
+// A moment and a line as one number.
+fn number_at(moment: u32, line: u64) -> u64
+    requires { moment * 4294967296 + line < 18446744073709551616 }
+    ensures { result ≡ number_at moment line }
+{
+    u64::from(moment) * 4_294_967_296 + line
+}
+
+/// One more number, where the event is an admission.
+pub fn push_number(numbers: &mut Vec<u64>, event: &Stamped) -> Result<(), NoMemory>
+    requires { event.now.stamp.at < 4294967295 }
+    ensures { OnOk result (numbers.new.items ≡ numbers.old.items ++ with_admit (admitted_line event.now.event) event.now.stamp.at []) }
+{
+    match admitted_line(&event.event) {
+        Some(line) => push(numbers, number_at(event.stamp.at, line)),
+        None => Ok(()),
+    }
+}
+
+// The numbers of arrivals.
+fn arrival_numbers(alloc: Global, arrivals: &[Arrival]) -> Result<Vec<u64>, NoMemory>
+    ensures { IfOk result (λ numbers. numbers.items ≡ map arrival_number arrivals.now) }
+{
+    let mut numbers = Vec::new(alloc);
+    for arrival in arrivals {
+        push(
+            &mut numbers,
+            number_at(arrival.at, u64::from(arrival.line.0)),
+        )?;
+    }
+    Ok(numbers)
+}
+
+// Sorts numbers.
+fn sort(numbers: &mut Vec<u64>) -> Result<(), NoMemory>
+    ensures permutation { OnOk result (IsPermutation numbers.old.items numbers.new.items) }
+    ensures sorted { OnOk result (IsSorted nat_cmp numbers.new.items) }
+{
+    numbers.sort()?;
+    Ok(())
+}
+
+// Whether numbers are the same.
+fn are_same(ones: &[u64], others: &[u64]) -> bool
+    ensures { Decides result (ones.now ≡ others.now) }
+{
+    ones == others
+}
+
+/// Whether the admissions of these numbers are those of the arrivals, moment for moment and line for line. Sorts the numbers.
+pub fn are_admits_of(
+    alloc: Global,
+    arrivals: &[Arrival],
+    admits: &mut Vec<u64>,
+) -> Result<bool, NoMemory>
+    ensures { IfOk result (λ b. Decides b (SameCounts admits.old.items (map arrival_number arrivals.now))) }
+{
+    let mut numbers = arrival_numbers(alloc, arrivals)?;
+    sort(admits)?;
+    sort(&mut numbers)?;
+    Ok(are_same(admits.as_slice(), numbers.as_slice()))
+}
+
+/// The moment of the last of these arrivals, 0 where there is none.
+pub fn last_moment(arrivals: &[Arrival]) -> u32
+    ensures { result ≡ last_moment arrivals.now }
+{
+    match arrivals.last() {
+        Some(arrival) => arrival.at,
+        None => 0,
+    }
+}
+
+/// Whether the end of a run of n instructions may leave these arrivals out.
+pub fn may_leave(n: u32, most: u32, ends: u32, last: u32, arrivals: &[Arrival]) -> bool
+    ensures { result ≡ may_leave n most ends last arrivals.now }
+{
+    match arrivals.first() {
+        None => true,
+        Some(first) => n <= first.at
+            || (last < first.at && ends <= first.at && n - first.at < most),
+    }
+}

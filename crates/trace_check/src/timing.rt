@@ -1,0 +1,147 @@
+//! Events looked at one after the other, and whether arrivals are admitted in time.
+ghost use Rattle.std.specs.Prelude.{◌≡◌, ◌<◌, ◌∷◌, ◌++◌, [], cond, IfOk, OnOk, All, List};
+ghost use Rattle.std.specs.Bool.{Decides};
+ghost use Rattle.sloth_base.specs.Arrivals.{AreRisingMoments};
+ghost use Rattle.sloth_base.specs.declared.event.Stamped.{Stamped as AnyEvent};
+ghost use Rattle.sloth_base.specs.Events.{is_boot};
+ghost use Rattle.sloth_base.specs.Stretches.{longest_stretch};
+ghost use Rattle.osek_scheduler.specs.InTime.{InTime};
+ghost use Rattle.trace_check.specs.Counts.{AreLinesInRange};
+ghost use Rattle.trace_check.specs.Timed.{HasFewClocks, TimedBy, is_late};
+
+use crate::numbers::{are_admits_of, last_moment, may_leave, push_number};
+use crate::pass::Pass;
+use crate::stretches::{boot_limit, longest_stretch};
+use sloth_base::config::Config;
+use sloth_base::event::{Arrival, Event, Stamped};
+use sloth_base::memory::NoMemory;
+use std::alloc::Global;
+use std::marker::Model;
+
+/// The arrivals of a run, and what is kept of its events to tell whether they are admitted in time.
+pub struct Timing<'a> {
+    config: &'a Config,
+    n: u32,
+    arrivals: &'a [Arrival],
+    pass: Pass<'a>,
+    // The admits, a number for each; no more than one above the number of arrivals.
+    admits: Vec<u64>,
+    // How long a stretch is that the end may cut off.
+    most: u32,
+    // An event stands where none may.
+    stopped: bool,
+}
+
+// Written out: what is derived is proved anew wherever a value is let go.
+impl Drop for Timing<'_> {
+    fn drop(self) {
+        let Timing {
+            config: _,
+            n: _,
+            arrivals: _,
+            pass: _,
+            admits: _,
+            most: _,
+            stopped: _,
+        } = self;
+    }
+}
+
+impl<'a> Model for Timing<'a> {
+    ghost use Rattle.trace_check.specs.Timed.{HasFewClocks, KeptPass};
+
+    ghost Value = { KeptPass };
+
+    ghost view = { λ t. record {
+      config = t.config.now;
+      n = t.n;
+      arrivals = t.arrivals.now;
+      scan = t.pass;
+      admits = t.admits.items;
+      most = t.most;
+      stopped = t.stopped;
+    } };
+
+    ghost invariant = { λ t. HasFewClocks t.config.now };
+}
+
+// How long a stretch is that the end may cut off, behind one event more.
+fn most_behind(config: &Config, event: &Event, most: u32) -> u32
+    requires { HasFewClocks config.now }
+    ensures { result ≡ cond (is_boot event.now) (longest_stretch config.now) most }
+{
+    match *event {
+        Event::Boot => longest_stretch(config),
+        _ => most,
+    }
+}
+
+impl<'a> Timing<'a> {
+    /// Before the first event of a run of n instructions.
+    pub fn new(alloc: Global, config: &'a Config, n: u32, arrivals: &'a [Arrival]) -> Timing<'a>
+        requires { HasFewClocks config.now }
+        ensures timed { TimedBy [] result }
+        ensures config { result.config ≡ config.now }
+        ensures n { result.n ≡ n }
+        ensures arrivals { result.arrivals ≡ arrivals.now }
+    {
+        Timing {
+            config,
+            n,
+            arrivals,
+            pass: Pass::new(arrivals),
+            admits: Vec::new(alloc),
+            most: boot_limit(config),
+            stopped: false,
+        }
+    }
+
+    // Whether the events are not in time, whatever follows.
+    fn is_late(&self) -> bool
+        ensures { result ≡ is_late self.now }
+    {
+        self.stopped || self.admits.as_slice().len() > self.arrivals.len()
+    }
+
+    /// Takes an event.
+    pub fn take(&mut self, event: &Stamped) -> Result<(), NoMemory>
+        ensures timed { OnOk result ((events : List AnyEvent) → TimedBy events self.old → TimedBy (events ++ event.now ∷ []) self.new) }
+        ensures config { self.new.config ≡ self.old.config }
+        ensures n { self.new.n ≡ self.old.n }
+        ensures arrivals { self.new.arrivals ≡ self.old.arrivals }
+    {
+        if self.is_late() {
+            return Ok(());
+        }
+        if !self.pass.look(self.n, event) {
+            self.stopped = true;
+            return Ok(());
+        }
+        push_number(&mut self.admits, event)?;
+        self.most = most_behind(self.config, &event.event, self.most);
+        Ok(())
+    }
+
+    /// Whether the events stand where the arrivals allow.
+    pub fn in_time(&mut self, alloc: Global) -> Result<bool, NoMemory>
+        requires rising { AreRisingMoments 1 self.old.arrivals }
+        requires lines { All (λ a. a.line < 4294967296) self.old.arrivals }
+        ensures { IfOk result (λ b. (events : List AnyEvent) → AreLinesInRange events → TimedBy events self.old
+            → Decides b (InTime self.old.config self.old.n self.old.arrivals events)) }
+    {
+        if self.is_late() {
+            return Ok(false);
+        }
+        let (front, back) = self.arrivals.split_at(self.admits.as_slice().len());
+        if !are_admits_of(alloc, front, &mut self.admits)? {
+            return Ok(false);
+        }
+        Ok(may_leave(
+            self.n,
+            self.most,
+            self.pass.ends(),
+            last_moment(front),
+            back,
+        ))
+    }
+}

@@ -1,9 +1,0 @@
-pub mod Subsequences
-pub mod Scan
-pub mod Order
-pub mod Counts
-pub mod Tail
-pub mod Longer
-pub mod Decided
-pub mod ScanOrder
-pub mod Endings
