@@ -6,6 +6,7 @@ ghost use Rattle.sloth_base.specs.MemoryMap.{memory_bytes};
 ghost use Rattle.machine_memory.specs.Place.{bytes_at, with_bytes};
 ghost use Rattle.machine_memory.specs.Fresh.{ram_of};
 
+use crate::front::{byte_in, half_in, put_byte, put_half, put_word, reach, word_in};
 use sloth_base::app::Width;
 use sloth_base::memory::NoMemory;
 use sloth_base::memory_map::MEMORY_BYTES;
@@ -15,39 +16,42 @@ use std::marker::Model;
 /// RAM, which contracts see as its bytes.
 #[derive(Drop)]
 pub struct Ram {
-    bytes: Vec<u8>,
+    // The first bytes; all behind them are zero. There is space for all, so that no store takes memory.
+    front: Vec<u8>,
 }
 
 impl Model for Ram {
-    ghost use Rattle.std.specs.Prelude.{◌≡◌, List, ℕ, length};
+    ghost use Rattle.std.specs.Prelude.{◌≤◌, List, ℕ, length, vec_capacity};
     ghost use Rattle.sloth_base.specs.MemoryMap.{memory_bytes};
+    ghost use Rattle.machine_memory.specs.Fresh.{ram_of};
 
     ghost Value = { List ℕ };
 
-    ghost view = { λ ram. ram.bytes.items };
+    ghost view = { λ ram. ram_of ram.front.items };
 
-    ghost invariant = { λ ram. length ram.bytes.items ≡ memory_bytes };
+    ghost invariant = { λ ram. (length ram.front.items ≤ memory_bytes) × (memory_bytes ≤ vec_capacity ram.front) };
 }
 
 impl Ram {
     /// RAM that begins with these bytes; the rest is zero.
-    #[tactic(auto, unfolding(crate::specs::Fresh::ram_of))]
     pub fn new(alloc: Global, image: &[u8]) -> Result<Ram, NoMemory>
         requires { length image.now ≤ memory_bytes }
         ensures { IfOk result (λ ram. ram ≡ ram_of image.now) }
     {
-        let zeros = vec![in alloc; 0; MEMORY_BYTES - image.len()]?;
-        let mut bytes = Vec::with_capacity(alloc, MEMORY_BYTES)?;
-        bytes.extend_from_slice(image)?;
-        bytes.extend_from_slice(&zeros)?;
-        Ok(Ram { bytes })
+        let mut front = Vec::with_capacity(alloc, MEMORY_BYTES)?;
+        front.extend_from_slice(image)?;
+        Ok(Ram { front })
     }
 
     /// Takes the bytes of another one.
     pub fn set_to(&mut self, other: &Ram)
         ensures { self.new ≡ other.now }
     {
-        self.bytes.copy_from_slice(other.bytes.as_slice());
+        self.front.clear();
+        match self.front.extend_from_slice(other.front.as_slice()) {
+            Ok(()) => {}
+            Err(_) => unreachable!(),
+        }
     }
 
     /// The byte at an offset.
@@ -55,63 +59,63 @@ impl Ram {
         requires { offset < memory_bytes }
         ensures { result ≡ slice_index self.now offset }
     {
-        self.bytes[offset as usize]
+        byte_in(&self.front, offset as usize)
     }
 
     /// The half word at an offset, low byte first.
-    #[tactic(auto, unfolding(rv32_instr::specs::Ram::half_at))]
     pub fn half(&self, offset: u32) -> u32
         requires { offset + 2 ≤ memory_bytes }
         ensures is { result ≡ half_at self.now offset }
         ensures below { result < 65536 }
     {
-        u32::from(self.byte(offset)) + u32::from(self.byte(offset + 1)) * 256
+        half_in(&self.front, offset as usize)
     }
 
     /// The word at an offset, low byte first.
-    #[tactic(auto, unfolding(rv32_instr::specs::Ram::word_at))]
+    #[inline(always)]
     pub fn word(&self, offset: u32) -> u32
         requires { offset + 4 ≤ memory_bytes }
         ensures { result ≡ word_at self.now offset }
     {
-        let first = u32::from(self.byte(offset));
-        let second = u32::from(self.byte(offset + 1)) * 256;
-        let third = u32::from(self.byte(offset + 2)) * 65536;
-        let fourth = u32::from(self.byte(offset + 3)) * 16_777_216;
-        first + second + third + fourth
+        word_in(&self.front, offset as usize)
     }
 
     /// Writes the low byte of a value.
+    #[tactic(auto, using(crate::proofs::FirstBytes::front_with_byte, crate::proofs::FirstBytes::length_with_byte))]
     pub fn set_byte(&mut self, offset: u32, value: u32)
         requires { offset < memory_bytes }
         ensures { self.new ≡ with_byte self.old offset value }
     {
-        self.bytes[offset as usize] = (value % 256) as u8;
+        let place = offset as usize;
+        reach(&mut self.front, place + 1);
+        put_byte(&mut self.front, place, value);
     }
 
     /// Writes the low half word of a value.
-    #[tactic(auto, unfolding(rv32_instr::specs::Ram::with_half))]
+    #[tactic(auto, using(crate::proofs::FirstBytes::front_with_half, crate::proofs::FirstBytes::length_with_half))]
     pub fn set_half(&mut self, offset: u32, value: u32)
         requires { offset + 2 ≤ memory_bytes }
         ensures { self.new ≡ with_half self.old offset value }
     {
-        self.set_byte(offset, value);
-        self.set_byte(offset + 1, value / 256);
+        let place = offset as usize;
+        reach(&mut self.front, place + 2);
+        put_half(&mut self.front, place, value);
     }
 
     /// Writes a word.
-    #[tactic(auto, unfolding(rv32_instr::specs::Ram::with_word))]
+    #[inline(always)]
+    #[tactic(auto, using(crate::proofs::FirstBytes::front_with_word, crate::proofs::FirstBytes::length_with_word))]
     pub fn set_word(&mut self, offset: u32, value: u32)
         requires { offset + 4 ≤ memory_bytes }
         ensures { self.new ≡ with_word self.old offset value }
     {
-        self.set_byte(offset, value);
-        self.set_byte(offset + 1, value / 256);
-        self.set_byte(offset + 2, value / 65536);
-        self.set_byte(offset + 3, value / 16_777_216);
+        let place = offset as usize;
+        reach(&mut self.front, place + 4);
+        put_word(&mut self.front, place, value);
     }
 
     /// The bytes of an access, low byte first.
+    #[inline(always)]
     pub fn load(&self, offset: u32, width: Width) -> u32
         requires { offset + size_of width ≤ memory_bytes }
         ensures is { result ≡ bytes_at self.now offset width }
@@ -125,6 +129,7 @@ impl Ram {
     }
 
     /// Writes the low bytes of a value, low byte first.
+    #[inline(always)]
     pub fn store(&mut self, offset: u32, width: Width, value: u32)
         requires { offset + size_of width ≤ memory_bytes }
         ensures { self.new ≡ with_bytes self.old offset width value }

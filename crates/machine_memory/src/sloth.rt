@@ -1,5 +1,7 @@
 //! A bus of RAM and the interrupt controller.
-ghost use Rattle.std.specs.Prelude.{◌≡◌, ◌<◌, ◌==◌, IfOk, slice_set, slice_index};
+ghost use Rattle.std.specs.Prelude.{◌≡◌, ◌<◌, ◌==◌, None, Some, IfOk, IfErr, OnOk, OnErr, slice_set, slice_index};
+ghost use Rattle.rv32_instr.specs.Memory.{refusal, loaded_number, stored_memory};
+ghost use Rattle.sloth_base.specs.declared.app.Width.TheVariants as kind;
 ghost use Rattle.sloth_base.specs.ImageRange.{InFormat};
 ghost use Rattle.sloth_base.specs.MemoryMap.{line_count};
 ghost use Rattle.machine_memory.specs.Fresh.{sloth_start};
@@ -87,13 +89,16 @@ impl SlothBus {
         self.controller
             .load(LEVELS_OFFSET as u32 + u32::from(line.0))
     }
-}
 
-impl Bus for SlothBus {
-    ghost memory = { λ bus. bus };
-
+    // What `load` gives, inlined for a width.
+    #[inline(always)]
     #[tactic(auto, using(crate::proofs::Places::refusal_bare, crate::proofs::Places::loaded_ram, crate::proofs::Places::loaded_controller))]
-    fn load(&mut self, address: u32, width: Width) -> Result<u32, Bad> {
+    fn load_as(&mut self, address: u32, width: Width) -> Result<u32, Bad>
+        ensures ok { IfOk result (λ value. (refusal self.old address width ≡ None) × (value ≡ loaded_number self.old address width)) }
+        ensures err { IfErr result (λ reason. refusal self.old address width ≡ Some reason) }
+        ensures byte { IfOk result (λ value. width ≡ kind.ByteU → value < 256) }
+        ensures same { self.new ≡ self.old }
+    {
         match locate(address, width, true) {
             Ok(Place::Ram(offset)) => Ok(extended(width, self.ram.load(offset, width))),
             Ok(Place::Controller(offset)) => Ok(extended(
@@ -104,14 +109,60 @@ impl Bus for SlothBus {
         }
     }
 
+    #[inline(never)]
+    fn load_part(&mut self, address: u32, width: Width) -> Result<u32, Bad>
+        ensures ok { IfOk result (λ value. (refusal self.old address width ≡ None) × (value ≡ loaded_number self.old address width)) }
+        ensures err { IfErr result (λ reason. refusal self.old address width ≡ Some reason) }
+        ensures byte { IfOk result (λ value. width ≡ kind.ByteU → value < 256) }
+        ensures same { self.new ≡ self.old }
+    {
+        self.load_as(address, width)
+    }
+
+    // What `store` does, inlined for a width.
+    #[inline(always)]
     #[tactic(auto, using(crate::proofs::Places::refusal_bare, crate::proofs::Places::stored_ram, crate::proofs::Places::stored_controller))]
-    fn store(&mut self, address: u32, width: Width, value: u32) -> Result<(), Bad> {
+    fn store_as(&mut self, address: u32, width: Width, value: u32) -> Result<(), Bad>
+        ensures ok { OnOk result ((refusal self.old address width ≡ None) × (self.new ≡ stored_memory self.old address width value)) }
+        ensures err { IfErr result (λ reason. refusal self.old address width ≡ Some reason) }
+        ensures same { OnErr result (self.new ≡ self.old) }
+    {
         match locate(address, width, true) {
             Ok(Place::Ram(offset)) => self.ram.store(offset, width, value),
             Ok(Place::Controller(offset)) => self.controller.store(offset, (value % 256) as u8),
             Err(bad) => return Err(bad),
         }
         Ok(())
+    }
+
+    #[inline(never)]
+    fn store_part(&mut self, address: u32, width: Width, value: u32) -> Result<(), Bad>
+        ensures ok { OnOk result ((refusal self.old address width ≡ None) × (self.new ≡ stored_memory self.old address width value)) }
+        ensures err { IfErr result (λ reason. refusal self.old address width ≡ Some reason) }
+        ensures same { OnErr result (self.new ≡ self.old) }
+    {
+        self.store_as(address, width, value)
+    }
+}
+
+impl Bus for SlothBus {
+    ghost memory = { λ bus. bus };
+
+    // (words apart, as most accesses are of one)
+    #[inline(always)]
+    fn load(&mut self, address: u32, width: Width) -> Result<u32, Bad> {
+        match width {
+            Width::Word => self.load_as(address, Width::Word),
+            _ => self.load_part(address, width),
+        }
+    }
+
+    #[inline(always)]
+    fn store(&mut self, address: u32, width: Width, value: u32) -> Result<(), Bad> {
+        match width {
+            Width::Word => self.store_as(address, Width::Word, value),
+            _ => self.store_part(address, width, value),
+        }
     }
 
     #[inline(always)]

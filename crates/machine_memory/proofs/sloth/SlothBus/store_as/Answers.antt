@@ -1,5 +1,5 @@
 use Rattle.machine_memory.proofs.Places.{aligned_offset}
-use Rattle.machine_memory.proofs.sloth.SlothBusBus.store.Goals as goal
+use Rattle.machine_memory.proofs.sloth.SlothBus.store_as.Goals as goal
 
 pub store-requires-clause-aligned : goal.store-requires-clause-aligned
 store-requires-clause-aligned c =
