@@ -3,3 +3,4 @@ pub mod SourceText
 pub mod Texts
 pub mod RankedTexts
 pub mod Checked
+pub mod TaskNames

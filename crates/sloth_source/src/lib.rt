@@ -6,7 +6,7 @@
 //! the readers and `code_rules` (`WellFormed`).
 //!
 //! `read_checked` gives the task code of accepted texts, verified, with the ranks of its functions, or the first refusal of both texts. What is said of
-//! it: `specs/Checked`.
+//! it: `specs/Checked`. The task of a name: `task_named`.
 #![tactic(auto)]
 
 mod checked_reading;
@@ -14,9 +14,11 @@ mod configuration;
 mod laws;
 mod ranked_texts;
 mod reading;
+mod task_names;
 
 pub use checked_reading::{Checked, read_checked};
 pub use configuration::read_config;
 pub use laws::{one_meaning, one_ranked, one_verdict};
 pub use ranked_texts::{Ranked, read_ranked};
 pub use reading::{Source, read};
+pub use task_names::task_named;
