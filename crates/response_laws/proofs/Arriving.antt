@@ -256,6 +256,18 @@ module _ (config : Config) (app : App) (load : List Entry) (n late more heaviest
       none (z ∷ zs) e = cc
   has_events (e ∷ es) before first rest is = omega arith
 
+  -- the first stage of a period ends near the moments of all its stages
+  pub near_period : (before : List Stage) (first : Stage) (period behind : List Stage) → run ≡ before ++ ((first ∷ period) ++ behind)
+      → AllByRecursion (λ x. end_of first ≤ x.stamped.stamp.at + late) (first ∷ period)
+  near_period before first period behind part =
+      (each_append (λ x. end_of first ≤ x.stamped.stamp.at + late) (first ∷ period) behind
+      (near_part config app late before (first ∷ (period ++ behind)) (subst (AreNear config app late) part near_run)).0).0
+    where
+      near_run : AreNear config app late run
+      near_run =
+          are_near config app late n 0 (opening config app) events in_time.placed stamped pace.brief
+          (each_so (IsStamped n) (λ e. 0 ≤ e.stamp.at + late) (λ e s. omega arith) events stamped)
+
   pub admissions_few : (line l : ℕ) (before : List Stage) (first : Stage) (period behind : List Stage) → run ≡ before ++ ((first ∷ period) ++ behind)
       → AllByRecursion (BeginsWithin l first) period → count (at_admission line) (first ∷ period) ≤ arrivals_within load (admission_window late heaviest l) line
   admissions_few line l before first period behind part begins =
@@ -268,15 +280,8 @@ module _ (config : Config) (app : App) (load : List Entry) (n late more heaviest
       let few = few_arrivals load arrivals positive keeps (low first) (high l first) (admission_window late heaviest l) line (omega arith) in
       omega (arith, counted, whole, parts, seen, admitted, few)
     where
-      near_run : AreNear config app late run
-      near_run =
-          are_near config app late n 0 (opening config app) events in_time.placed stamped pace.brief
-          (each_so (IsStamped n) (λ e. 0 ≤ e.stamp.at + late) (λ e s. omega arith) events stamped)
-
       near_first : AllByRecursion (λ x. end_of first ≤ x.stamped.stamp.at + late) (first ∷ period)
-      near_first =
-          (each_append (λ x. end_of first ≤ x.stamped.stamp.at + late) (first ∷ period) behind
-          (near_part config app late before (first ∷ (period ++ behind)) (subst (AreNear config app late) part near_run)).0).0
+      near_first = near_period before first period behind part
 
       soon_run : AllByRecursion (ComesSoon config app heaviest) (first ∷ period)
       soon_run =

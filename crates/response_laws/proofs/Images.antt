@@ -86,7 +86,7 @@ module _ (config : Config) (app : App) (image : Image) (weights : List BodyWeigh
   known = stages_known config app (facts config app wf) 0 (opening config app) run.osek.0 events (opening_ordered config app) (opening_valid config app) leads
 
   responds : NoStretchIsAbove config app late → HasDistances load → KeepDistances load arrivals → KeepsWork config load cuts (run_stages config app events)
-      → FitsRounds config app weights load h cuts costs → HaveStarts config h longest once starts start (run_stages config app events)
+      → FitsRounds config app weights load h cuts costs → HaveStarts config h longest late once starts start (run_stages config app events)
       → ((i : ℕ) → i < starts → IsStartFor config load late (longest + late) h r once costs (run_stages config app events) (start i))
       → RespondsWithin config app n (longest + late) h r events
   responds above distances keeps works rounds have fit =
@@ -101,8 +101,8 @@ module _ (config : Config) (app : App) (image : Image) (weights : List BodyWeigh
       (bounds_rounds config app size longest n weights load arrivals events h cuts costs wf run.osek run.in_time (weighed.each arrivals n are few) spends weighs ends works rounds)
       have fit
 
-  have_starts : FitsStarts config app longest weights h once starts start → HaveStarts config h longest once starts start (run_stages config app events)
-  have_starts fits = code_fits_starts config app size longest n weights arrivals events h once starts start wf run.osek run.in_time most spends within weighs ends fits
+  have_starts : FitsStarts config app longest late weights h once starts start → HaveStarts config h longest late once starts start (run_stages config app events)
+  have_starts fits = code_fits_starts config app size longest late n weights arrivals events h once starts start wf run.osek run.in_time most spends within weighs ends fits
 
   alarms : (is_set : ℕ → Bool) (s : Start) → MarksAlarms app is_set → HasExpiries config is_set s → HasAlarms (run_stages config app events) s
   alarms is_set s marks has = ticks_make_as_alarms_expire config app events is_set s wf run.osek marks has

@@ -35,7 +35,9 @@ use Rattle.response_laws.specs.Busy.{is_quiet_but, LeavesFirst}
 use Rattle.response_laws.specs.Response.{EntersOnce}
 use Rattle.run_counts.proofs.States.{not_ready}
 use Rattle.response_laws.proofs.Linked.{Known, Linked}
-use Rattle.response_laws.proofs.Lower.{all_so, rank_due, admit_active, admit_ticks, settles, from_same, late, no_section, pressed_next, started_next, admit_is_none}
+use Rattle.response_laws.proofs.Settled.{all_so, rank_due, admit_active, admit_ticks, settles, from_same}
+use Rattle.response_laws.proofs.Blocking.{late, no_section, pressed_next, started_next}
+use Rattle.response_laws.proofs.Lower.{admit_is_none}
 use Rattle.response_laws.proofs.Starting.{IsBusy, over_itself}
 use Rattle.response_laws.proofs.Steps.{turn_active, stays_inactive, active_declared}
 

@@ -18,246 +18,52 @@ use Rattle.osek_scheduler.proofs.Facts.{facts}
 use Rattle.osek_scheduler.proofs.Leading.{follows_leads}
 use Rattle.osek_scheduler.proofs.Steps.{opening_valid}
 use Rattle.osek_blocking.proofs.Ordering.{opening_ordered}
-use Rattle.run_counts.specs.Stages.{Stage, unseen, spanned, charged, own, end_of, run_stages, is_turn, is_entry, is_running}
-use Rattle.run_counts.specs.OwnCounts.{if_preempted, IsOwn}
+use Rattle.run_counts.specs.Stages.{Stage, spanned, charged, end_of, run_stages, is_entry}
+use Rattle.run_counts.specs.OwnCounts.{IsOwn}
 use Rattle.run_counts.proofs.Owned.{own_what_is_charged}
-use Rattle.raised_sections.specs.Pace.{takes_line}
-use Rattle.response_laws.specs.Shares.{share_of, lower_own, lower_counts, LowerSpendWithin}
-use Rattle.response_laws.proofs.LowerSpending.{own_where_none, admit_own, admit_counts}
+use Rattle.response_laws.specs.Shares.{share_of, lower_counts, LowerSpendWithin}
 use Rattle.response_laws.proofs.OwnShares.{own_no_round}
 use Rattle.response_laws.proofs.Shares as shares
 use Rattle.sloth_base.specs.declared.event.Event.{Event}
 use Rattle.sloth_base.specs.declared.event.Event.TheVariants as event
 use Rattle.osek_scheduler.specs.Steps.{OsekStep}
 use Rattle.osek_scheduler.specs.Apart.{IsActive}
-use Rattle.run_counts.specs.Rounds.{goes_on_waiting, is_left, total}
+use Rattle.run_counts.specs.Rounds.{goes_on_waiting, total}
 use Rattle.response_laws.proofs.Leaving.{none_lower}
 use Rattle.response_laws.proofs.RoundEnds.{left_inactive}
 use Rattle.response_laws.proofs.RoundSums.{longer, no_round}
 use Rattle.response_laws.proofs.Steps.{active_declared}
-use Rattle.response_laws.specs.Sums.{total_where, count, is_over}
-use Rattle.response_laws.specs.Turns.{is_other, activated, was_set, in_turn, at_entry, round_behind, if_turn}
+use Rattle.response_laws.specs.Sums.{count, is_over}
+use Rattle.response_laws.specs.Turns.{is_other, makes_ready, activated, was_set, at_entry, round_behind, if_turn}
 use Rattle.response_laws.specs.Busy.{IsBusyPeriod, is_quiet, LeavesFirst, IsLeaving}
 use Rattle.response_laws.specs.Demand.{Costs, Start}
-use Rattle.response_laws.specs.Bounded.{BeginsWithin, IsWithinInflow, StartsSo, StartsInOne, left_of, left_over}
+use Rattle.response_laws.specs.Bounded.{BeginsWithin, IsWithinInflow, StartsSo, EndsSoon, StartsInOne, left_of, left_over}
 use Rattle.response_laws.specs.Arrivals.{HasDistances, AreCharged}
 use Rattle.raised_sections.specs.Sections.{IsLower}
-use Rattle.response_laws.specs.Starts.{IsRaisedTurn, InSection, OpensSection, AreOfSection, IsAlone, AreOfOne, Comes, with_one, with_section, charged_served, IsWithinStart, HaveStarts}
+use Rattle.response_laws.specs.Starts.{InSection, OpensSection, AreOfSection, HasSectionBehind, IsAlone, AreOfOne, Comes, with_one, with_section, IsWithinStart, SomeIsWithin, HaveStarts, begun_item}
 use Rattle.response_laws.specs.Response.{HasPace, EntersOnce}
 use Rattle.response_laws.specs.Loaded.{IsStartFor, RespondsUnderLoad}
 use Rattle.response_laws.proofs.Booted.{HasStarted, has_started, no_boot}
 use Rattle.response_laws.proofs.Starting.{IsBusy, due_busy}
-use Rattle.response_laws.proofs.Linked.{Known, Linked, last_state, last_end, linked_front, linked_behind, each_append, stages_linked, stages_known}
+use Rattle.response_laws.proofs.Linked.{Known, Linked, last_state, last_end, linked_front, linked_behind, each_append, each_so, stages_linked, stages_known}
 use Rattle.response_laws.proofs.Sums.{total-append}
-use Rattle.response_laws.proofs.Lower.{raised_or_served, admit_is_none, periods_start_so}
-use Rattle.response_laws.proofs.Arriving.{admissions_few}
+use Rattle.response_laws.proofs.Lower.{admit_is_none, periods_start_so}
+use Rattle.response_laws.proofs.Blocking.{IsLowService}
+use Rattle.response_laws.proofs.Arriving.{near_period, admissions_few}
+use Rattle.response_laws.proofs.Passing.{AreAdmissions, soon_served, soon_active, left_no_admit, leaving_parts}
+use Rattle.response_laws.proofs.Tails.{Tail, none_other, one_serves, all_raised, tail, SectionTail, was_raised, gets_raised, section_tail, all_of_section}
 use Rattle.response_laws.proofs.Responding.{respond_in_time}
-
-module _ (config : Config) (h : ℕ) where
-  abbrev others : (Stage → ℕ) → List Stage → ℕ
-  others f xs = total_where (is_other config h) f xs
-
-  -- where none is another one, they have nothing
-  no_others : (f : Stage → ℕ) (xs : List Stage) → count (is_other config h) xs ≤ 0 → others f xs ≤ 0
-  no_others f [] le = omega arith
-  no_others f (x ∷ xs) le = by (is_other config h x) le (no_others f xs)
-    where
-      by : (b : Bool) → cond b 1 0 + count (is_other config h) xs ≤ 0 → (count (is_other config h) xs ≤ 0 → others f xs ≤ 0) → cond b (f x) 0 + others f xs ≤ 0
-      by true le rest = absurd (omega (arith, le))
-      by false le rest = let none = rest (omega (arith, le)) in omega (arith, none)
-
-  module _ (longest starts : ℕ) (start : ℕ → Start) where
-    -- what one other event brings is within a start
-    record OneStart (xs : List Stage) : Type 0 where
-      which : ℕ
-      there : which < starts
-      boot : (start which).is_boot ≡ true → AllByRecursion (λ x. is_boot x.stamped.event ≡ false) xs → ⊥
-      front : others charged_served xs + longest ≤ (start which).inflow.front
-      acts : (j : ℕ) → is_over config h j ≡ true → others (activated j) xs ≤ (start which).inflow.acts j
-      sets : (j : ℕ) → is_over config h j ≡ true → others (was_set j) xs ≤ (start which).inflow.sets j
-
-    one_start : (xs : List Stage) → (i : ℕ) × (i < starts) × ((start i).is_boot ≡ false) × (longest ≤ (start i).inflow.front)
-        → AllByRecursion
-        (λ x. is_other config h x ≡ true → (i : ℕ) × (i < starts) × IsWithinStart config h longest (start i) x × ((start i).is_boot ≡ true → is_boot x.stamped.event ≡ true)) xs
-        → count (is_other config h) xs ≤ 1 → OneStart xs
-    one_start [] some each le = record { which = some.0; there = some.1; boot = λ is. absurd (true≢false (sym is ∙ some.2)); front = (let le = some.3 in omega (arith, le)); acts = λ j over. omega arith; sets = λ j over. omega arith }
-    one_start (x ∷ xs) some each le = by (is_other config h x) refl (λ few. one_start xs some each.1 few)
-      where
-        by : (b : Bool) → is_other config h x ≡ b → (count (is_other config h) xs ≤ 1 → OneStart xs) → OneStart (x ∷ xs)
-        by true is again =
-            let fits = each.0 is in
-            let here = ap {B = ℕ} (λ b. cond b 1 0) is in
-            let none : count (is_other config h) xs ≤ 0 = omega (arith, here, le) in
-            let alone : (f : Stage → ℕ) → others f (x ∷ xs) ≤ f x =
-            λ f. let rest = no_others f xs none in let own = ap {B = ℕ} (λ b. cond b (f x) 0) is in omega (arith, rest, own) in
-            record {
-              which = fits.0;
-              there = fits.1;
-              boot = λ boots none. true≢false (sym (fits.3 boots) ∙ none.0);
-              front = let a = alone charged_served in let b = fits.2.front in omega (arith, a, b);
-              acts = λ j over. let a = alone (activated j) in let b = fits.2.acts j over in omega (arith, a, b);
-              sets = λ j over. let a = alone (was_set j) in let b = fits.2.sets j over in omega (arith, a, b);
-            }
-        by false other again =
-            let here = ap {B = ℕ} (λ b. cond b 1 0) other in
-            let rest = again (omega (arith, here, le)) in
-            let same : (f : Stage → ℕ) → others f (x ∷ xs) ≤ others f xs = λ f. let own = ap {B = ℕ} (λ b. cond b (f x) 0) other in omega (arith, own) in
-            record {
-              which = rest.which;
-              there = rest.there;
-              boot = λ boots none. rest.boot boots none.1;
-              front = let a = same charged_served in let b = rest.front in omega (arith, a, b);
-              acts = λ j over. let a = same (activated j) in let b = rest.acts j over in omega (arith, a, b);
-              sets = λ j over. let a = same (was_set j) in let b = rest.sets j over in omega (arith, a, b);
-            }
-
-  -- the beginning of a section is one
-  section_front : (b : ℕ) (xs ys : List Stage) → AreOfSection config h b (xs ++ ys) → AreOfSection config h b xs
-  section_front b [] ys s = tt
-  section_front b (x ∷ xs) ys s = by (is_admit x.stamped) s (section_front b xs ys)
-    where
-      by : (a : Bool) → OpensSection config h b a (AreOfSection config h b (xs ++ ys)) x (xs ++ ys) → (AreOfSection config h b (xs ++ ys) → AreOfSection config h b xs)
-          → OpensSection config h b a (AreOfSection config h b xs) x xs
-      by true s again = again s
-      by false s again = (s.0, (each_append _ xs ys s.1).0)
-
-  -- ---- one event
-
-  -- no other event is in front of where there is none
-  none_in_front : (xs ys : List Stage) → count (is_other config h) (xs ++ ys) ≤ 0 → count (is_other config h) xs ≤ 0
-  none_in_front xs ys none = let both = total-append (λ x. cond (is_other config h x) 1 0) xs ys in omega (arith, none, both)
-
-  one_front : (xs ys : List Stage) → AreOfOne config h (xs ++ ys) → AreOfOne config h xs
-  one_front [] ys one = tt
-  one_front (x ∷ xs) ys one = by (is_admit x.stamped) one (one_front xs ys)
-    where
-      by : (a : Bool) → IsAlone config h a (AreOfOne config h (xs ++ ys)) (xs ++ ys) → (AreOfOne config h (xs ++ ys) → AreOfOne config h xs)
-          → IsAlone config h a (AreOfOne config h xs) xs
-      by true one again = again one
-      by false none again = none_in_front xs ys none
-
-  one_at_most : (app : App) (xs : List Stage) → AreOfOne config h xs → count (is_other config h) xs ≤ 1
-  one_at_most app [] one = omega arith
-  one_at_most app (x ∷ xs) one = by (is_admit x.stamped) refl one (one_at_most app xs)
-    where
-      at_most : (b : Bool) → cond b 1 0 ≤ 1
-      at_most true = omega arith
-      at_most false = omega arith
-
-      by : (a : Bool) → is_admit x.stamped ≡ a → IsAlone config h a (AreOfOne config h xs) xs → (AreOfOne config h xs → count (is_other config h) xs ≤ 1)
-          → count (is_other config h) (x ∷ xs) ≤ 1
-      by true is one again = let rest = again one in let none = ap {B = ℕ} (λ v. cond v 1 0) (admit_is_none config app h x is) in omega (arith, rest, none)
-      by false is none again = let few = at_most (is_other config h x) in omega (arith, none, few)
-
-  module _ (app : App) (longest : ℕ) (run : List Stage) (brief : LowerSpendWithin config h longest run) where
-    -- without an event of a lower task, lower tasks have no more than one item
-    pub lower_where_none : (before xs behind : List Stage) → run ≡ before ++ (xs ++ behind) → count (is_other config h) xs ≤ 0 → total (lower_counts config h) xs ≤ longest
-    lower_where_none before xs behind is none = let le = own_where_none config h xs none in let most = brief before xs behind is none in omega (arith, le, most)
-
-    -- with one, that and one item
-    lower_where_one : (before xs behind : List Stage) → run ≡ before ++ (xs ++ behind) → AreOfOne config h xs → total (lower_counts config h) xs ≤ others charged xs + longest
-    lower_where_one before [] behind is one = omega arith
-    lower_where_one before (x ∷ xs) behind is one = by (is_admit x.stamped) refl one (lower_where_one (before ++ x ∷ []) xs behind further)
-      where
-        further : run ≡ (before ++ x ∷ []) ++ (xs ++ behind)
-        further = is ∙ sym (append_assoc before (x ∷ []) (xs ++ behind))
-
-        alone : (o : Bool) → is_other config h x ≡ o → count (is_other config h) xs ≤ 0 → total (lower_counts config h) (x ∷ xs) ≤ others charged (x ∷ xs) + longest
-        alone true on none =
-            let rest = lower_where_none (before ++ x ∷ []) xs behind further none in
-            let own = ap {B = ℕ} (λ b. cond b (charged x) (lower_own config h x)) on in
-            let here = ap {B = ℕ} (λ b. cond b (charged x) 0) on in
-            omega (arith, rest, own, here)
-        alone false off none =
-            let zero = ap {B = ℕ} (λ b. cond b 1 0) off in
-            let all = lower_where_none before (x ∷ xs) behind is (omega (arith, none, zero)) in
-            omega (arith, all)
-
-        by : (a : Bool) → is_admit x.stamped ≡ a → IsAlone config h a (AreOfOne config h xs) xs
-            → (AreOfOne config h xs → total (lower_counts config h) xs ≤ others charged xs + longest) → total (lower_counts config h) (x ∷ xs) ≤ others charged (x ∷ xs) + longest
-        by true admits one again =
-            let rest = again one in
-            let own = ap {B = ℕ} (λ b. cond b (charged x) (lower_own config h x)) (admit_is_none config app h x admits) in
-            let zero = admit_counts config app h x admits in
-            omega (arith, rest, own, zero)
-        by false later none again = alone (is_other config h x) refl none
-
-    -- behind the first of such stages
-    pub lower_behind_one : (before : List Stage) (first : Stage) (xs behind : List Stage) → run ≡ before ++ ((first ∷ xs) ++ behind) → AreOfOne config h (first ∷ xs)
-        → total (lower_counts config h) xs ≤ others charged xs + longest
-    lower_behind_one before first xs behind is one = by (is_admit first.stamped) one
-      where
-        further : run ≡ (before ++ first ∷ []) ++ (xs ++ behind)
-        further = is ∙ sym (append_assoc before (first ∷ []) (xs ++ behind))
-
-        by : (a : Bool) → IsAlone config h a (AreOfOne config h xs) xs → total (lower_counts config h) xs ≤ others charged xs + longest
-        by true one = lower_where_one (before ++ first ∷ []) xs behind further one
-        by false none = let le = lower_where_none (before ++ first ∷ []) xs behind further none in omega (arith, le)
-
--- in states that are not quiet one other event is a service, or comes in a raised turn
-module _ (config : Config) (app : App) (h : ℕ) where
-  data Tail (xs : List Stage) : Type 0 where
-    served : others config h charged xs ≤ others config h (charged_served) xs → Tail xs
-    raised : (b : ℕ) → IsLower config h b → InSection config h b xs → 1 ≤ count (is_other config h) xs → Tail xs
-
-  none_raised : (b : ℕ) (xs : List Stage) → count (is_other config h) xs ≤ 0 → InSection config h b xs
-  none_raised b [] none = tt
-  none_raised b (x ∷ xs) none = (
-    λ is. let one = ap {B = ℕ} (λ c. cond c 1 0) is in absurd (omega (arith, none, one)),
-    none_raised b xs (omega (arith, none)),
-  )
-
-  tail : (at : ℕ) (s : System) (xs : List Stage) → Linked at s xs → AllByRecursion (Known config app) xs → AllByRecursion (IsBusy config h) xs → HasStarted s
-      → count (is_other config h) xs ≤ 1 → Tail xs
-  tail at s [] l k busy on one = served (omega arith)
-  tail at s (x ∷ xs) l k busy on one =
-      by (is_other config h x) refl
-      (λ few. tail (end_of x) x.next xs l.2 k.1 busy.1 (has_started config app x.stamped.event x.found x.next k.0.step) few)
-    where
-      by : (b : Bool) → is_other config h x ≡ b → (count (is_other config h) xs ≤ 1 → Tail xs) → Tail (x ∷ xs)
-      by false other again = on_rest (again (let zero = ap {B = ℕ} (λ c. cond c 1 0) other in omega (arith, one, zero)))
-        where
-          off : (f : Stage → ℕ) → ◌≡◌ {A = ℕ} (cond (is_other config h x) (f x) 0) 0
-          off f = ap {B = ℕ} (λ c. cond c (f x) 0) other
-
-          on_rest : Tail xs → Tail (x ∷ xs)
-          on_rest (served le) = served (let a = off charged in let c = off (charged_served) in omega (arith, le, a, c))
-          on_rest (raised b lower section some) =
-              raised b lower ((λ is. absurd (true≢false (sym is ∙ other))), section)
-              (let zero = ap {B = ℕ} (λ c. cond c 1 0) other in omega (arith, some, zero))
-      by true is again = which (raised_or_served config app h x k.0 busy.0 (subst HasStarted (sym l.1) on) is)
-        where
-          here : ◌≡◌ {A = ℕ} (cond (is_other config h x) 1 0) 1
-          here = ap {B = ℕ} (λ c. cond c 1 0) is
-
-          none : count (is_other config h) xs ≤ 0
-          none = let a = here in omega (arith, one, a)
-
-          which : ((b : ℕ) × IsLower config h b × IsRaisedTurn config h b x) ⊎ (is_some (served_task x.stamped.event) ≡ true) → Tail (x ∷ xs)
-          which (inl (b, lower, r)) = raised b lower ((λ _. r), none_raised b xs none) (let a = here in omega (arith, a))
-          which (inr serves) =
-              served
-              (let a = ap {B = ℕ} (λ c. cond c (charged x) 0) serves in
-              let both : cond (is_other config h x) (charged_served x) 0 ≡ cond (is_other config h x) (charged x) 0 =
-              ap (λ c. cond (is_other config h x) c 0) a in
-              let rest = no_others config h charged xs none in
-              omega (arith, both, rest))
-
-  -- where each other event is in a raised turn, they are a section
-  all_of_section : (b : ℕ) (xs : List Stage) → InSection config h b xs → AreOfSection config h b xs
-  all_of_section b [] section = tt
-  all_of_section b (x ∷ xs) section = by (is_admit x.stamped) (all_of_section b xs section.1)
-    where
-      by : (a : Bool) → AreOfSection config h b xs → OpensSection config h b a (AreOfSection config h b xs) x xs
-      by true rest = rest
-      by false rest = ((λ is. inl (section.0 is)), section.1)
+use Rattle.response_laws.proofs.Asleep.{idle_spend, boot_idle}
+use Rattle.response_laws.proofs.LowerSpending.{own_where_none}
+use Rattle.response_laws.proofs.OneEvent.{no_others, no_admissions, section_front, none_in_front, one_front, lower_where_none, lower_behind_one, others}
+use Rattle.response_laws.proofs.LeavingShares.{at_most_itself, rest_own, rest_of, LeavesWithin, step_left, step_admit, has_leaving}
 
 module _ (config : Config) (app : App) (load : List Entry) (n late more heaviest longest : ℕ) (arrivals : List Arrival) (events : List Stamped) (h r : ℕ)
     (cuts : ℕ → Bool) (costs : Costs) (once : Bool) (starts : ℕ) (start : ℕ → Start) (enters : once ≡ true → EntersOnce config h cuts) (wf : WellFormed config app) (osek : OsekRun config app events)
     (in_time : InTime config n arrivals events) (pace : HasPace n late more events) (fits : more ≤ heaviest)
     (charges : AreCharged heaviest (run_stages config app events)) (positive : HasDistances load) (keeps : KeepDistances load arrivals)
     (brief : LowerSpendWithin config h longest (run_stages config app events))
-    (have : HaveStarts config h longest once starts start (run_stages config app events))
+    (have : HaveStarts config h longest late once starts start (run_stages config app events))
     (fit : (i : ℕ) → i < starts → IsStartFor config load late heaviest h r once costs (run_stages config app events) (start i)) where
   module _ (first : Stage) (period : List Stage) (busy : IsBusyPeriod config h once (run_stages config app events) first period) where
     -- a beginning of the period is a part of the run
@@ -283,6 +89,18 @@ module _ (config : Config) (app : App) (load : List Entry) (n late more heaviest
       acts = acts;
       sets = sets;
     }
+
+    -- what holds of each stage of the run holds of those of the period
+    of_period : (P : Stage → Type 0) → AllByRecursion P (run_stages config app events) → AllByRecursion P (first ∷ period)
+    of_period P each =
+        (each_append P (first ∷ period) busy.behind (each_append P busy.before ((first ∷ period) ++ busy.behind) (subst (AllByRecursion P) busy.part each)).1).0
+
+    -- an event may stand in front of where the first one ends
+    soon_late : (lead : ℕ) → late ≤ lead → EndsSoon h lead first (first ∷ period)
+    soon_late lead le =
+        each_so (λ x. end_of first ≤ x.stamped.stamp.at + late) (λ x. makes_ready h x ≡ true → end_of first ≤ x.stamped.stamp.at + lead)
+        (λ x near _. omega (arith, near, le)) (first ∷ period)
+        (near_period config app load n late more heaviest arrivals events osek in_time pace fits charges positive keeps busy.before first period busy.behind busy.part)
 
     known : AllByRecursion (Known config app) (first ∷ period)
     known =
@@ -334,10 +152,6 @@ module _ (config : Config) (app : App) (load : List Entry) (n late more heaviest
         started : HasStarted y.next
         started = has_started config app y.stamped.event y.found y.next all_known.0.step
 
-    at_most_itself : (b : Bool) (n : ℕ) → cond b n 0 ≤ n
-    at_most_itself true n = omega arith
-    at_most_itself false n = omega arith
-
     quiet_idle : is_quiet config h first.found ≡ true → IsActive first.found h → ⊥
     quiet_idle quiet active =
         true≢false (sym quiet ∙ due_busy config h first.found (active_declared config first.found h known.0.valid.count active) (inr active))
@@ -357,11 +171,7 @@ module _ (config : Config) (app : App) (load : List Entry) (n late more heaviest
         which (inr off) = off
         which (inl is) = absurd (by first.stamped.event known.0.step is)
 
-    -- what is left of a round of h
-    abbrev rest_own : List Stage → ℕ
-    rest_own xs = total (share_of config h) (round_behind false h xs)
-
-    longer_own : (xs ys : List Stage) → rest_own xs ≤ rest_own (xs ++ ys)
+    longer_own : (xs ys : List Stage) → rest_own config h xs ≤ rest_own config h (xs ++ ys)
     longer_own = shares.longer false h spanned (share_of config h)
 
     -- where a period begins quietly, h runs in no turn
@@ -377,197 +187,231 @@ module _ (config : Config) (app : App) (load : List Entry) (n late more heaviest
     nothing_over_behind quiet front rest is =
         let none = own_no_round config app h false first.start first.found (first ∷ period) (refl, refl, links) known (quiet_idle quiet) in
         let le = longer_own front rest in
-        let same = ap rest_own is in
-        let few = at_most_itself once (rest_own front) in
+        let same = ap (rest_own config h) is in
+        let few = at_most_itself once (rest_own config h front) in
         let whole = ap (λ e. total (share_of config h) (cond e [] (first ∷ cond (false && goes_on_waiting h first.stamped.event) [] (round_behind false h period))))
         (quiet_no_entry quiet) in
         omega (arith, none, le, same, few, whole)
 
-    with_sections : is_quiet config h first.found ≡ true → (b : ℕ) → IsLower config h b → AreOfSection config h b (first ∷ period) → (i : ℕ) × (i < starts) × StartsSo config h once (start i) first period
-    with_sections quiet b lower section =
-        let s = have.section b lower in (
-          s.0,
-          s.1,
-          λ front rest is begins.
-              let of_front = section_front config h b (first ∷ front) rest (subst (λ zs. AreOfSection config h b (first ∷ zs)) is section) in
-              within (start s.0) (fit s.0 s.1) (λ boots. absurd (true≢false (sym boots ∙ s.2))) front rest is begins
-              (let le = s.3.front busy.before (rest ++ busy.behind) first front (part front rest is) of_front in
-              let none = nothing_over_behind quiet front rest is in omega (arith, le, none))
-              (λ j over.
-              let le = s.3.acts busy.before (rest ++ busy.behind) j (first ∷ front) over (part front rest is) of_front in
-              let none = nothing_over quiet (activated j) front rest is in omega (arith, le, none))
-              (λ j over.
-              let le = s.3.sets busy.before (rest ++ busy.behind) j (first ∷ front) over (part front rest is) of_front in
-              let none = nothing_over quiet (was_set j) front rest is in omega (arith, le, none)),
-        )
+    abbrev StartsInSome : Type 0
+    StartsInSome = (i : ℕ) × (i < starts) × StartsSo config h once (start i) first period × EndsSoon h (start i).lead first (first ∷ period)
 
-    with_single : is_quiet config h first.found ≡ true → AreOfOne config h (first ∷ period) → others config h charged period ≤ others config h (charged_served) period
-        → (i : ℕ) × (i < starts) × StartsSo config h once (start i) first period
-    with_single quiet alone serves =
-        let single = (each_append _ (first ∷ period) busy.behind (each_append _ busy.before ((first ∷ period) ++ busy.behind)
-        (subst (AllByRecursion
-        (λ x. is_other config h x ≡ true → (i : ℕ) × (i < starts) × IsWithinStart config h longest (start i) x × ((start i).is_boot ≡ true → is_boot x.stamped.event ≡ true)))
-        busy.part have.single)).1).0 in
-        let one = one_start config h longest starts start (first ∷ period) have.some single (one_at_most config h app (first ∷ period) alone) in (
-          one.which,
-          one.there,
-          λ front rest is begins.
-              let smaller : (f : Stage → ℕ) → others config h f (first ∷ front) ≤ others config h f (first ∷ period) =
-              λ f.
-              let whole = ap (λ zs. others config h f (first ∷ zs)) is in
-              let parts = total-append (λ x. cond (is_other config h x) (f x) 0) front rest in
-              omega (arith, whole, parts) in
-              let behind : others config h charged front ≤ others config h charged period =
-              let whole = ap (others config h charged) is in
-              let parts = total-append (λ x. cond (is_other config h x) (charged x) 0) front rest in
-              omega (arith, whole, parts) in
-              within (start one.which) (fit one.which one.there) (λ boots. at_boot busy.before refl (one.boot boots)) front rest is begins
-              (let a = one.front in
-              let none = nothing_over_behind quiet front rest is in
-              let ahead = one_front config h (first ∷ front) rest (subst (λ zs. AreOfOne config h (first ∷ zs)) is alone) in
-              let lower = lower_behind_one config h app longest (run_stages config app events) brief busy.before first front (rest ++ busy.behind) (part front rest is) ahead in
-              let first_more : others config h charged_served period ≤ others config h charged_served (first ∷ period) = omega arith in
-              omega (arith, a, serves, behind, none, lower, first_more))
-              (λ j over.
-              let a = smaller (activated j) in let b = one.acts j over in let none = nothing_over quiet (activated j) front rest is in omega (arith, a, b, none))
-              (λ j over.
-              let a = smaller (was_set j) in let b = one.sets j over in let none = nothing_over quiet (was_set j) front rest is in omega (arith, a, b, none)),
-        )
-
-    starts_in : is_quiet config h first.found ≡ true → Comes config h (first ∷ period) → (i : ℕ) × (i < starts) × StartsSo config h once (start i) first period
-    starts_in quiet (with_one alone) =
-        by (tail config app h (end_of first) first.next period links known.1 busy.busy (has_started config app first.stamped.event first.found first.next known.0.step)
-        (let few = le in omega (arith, few)))
+    with_sections : is_quiet config h first.found ≡ true → (b : ℕ) → IsLower config h b → AreOfSection config h b (first ∷ period) → StartsInSome
+    with_sections quiet b lower section = by (is_admit first.stamped) refl section
       where
-        le : count (is_other config h) (first ∷ period) ≤ 1
-        le = one_at_most config h app (first ∷ period) alone
+        section_in : (front rest : List Stage) → period ≡ front ++ rest → AreOfSection config h b (first ∷ front)
+        section_in front rest is = section_front config h b (first ∷ front) rest (subst (λ zs. AreOfSection config h b (first ∷ zs)) is section)
 
-        by : Tail config app h period → (i : ℕ) × (i < starts) × StartsSo config h once (start i) first period
-        by (served serves) = with_single quiet alone serves
-        by (raised b lower section some) =
-            with_sections quiet b lower
-            (all_of_section config app h b (first ∷ period)
-            ((λ is. let one = ap {B = ℕ} (λ c. cond c 1 0) is in let few = le in absurd (omega (arith, few, some, one))), section))
+        with_start : (raised : Bool) → ((front rest : List Stage) → period ≡ front ++ rest → HasSectionBehind config h b raised first front)
+            → ((lead : ℕ) → cond raised late 0 ≤ lead → EndsSoon h lead first (first ∷ period)) → StartsInSome
+        with_start raised behind soon =
+            let s = have.section b lower raised in (
+              s.0,
+              s.1,
+              (λ front rest is begins.
+                  let of_front = section_in front rest is in
+                  within (start s.0) (fit s.0 s.1) (λ boots. absurd (true≢false (sym boots ∙ s.2))) front rest is begins
+                  (let le = s.4.front busy.before (rest ++ busy.behind) first front (part front rest is) (behind front rest is)
+                  (each_append (IsBusy config h) front rest (subst (AllByRecursion (IsBusy config h)) is busy.busy)).0 in
+                  let none = nothing_over_behind quiet front rest is in omega (arith, le, none))
+                  (λ j over.
+                  let le = s.4.acts busy.before (rest ++ busy.behind) j (first ∷ front) over (part front rest is) of_front in
+                  let none = nothing_over quiet (activated j) front rest is in omega (arith, le, none))
+                  (λ j over.
+                  let le = s.4.sets busy.before (rest ++ busy.behind) j (first ∷ front) over (part front rest is) of_front in
+                  let none = nothing_over quiet (was_set j) front rest is in omega (arith, le, none))),
+              soon (start s.0).lead s.3,
+            )
+
+        -- with its first stage at the latest the task is raised
+        raised_first : InSection config h b period → StartsInSome
+        raised_first more = with_start true (λ front rest is. (each_append _ front rest (subst (InSection config h b) is more)).0) (λ lead le. soon_late lead le)
+
+        by : (a : Bool) → is_admit first.stamped ≡ a → OpensSection config h b a (AreOfSection config h b period) first period → StartsInSome
+        by false later s = raised_first s.1
+        by true admits s =
+            of (section_tail config app h b (end_of first) first.next period links known.1 busy.busy (has_started config app first.stamped.event first.found first.next known.0.step) s)
+          where
+            of : SectionTail config app h b period → StartsInSome
+            of (was_raised more) = raised_first more
+            of (gets_raised group y rest is all later low) =
+                with_start false section_in
+                (λ lead le.
+                subst (λ zs. EndsSoon h lead first (first ∷ zs)) (sym is)
+                (soon_served config app n h arrivals events wf osek in_time busy.before first group y rest busy.behind
+                (busy.part ∙ ap (λ zs. busy.before ++ first ∷ (zs ++ busy.behind)) is) (admits, all) later lead low))
+
+    -- what one other event brings is within a start
+    record OneStart : Type 0 where
+      which : ℕ
+      there : which < starts
+      boot : (start which).is_boot ≡ true → AllByRecursion (λ x. is_boot x.stamped.event ≡ false) (first ∷ period) → ⊥
+      front : others config h charged period + begun_item longest (start which) ≤ (start which).inflow.front
+      soon : EndsSoon h (start which).lead first (first ∷ period)
+      acts : (j : ℕ) → is_over config h j ≡ true → others config h (activated j) (first ∷ period) ≤ (start which).inflow.acts j
+      sets : (j : ℕ) → is_over config h j ≡ true → others config h (was_set j) (first ∷ period) ≤ (start which).inflow.sets j
+
+    -- there is none behind the first
+    first_start : count (is_other config h) period ≤ 0 → OneStart
+    first_start few = by (is_other config h first) refl
+      where
+        zero : (f : Stage → ℕ) → others config h f period ≤ 0
+        zero f = no_others config h f period few
+
+        by : (b : Bool) → is_other config h first ≡ b → OneStart
+        by true is =
+            let fits = (of_period
+            (λ x. is_other config h x ≡ true → (i : ℕ) × (i < starts) × ((start i).is_boot ≡ true → is_boot x.stamped.event ≡ true) × IsWithinStart config h (begun_item longest (start i)) late (start i) x)
+            have.opens).0 is in
+            let own : (f : Stage → ℕ) → others config h f (first ∷ period) ≤ f first =
+            λ f. let rest = zero f in let here = ap {B = ℕ} (λ b. cond b (f first) 0) is in omega (arith, rest, here) in
+            record {
+              which = fits.0;
+              there = fits.1;
+              boot = λ boots none. true≢false (sym (fits.2 boots) ∙ none.0);
+              front = let le = zero charged in let most = fits.3.front in omega (arith, le, most);
+              soon = soon_late (start fits.0).lead fits.3.lead;
+              acts = λ j over. let le = own (activated j) in let most = fits.3.acts j over in omega (arith, le, most);
+              sets = λ j over. let le = own (was_set j) in let most = fits.3.sets j over in omega (arith, le, most);
+            }
+        by false off =
+            let some = have.some in
+            let own : (f : Stage → ℕ) → others config h f (first ∷ period) ≤ 0 =
+            λ f. let rest = zero f in let here = ap {B = ℕ} (λ b. cond b (f first) 0) off in omega (arith, rest, here) in
+            record {
+              which = some.0;
+              there = some.1;
+              boot = λ is. absurd (true≢false (sym is ∙ some.2));
+              front = let le = zero charged in let most = some.3 in let item = ap {B = ℕ} (λ b. cond b 0 longest) some.2 in omega (arith, le, most, item);
+              soon = soon_late (start some.0).lead some.4;
+              acts = λ j over. let le = own (activated j) in omega (arith, le);
+              sets = λ j over. let le = own (was_set j) in omega (arith, le);
+            }
+
+    -- it is a service behind admissions, which came while it was running
+    served_start : is_admit first.stamped ≡ true → (group : List Stage) (y : Stage) (rest : List Stage) → period ≡ group ++ y ∷ rest → AreAdmissions group
+        → is_admit y.stamped ≡ false → is_other config h y ≡ true → IsLowService config h y → count (is_other config h) rest ≤ 0 → OneStart
+    served_start admits group y rest is all later other low few =
+        let ServedSo : Stage → Type 0 =
+        λ x. is_other config h x ≡ true → is_some (served_task x.stamped.event) ≡ true → SomeIsWithin config h starts start (charged x + longest) 0 x in
+        let fits = (each_append ServedSo group (y ∷ rest) (subst (AllByRecursion ServedSo) is (of_period ServedSo have.serves).1)).1.0 other (ap is_some low.serves) in
+        let own : (f : Stage → ℕ) → others config h f period ≤ f y =
+        λ f.
+        let whole = ap (others config h f) is in
+        let parts = total-append (λ x. cond (is_other config h x) (f x) 0) group (y ∷ rest) in
+        let none = no_admissions config h app f group all in
+        let zero = no_others config h f rest few in
+        let here = ap {B = ℕ} (λ b. cond b (f y) 0) other in
+        omega (arith, whole, parts, none, zero, here) in
+        let all_own : (f : Stage → ℕ) → others config h f (first ∷ period) ≤ f y =
+        λ f. let le = own f in let here = ap {B = ℕ} (λ b. cond b (f first) 0) (admit_is_none config app h first admits) in omega (arith, le, here) in
+        record {
+          which = fits.0;
+          there = fits.1;
+          boot = λ boots. absurd (true≢false (sym boots ∙ fits.2));
+          front = let le = own charged in let most = fits.3.front in let item = ap {B = ℕ} (λ b. cond b 0 longest) fits.2 in omega (arith, le, most, item);
+          soon =
+              subst (λ zs. EndsSoon h (start fits.0).lead first (first ∷ zs)) (sym is)
+              (soon_served config app n h arrivals events wf osek in_time busy.before first group y rest busy.behind
+              (busy.part ∙ ap (λ zs. busy.before ++ first ∷ (zs ++ busy.behind)) is) (admits, all) later (start fits.0).lead low);
+          acts = λ j over. let le = all_own (activated j) in let most = fits.3.acts j over in omega (arith, le, most);
+          sets = λ j over. let le = all_own (was_set j) in let most = fits.3.sets j over in omega (arith, le, most);
+        }
+
+    -- behind boot lower tasks have nothing, else one item and what the event brings
+    lower_of_start : (one : OneStart) (front rest : List Stage) → period ≡ front ++ rest → AreOfOne config h (first ∷ front)
+        → total (lower_counts config h) front ≤ others config h charged front + begun_item longest (start one.which)
+    lower_of_start one front rest is ahead = by (cases_Bool (start one.which).is_boot)
+      where
+        boots_here : (start one.which).is_boot ≡ true → (is_boot first.stamped.event ≡ true) ⊎ (is_boot first.stamped.event ≡ false) → is_boot first.stamped.event ≡ true
+        boots_here on (inl boots) = boots
+        boots_here on (inr off) =
+            absurd (one.boot on (off, no_boots (end_of first) first.next period links known.1 (has_started config app first.stamped.event first.found first.next known.0.step)))
+
+        no_admit : (e : Event) → is_boot e ≡ true → is_some (admitted_line e) ≡ false
+        no_admit event.Boot boots = refl
+        no_admit e boots = absurd (false≢true boots)
+
+        by : ((start one.which).is_boot ≡ true) ⊎ ((start one.which).is_boot ≡ false)
+            → total (lower_counts config h) front ≤ others config h charged front + begun_item longest (start one.which)
+        by (inr off) =
+            let lower = lower_behind_one config h app longest (run_stages config app events) brief busy.before first front (rest ++ busy.behind) (part front rest is) ahead in
+            let item = ap {B = ℕ} (λ b. cond b 0 longest) off in
+            omega (arith, lower, item)
+        by (inl on) =
+            let boots = boots_here on (cases_Bool (is_boot first.stamped.event)) in
+            let none : count (is_other config h) front ≤ 0 =
+            subst (λ a. IsAlone config h a (AreOfOne config h front) front) (no_admit first.stamped.event boots) ahead in
+            let own = own_where_none config h front none in
+            let nothing = idle_spend config app h (end_of first) first.next front (linked_front (end_of first) first.next front rest (subst (Linked (end_of first) first.next) is links))
+            (each_append (Known config app) front rest (subst (AllByRecursion (Known config app)) is known.1)).0 (boot_idle config app h first known.0 boots) none in
+            omega (arith, own, nothing)
+
+    with_single : is_quiet config h first.found ≡ true → AreOfOne config h (first ∷ period) → OneStart
+        → StartsInSome
+    with_single quiet alone one = (
+      one.which,
+      one.there,
+      (λ front rest is begins.
+          let smaller : (f : Stage → ℕ) → others config h f (first ∷ front) ≤ others config h f (first ∷ period) =
+          λ f.
+          let whole = ap (λ zs. others config h f (first ∷ zs)) is in
+          let parts = total-append (λ x. cond (is_other config h x) (f x) 0) front rest in
+          omega (arith, whole, parts) in
+          let behind : others config h charged front ≤ others config h charged period =
+          let whole = ap (others config h charged) is in
+          let parts = total-append (λ x. cond (is_other config h x) (charged x) 0) front rest in
+          omega (arith, whole, parts) in
+          within (start one.which) (fit one.which one.there) (λ boots. at_boot busy.before refl (one.boot boots)) front rest is begins
+          (let a = one.front in
+          let none = nothing_over_behind quiet front rest is in
+          let ahead = one_front config h (first ∷ front) rest (subst (λ zs. AreOfOne config h (first ∷ zs)) is alone) in
+          let lower = lower_of_start one front rest is ahead in
+          omega (arith, a, behind, none, lower))
+          (λ j over.
+          let a = smaller (activated j) in let b = one.acts j over in let none = nothing_over quiet (activated j) front rest is in omega (arith, a, b, none))
+          (λ j over.
+          let a = smaller (was_set j) in let b = one.sets j over in let none = nothing_over quiet (was_set j) front rest is in omega (arith, a, b, none))),
+      one.soon,
+    )
+
+    starts_in : is_quiet config h first.found ≡ true → Comes config h (first ∷ period)
+        → StartsInSome
+    starts_in quiet (with_one alone) = by (is_admit first.stamped) refl alone
+      where
+        by : (a : Bool) → is_admit first.stamped ≡ a → IsAlone config h a (AreOfOne config h period) period
+            → StartsInSome
+        by false later few = with_single quiet alone (first_start few)
+        by true admits further =
+            of (tail config app h (end_of first) first.next period links known.1 busy.busy (has_started config app first.stamped.event first.found first.next known.0.step) further)
+          where
+            of : Tail config app h period → StartsInSome
+            of (none_other few) = with_single quiet alone (first_start few)
+            of (one_serves group y rest is all later other low few) = with_single quiet alone (served_start admits group y rest is all later other low few)
+            of (all_raised b lower section) =
+                with_sections quiet b lower
+                (all_of_section config app h b (first ∷ period)
+                ((λ is. absurd (true≢false (sym is ∙ admit_is_none config app h first admits))), section))
     starts_in quiet (with_section b lower section) = with_sections quiet b lower section
 
-    -- ---- where h leaves
-
-    abbrev rest_of : (Stage → ℕ) → List Stage → ℕ
-    rest_of f xs = total (if_turn h f) (round_behind false h xs)
-
-    -- what stages that begin with its leaving have of h's turn is what it leaves with
-    step_left : (f : Stage → ℕ) (x : Stage) (xs : List Stage) → Known config app x → Linked (end_of x) x.next xs → AllByRecursion (Known config app) xs
-        → is_left h x.stamped.event ≡ true → rest_of f (x ∷ xs) ≤ f x
-    step_left f x xs k l ks is =
-        by (at_entry h x)
-        (no_round false h f config app (end_of x) x.next xs l ks (left_inactive config app (facts config app wf) h x k is))
-      where
-        by : (e : Bool) → rest_of f xs ≤ 0 → total (if_turn h f) (cond e [] (x ∷ cond (false && goes_on_waiting h x.stamped.event) [] (round_behind false h xs))) ≤ f x
-        by true rest = omega arith
-        by false rest = let few = at_most_itself (in_turn h x) (f x) in omega (arith, rest, few)
-
-    step_admit : (f : Stage → ℕ) (x : Stage) (xs : List Stage) → is_admit x.stamped ≡ true → rest_of f (x ∷ xs) ≤ rest_of f xs
-    step_admit f x xs admits = by (at_entry h x) (no_turn x.stamped.event admits)
-      where
-        no_turn : (e : Event) → is_some (admitted_line e) ≡ true → is_turn h e ≡ false
-        no_turn (event.Admit t) admits = refl
-        no_turn (event.Due c) admits = refl
-        no_turn event.Boot admits = absurd (false≢true admits)
-        no_turn e admits = absurd (false≢true admits)
-
-        by : (e : Bool) → in_turn h x ≡ false
-            → total (if_turn h f) (cond e [] (x ∷ cond (false && goes_on_waiting h x.stamped.event) [] (round_behind false h xs))) ≤ rest_of f xs
-        by true none = omega arith
-        by false none = let zero = ap {B = ℕ} (λ b. cond b (f x) 0) none in omega (arith, zero)
-
-    -- the same of its own counts
-    own_left : (x : Stage) (xs : List Stage) → Known config app x → IsOwn config h x → Linked (end_of x) x.next xs → AllByRecursion (Known config app) xs
-        → is_left h x.stamped.event ≡ true → rest_own (x ∷ xs) ≤ charged x
-    own_left x xs k owns l ks is =
-        by (at_entry h x) (own_no_round config app h false (end_of x) x.next xs l ks (left_inactive config app (facts config app wf) h x k is))
-      where
-        no_line : (e : Event) → is_left h e ≡ true → takes_line e ≡ false
-        no_line (event.Left u s) is = refl
-        no_line event.Boot is = absurd (false≢true is)
-        no_line e is = absurd (false≢true is)
-
-        here : own config h x ≤ charged x
-        here =
-            let zero : if_preempted config h unseen x ≡ 0 = ap (λ b. cond (b && is_running config x.found h) (unseen x) 0) (no_line x.stamped.event is) in
-            let few = at_most_itself (in_turn h x) (charged x) in
-            omega (arith, owns, zero, few)
-
-        by : (e : Bool) → rest_own xs ≤ 0
-            → total (share_of config h) (cond e [] (x ∷ cond (false && goes_on_waiting h x.stamped.event) [] (round_behind false h xs))) ≤ charged x
-        by true rest = omega arith
-        by false rest = let few = at_most_zero (at_entry h x) (own config h x) in let le = here in omega (arith, rest, few, le)
-          where
-            at_most_zero : (b : Bool) (n : ℕ) → cond b 0 n ≤ n
-            at_most_zero true n = omega arith
-            at_most_zero false n = omega arith
-
-    own_admit : (x : Stage) (xs : List Stage) → is_admit x.stamped ≡ true → rest_own (x ∷ xs) ≤ rest_own xs
-    own_admit x xs admits = by (at_entry h x)
-      where
-        at_most_zero : (b : Bool) (n : ℕ) → cond b 0 n ≤ n
-        at_most_zero true n = omega arith
-        at_most_zero false n = omega arith
-
-        by : (e : Bool) → total (share_of config h) (cond e [] (x ∷ cond (false && goes_on_waiting h x.stamped.event) [] (round_behind false h xs))) ≤ rest_own xs
-        by true = omega arith
-        by false = let none = admit_own config h x admits in let few = at_most_zero (at_entry h x) (own config h x) in omega (arith, none, few)
-
-    abbrev LeavesWithin : Stage → Type 0
-    LeavesWithin x = is_left h x.stamped.event ≡ true → (i : ℕ) × (i < starts) × ((start i).is_boot ≡ false) × IsWithinStart config h longest (start i) x
-
-    record HasLeaving (xs : List Stage) : Type 0 where
+    -- what it brings is within a start
+    record LeavingStart : Type 0 where
       which : ℕ
       there : which < starts
       no_boot_start : (start which).is_boot ≡ false
-      front : rest_own xs + longest ≤ (start which).inflow.front
-      acts : (j : ℕ) → is_over config h j ≡ true → rest_of (activated j) xs ≤ (start which).inflow.acts j
-      sets : (j : ℕ) → is_over config h j ≡ true → rest_of (was_set j) xs ≤ (start which).inflow.sets j
+      front : rest_own config h period + longest ≤ (start which).inflow.front
+      soon : EndsSoon h (start which).lead first (first ∷ period)
+      acts : (j : ℕ) → is_over config h j ≡ true → rest_of h (activated j) (first ∷ period) ≤ (start which).inflow.acts j
+      sets : (j : ℕ) → is_over config h j ≡ true → rest_of h (was_set j) (first ∷ period) ≤ (start which).inflow.sets j
 
-    left_served : (e : Event) → is_left h e ≡ true → is_some (served_task e) ≡ true
-    left_served (event.Left u s) is = refl
-    left_served event.Boot is = absurd (false≢true is)
-    left_served e is = absurd (false≢true is)
-
-    has_leaving : (at : ℕ) (s : System) (xs : List Stage) → Linked at s xs → AllByRecursion (Known config app) xs → AllByRecursion (IsOwn config h) xs → AllByRecursion LeavesWithin xs → LeavesFirst h xs
-        → HasLeaving xs
-    has_leaving at s [] l k owned kept leaves = absurd leaves
-    has_leaving at s (x ∷ xs) l k owned kept (inl is) =
-        let own = kept.0 is in
-        record {
-          which = own.0;
-          there = own.1;
-          no_boot_start = own.2;
-          front =
-              let a = own_left x xs k.0 owned.0 l.2 k.1 is in
-              let b = own.3.front in
-              let served_here = ap {B = ℕ} (λ b. cond b (charged x) 0) (left_served x.stamped.event is) in
-              omega (arith, a, b, served_here);
-          acts = λ j over. let a = step_left (activated j) x xs k.0 l.2 k.1 is in let b = own.3.acts j over in omega (arith, a, b);
-          sets = λ j over. let a = step_left (was_set j) x xs k.0 l.2 k.1 is in let b = own.3.sets j over in omega (arith, a, b);
-        }
-    has_leaving at s (x ∷ xs) l k owned kept (inr (admits, leaves)) =
-        let rest = has_leaving (end_of x) x.next xs l.2 k.1 owned.1 kept.1 leaves in
-        record {
-          which = rest.which;
-          there = rest.there;
-          no_boot_start = rest.no_boot_start;
-          front = let a = own_admit x xs admits in let b = rest.front in omega (arith, a, b);
-          acts = λ j over. let a = step_admit (activated j) x xs admits in let b = rest.acts j over in omega (arith, a, b);
-          sets = λ j over. let a = step_admit (was_set j) x xs admits in let b = rest.sets j over in omega (arith, a, b);
-        }
-
-    starts_leaving : once ≡ true → IsLeaving config h first period → (i : ℕ) × (i < starts) × StartsSo config h once (start i) first period
+    starts_leaving : once ≡ true → IsLeaving config h first period
+        → StartsInSome
     starts_leaving on leaving = (
       found.which,
       found.there,
-      λ front rest is begins.
-          let prefix : (f : Stage → ℕ) → rest_of f (first ∷ front) ≤ rest_of f (first ∷ period) =
-          λ f. let le = longer false h f (first ∷ front) rest in let same = ap (λ zs. rest_of f (first ∷ zs)) is in omega (arith, le, same) in
+      (λ front rest is begins.
+          let prefix : (f : Stage → ℕ) → rest_of h f (first ∷ front) ≤ rest_of h f (first ∷ period) =
+          λ f. let le = longer false h f (first ∷ front) rest in let same = ap (λ zs. rest_of h f (first ∷ zs)) is in omega (arith, le, same) in
           let no_other : (f : Stage → ℕ) → others config h f (first ∷ front) ≤ 0 =
           λ f.
           let none = no_others config h f (first ∷ period) none_low in
@@ -579,10 +423,11 @@ module _ (config : Config) (app : App) (load : List Entry) (n late more heaviest
           (part front rest is ∙ sym (append_assoc busy.before (first ∷ []) (front ++ (rest ++ busy.behind))))
           (none_in_front config h front rest
           (let whole = ap (count (is_other config h)) is in let none = none_low in omega (arith, whole, none))) in
-          let le = behind_first leaving.leaves front rest is in
+          let le = longer_own front rest in
+          let same = ap (rest_own config h) is in
           let most = found.front in
-          let few = at_most_itself once (rest_own front) in
-          omega (arith, lower, le, most, few))
+          let few = at_most_itself once (rest_own config h front) in
+          omega (arith, lower, le, same, most, few))
           (λ j over.
           let none = no_other (activated j) in
           let le = prefix (activated j) in
@@ -594,55 +439,61 @@ module _ (config : Config) (app : App) (load : List Entry) (n late more heaviest
           let le = prefix (was_set j) in
           let most = found.sets j over in
           let few = over_few (was_set j) (first ∷ front) in
-          omega (arith, none, le, most, few)),
+          omega (arith, none, le, most, few))),
+      found.soon,
     )
       where
-        all_within : AllByRecursion LeavesWithin (first ∷ period)
-        all_within =
-            (each_append LeavesWithin (first ∷ period) busy.behind
-            (each_append LeavesWithin busy.before ((first ∷ period) ++ busy.behind) (subst (AllByRecursion LeavesWithin) busy.part (have.leaves on))).1).0
+        all_within : AllByRecursion (LeavesWithin config h longest late starts start) (first ∷ period)
+        all_within = of_period (LeavesWithin config h longest late starts start) (have.leaves on)
 
         all_owned : AllByRecursion (IsOwn config h) (first ∷ period)
-        all_owned =
-            (each_append (IsOwn config h) (first ∷ period) busy.behind
-            (each_append (IsOwn config h) busy.before ((first ∷ period) ++ busy.behind)
-            (subst (AllByRecursion (IsOwn config h)) busy.part (own_what_is_charged config app n h arrivals events wf osek in_time))).1).0
+        all_owned = of_period (IsOwn config h) (own_what_is_charged config app n h arrivals events wf osek in_time)
 
-        found : HasLeaving (first ∷ period)
-        found = has_leaving first.start first.found (first ∷ period) (refl, refl, links) known all_owned all_within leaving.leaves
+        found : LeavingStart
+        found = by leaving.leaves
+          where
+            -- with its first stage, or behind admissions that came while the service was running
+            by : LeavesFirst h (first ∷ period) → LeavingStart
+            by (inl is) =
+                let own = (all_within.0 is).0 in
+                record {
+                  which = own.0;
+                  there = own.1;
+                  no_boot_start = own.2;
+                  front =
+                      let none = own_no_round config app h false (end_of first) first.next period links known.1
+                      (left_inactive config app (facts config app wf) h first known.0 is) in
+                      let most = own.3.front in
+                      omega (arith, none, most);
+                  soon = soon_late (start own.0).lead own.3.lead;
+                  acts = λ j over. let a = step_left config app (facts config app wf) h (activated j) first period known.0 links known.1 is in let b = own.3.acts j over in omega (arith, a, b);
+                  sets = λ j over. let a = step_left config app (facts config app wf) h (was_set j) first period known.0 links known.1 is in let b = own.3.sets j over in omega (arith, a, b);
+                }
+            by (inr (admits, leaves)) =
+                let rest = has_leaving config app (facts config app wf) h longest late starts start (end_of first) first.next period links known.1 all_owned.1 all_within.1 leaves in
+                let at = leaving_parts h period leaves in
+                record {
+                  which = rest.which;
+                  there = rest.there;
+                  no_boot_start = rest.no_boot_start;
+                  front = rest.front;
+                  soon =
+                      subst (λ zs. EndsSoon h (start rest.which).lead first (first ∷ zs)) (sym at.are)
+                      (soon_active config app n h arrivals events wf osek in_time busy.before first at.group at.left at.rest busy.behind
+                      (busy.part ∙ ap (λ zs. busy.before ++ first ∷ (zs ++ busy.behind)) at.are) (admits, at.admits)
+                      (left_no_admit h at.left.stamped.event at.leaves) (start rest.which).lead leaving.active);
+                  acts = λ j over. let a = step_admit config app (facts config app wf) h (activated j) first period admits in let b = rest.acts j over in omega (arith, a, b);
+                  sets = λ j over. let a = step_admit config app (facts config app wf) h (was_set j) first period admits in let b = rest.sets j over in omega (arith, a, b);
+                }
 
         none_low : count (is_other config h) (first ∷ period) ≤ 0
         none_low = none_lower config app (facts config app wf) h cuts (enters on) first period known.0 links known.1 busy.busy leaving.leaves
 
-        over_few : (f : Stage → ℕ) (xs : List Stage) → left_over once h f xs ≤ rest_of f xs
-        over_few f xs = at_most_itself once (rest_of f xs)
-
-        -- without the first stage there is no more of the turn
-        behind_first : LeavesFirst h (first ∷ period) → (front rest : List Stage) → period ≡ front ++ rest → rest_own front ≤ rest_own (first ∷ period)
-        behind_first leaves front rest is =
-            let le = longer_own front rest in
-            let same = ap (rest_own) is in
-            let less = by leaves in
-            omega (arith, le, same, less)
-          where
-            no_entry : (e : Event) → is_some (admitted_line e) ≡ true → is_entry h e ≡ false
-            no_entry (event.Admit t) admits = refl
-            no_entry (event.Due c) admits = refl
-            no_entry event.Boot admits = absurd (false≢true admits)
-            no_entry e admits = absurd (false≢true admits)
-
-            by : LeavesFirst h (first ∷ period) → rest_own period ≤ rest_own (first ∷ period)
-            by (inl left) =
-                let none = own_no_round config app h false (end_of first) first.next period links known.1
-                (left_inactive config app (facts config app wf) h first known.0 left) in
-                omega (arith, none)
-            by (inr (admits, leaves)) =
-                let none = no_entry first.stamped.event admits in
-                let whole = ap (λ e. total (share_of config h) (cond e [] (first ∷ cond (false && goes_on_waiting h first.stamped.event) [] (round_behind false h period)))) none in
-                omega (arith, whole)
+        over_few : (f : Stage → ℕ) (xs : List Stage) → left_over once h f xs ≤ rest_of h f xs
+        over_few f xs = at_most_itself once (rest_of h f xs)
 
     starts_so : (is_quiet config h first.found ≡ true) ⊎ ((once ≡ true) × IsLeaving config h first period)
-        → (i : ℕ) × (i < starts) × StartsSo config h once (start i) first period
+        → StartsInSome
     starts_so (inl quiet) = starts_in quiet (periods_start_so config app events h once wf osek first period busy)
     starts_so (inr (on, leaving)) = starts_leaving on leaving
 

@@ -1,33 +1,28 @@
 -- A round of a task makes another one that cannot be entered meanwhile Ready once at most.
-use Rattle.std.proofs.Common.{◌≡◌, ℕ, zero, suc, ◌+◌, ◌<◌, ◌≤◌, ◌⊎◌, ◌&&◌, ◌||◌, not, List, [], ◌∷◌, ◌++◌, Bool, true, false, cond, max, map, length, get_or, refl, sym, ap, ◌∙◌, subst, arith, inl, inr}
+use Rattle.std.proofs.Common.{◌≡◌, ℕ, ◌+◌, ◌<◌, ◌≤◌, ◌⊎◌, ◌&&◌, ◌||◌, not, List, [], ◌∷◌, ◌++◌, Bool, true, false, cond, length, refl, sym, ap, ◌∙◌, subst, arith, inl, inr}
 use Rattle.std.specs.List.{AllByRecursion}
-use Rattle.std.proofs.lemmas.Bool.{cases_Bool, cases_eq, true≢false, false≢true, eqb-true, eqb-false, and_parts}
+use Rattle.std.proofs.lemmas.Bool.{cases_Bool, cases_eq, true≢false, false≢true, eqb-true, and_parts}
 use Rattle.sloth_base.specs.declared.config.Config.{Config}
-use Rattle.sloth_base.specs.declared.config.TaskDecl.{TaskDecl}
 use Rattle.sloth_base.specs.declared.app.App.{App}
 use Rattle.sloth_base.specs.declared.event.Event.{Event}
 use Rattle.sloth_base.specs.declared.event.Event.TheVariants as event
 use Rattle.sloth_base.specs.declared.service.Service.TheVariants as service
-use Rattle.sloth_base.specs.Named.{undeclared_task}
 use Rattle.sloth_base.specs.ServiceCodes.{is_service}
 use Rattle.osek_scheduler.specs.declared.state.TaskState.{TaskState}
 use Rattle.osek_scheduler.specs.declared.state.TaskState.TheVariants as mode
 use Rattle.osek_scheduler.specs.State.{Task, System, task, opening}
-use Rattle.osek_scheduler.specs.Priority.{ceiling, greatest, highest_priority}
 use Rattle.osek_scheduler.specs.Services.{GoesOn}
 use Rattle.osek_scheduler.specs.Valid.{InState, IsValid}
-use Rattle.osek_scheduler.specs.Next.{is_ready}
 use Rattle.osek_scheduler.specs.Steps.{OsekStep, IsServiceStep}
 use Rattle.osek_scheduler.specs.Apart.{priority_of, static_priority, IsActive}
 use Rattle.osek_scheduler.proofs.Apart.{at_least_static, rank_active, rank_ready}
 use Rattle.osek_scheduler.proofs.Facts.{Facts, facts}
 use Rattle.osek_scheduler.proofs.Leading.{follows_leads}
 use Rattle.osek_scheduler.proofs.Steps.{step_valid, opening_valid, asleep_at}
-use Rattle.osek_blocking.proofs.Effects.{Effect, Moves}
 use Rattle.osek_blocking.proofs.Ordering.{opening_ordered, effect}
 use Rattle.raised_sections.proofs.FrameEffects.{frame_effect}
 use Rattle.raised_sections.specs.Sections.{operation_at, is_schedule}
-use Rattle.raised_sections.proofs.Placed.{FrameEffect, Placed, step_placed, opening_placed}
+use Rattle.raised_sections.proofs.Placed.{Placed, step_placed, opening_placed}
 use Rattle.raised_sections.proofs.Reached.{IsReached}
 use Rattle.raised_sections.proofs.Stepping.{position_of}
 use Rattle.walk_sums.specs.Rounds.{Reaches, IsSteady}
@@ -37,12 +32,13 @@ use Rattle.run_counts.specs.Rounds.{goes_on_waiting, is_left, round_of, total}
 use Rattle.response_laws.specs.Turns.{in_turn, at_entry, begins_next, round_behind, is_ready_for, activated, if_turn, if_entry}
 use Rattle.response_laws.specs.Once.{StaysOut, RoundsMakeOnce}
 use Rattle.run_counts.proofs.Owing.{entered_owes, ran_owes, came_back_owes, called_owes}
-use Rattle.run_counts.proofs.States.{not_ready}
 use Rattle.run_counts.proofs.Awake.{stays_active, entry_active}
+use Rattle.response_laws.proofs.Highest.{over_all}
 use Rattle.response_laws.proofs.Linked.{Known, Linked, linked_behind, each_append, stages_linked, stages_known}
 use Rattle.response_laws.proofs.RoundEnds.{within_round, no_acts}
 use Rattle.response_laws.proofs.RoundSums.{waiting_turn}
 use Rattle.response_laws.proofs.Steps.{ready_count, turn_active}
+use Rattle.response_laws.proofs.ReadyTasks.{ready_on}
 
 module _ (config : Config) (app : App) (w : Facts config app) (k j : ℕ) (declared : k < length config.tasks) (Out : System → Type 0)
     (apart : (s : System) → IsValid config app s → Out s → IsActive s k → j < length config.tasks → static_priority config j ≤ priority_of config k (task s k)) where
@@ -58,62 +54,6 @@ module _ (config : Config) (app : App) (w : Facts config app) (k j : ℕ) (decla
       omega (arith, le, own, ready, equal, no_higher)
   not_entered event.Boot s next step v out active is = false≢true is
   not_entered e s next step v out active is = absurd (false≢true is)
-
-  -- what is Ready and not entered stays so
-  is_ready_state : (m : TaskState) → is_ready m ≡ true → m ≡ mode.Ready
-  is_ready_state mode.Ready e = refl
-  is_ready_state mode.Suspended e = absurd (false≢true e)
-  is_ready_state mode.Active e = absurd (false≢true e)
-  is_ready_state (mode.Waiting mask) e = absurd (false≢true e)
-
-  moved : (s next : System) (others : List ℕ) (t : ℕ) → Moves config others t s next → IsActive s t → (task s j).state ≡ mode.Ready → (task next j).state ≡ mode.Ready
-  moved s next others t m active ready = by (cases_eq j t)
-    where
-      by : (j ≡ t) ⊎ (j ≡ t → ⊥) → (task next j).state ≡ mode.Ready
-      by (inl e) = absurd (not_ready (task s t).state active (subst (λ (u : ℕ). (task s u).state ≡ mode.Ready) e ready))
-      by (inr n) = m.stays.ready j n ready
-
-  state_on : (e : Event) (s next : System) → Effect config s next e → is_entry j e ≡ false → (task s j).state ≡ mode.Ready → (task next j).state ≡ mode.Ready
-  state_on (event.Enter t) s next f away ready = f.moves.stays.ready j (λ e. eqb-false t j away (sym e)) ready
-  state_on (event.Run t func item result) s next f away ready = moved s next [] t f.moves f.was ready
-  state_on (event.Back t) s next f away ready = moved s next [] t f.moves f.was ready
-  state_on (event.Call t served status) s next f away ready = moved s next s.fresh t f.moves f.was ready
-  state_on (event.Left t served) s next f away ready = moved s next s.fresh t f.moves f.was ready
-  state_on (event.Admit t) s next f away ready = f.ready j ready
-  state_on (event.Due c) s next f away ready = f.ready j ready
-  state_on (event.Tick c) s next f away ready = f.ready j ready
-  state_on event.Boot s next f away ready = f.ready j ready
-  state_on event.Idle s next f away ready = f.ready j ready
-  state_on event.Stray s next f away ready = f.ready j ready
-
-  -- and stands where it stood
-  frames_on : (e : Event) (s next : System) → Effect config s next e → FrameEffect app s next e → is_entry j e ≡ false → (task s j).state ≡ mode.Ready
-      → (task next j).frames ≡ (task s j).frames
-  frames_on (event.Enter t) s next f g away ready = (g.others j (λ e. eqb-false t j away (sym e))).frames
-  frames_on (event.Run t func item result) s next f g away ready =
-      (g.others j (λ e. not_ready (task s t).state f.was (subst (λ (u : ℕ). (task s u).state ≡ mode.Ready) e ready))).frames
-  frames_on (event.Back t) s next f g away ready =
-      (g.others j (λ e. not_ready (task s t).state f.was (subst (λ (u : ℕ). (task s u).state ≡ mode.Ready) e ready))).frames
-  frames_on (event.Call t served status) s next f g away ready =
-      (g.others j (λ e. not_ready (task s t).state f.was (subst (λ (u : ℕ). (task s u).state ≡ mode.Ready) e ready))).frames
-  frames_on (event.Left t served) s next f g away ready =
-      (g.others j (λ e. not_ready (task s t).state f.was (subst (λ (u : ℕ). (task s u).state ≡ mode.Ready) e ready))).frames
-  frames_on (event.Admit t) s next f g away ready = (g j).frames
-  frames_on (event.Due c) s next f g away ready = (g j).frames
-  frames_on (event.Tick c) s next f g away ready = (g j).frames
-  frames_on event.Boot s next f g away ready = (g j).frames
-  frames_on event.Idle s next f g away ready = (g j).frames
-  frames_on event.Stray s next f g away ready = (g j).frames
-
-  ready_on : (x : Stage) → Known config app x → at_entry j x ≡ false → is_ready_for false (task x.found j) ≡ true → is_ready_for false (task x.next j) ≡ true
-  ready_on x known away is =
-      let both = and_parts (is_ready (task x.found j).state) (not (has_frames (task x.found j).frames)) is in
-      let ready = is_ready_state (task x.found j).state both.0 in
-      let f = effect config app x.found x.next known.ordered x.stamped.event known.step in
-      let g = frame_effect config app w x.found x.next known.valid x.stamped.event known.step in
-      let state = state_on x.stamped.event x.found x.next f away ready in
-      let frames = frames_on x.stamped.event x.found x.next f g away ready in
-      ap (λ m. is_ready m && not (has_frames (task x.next j).frames)) state ∙ ap (λ fs. not (has_frames fs)) frames ∙ both.1
 
   -- a stage in a turn of k
   makes_one : (x : Stage) → Known config app x → Out x.found → IsActive x.found k → if_turn k (activated j) x + ready_count false j x.found ≤ ready_count false j x.next
@@ -140,7 +80,7 @@ module _ (config : Config) (app : App) (w : Facts config app) (k j : ℕ) (decla
           let none : activated j x ≡ 0 = ap {B = ℕ} (λ b. cond (not b && is_ready_for false (task x.next j)) 1 0) was in
           let part = few (in_turn k x) (activated j x) in
           omega (arith, here, there, none, part)
-      by true was false now = absurd (true≢false (sym (ready_on x known away was) ∙ now))
+      by true was false now = absurd (true≢false (sym (ready_on config app w j x known away was) ∙ now))
       by false was b now =
           let here = ap {B = ℕ} (λ b. cond b 1 0) was in
           let made : activated j x ≡ cond (is_ready_for false (task x.next j)) 1 0 =
@@ -185,24 +125,9 @@ module _ (config : Config) (app : App) (w : Facts config app) (k j : ℕ) (decla
 
 -- ---- a task that lets no other in
 
-static_most : (ds : List TaskDecl) (t : ℕ) → t < length ds → (get_or ds t undeclared_task).priority ≤ greatest (map (λ d. d.priority) ds)
-static_most [] t lt = absurd (omega (arith, lt))
-static_most (d ∷ ds) zero lt = omega arith
-static_most (d ∷ ds) (suc t) lt = let rest = static_most ds t (omega (arith, lt)) in omega (arith, rest)
-
 module _ (config : Config) (app : App) (w : Facts config app) (k : ℕ) (declared : k < length config.tasks) (steady : IsSteady config app k) where
   abbrev IsFree : System → Type 0
   IsFree s = (task s k).owed ≡ false
-
-  over_all : (j : ℕ) (s : System) → IsValid config app s → IsFree s → IsActive s k → j < length config.tasks
-      → static_priority config j ≤ priority_of config k (task s k)
-  over_all j s v free active lt =
-      let state = subst (InState config k (task s k)) active (v.each k declared).in_state in
-      let raised : (task s k).raised ≡ true =
-      state.1 ∙ ap (λ b. b && not (task s k).owed) steady.non ∙ ap not free in
-      let own = ap (λ b. max (static_priority config k) (max (greatest (map (ceiling config) (task s k).held)) (cond b (highest_priority config) 0))) raised in
-      let most = static_most config.tasks j lt in
-      omega (arith, own, most)
 
   rest_free : (m : TaskState) (own : Task) → InState config k own m → (m ≡ mode.Active → ⊥) → own.owed ≡ false
   rest_free mode.Suspended own state n = state.0.not_owed
@@ -334,7 +259,7 @@ rounds_make_once config app events k j cuts wf osek declared out = (
             let free = all_free config app w k declared steady 0 (opening config app) (run_stages config app events)
             (stages_linked config app 0 (opening config app) events) known (opening_placed config app)
             (ap (λ (own : Task). own.owed) (asleep_at config.tasks k)) in
-            once config app w k j declared (IsFree config app w k declared steady) (λ s v out active lt. over_all config app w k declared steady j s v out active lt) cuts
+            once config app w k j declared (IsFree config app w k declared steady) (λ s v out active lt. over_all config app k declared steady.non j s v out active lt) cuts
             (end_of opens) opens.next behind links (here before behind opens is).1
             (each_append (λ x. IsFree config app w k declared steady x.found) before (opens ∷ behind)
             (subst (AllByRecursion (λ x. IsFree config app w k declared steady x.found)) is free)).1.1 active

@@ -1,11 +1,10 @@
 -- A task responds within the longest of the starts in which it has a round, and an event.
-use Rattle.std.proofs.Common.{◌≡◌, ℕ, suc, ◌+◌, ◌<◌, ◌≤◌, ◌⊎◌, ◌&&◌, ◌||◌, not, List, [], ◌∷◌, ◌++◌, Bool, true, false, cond, length, refl, sym, ap, ◌∙◌, subst, arith, inl, inr, append_assoc, append-nil, ◌==◌}
-use Rattle.std.specs.Prelude.{AllPairs, slice_index_or, is_some}
+use Rattle.std.proofs.Common.{◌≡◌, ℕ, ◌+◌, ◌<◌, ◌≤◌, ◌⊎◌, ◌&&◌, ◌||◌, not, List, [], ◌∷◌, ◌++◌, Bool, true, false, cond, length, refl, sym, ap, ◌∙◌, subst, arith, inl, inr, append_assoc, append-nil, ◌==◌}
+use Rattle.std.specs.Prelude.{is_some}
 use Rattle.sloth_base.specs.Events.{admitted_line}
 use Rattle.osek_scheduler.specs.Steps.{OsekStep}
 use Rattle.std.specs.List.{AllByRecursion}
-use Rattle.std.proofs.lemmas.Bool.{cases_Bool, false≢true, true≢false}
-use Rattle.std.proofs.lemmas.List.Elements.{recursion_from_All}
+use Rattle.std.proofs.lemmas.Bool.{cases_Bool, false≢true, true≢false, and_from, not_from_false}
 use Rattle.sloth_base.specs.declared.config.Config.{Config}
 use Rattle.sloth_base.specs.declared.app.App.{App}
 use Rattle.sloth_base.specs.declared.event.Arrival.{Arrival}
@@ -17,7 +16,7 @@ use Rattle.osek_scheduler.specs.declared.state.TaskState.TheVariants as mode
 use Rattle.osek_scheduler.specs.State.{System, task, opening}
 use Rattle.osek_scheduler.specs.Next.{is_ready}
 use Rattle.osek_scheduler.specs.Priority.{IsDue}
-use Rattle.osek_scheduler.specs.InTime.{IsStamped, IsOrdered, StandsBefore, InTime, is_admit}
+use Rattle.osek_scheduler.specs.InTime.{IsOrdered, StandsBefore, InTime, is_admit}
 use Rattle.osek_scheduler.specs.Runs.{AreStepsTo, OsekRun}
 use Rattle.osek_scheduler.proofs.Facts.{facts}
 use Rattle.osek_scheduler.proofs.Leading.{follows_leads, leads-parts, leads-append, one_end}
@@ -30,10 +29,10 @@ use Rattle.run_counts.specs.Rounds.{is_left, total}
 use Rattle.run_counts.specs.OwnCounts.{IsShared}
 use Rattle.event_weights.specs.Events.{has_frames}
 use Rattle.response_laws.specs.Sums.{count}
-use Rattle.response_laws.specs.Turns.{as_said, is_ready_for, is_made, has_grown, activated, was_set}
+use Rattle.response_laws.specs.Turns.{as_said, is_ready_for, is_made, makes_ready, has_grown, activated, was_set}
 use Rattle.response_laws.specs.Busy.{is_quiet, LeavesFirst, IsLeaving, LeavesOnce}
 use Rattle.response_laws.specs.Demand.{Costs, Start, acts_due, sets_due, IsEnough}
-use Rattle.response_laws.specs.Bounded.{BoundsRounds, StartsInOne}
+use Rattle.response_laws.specs.Bounded.{BoundsRounds, EndsSoon, StartsInOne}
 use Rattle.response_laws.specs.Response.{LeavesBefore, HasPace, EntersOnce, LastsWithin, RespondsInTime}
 use Rattle.response_laws.proofs.Linked.{Known, last_state, last_end, each_append, each_joined, last_end-append, stages_linked, stages_known, stages-append, leads_to, behind_is}
 use Rattle.response_laws.proofs.Sums.{total-append}
@@ -41,27 +40,6 @@ use Rattle.response_laws.proofs.Period.{Calm, quiet_calm, leaving_calm, period_h
 use Rattle.response_laws.proofs.Begun.{Begun, Scan, scanned, pending, nothing, scan}
 use Rattle.response_laws.proofs.Staying.{stays_due}
 use Rattle.response_laws.proofs.Starting.{opening_quiet, due_busy, IsBusy, over_itself}
-
--- ---- what stands before an event
-
-pub ordered_before : (before behind : List Stamped) (made : Stamped) → AllPairs IsOrdered (before ++ made ∷ behind)
-    → AllByRecursion (λ e. IsOrdered e made) before
-ordered_before [] behind made pairs = tt
-ordered_before (e ∷ before) behind made pairs =
-    (first, ordered_before before behind made (λ i j d lt within. pairs (suc i) (suc j) d (omega (arith, lt)) (omega (arith, within))))
-  where
-    at_seam : (xs : List Stamped) → slice_index_or (xs ++ made ∷ behind) (length xs) made ≡ made
-    at_seam [] = refl
-    at_seam (x ∷ xs) = at_seam xs
-
-    long : (xs : List Stamped) → length xs < length (xs ++ made ∷ behind)
-    long [] = omega arith
-    long (x ∷ xs) = let lt = long xs in omega (arith, lt)
-
-    first : IsOrdered e made
-    first =
-        let within = long before in
-        subst (IsOrdered e) (at_seam before) (pairs 0 (suc (length before)) made (omega arith) (omega (arith, within)))
 
 -- ---- what ends near a moment
 
@@ -83,24 +61,7 @@ module _ (config : Config) (app : App) (late : ℕ) where
       by false behind =
           omega (arith, behind, le)
 
-  all_near : (made : Stamped) (before : List Stamped) → made.stamp.from ≤ made.stamp.at → AllByRecursion (λ e. IsOrdered e made) before
-      → AllByRecursion IsBrief before → AllByRecursion (IsNear made.stamp.at) before
-  all_near made [] le ordered brief = tt
-  all_near made (e ∷ before) le ordered brief = (near made e le ordered.0 brief.0, all_near made before le ordered.1 brief.1)
-
-  -- so do stages
-  ends_near : (moment at : ℕ) (s : System) (events : List Stamped) → at ≤ moment + late → AllByRecursion (IsNear moment) events
-      → AllByRecursion (λ x. end_of x ≤ moment + late) (stages config app at s events)
-  ends_near moment at s [] le near = tt
-  ends_near moment at s (e ∷ events) le near =
-      let here = by (is_admit e) near.0 in
-      (here, ends_near moment (end_of (stage config app at s e)) (state_behind config app e.event s) events here near.1)
-    where
-      by : (b : Bool) → (b ≡ false → e.stamp.at + 1 ≤ moment + late) → cond b at (e.stamp.at + 1) ≤ moment + late
-      by true ends = le
-      by false ends = ends refl
-
-  -- where they end; those before them ended in front of count `start`
+  -- where stages end; those before them ended in front of count `start`
   last_no_less : (at start : ℕ) (s : System) (events : List Stamped) → at + 1 ≤ start → last_count at events + 1 ≤ last_end start (stages config app start s events)
   last_no_less at start s [] le = le
   last_no_less at start s (e ∷ events) le =
@@ -164,6 +125,19 @@ left_no_admit h e is = by e.event is
     by (event.Left t served) is = refl
     by w is = absurd (false≢true is)
 
+-- the last of stages, or this one
+abbrev last_of : Stage → List Stage → Stage
+last_of d [] = d
+last_of d (x ∷ xs) = last_of x xs
+
+last_of-append : (d : Stage) (xs : List Stage) (y : Stage) (ys : List Stage) → last_of d (xs ++ y ∷ ys) ≡ last_of y ys
+last_of-append d [] y ys = refl
+last_of-append d (x ∷ xs) y ys = last_of-append x xs y ys
+
+at_last : (P : Stage → Type 0) (x : Stage) (xs : List Stage) → AllByRecursion P (x ∷ xs) → P (last_of x xs)
+at_last P x [] each = each.0
+at_last P x (y ∷ ys) each = at_last P y ys each.1
+
 -- how often h leaves
 abbrev lefts : (h : ℕ) → List Stage → ℕ
 lefts h xs = count (λ x. is_left h x.stamped.event) xs
@@ -175,7 +149,7 @@ module _ (config : Config) (app : App) (n late more : ℕ) (arrivals : List Arri
     (run : OsekRun config app events) (in_time : InTime config n arrivals events) (pace : HasPace n late more events)
     (shared : AllByRecursion (IsShared config) (run_stages config app events))
     (bounds : BoundsRounds config h cuts costs (run_stages config app events)) (ways : StartsInOne config h once starts start (run_stages config app events))
-    (enough : (i : ℕ) → i < starts → IsEnough config h once costs (start i)) (lasts : (i : ℕ) → i < starts → LastsWithin h late r (start i)) where
+    (enough : (i : ℕ) → i < starts → IsEnough config h once costs (start i)) (lasts : (i : ℕ) → i < starts → LastsWithin h r (start i)) where
   whole : AreStepsTo config app events (opening config app) run.0
   whole = follows_leads config app [] (opening config app) events run.0 run.1
 
@@ -195,11 +169,11 @@ module _ (config : Config) (app : App) (n late more : ℕ) (arrivals : List Arri
           let sets = (enough i lt).nexts h declared (over_itself config h) other in
           omega (arith, acts, sets, made)
 
-  -- a period of the run, in which task h is made Ready, ends in time
+  -- a period of the run, in which task h is made Ready, ends in time, and its first stage soon
   ends_by : (before : List Stage) (first : Stage) (period behind : List Stage) → run_stages config app events ≡ before ++ ((first ∷ period) ++ behind)
       → (is_quiet config h first.found ≡ true) ⊎ ((once ≡ true) × IsLeaving config h first period) → AllByRecursion (IsBusy config h) period
       → (once ≡ true → LeavesOnce h first period) → h < length config.tasks → 1 ≤ total (activated h) (first ∷ period) + total (was_set h) (first ∷ period)
-      → last_end (end_of first) period + late ≤ end_of first + r
+      → (lead : ℕ) × EndsSoon h lead first (first ∷ period) × (last_end (end_of first) period + lead ≤ end_of first + r)
   ends_by before first period behind part begins busy low declared made =
       let way = ways first period (record { before = before; behind = behind; part = part; begins = begins; busy = busy; leaves_once = low }) in
       let holds = period_holds config app h cuts costs (run_stages config app events) bounds (facts config app wf) (opening config app)
@@ -210,7 +184,7 @@ module _ (config : Config) (app : App) (n late more : ℕ) (arrivals : List Arri
       let sets = holds.few.sets h declared over in
       let lasting = lasts way.0 way.1 (has_round way.0 way.1 declared (omega (arith, acts, sets, made))) in
       let ends = holds.ends in
-      omega (arith, lasting, ends)
+      ((start way.0).lead, way.3, omega (arith, lasting, ends))
     where
       calm : (is_quiet config h first.found ≡ true) ⊎ ((once ≡ true) × IsLeaving config h first period) → Calm config h once first.found
       calm (inl quiet) = quiet_calm config h once first.found quiet
@@ -259,22 +233,23 @@ module _ (config : Config) (app : App) (n late more : ℕ) (arrivals : List Arri
     next_is : making.next ≡ s
     next_is = ap (state_behind config app made.event) found_is ∙ behind_is config app made.event found s makes.step
 
-    -- it makes the task Ready, to begin anew or to go on
+    -- it makes the task Ready
+    not_before : is_ready (task making.found h).state ≡ false
+    not_before = subst (λ (x : System). is_ready (task x h).state ≡ false) (sym found_is) (never (task found h).state makes.not_before)
+      where
+        never : (m : _) → (m ≡ mode.Ready → ⊥) → is_ready m ≡ false
+        never mode.Suspended n = refl
+        never mode.Ready n = absurd (n refl)
+        never mode.Active n = refl
+        never (mode.Waiting mask) n = refl
+
+    ready : is_ready (task making.next h).state ≡ true
+    ready = subst (λ (x : System). is_ready (task x h).state ≡ true) (sym next_is) (ap is_ready makes.behind)
+
+    -- to begin anew or to go on
     makes_one : 1 ≤ activated h making + was_set h making
     makes_one = by (has_frames (task making.next h).frames) refl
       where
-        not_before : is_ready (task making.found h).state ≡ false
-        not_before = subst (λ (x : System). is_ready (task x h).state ≡ false) (sym found_is) (never (task found h).state makes.not_before)
-          where
-            never : (m : _) → (m ≡ mode.Ready → ⊥) → is_ready m ≡ false
-            never mode.Suspended n = refl
-            never mode.Ready n = absurd (n refl)
-            never mode.Active n = refl
-            never (mode.Waiting mask) n = refl
-
-        ready : is_ready (task making.next h).state ≡ true
-        ready = subst (λ (x : System). is_ready (task x h).state ≡ true) (sym next_is) (ap is_ready makes.behind)
-
         off : (again : Bool) → is_ready_for again (task making.found h) ≡ false
         off again = ap (λ b. b && as_said again (has_frames (task making.found h).frames)) not_before
 
@@ -333,23 +308,12 @@ module _ (config : Config) (app : App) (n late more : ℕ) (arrivals : List Arri
                 none (z ∷ zs) e = cc
             go (b ∷ bs) (x ∷ xs) e = go bs xs (ap tail_of e)
 
-    -- the period's first event ends near the moment
-    starts_near : end_of begun.first ≤ made.stamp.at + late
-    starts_near =
-        let stamped = each_append (IsStamped n) before (made ∷ behind)
-        (subst (AllByRecursion (IsStamped n)) is (recursion_from_All (IsStamped n) events in_time.stamped)) in
-        let le = stamped.1.0.ordered in
-        let briefs = each_append (IsBrief config app late) before (made ∷ behind) (subst (AllByRecursion (IsBrief config app late)) is pace.brief) in
-        let early = all_near config app late made before le (ordered_before before behind made (subst (AllPairs IsOrdered) is in_time.placed)) briefs.0 in
-        let own = briefs.1.0 in
-        let whole_up = each_joined (IsNear config app late made.stamp.at) before (made ∷ []) early ((λ other. by_own le own), tt) in
-        let ends = ends_near config app late made.stamp.at 0 (opening config app) up (omega arith) whole_up in
-        let P : Stage → Type 0 = λ x. end_of x ≤ made.stamp.at + late in
-        let here = (each_append P begun.before (begun.first ∷ begun.behind) (subst (AllByRecursion P) begun.parts ends)).1.0 in
-        omega (arith, here)
-      where
-        by_own : made.stamp.from ≤ made.stamp.at → IsBrief config app late made → made.stamp.at + 1 ≤ made.stamp.at + late
-        by_own le own = omega (arith, le, own)
+    -- what holds of each stage from the first one on holds of it
+    at_making : (P : Stage → Type 0) → AllByRecursion P (begun.first ∷ begun.behind) → P making
+    at_making P each =
+        subst P
+        (sym (last_of-append making begun.before begun.first begun.behind) ∙ ap (last_of making) (sym begun.parts ∙ front_is) ∙ last_of-append making past making [])
+        (at_last P begun.first begun.behind each)
 
     -- the last count of the events up to the making is that of the first and those behind it
     at_is : at ≡ last_end (end_of begun.first) begun.behind
@@ -357,7 +321,7 @@ module _ (config : Config) (app : App) (n late more : ℕ) (arrivals : List Arri
 
     -- from the first event on the period goes on as long as the task does not leave
     goes_on : (period further : List Stage) → stages config app at s behind ≡ period ++ further → AllByRecursion (IsBusy config h) period
-        → (once ≡ true → LeavesOnce h begun.first (begun.behind ++ period)) → last_end at period + late ≤ end_of begun.first + r
+        → (once ≡ true → LeavesOnce h begun.first (begun.behind ++ period)) → last_end at period ≤ made.stamp.at + r
     goes_on period further same busy low =
         let acts = has_making (activated h) in
         let sets = has_making (was_set h) in
@@ -367,7 +331,11 @@ module _ (config : Config) (app : App) (n late more : ℕ) (arrivals : List Arri
         let here = ends_by begun.before begun.first (begun.behind ++ period) further part (begins begun.begins)
         (each_joined (IsBusy config h) begun.behind period begun.busy busy) low makes.declared (omega (arith, acts, sets, one, more_acts, more_sets)) in
         let joined = last_end-append (end_of begun.first) begun.behind period ∙ ap (λ k. last_end k period) (sym at_is) in
-        omega (arith, here, joined)
+        let IsSoon : Stage → Type 0 = λ x. makes_ready h x ≡ true → end_of begun.first ≤ x.stamped.stamp.at + here.0 in
+        let near = at_making IsSoon (each_append IsSoon (begun.first ∷ begun.behind) period here.1).0
+        (and_from (not (is_ready (task making.found h).state)) (is_ready (task making.next h).state) (not_from_false (is_ready (task making.found h).state) not_before) ready) in
+        let ends = here.2 in
+        omega (arith, ends, joined, near)
       where
         part : run_stages config app events ≡ begun.before ++ ((begun.first ∷ (begun.behind ++ period)) ++ further)
         part =
@@ -451,7 +419,6 @@ module _ (config : Config) (app : App) (n late more : ℕ) (arrivals : List Arri
             let both = total-append (λ x. cond (is_left h x.stamped.event) 1 0) begun.behind xs in
             omega (arith, le, own, zero, both)) in
             let ends = last_end-append at xs (last ∷ []) ∙ ap {B = ℕ} (λ b. cond b (last_end at xs) (left.stamp.at + 1)) (left_no_admit h left leaves_h) in
-            let near = starts_near in
             record {
               front = first;
               left = left;
@@ -459,7 +426,7 @@ module _ (config : Config) (app : App) (n late more : ℕ) (arrivals : List Arri
               parts = parts;
               first = none;
               leaves = leaves_h;
-              in_time = omega (arith, le, ends, near);
+              in_time = omega (arith, le, ends);
             }
         by (leaves_not none) =
             let due = due_on config app late h makes.declared at s run.0 behind behind_leads (inl makes.behind) none in
@@ -474,9 +441,8 @@ module _ (config : Config) (app : App) (n late more : ℕ) (arrivals : List Arri
             let end = pace.reaches some in
             let last = sym (ap (last_end 0) all ∙ last_end-append 0 front (stages config app at s behind)) in
             let no_less = run_no_less config app late run.0 events some whole in
-            let near = starts_near in
             let enough_counts = many in
-            absurd (omega (arith, le, end, last, no_less, near, enough_counts))
+            absurd (omega (arith, le, end, last, no_less, enough_counts))
 
 pub respond_in_time : RespondsInTime
 respond_in_time config app n late more arrivals events h r cuts costs once starts start enters wf run in_time pace shared bounds ways enough lasts before behind made found s is leads makes many =

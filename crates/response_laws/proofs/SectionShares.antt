@@ -35,11 +35,11 @@ use Rattle.response_laws.specs.Walked.{standing, weigh, is_executed}
 use Rattle.response_laws.specs.Shares.{lower_own, lower_counts, LowerSpendWithin}
 use Rattle.response_laws.specs.Starts.{IsRaisedTurn, InSection}
 use Rattle.response_laws.proofs.Linked.{Known, Linked}
-use Rattle.response_laws.proofs.Lower.{blocks_or_not}
-use Rattle.response_laws.proofs.LowerSpending.{own_where_none, no_turn, no_entry, blocker_runs, blocked_before}
+use Rattle.response_laws.proofs.Blocking.{blocks_or_not}
+use Rattle.response_laws.proofs.LowerSpending.{own_where_none, no_turn, no_entry, blocker_runs}
 use Rattle.response_laws.proofs.RoundEnds.{left_inactive}
 use Rattle.response_laws.proofs.SectionWalks.{Turn, executes, leaves, returns, turn, rests, free, Found, nothing, in_front, last, kept, found_within}
-use Rattle.response_laws.proofs.Steps.{turn_active}
+use Rattle.response_laws.proofs.SectionEnds.{none_follow}
 
 -- ---- what an event has is within the item that it executes
 
@@ -91,23 +91,6 @@ module _ (config : Config) (app : App) (w : Facts config app) (size : ItemSizes)
     data Few (s : System) (spent counts : ℕ) : Type 0 where
       brief : counts ≤ longest → Few s spent counts
       walked : (most : ℕ) → counts + spent ≤ most + longest → Has s most → Few s spent counts
-
-    blocks_of : (x : Stage) → Known config app x → IsRaisedTurn config h b x → Blocks config h x.found b
-    blocks_of x k r = record { declared = lower.0; active = turn_active config app b x k r.turn; lower = lower.1; raised = r.raised }
-
-    -- where b does not block, no other event follows
-    none_follow : (at : ℕ) (s : System) (xs : List Stage) → Linked at s xs → AllByRecursion (Known config app) xs → InSection config h b xs
-        → (Blocks config h s b → ⊥) → count (is_other config h) xs ≤ 0
-    none_follow at s [] l k section away = omega arith
-    none_follow at s (x ∷ xs) l k section away =
-        by (is_other config h x) refl (λ other. none_follow (end_of x) x.next xs l.2 k.1 section.1 (λ blocks. here (blocked_before config app h x k.0 other b blocks)))
-      where
-        here : Blocks config h x.found b → ⊥
-        here blocks = away (subst (λ (y : System). Blocks config h y b) l.1 blocks)
-
-        by : (o : Bool) → is_other config h x ≡ o → (is_other config h x ≡ false → count (is_other config h) xs ≤ 0) → cond o 1 0 + count (is_other config h) xs ≤ 0
-        by true is rest = absurd (here (blocks_of x k.0 (section.0 is)))
-        by false is rest = let none = rest is in omega (arith, none)
 
     module _ (before xs behind : List Stage) (is : run ≡ before ++ (xs ++ behind)) where
       brief_where_none : count (is_other config h) xs ≤ 0 → total (lower_counts config h) xs ≤ longest
@@ -233,13 +216,13 @@ module _ (config : Config) (app : App) (w : Facts config app) (size : ItemSizes)
             → Few x.next (spent_behind config b at spent x.found x.stamped) (total (lower_counts config h) xs)
             → Few x.found spent (total (lower_counts config h) (x ∷ xs))
         by (inr away) o more =
-            brief (brief_where_none before (x ∷ xs) behind is (none_follow x.start x.found (x ∷ xs) (refl, refl, l.2) k section away))
+            brief (brief_where_none before (x ∷ xs) behind is (none_follow config app h b lower x.start x.found (x ∷ xs) (refl, refl, l.2) k section away))
         by (inl blocks) (inl other) more =
             let r = section.0 other in
             with_turn x xs k.0 placed_here at spent spends.1 blocks other r
             (turn config app w h b lower x.stamped.event x.found x.next k.0.step k.0.valid r.turn)
             (λ gone. brief_where_none (before ++ x ∷ []) xs behind further
-            (none_follow (end_of x) x.next xs l.2 k.1 section.1 (λ still. left_inactive config app w b x k.0 gone still.active))) more
+            (none_follow config app h b lower (end_of x) x.next xs l.2 k.1 section.1 (λ still. left_inactive config app w b x k.0 gone still.active))) more
         by (inl blocks) (inr other) more = without_turn x xs k.0 placed_here at spent spends.1 blocks other more
 
     -- what lower tasks have of a section is within the greatest sum, and one item

@@ -1,5 +1,5 @@
 -- Starts that hold what lower tasks bring in, said of the task code.
-use Rattle.std.specs.Prelude.{ℕ, ◌+◌, ◌<◌, ◌≤◌, ◌≡◌, List, Bool, true, false, cond, length}
+use Rattle.std.specs.Prelude.{ℕ, ◌+◌, ◌<◌, ◌≤◌, ◌≡◌, ◌⊎◌, List, Bool, true, false, cond, length}
 use Rattle.std.specs.List.{AllByRecursion}
 use Rattle.sloth_base.specs.declared.config.Config.{Config}
 use Rattle.sloth_base.specs.declared.app.App.{App}
@@ -10,7 +10,6 @@ use Rattle.sloth_base.specs.declared.event.Stamped.{Stamped}
 use Rattle.sloth_base.specs.declared.service.Service.TheVariants as service
 use Rattle.sloth_base.specs.Named.{declaration}
 use Rattle.code_rules.specs.WellFormed.{WellFormed}
-use Rattle.code_lengths.specs.LongestPaths.{way_back_path}
 use Rattle.osek_scheduler.specs.InTime.{InTime}
 use Rattle.osek_scheduler.specs.Runs.{OsekRun}
 use Rattle.raised_sections.specs.Walks.{Position}
@@ -19,7 +18,6 @@ use Rattle.bound_rules.specs.declared.weights.BodyWeights.{BodyWeights}
 use Rattle.walk_sums.specs.Weights.{going_at, ending_at}
 use Rattle.walk_sums.specs.Rounds.{Reaches}
 use Rattle.walk_sums.specs.Counted.{calls}
-use Rattle.event_weights.specs.Events.{enter_counts}
 use Rattle.event_weights.specs.Pace.{ItemSizes, AreAtMost}
 use Rattle.sim_induction.specs.Spent.{SpendsOnItems}
 use Rattle.run_counts.specs.Stages.{run_stages}
@@ -29,21 +27,29 @@ use Rattle.run_counts.specs.Rounds.{WeighsEndings}
 use Rattle.response_laws.specs.Sums.{is_over}
 use Rattle.response_laws.specs.Demand.{Start}
 use Rattle.response_laws.specs.Walked.{SectionsSum}
+use Rattle.response_laws.specs.Once.{IsShutOut}
 use Rattle.response_laws.specs.Makers.{activation_weights, setting_weights}
-use Rattle.response_laws.specs.Starts.{HaveStarts}
+use Rattle.response_laws.specs.Starts.{begun_item, HaveStarts}
 
 -- ---- single events
 
--- a start has so many counts in front, with an item that a lower task has begun, and these makings of the tasks of at least the static priority of h
-pub record HasRoom (config : Config) (h longest counts : ℕ) (makes signals : ℕ → ℕ) (s : Start) : Type 0 where
-  pub front : counts + longest ≤ s.inflow.front
+-- A start has so many counts behind its first event, with an item that a lower task has begun if it is not boot, and so many in front of its end; and these makings of the
+-- tasks of at least the static priority of h.
+pub record HasRoom (config : Config) (h longest counts ahead : ℕ) (makes signals : ℕ → ℕ) (s : Start) : Type 0 where
+  pub front : counts + begun_item longest s ≤ s.inflow.front
+  pub lead : ahead ≤ s.lead
   pub acts : (j : ℕ) → is_over config h j ≡ true → makes j ≤ s.inflow.acts j
   pub sets : (j : ℕ) → is_over config h j ≡ true → signals j ≤ s.inflow.sets j
 
 -- one of the starts has, which may be boot where this is asked
-abbrev pub SomeHasRoom : Config → (h longest starts : ℕ) → (ℕ → Start) → (boot : Bool) → (counts : ℕ) → (makes signals : ℕ → ℕ) → Type 0
-SomeHasRoom config h longest starts start boot counts makes signals =
-    (i : ℕ) × (i < starts) × ((start i).is_boot ≡ true → boot ≡ true) × HasRoom config h longest counts makes signals (start i)
+abbrev pub SomeHasRoom : Config → (h longest starts : ℕ) → (ℕ → Start) → (boot : Bool) → (counts lead : ℕ) → (makes signals : ℕ → ℕ) → Type 0
+SomeHasRoom config h longest starts start boot counts lead makes signals =
+    (i : ℕ) × (i < starts) × ((start i).is_boot ≡ true → boot ≡ true) × HasRoom config h longest counts lead makes signals (start i)
+
+-- A service has one as the first event of a period, with what its stretch may stand in front; and one behind admissions that come while it is running.
+abbrev pub HaveServiceRoom : Config → (h longest late starts : ℕ) → (ℕ → Start) → (counts : ℕ) → (makes signals : ℕ → ℕ) → Type 0
+HaveServiceRoom config h longest late starts start counts makes signals =
+    SomeHasRoom config h longest starts start false 0 late makes signals × SomeHasRoom config h longest starts start false counts 0 makes signals
 
 abbrev pub none : ℕ → ℕ
 none j = 0
@@ -54,17 +60,17 @@ autostarted config j = cond (declaration config j).autostart 1 0
 
 -- ---- sections
 
--- A start has the sections of the lower task b, an item that it or another one has begun behind them, and the event that raises it: it takes a resource, or it is not preemptable and entered, or comes
--- back from Schedule.
-pub record HasSections (config : Config) (app : App) (longest : ℕ) (weights : List BodyWeights) (h b : ℕ) (s : Start) : Type 0 where
+-- A start has the sections of the lower task b, an item that it or another one has begun behind them, and the GetResource that raises it, if it is preemptable and not raised yet. One that is not is
+-- raised in front of the period, or with its first event.
+pub record HasSections (config : Config) (app : App) (longest : ℕ) (weights : List BodyWeights) (h b : ℕ) (raised : Bool) (s : Start) : Type 0 where
   pub counts : ℕ
   pub raising : ℕ
   pub sum : SectionsSum config app h b weights counts
-  pub takes : (at : Position) → Reaches app b at → calls service.GetResource (operation_at app at) ≡ true → going_at weights at ≤ raising
-  pub enters : (resumed : Bool) → (declaration config b).non ≡ true → longest + enter_counts config app resumed b ≤ raising
-  pub returns : (declaration config b).non ≡ true → way_back_path ≤ raising
+  pub takes : raised ≡ false → (declaration config b).non ≡ false → (at : Position) → Reaches app b at → calls service.GetResource (operation_at app at) ≡ true → going_at weights at ≤ raising
   pub front : raising + counts + longest ≤ s.inflow.front
-  pub acts : (j : ℕ) → is_over config h j ≡ true → SectionsSum config app h b (activation_weights app b j) (s.inflow.acts j)
+  -- what they make, by walks; or once, where the task cannot be entered meanwhile
+  pub acts : (j : ℕ) → is_over config h j ≡ true
+      → SectionsSum config app h b (activation_weights app b j) (s.inflow.acts j) ⊎ (IsShutOut config h b j × (1 ≤ s.inflow.acts j))
   pub sets : (j : ℕ) → is_over config h j ≡ true → SectionsSum config app h b (setting_weights app j) (s.inflow.sets j)
 
 -- ---- all of them
@@ -75,22 +81,23 @@ is_call _ = false
 
 -- For each way in which a lower task, by its code, may come into a busy period of h there is a start. But for services and sections they come with its
 -- first event, in front of all its counts.
-pub record FitsStarts (config : Config) (app : App) (longest : ℕ) (weights : List BodyWeights) (h : ℕ) (once : Bool) (starts : ℕ) (start : ℕ → Start) : Type 0 where
-  pub some : (i : ℕ) × (i < starts) × ((start i).is_boot ≡ false) × (longest ≤ (start i).inflow.front)
-  pub boots : SomeHasRoom config h longest starts start true 0 (autostarted config) none
+pub record FitsStarts (config : Config) (app : App) (longest late : ℕ) (weights : List BodyWeights) (h : ℕ) (once : Bool) (starts : ℕ) (start : ℕ → Start) : Type 0 where
+  pub some : (i : ℕ) × (i < starts) × ((start i).is_boot ≡ false) × (longest ≤ (start i).inflow.front) × (late ≤ (start i).lead)
+  pub boots : SomeHasRoom config h longest starts start true 0 late (autostarted config) none
   -- a service, with which the task may leave
   pub serves : (t : ℕ) → IsLower config h t → (at : Position) → Reaches app t at → is_call (operation_at app at) ≡ true
-      → SomeHasRoom config h longest starts start false (ending_at weights at) (λ j. ending_at (activation_weights app t j) at) (λ j. ending_at (setting_weights app j) at)
-  pub sections : (b : ℕ) → IsLower config h b → (i : ℕ) × (i < starts) × ((start i).is_boot ≡ false) × HasSections config app longest weights h b (start i)
+      → HaveServiceRoom config h longest late starts start (ending_at weights at) (λ j. ending_at (activation_weights app t j) at) (λ j. ending_at (setting_weights app j) at)
+  pub sections : (b : ℕ) → IsLower config h b → (raised : Bool)
+      → (i : ℕ) × (i < starts) × ((start i).is_boot ≡ false) × (cond raised late 0 ≤ (start i).lead) × HasSections config app longest weights h b raised (start i)
   -- where h is entered once: a service with which it may leave
   pub leaves : once ≡ true → (at : Position) → Reaches app h at → is_call (operation_at app at) ≡ true
-      → SomeHasRoom config h longest starts start false (ending_at weights at) (λ j. ending_at (activation_weights app h j) at) (λ j. ending_at (setting_weights app j) at)
+      → HaveServiceRoom config h longest late starts start (ending_at weights at) (λ j. ending_at (activation_weights app h j) at) (λ j. ending_at (setting_weights app j) at)
 
 -- In every run of well-formed task code that keeps the pace, and in which no task spends more on an item than that has, what lower tasks bring into busy
 -- periods is within starts that the task code fits.
 abbrev pub CodeFitsStarts : Type 0
-CodeFitsStarts = (config : Config) (app : App) (size : ItemSizes) (longest n : ℕ) (weights : List BodyWeights) (arrivals : List Arrival) (events : List Stamped) (h : ℕ) (once : Bool) (starts : ℕ) (start : ℕ → Start)
+CodeFitsStarts = (config : Config) (app : App) (size : ItemSizes) (longest late n : ℕ) (weights : List BodyWeights) (arrivals : List Arrival) (events : List Stamped) (h : ℕ) (once : Bool) (starts : ℕ) (start : ℕ → Start)
     → WellFormed config app → OsekRun config app events → InTime config n arrivals events → AreAtMost size longest
     → ((t : ℕ) → t < length config.tasks → SpendsOnItems config app size longest t events) → AllByRecursion (IsWithinWeights config app size longest) (run_stages config app events)
-    → WeighsItems app size weights → WeighsEndings app size weights → FitsStarts config app longest weights h once starts start
-    → HaveStarts config h longest once starts start (run_stages config app events)
+    → WeighsItems app size weights → WeighsEndings app size weights → FitsStarts config app longest late weights h once starts start
+    → HaveStarts config h longest late once starts start (run_stages config app events)

@@ -35,6 +35,8 @@ pub record Inflow : Type 0 where
 pub record Start : Type 0 where
   -- it is boot with which the period begins
   pub is_boot : Bool
+  -- so many counts at most stand between the moment at which task h is made Ready and the end of the period's first event
+  pub lead : ℕ
   pub inflow : Inflow
   pub counts : ℕ
   pub firsts : (j : ℕ) → ℕ

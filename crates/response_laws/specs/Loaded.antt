@@ -34,12 +34,12 @@ pub record HasAlarms (run : List Stage) (s : Start) : Type 0 where
   pub sets : (c j : ℕ) (before xs behind : List Stage) → run ≡ before ++ (xs ++ behind) → (s.is_boot ≡ true → before ≡ []) → count (at_tick c) xs ≤ s.inflow.arrivals (counter_line c)
       → total_where (at_tick c) (was_set j) xs ≤ s.inflow.alarm_sets c j
 
--- a start with the arrivals and alarms that fit into it, with enough, and no longer than r with an event in front where task h has a round in it
+-- a start with the arrivals and alarms that fit into it, with enough, and no longer than r with what stands in front where task h has a round in it
 pub record IsStartFor (config : Config) (load : List Entry) (late heaviest h r : ℕ) (once : Bool) (costs : Costs) (run : List Stage) (s : Start) : Type 0 where
   pub arrivals : HasArrivals load late heaviest s
   pub alarms : HasAlarms run s
   pub enough : IsEnough config h once costs s
-  pub lasts : LastsWithin h late r s
+  pub lasts : LastsWithin h r s
 
 -- In every run of well-formed task code whose arrivals keep a load, whose rounds are within the costs, and in which lower tasks come into busy periods as
 -- one of the starts says, task h responds within the longest of the starts in which it has a round, and an event.
@@ -49,6 +49,6 @@ RespondsUnderLoad = (config : Config) (app : App) (load : List Entry) (n late mo
     → (once ≡ true → EntersOnce config h cuts) → WellFormed config app → OsekRun config app events → InTime config n arrivals events → HasPace n late more events → more ≤ heaviest
     → AreCharged heaviest (run_stages config app events) → HasDistances load → KeepDistances load arrivals
     → AllByRecursion (IsShared config) (run_stages config app events) → LowerSpendWithin config h longest (run_stages config app events)
-    → BoundsRounds config h cuts costs (run_stages config app events) → HaveStarts config h longest once starts start (run_stages config app events)
+    → BoundsRounds config h cuts costs (run_stages config app events) → HaveStarts config h longest late once starts start (run_stages config app events)
     → ((i : ℕ) → i < starts → IsStartFor config load late heaviest h r once costs (run_stages config app events) (start i))
     → RespondsWithin config app n more h r events

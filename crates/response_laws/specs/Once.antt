@@ -1,8 +1,9 @@
--- Which tasks a round makes Ready once at most.
-use Rattle.std.specs.Prelude.{ℕ, ◌<◌, ◌≤◌, ◌⊎◌, Bool, List, length}
+-- Which tasks a round, or a section, makes Ready once at most.
+use Rattle.std.specs.Prelude.{ℕ, ◌<◌, ◌≤◌, ◌≡◌, ◌⊎◌, Bool, true, List, length}
 use Rattle.sloth_base.specs.declared.config.Config.{Config}
 use Rattle.sloth_base.specs.declared.app.App.{App}
 use Rattle.sloth_base.specs.declared.event.Stamped.{Stamped}
+use Rattle.sloth_base.specs.Named.{declaration}
 use Rattle.code_rules.specs.WellFormed.{WellFormed}
 use Rattle.osek_scheduler.specs.Runs.{OsekRun}
 use Rattle.osek_scheduler.specs.Apart.{static_priority}
@@ -20,3 +21,7 @@ abbrev pub RoundsMakeOnce : Type 0
 RoundsMakeOnce = (config : Config) (app : App) (events : List Stamped) (k j : ℕ) (cuts : Bool) → WellFormed config app → OsekRun config app events
     → k < length config.tasks → StaysOut config app k j
     → EachFirst (run_stages config app events) cuts k (activated j) 1 × EachNext (run_stages config app events) cuts k (activated j) 1
+
+-- task j cannot be entered in a section of the lower task b for h: it is h, or b is not preemptable
+abbrev pub IsShutOut : Config → (h b j : ℕ) → Type 0
+IsShutOut config h b j = (j ≡ h) ⊎ ((declaration config b).non ≡ true)

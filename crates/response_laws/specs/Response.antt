@@ -43,9 +43,9 @@ pub record HasPace (n late more : ℕ) (events : List Stamped) : Type 0 where
   -- the last one, if there is any, ends soon before the end of the run
   pub reaches : 0 < length events → n ≤ last_count 0 events + more
 
--- a start lasts no longer than r, with an event in front, where task h has a round in it
-abbrev pub LastsWithin : (h late r : ℕ) → Start → Type 0
-LastsWithin h late r s = 1 ≤ s.firsts h + s.nexts h → s.counts + late ≤ r
+-- a start lasts no longer than r, with what stands in front of the end of its first event, where task h has a round in it
+abbrev pub LastsWithin : (h r : ℕ) → Start → Type 0
+LastsWithin h r s = 1 ≤ s.firsts h + s.nexts h → s.counts + s.lead ≤ r
 
 -- Task h may be looked at from where it left last on: it is preemptable, no other task has its priority, and its turns are not cut into rounds.
 pub record EntersOnce (config : Config) (h : ℕ) (cuts : ℕ → Bool) : Type 0 where
@@ -60,5 +60,5 @@ RespondsInTime = (config : Config) (app : App) (n late more : ℕ) (arrivals : L
     (once : Bool) (starts : ℕ) (start : ℕ → Start)
     → (once ≡ true → EntersOnce config h cuts) → WellFormed config app → OsekRun config app events → InTime config n arrivals events → HasPace n late more events
     → AllByRecursion (IsShared config) (run_stages config app events) → BoundsRounds config h cuts costs (run_stages config app events) → StartsInOne config h once starts start (run_stages config app events)
-    → ((i : ℕ) → i < starts → IsEnough config h once costs (start i)) → ((i : ℕ) → i < starts → LastsWithin h late r (start i))
+    → ((i : ℕ) → i < starts → IsEnough config h once costs (start i)) → ((i : ℕ) → i < starts → LastsWithin h r (start i))
     → RespondsWithin config app n more h r events

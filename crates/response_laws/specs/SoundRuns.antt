@@ -87,8 +87,8 @@ pub record FitsRounds (config : Config) (app : App) (weights : List BodyWeights)
 -- ---- the law
 
 -- Of an image whose builder promises that its runs are sound, weighed and in pace: in every run whose arrivals keep a load, and which keeps its `work`
--- lines, a task responds within the longest of the starts in which it has a round, and a stretch; if the run has so many instructions, and an item
--- and a stretch.
+-- lines, a task responds within the longest of the starts in which it has a round, and what stands in front of that; if the run has so many instructions, and
+-- an item and a stretch.
 abbrev pub ImagesRespond : Type 0
 ImagesRespond = (config : Config) (app : App) (image : Image) (weights : List BodyWeights) (load : List Entry) (arrivals : List Arrival) (n late h r : ℕ)
     (cuts : ℕ → Bool) (costs : Costs) (once : Bool) (starts : ℕ) (start : ℕ → Start)
@@ -96,19 +96,19 @@ ImagesRespond = (config : Config) (app : App) (image : Image) (weights : List Bo
     → AreArrivals (owners_in config) arrivals → n ≤ count_limit → NoStretchIsAbove config app late
     → HasDistances load → KeepDistances load arrivals → KeepsWork config load cuts (run_stages config app (events_of image arrivals n))
     → FitsRounds config app weights load h cuts costs
-    → HaveStarts config h item_instructions once starts start (run_stages config app (events_of image arrivals n))
+    → HaveStarts config h item_instructions late once starts start (run_stages config app (events_of image arrivals n))
     → ((i : ℕ) → i < starts → IsStartFor config load late (item_instructions + late) h r once costs (run_stages config app (events_of image arrivals n)) (start i))
     → RespondsWithin config app n (item_instructions + late) h r (events_of image arrivals n)
 
 -- ---- by the task code alone
 
--- A start with the arrivals that fit into it, and the expiries of alarms that fit into its ticks, with enough, and no longer than r with a stretch in front
+-- A start with the arrivals that fit into it, and the expiries of alarms that fit into its ticks, with enough, and no longer than r with what stands in front
 -- where task h has a round in it.
 pub record IsCodeStart (config : Config) (is_set : ℕ → Bool) (load : List Entry) (late heaviest h r : ℕ) (once : Bool) (costs : Costs) (s : Start) : Type 0 where
   pub arrivals : HasArrivals load late heaviest s
   pub expiries : HasExpiries config is_set s
   pub enough : IsEnough config h once costs s
-  pub lasts : LastsWithin h late r s
+  pub lasts : LastsWithin h r s
 
 -- no item has more instructions
 pub record IsLongestItem (app : App) (longest : ℕ) : Type 0 where
@@ -122,6 +122,6 @@ ImagesRespondByCode = (config : Config) (app : App) (image : Image) (weights : L
     → (once ≡ true → EntersOnce config h cuts) → WellFormed config app → IsTaskCode app → Sound config app image → Weighed config app image → InPace config app image → AreCounts app weights
     → MarksAlarms app is_set → IsLongestItem app longest → AreArrivals (owners_in config) arrivals → n ≤ count_limit → NoStretchIsAbove config app late
     → HasDistances load → KeepDistances load arrivals → KeepsWork config load cuts (run_stages config app (events_of image arrivals n))
-    → FitsRounds config app weights load h cuts costs → FitsStarts config app longest weights h once starts start
+    → FitsRounds config app weights load h cuts costs → FitsStarts config app longest late weights h once starts start
     → ((i : ℕ) → i < starts → IsCodeStart config is_set load late (longest + late) h r once costs (start i))
     → RespondsWithin config app n (longest + late) h r (events_of image arrivals n)

@@ -21,7 +21,7 @@ use Rattle.run_counts.specs.Rounds.{is_left, total}
 use Rattle.response_laws.specs.Sums.{total_where, count, is_over}
 use Rattle.response_laws.specs.Turns.{in_turn, is_other, activated, was_set}
 use Rattle.response_laws.specs.Shares.{lower_counts}
-use Rattle.response_laws.specs.Busy.{IsBusyPeriod}
+use Rattle.response_laws.specs.Busy.{is_quiet, IsBusyPeriod}
 use Rattle.response_laws.specs.Demand.{Start}
 
 -- ---- ways
@@ -76,31 +76,47 @@ PeriodsStartSo = (config : Config) (app : App) (events : List Stamped) (h : ℕ)
 
 -- ---- their numbers
 
--- what an event is charged with, where it is a service
-abbrev pub charged_served : Stage → ℕ
-charged_served x = cond (is_some (served_task x.stamped.event)) (charged x) 0
+-- the item that a lower task may have begun where a period starts so; behind boot there is none
+abbrev pub begun_item : (longest : ℕ) → Start → ℕ
+begun_item longest s = cond s.is_boot 0 longest
 
--- What comes in with one other event is within a start, with an item that a lower task has begun. Only a service comes behind the first event of a period,
--- where no task is raised.
-pub record IsWithinStart (config : Config) (h longest : ℕ) (s : Start) (x : Stage) : Type 0 where
-  pub front : charged_served x + longest ≤ s.inflow.front
+-- A start has so many counts behind the first event of its period, so many in front of its end, and what one other event makes.
+pub record IsWithinStart (config : Config) (h counts ahead : ℕ) (s : Start) (x : Stage) : Type 0 where
+  pub front : counts ≤ s.inflow.front
+  pub lead : ahead ≤ s.lead
   pub acts : (j : ℕ) → is_over config h j ≡ true → activated j x ≤ s.inflow.acts j
   pub sets : (j : ℕ) → is_over config h j ≡ true → was_set j x ≤ s.inflow.sets j
 
--- what comes in with a section of task b is, in each part of the run that such a section is in: the counts of lower tasks, their items' pieces among them
-pub record IsSectionWithin (config : Config) (h : ℕ) (run : List Stage) (b : ℕ) (s : Start) : Type 0 where
-  pub front : (before behind : List Stage) (first : Stage) (xs : List Stage) → run ≡ before ++ ((first ∷ xs) ++ behind) → AreOfSection config h b (first ∷ xs)
-      → total (lower_counts config h) xs ≤ s.inflow.front
+-- Behind the first of these stages a section of b stands; or an event with which b is raised may come in front of it.
+abbrev pub HasSectionBehind : Config → (h b : ℕ) → (raised : Bool) → (first : Stage) → List Stage → Type 0
+HasSectionBehind config h b true first xs = InSection config h b xs
+HasSectionBehind config h b false first xs = AreOfSection config h b (first ∷ xs)
+
+-- What comes in with a section of task b is, in each part of the run that such a section is in: the counts of lower tasks, their items' pieces among them, behind the first event, where no state is quiet.
+pub record IsSectionWithin (config : Config) (h : ℕ) (run : List Stage) (b : ℕ) (raised : Bool) (s : Start) : Type 0 where
+  pub front : (before behind : List Stage) (first : Stage) (xs : List Stage) → run ≡ before ++ ((first ∷ xs) ++ behind) → HasSectionBehind config h b raised first xs
+      → AllByRecursion (λ x. is_quiet config h x.found ≡ false) xs → total (lower_counts config h) xs ≤ s.inflow.front
   pub acts : (before behind : List Stage) (j : ℕ) (xs : List Stage) → is_over config h j ≡ true → run ≡ before ++ (xs ++ behind) → AreOfSection config h b xs
       → total_where (is_other config h) (activated j) xs ≤ s.inflow.acts j
   pub sets : (before behind : List Stage) (j : ℕ) (xs : List Stage) → is_over config h j ≡ true → run ≡ before ++ (xs ++ behind) → AreOfSection config h b xs
       → total_where (is_other config h) (was_set j) xs ≤ s.inflow.sets j
 
--- For each way in which lower tasks may come into a busy period there is a start, which is boot only for boot. No item has more instructions than `longest`.
-pub record HaveStarts (config : Config) (h longest : ℕ) (once : Bool) (starts : ℕ) (start : ℕ → Start) (run : List Stage) : Type 0 where
-  pub some : (i : ℕ) × (i < starts) × ((start i).is_boot ≡ false) × (longest ≤ (start i).inflow.front)
-  pub single : AllByRecursion (λ x. is_other config h x ≡ true → (i : ℕ) × (i < starts) × IsWithinStart config h longest (start i) x × ((start i).is_boot ≡ true → is_boot x.stamped.event ≡ true)) run
-  pub section : (b : ℕ) → IsLower config h b → (i : ℕ) × (i < starts) × ((start i).is_boot ≡ false) × IsSectionWithin config h run b (start i)
-  -- where h leaves as a period begins
+-- one of the starts, which is not boot, has this of an event
+abbrev pub SomeIsWithin : Config → (h starts : ℕ) → (ℕ → Start) → (counts lead : ℕ) → Stage → Type 0
+SomeIsWithin config h starts start counts lead x =
+    (i : ℕ) × (i < starts) × ((start i).is_boot ≡ false) × IsWithinStart config h counts lead (start i) x
+
+-- For each way in which lower tasks may come into a busy period there is a start, which is boot only for boot. No item has more instructions than `longest`,
+-- and no event spans more counts than `late`.
+pub record HaveStarts (config : Config) (h longest late : ℕ) (once : Bool) (starts : ℕ) (start : ℕ → Start) (run : List Stage) : Type 0 where
+  pub some : (i : ℕ) × (i < starts) × ((start i).is_boot ≡ false) × (longest ≤ (start i).inflow.front) × (late ≤ (start i).lead)
+  -- the period begins with the event
+  pub opens : AllByRecursion (λ x. is_other config h x ≡ true → (i : ℕ) × (i < starts) × ((start i).is_boot ≡ true → is_boot x.stamped.event ≡ true) × IsWithinStart config h (begun_item longest (start i)) late (start i) x) run
+  -- The event is a service, and the period begins with admissions in front of it. They came while it was running, or the line would have been taken first.
+  pub serves : AllByRecursion (λ x. is_other config h x ≡ true → is_some (served_task x.stamped.event) ≡ true → SomeIsWithin config h starts start (charged x + longest) 0 x) run
+  -- b is raised with the first event, at the latest; or with a service behind admissions
+  pub section : (b : ℕ) → IsLower config h b → (raised : Bool)
+      → (i : ℕ) × (i < starts) × ((start i).is_boot ≡ false) × (cond raised late 0 ≤ (start i).lead) × IsSectionWithin config h run b raised (start i)
+  -- h leaves as a period begins: with its first event, or behind admissions
   pub leaves : once ≡ true
-      → AllByRecursion (λ x. is_left h x.stamped.event ≡ true → (i : ℕ) × (i < starts) × ((start i).is_boot ≡ false) × IsWithinStart config h longest (start i) x) run
+      → AllByRecursion (λ x. is_left h x.stamped.event ≡ true → SomeIsWithin config h starts start longest late x × SomeIsWithin config h starts start (charged x + longest) 0 x) run

@@ -94,6 +94,10 @@ is_ready_for again own = is_ready own.state && as_said again (has_frames own.fra
 abbrev pub is_made : (again : Bool) → (j : ℕ) → Stage → Bool
 is_made again j x = not (is_ready_for again (task x.found j)) && is_ready_for again (task x.next j)
 
+-- the event makes task j Ready, in either way
+abbrev pub makes_ready : (j : ℕ) → Stage → Bool
+makes_ready j x = not (is_ready (task x.found j).state) && is_ready (task x.next j).state
+
 -- 1 where the event makes task j Ready to begin anew, else 0
 abbrev pub activated : (j : ℕ) → Stage → ℕ
 activated j x = cond (is_made false j x) 1 0

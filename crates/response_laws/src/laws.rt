@@ -63,8 +63,8 @@ pub fn clean_tasks_have_settings()
 {}
 
 /// In every run whose rounds are within their costs, and whose busy periods start in given ways, each with enough, a task leaves within the longest of
-/// these in which it has a round, and an event, from the moment of the event that makes it Ready on, if the run is that long. A preemptable task may be
-/// looked at from where it left last on; then it is entered once.
+/// these in which it has a round, and what stands in front of that, from the moment of the event that makes it Ready on, if the run is that long. A
+/// preemptable task may be looked at from where it left last on; then it is entered once.
 pub fn runs_respond_in_time()
     ensures { RespondsInTime }
 {}
@@ -91,7 +91,7 @@ pub fn code_fits_starts()
     ensures { CodeFitsStarts }
 {}
 
-/// In every run of such an image a task responds within the longest start in which it has a round, and a stretch, where the starts hold what lower tasks
+/// In every run of such an image a task responds within the longest start in which it has a round, and what stands in front, where the starts hold what lower tasks
 /// bring in by their code, and as many expiries as alarms may have. But for the `work` lines nothing is asked of the run.
 pub fn images_respond_by_code()
     ensures { ImagesRespondByCode }

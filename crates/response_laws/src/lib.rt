@@ -11,12 +11,15 @@
 //!   first item; another one behind a WaitEvent, where the task was entered again or went on.
 //! - A round makes another task Ready, or sets its events, no more often than a walk has items that name it (`rounds_make_within`; `specs/Makers`); a tick only
 //!   where an alarm of its counter does (`ticks_make_by_alarms`; `specs/Ticks`).
-//! - It makes a task that cannot be entered meanwhile Ready once at most (`rounds_make_once`; `specs/Once`).
+//! - It makes a task that cannot be entered meanwhile Ready once at most (`rounds_make_once`; `specs/Once`), and so does a raised section of a lower task: h, or any
+//!   where its task is not preemptable.
 //! - Alarms expire no more often than their cycles and the services on them let them (`ticks_make_as_alarms_expire`; `specs/Expiries`).
 //! - A task that clears what it waits for has a setting of its own for each round behind a WaitEvent (`clean_tasks_have_settings`; `specs/Settings`), so such
 //!   rounds may be cut where it goes on.
+//! - A period's first event may have a stretch in front of its end. Where it is an admission in front of a service, it has none: of those that made a task
+//!   above its caller Ready, a service passes over what came while it was running alone (`proofs/Passing`).
 //! - With costs of rounds and starts (`specs/Demand`, `specs/Bounded`) that are enough, a task responds within the longest start in which it has a round, and
-//!   an event (`runs_respond_in_time`; `specs/Response`); under a load (`runs_respond_under_load`; `specs/Loaded`); in every run of an image
+//!   what stands in front (`runs_respond_in_time`; `specs/Response`); under a load (`runs_respond_under_load`; `specs/Loaded`); in every run of an image
 //!   (`images_respond`; `specs/SoundRuns`).
 //! - What lower tasks bring into a period follows from their code (`code_fits_starts`; `specs/CodeStarts`), so the response time of a task does
 //!   (`images_respond_by_code`).

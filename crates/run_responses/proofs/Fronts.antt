@@ -1,7 +1,8 @@
 -- What lower tasks bring in by their code has a start of the record.
 use Rattle.std.specs.Prelude.{if◌then◌else◌}
-use Rattle.std.proofs.Common.{◌≡◌, ℕ, zero, suc, ◌+◌, ◌<◌, ◌≤◌, ◌⊎◌, ◌==◌, ◌&&◌, ◌||◌, Bool, true, false, cond, max, List, [], ◌∷◌, length, get_or, refl, sym, ap, ◌∙◌, subst, arith, inl, inr, None, Option, map}
-use Rattle.std.proofs.lemmas.Bool.{false≢true, true≢false, leb-true, lt-ltb, cases_lt, eqb-true, eq-eqb}
+use Rattle.std.proofs.Common.{◌≡◌, ℕ, zero, ◌+◌, ◌<◌, ◌≤◌, ◌⊎◌, ◌==◌, ◌&&◌, ◌||◌, Bool, true, false, cond, max, List, [], ◌∷◌, ◌++◌, length, get_or, refl, sym, ap, ◌∙◌, subst, arith, inl, inr, None, Option, append_assoc, ◌-◌, ltb}
+use Rattle.std.specs.List.{AllByRecursion}
+use Rattle.std.proofs.lemmas.Bool.{false≢true, true≢false, leb-true, lt-ltb, cases_lt, eqb-true, eq-eqb, le-ltb}
 use Rattle.std.proofs.lemmas.Bool.Decides.{not_from_Decides}
 use Rattle.std.proofs.lemmas.List.{get_or_past}
 use Rattle.sloth_base.specs.declared.config.Config.{Config}
@@ -12,7 +13,7 @@ use Rattle.sloth_base.specs.declared.app.Op.TheVariants as op
 use Rattle.sloth_base.specs.declared.app.Call.{Call}
 use Rattle.sloth_base.specs.declared.service.Service.{Service}
 use Rattle.sloth_base.specs.declared.service.Service.TheVariants as service
-use Rattle.sloth_base.specs.Named.{declaration, undeclared_task, function, body_of}
+use Rattle.sloth_base.specs.Named.{declaration, undeclared_task, function}
 use Rattle.sloth_base.specs.declared.service.ObjectKind.TheVariants as object
 use Rattle.sloth_base.specs.ServiceCodes.{is_service, code_of, object_kind, has_mask}
 use Rattle.code_rules.specs.AppRange.{IsObject}
@@ -21,25 +22,23 @@ use Rattle.rv32_expand.specs.Long.{size}
 use Rattle.rv32_expand.specs.Expansion.{number_in, mask_of}
 use Rattle.rv32_expand.proofs.Counts.{size_serve}
 use Rattle.load_text.specs.declared.entry.Entry.{Entry}
-use Rattle.code_lengths.specs.LongestPaths.{going_path, leaving_path, served_path, entry_path}
+use Rattle.code_lengths.specs.LongestPaths.{leaving_path, served_path}
 use Rattle.osek_scheduler.specs.Apart.{static_priority}
 use Rattle.osek_scheduler.proofs.Facts.{Facts}
-use Rattle.osek_scheduler.specs.Priority.{greatest, ceiling, highest_priority}
-use Rattle.raised_sections.specs.Walks.{Position, first_position, chains_itself}
-use Rattle.raised_sections.specs.Sections.{operation_at, held_list_along, IsLower, IsSection}
+use Rattle.raised_sections.specs.Walks.{Position, chains_itself, IsWalk}
+use Rattle.raised_sections.specs.Sections.{priority_at, operation_at, IsLower, IsSection}
 use Rattle.bound_rules.specs.declared.weights.BodyWeights.{BodyWeights}
 use Rattle.bound_rules.specs.Weights.{no_weights}
 use Rattle.run_counts.specs.Counts.{AreBodyCounts}
-use Rattle.walk_sums.specs.Weights.{going_at, ending_at}
+use Rattle.walk_sums.specs.Weights.{going_at, ending_at, sum_of}
 use Rattle.event_weights.specs.Items.{length_of, served_counts, going_counts, ending_counts}
-use Rattle.event_weights.specs.Events.{enter_counts}
 use Rattle.walk_sums.specs.declared.counted.Counted.{Counted}
 use Rattle.walk_sums.specs.declared.counted.Counted.TheVariants as counts
 use Rattle.walk_sums.specs.declared.sum.Sum.{Sum}
 use Rattle.walk_sums.specs.declared.sum.Sum.TheVariants as sum
 use Rattle.walk_sums.specs.Rounds.{Reaches}
 use Rattle.walk_sums.specs.Counted.{one_if, calls, calls_for, is_ending_counted, counted_weights}
-use Rattle.walk_sums.specs.Told.{NoneIsAbove, IsToldSum}
+use Rattle.walk_sums.specs.Told.{IsToldSum}
 use Rattle.response_bounds.specs.declared.costs.Costs.{Costs}
 use Rattle.response_bounds.specs.declared.window.Start.{Start}
 use Rattle.response_bounds.specs.declared.window.Start.TheVariants as start
@@ -47,24 +46,24 @@ use Rattle.response_bounds.specs.Costs.{reckoned, task, section, section_making}
 use Rattle.response_bounds.specs.Windows.{Numbers, is_lower, is_boot, begun_by}
 use Rattle.response_bounds.specs.Starts.{services_of}
 use Rattle.response_bounds.specs.Responses.{start_at}
-use Rattle.response_costs.specs.Rounds.{longer_entry}
-use Rattle.response_costs.specs.Sections.{IsRaised, section_counts}
+use Rattle.response_costs.specs.Sections.{IsRaised, DoesRaised, section_counts}
 use Rattle.response_costs.specs.CostsOf.{IsSectionCosts, IsSectionMade}
 use Rattle.response_laws.specs.Sums.{is_over}
 use Rattle.response_laws.specs.Demand
 use Rattle.response_laws.specs.Bounded.{IsOfLevel}
 use Rattle.response_laws.specs.Walked.{SectionsSum}
+use Rattle.response_laws.specs.Once.{IsShutOut}
 use Rattle.response_laws.specs.Makers.{activation_weights, setting_weights}
-use Rattle.response_laws.specs.CodeStarts.{HasRoom, SomeHasRoom, none, autostarted, HasSections, is_call, FitsStarts}
-use Rattle.response_laws.proofs.Counting.{counted_ending}
-use Rattle.run_responses.specs.RunCosts.{raising_counts, AreRunCosts, AreRunSectionMakings}
+use Rattle.response_laws.specs.CodeStarts.{HasRoom, SomeHasRoom, none, autostarted, HasSections, is_call, FitsStarts, HaveServiceRoom}
+use Rattle.response_laws.proofs.Counting.{counted_ending, counted_lighter}
+use Rattle.run_responses.specs.RunCosts.{AreRunCosts, AreRunSectionMakings}
 use Rattle.run_windows.specs.declared.fronts.Way.TheVariants as way
-use Rattle.run_windows.specs.RunWindows.{call_words, call_path, may_serve, services_front, is_made_in_front, activation_front, setting_front, run_front, run_starts, IsTold, AreTold}
+use Rattle.run_windows.specs.RunWindows.{call_words, call_path, may_serve, services_front, is_made_in_front, activation_front, setting_front, served_front, run_starts, IsTold, AreTold}
 use Rattle.run_responses.proofs.Numbers.{told_number, none_told}
 use Rattle.run_responses.proofs.StartLists.{Has, has_free, has_boot, has_activation, has_setting, has_section, made_here, service_here}
 use Rattle.run_responses.proofs.Rounds.{walk_front, many_told, level_upper, counted_task, counts_lighter}
 use Rattle.run_responses.proofs.Reaching.{object_is}
-use Rattle.run_responses.proofs.Windows.{start_by}
+use Rattle.run_responses.proofs.Windows.{front_of, lead_of, start_by}
 
 -- ---- services
 
@@ -99,13 +98,6 @@ words_of s mask = by (has_mask s)
     by true = refl
     by false = refl
 
--- ---- entries
-
-entry_some : (e r : Bool) (w : ℕ) → 74 ≤ entry_path e r w
-entry_some false r w = omega arith
-entry_some true false w = omega arith
-entry_some true true w = omega arith
-
 -- ---- walks
 
 -- where no position is raised there is no section
@@ -113,25 +105,6 @@ no_section_sums : (config : Config) (app : App) (h b : ℕ) (weights : List Body
 no_section_sums config app h b weights n none [] is = omega arith
 no_section_sums config app h b weights n none (at ∷ further) is =
     absurd (none (at, ((is.before, walk_front app b is.before further at is.of_walk), is.raised.0)))
-
--- ---- priorities
-
-at_most_highest : (tasks : List TaskDecl) (h : ℕ) (d : TaskDecl) → h < length tasks → (get_or tasks h d).priority ≤ greatest (map (λ (t : TaskDecl). t.priority) tasks)
-at_most_highest [] h d lt = absurd (omega (arith, lt))
-at_most_highest (t ∷ tasks) zero d lt = omega arith
-at_most_highest (t ∷ tasks) (suc h) d lt = let le = at_most_highest tasks h d (omega (arith, lt)) in omega (arith, le)
-
--- a task that is not preemptable is raised from its first item on
-non_raised : (config : Config) (app : App) (h b : ℕ) → h < length config.tasks → (declaration config b).non ≡ true → IsRaised config app h b
-non_raised config app h b there non =
-    let le = at_most_highest config.tasks h undeclared_task there in (
-      first_position app b,
-      (
-        ([], (refl, (tt, tt))),
-        subst (λ r. static_priority config h ≤ max (static_priority config b) (max (greatest (map (ceiling config) (held_list_along app (first_position app b)))) (cond r (highest_priority config) 0)))
-            (sym non) (omega (arith, le)),
-      ),
-    )
 
 -- ---- fronts
 
@@ -163,14 +136,34 @@ one_of_one true true = omega arith
 one_of_one true false = omega arith
 one_of_one false b = omega arith
 
-module _ (config : Config) (app : App) (w : Facts config app) (load : List Entry) (longest late : ℕ) (costs : Costs) (are : AreRunCosts config app load longest costs) (h : ℕ)
+module _ (config : Config) (app : App) (w : Facts config app) (load : List Entry) (longest late : ℕ) (costs : Costs) (are : AreRunCosts config app load costs) (h : ℕ)
     (there : h < length config.tasks) (told : AreTold costs h)
-    (numbers : ℕ → Numbers) (lasting : ℕ → ℕ) where
+    (numbers : (opens : Bool) → ℕ → Numbers) (lasting : (opens : Bool) → ℕ → ℕ) where
   abbrev all_starts : List Start
   all_starts = run_starts costs h
 
+  -- each of them begins in two ways
+  abbrev pub ways : ℕ
+  ways = length all_starts + length all_starts
+
+  abbrev pub start_of : (opens : Bool) → ℕ → Demand.Start
+  start_of opens i = start_by config load longest late costs h opens (start_at all_starts i) (numbers opens i) (lasting opens i)
+
   abbrev pub begins : ℕ → Demand.Start
-  begins i = start_by config load longest late costs h (start_at all_starts i) (numbers i) (lasting i)
+  begins i = cond (ltb i (length all_starts)) (start_of true i) (start_of false (i - length all_starts))
+
+  abbrev place : (opens : Bool) → ℕ → ℕ
+  place true i = i
+  place false i = length all_starts + i
+
+  at_place : (opens : Bool) (i : ℕ) → i < length all_starts → (place opens i < ways) × (begins (place opens i) ≡ start_of opens i)
+  at_place true i lt = (omega (arith, lt), ap (λ b. cond b (start_of true i) (start_of false (i - length all_starts))) (lt-ltb i (length all_starts) lt))
+  at_place false i lt =
+      let same : length all_starts + i - length all_starts ≡ i = omega arith in (
+        omega (arith, lt),
+        ap (λ b. cond b (start_of true (length all_starts + i)) (start_of false (length all_starts + i - length all_starts)))
+            (le-ltb (length all_starts + i) (length all_starts) (omega arith)) ∙ ap (start_of false) same,
+      )
 
   abbrev weights : List BodyWeights
   weights = are.weights
@@ -213,18 +206,21 @@ module _ (config : Config) (app : App) (w : Facts config app) (load : List Entry
 
   -- ---- a start with room
 
-  room_at : (boot : Bool) (c : ℕ) (makes signals : ℕ → ℕ) (s : Start) → Has all_starts s → (is_boot s ≡ true → boot ≡ true) → c ≤ run_front costs h s
+  room_at : (opens boot : Bool) (c : ℕ) (makes signals : ℕ → ℕ) (s : Start) → Has all_starts s → (is_boot s ≡ true → boot ≡ true) → c ≤ front_of opens costs h s
       → ((j : ℕ) → is_over config h j ≡ true → makes j ≤ (begun_by costs h s j).activations) → ((j : ℕ) → is_over config h j ≡ true → signals j ≤ (begun_by costs h s j).settings)
-      → SomeHasRoom config h longest (length all_starts) begins boot c makes signals
-  room_at boot c makes signals s (i, lt, is) boots front acts sets = (
-    i,
-    lt,
-    subst (λ v. is_boot v ≡ true → boot ≡ true) (sym is) boots,
-    subst (λ v. HasRoom config h longest c makes signals (start_by config load longest late costs h v (numbers i) (lasting i))) (sym is) (record { front = omega (arith, front); acts = acts; sets = sets }),
-  )
+      → SomeHasRoom config h longest ways begins boot c (lead_of opens late) makes signals
+  room_at opens boot c makes signals s (i, lt, is) boots front acts sets =
+      let at = at_place opens i lt in (
+        place opens i,
+        at.0,
+        subst (λ (v : Demand.Start). v.is_boot ≡ true → boot ≡ true) (sym at.1) (subst (λ v. is_boot v ≡ true → boot ≡ true) (sym is) boots),
+        subst (HasRoom config h longest c (lead_of opens late) makes signals) (sym at.1)
+            (subst (λ v. HasRoom config h longest c (lead_of opens late) makes signals (start_by config load longest late costs h opens v (numbers opens i) (lasting opens i))) (sym is)
+            (record { front = omega (arith, front); lead = omega arith; acts = acts; sets = sets })),
+      )
 
-  boots : SomeHasRoom config h longest (length all_starts) begins true 0 (autostarted config) none
-  boots = room_at true 0 (autostarted config) none start.Boot (has_boot costs h) (λ e. refl) (omega arith) (λ j over. by j (cases_lt j (length config.tasks))) (λ j over. omega arith)
+  boots : SomeHasRoom config h longest ways begins true 0 late (autostarted config) none
+  boots = room_at true true 0 (autostarted config) none start.Boot (has_boot costs h) (λ e. refl) (omega arith) (λ j over. by j (cases_lt j (length config.tasks))) (λ j over. omega arith)
     where
       by : (j : ℕ) → (j < length config.tasks) ⊎ (length config.tasks ≤ j) → autostarted config j ≤ cond (task costs j).is_autostarted 1 0
       by j (inl lt) = let same = ap {B = ℕ} (λ b. cond b 1 0) (are.tasks.each j lt).is_autostarted in omega (arith, same)
@@ -295,7 +291,7 @@ module _ (config : Config) (app : App) (w : Facts config app) (load : List Entry
     front_free =
         let ends = (call_few at call is).0 in
         let reached = (are.tasks.each t serving.declared).service.none_above call.service (at, reach, ap (calls call.service) is ∙ itself call.service) in
-        let front = service_here costs h t (counted_task config app w load longest costs are h there t serving.declared) serving.may in
+        let front = service_here costs h t (counted_task config app w load costs are h there t serving.declared) serving.may in
         omega (arith, ends, reached, front)
 
     acts_few : (j : ℕ)
@@ -319,13 +315,22 @@ module _ (config : Config) (app : App) (w : Facts config app) (load : List Entry
     sets_is j = counted_ending (counts.Settings j) app at ∙ ap (λ o. one_if (is_ending_counted (counts.Settings j) o)) is
 
     abbrev Room : Type 0
-    Room = SomeHasRoom config h longest (length all_starts) begins false (ending_at weights at) (λ j. ending_at (activation_weights app t j) at) (λ j. ending_at (setting_weights app j) at)
+    Room = HaveServiceRoom config h longest late ways begins (ending_at weights at) (λ j. ending_at (activation_weights app t j) at) (λ j. ending_at (setting_weights app j) at)
+
+    -- with the first event, or behind admissions
+    rooms : (s : Start) → Has all_starts s → (is_boot s ≡ true → false ≡ true) → ending_at weights at ≤ served_front costs h s
+        → ((j : ℕ) → is_over config h j ≡ true → ending_at (activation_weights app t j) at ≤ (begun_by costs h s j).activations)
+        → ((j : ℕ) → is_over config h j ≡ true → ending_at (setting_weights app j) at ≤ (begun_by costs h s j).settings) → Room
+    rooms s has boots front acts sets = (
+      room_at true false 0 (λ j. ending_at (activation_weights app t j) at) (λ j. ending_at (setting_weights app j) at) s has boots (omega arith) acts sets,
+      room_at false false (ending_at weights at) (λ j. ending_at (activation_weights app t j) at) (λ j. ending_at (setting_weights app j) at) s has boots front acts sets,
+    )
 
     -- it makes none of the level
     frees : ((j : ℕ) → is_over config h j ≡ true → one_if ((is_service call.service service.ActivateTask && (call.object == j)) || (is_service call.service service.ChainTask && (call.object == j))) ≤ 0)
         → ((j : ℕ) → is_over config h j ≡ true → one_if (is_service call.service service.SetEvent && (call.object == j)) ≤ 0) → Room
     frees acts sets =
-        room_at false (ending_at weights at) (λ j. ending_at (activation_weights app t j) at) (λ j. ending_at (setting_weights app j) at) start.Free (has_free costs h) (λ e. cc) front_free
+        rooms start.Free (has_free costs h) (λ e. cc) front_free
         (λ j over. let few = acts j over in let same = acts_few j in omega (arith, few, same))
         (λ j over. let few = sets j over in let same = sets_is j in omega (arith, few, same))
 
@@ -361,14 +366,14 @@ module _ (config : Config) (app : App) (w : Facts config app) (load : List Entry
             shown true = omega arith
             shown false = omega arith
     activates b same (inl of) =
-        room_at false (ending_at weights at) (λ j. ending_at (activation_weights app t j) at) (λ j. ending_at (setting_weights app j) at) (start.Activation call.object)
-        (has_activation costs h call.object (counted_task config app w load longest costs are h there call.object of.0) upper (let le = front in omega (arith, le)))
+        rooms (start.Activation call.object)
+        (has_activation costs h call.object (counted_task config app w load costs are h there call.object of.0) upper (let le = front in omega (arith, le)))
         (λ e. cc) (let ends = (call_few at call is).0 in let path = ap call_path same in let front_is = reached_front b same in omega (arith, ends, path, front_is))
         (λ j over. let few = one_of_two (is_service call.service service.ActivateTask) (is_service call.service service.ChainTask) (call.object == j) in let acts = acts_few j in omega (arith, few, acts))
         (λ j over. let none = no_set b same (call.object == j) in let sets = sets_is j in omega (arith, none, sets))
       where
         upper : is_lower costs h call.object ≡ false
-        upper = level_upper config app w load longest costs are h there call.object of
+        upper = level_upper config app w load costs are h there call.object of
 
         named : (s : Service) → call.service ≡ s → calls_for call.object s (operation_at app at) ≡ true
         named s e = ap (calls_for call.object s) is ∙ ap (λ v. is_service v s && (call.object == call.object)) e
@@ -412,14 +417,14 @@ module _ (config : Config) (app : App) (w : Facts config app) (load : List Entry
         no_acts : call.service ≡ service.SetEvent → (e : Bool) → one_if ((is_service call.service service.ActivateTask && e) || (is_service call.service service.ChainTask && e)) ≤ 0
         no_acts same e = subst (λ v. one_if ((is_service v service.ActivateTask && e) || (is_service v service.ChainTask && e)) ≤ 0) (sym same) (omega arith)
     sets_some same (inl of) =
-        room_at false (ending_at weights at) (λ j. ending_at (activation_weights app t j) at) (λ j. ending_at (setting_weights app j) at) (start.Setting call.object)
-        (has_setting costs h call.object (counted_task config app w load longest costs are h there call.object of.0) upper (let le = front in omega (arith, le)))
+        rooms (start.Setting call.object)
+        (has_setting costs h call.object (counted_task config app w load costs are h there call.object of.0) upper (let le = front in omega (arith, le)))
         (λ e. cc) (let ends = (call_few at call is).0 in let path = ap call_path same in let le = front in omega (arith, ends, path, le))
         (λ j over. let none = no_acts (call.object == j) in let acts = acts_few j in omega (arith, none, acts))
         (λ j over. let few = one_of_one (is_service call.service service.SetEvent) (call.object == j) in let sets = sets_is j in omega (arith, few, sets))
       where
         upper : is_lower costs h call.object ≡ false
-        upper = level_upper config app w load longest costs are h there call.object of
+        upper = level_upper config app w load costs are h there call.object of
 
         named : calls_for call.object service.SetEvent (operation_at app at) ≡ true
         named = ap (calls_for call.object service.SetEvent) is ∙ ap (λ v. is_service v service.SetEvent && (call.object == call.object)) same
@@ -451,11 +456,11 @@ module _ (config : Config) (app : App) (w : Facts config app) (load : List Entry
             (λ j over. let none = ap (λ s. one_if (s && (call.object == j))) g in omega (arith, none))
 
   serves : (t : ℕ) → Serves t → (at : Position) → Reaches app t at → is_call (operation_at app at) ≡ true
-      → SomeHasRoom config h longest (length all_starts) begins false (ending_at weights at) (λ j. ending_at (activation_weights app t j) at) (λ j. ending_at (setting_weights app j) at)
+      → HaveServiceRoom config h longest late ways begins (ending_at weights at) (λ j. ending_at (activation_weights app t j) at) (λ j. ending_at (setting_weights app j) at)
   serves t serving at reach = by (operation_at app at) refl
     where
       by : (o : Op) → operation_at app at ≡ o → is_call o ≡ true
-          → SomeHasRoom config h longest (length all_starts) begins false (ending_at weights at) (λ j. ending_at (activation_weights app t j) at) (λ j. ending_at (setting_weights app j) at)
+          → HaveServiceRoom config h longest late ways begins (ending_at weights at) (λ j. ending_at (activation_weights app t j) at) (λ j. ending_at (setting_weights app j) at)
       by (op.Serve call) is e = served t serving at reach call is
       by op.Return is e = absurd (false≢true e)
       by o is e = absurd (false≢true e)
@@ -492,10 +497,37 @@ module _ (config : Config) (app : App) (w : Facts config app) (load : List Entry
         (n, told_number n (section costs h b).counts is number, are_told.0.none_above)
       where
         number : IsTold (section costs h b).counts
-        number = told.sections b (counted_task config app w load longest costs are h there b low.0) (lower_is b low)
-    sum_told sum.Huge are_told is = absurd (none_told _ is (told.sections b (counted_task config app w load longest costs are h there b low.0) (lower_is b low)))
-    sum_told sum.Endless are_told is = absurd (none_told _ is (told.sections b (counted_task config app w load longest costs are h there b low.0) (lower_is b low)))
+        number = told.sections b (counted_task config app w load costs are h there b low.0) (lower_is b low)
+    sum_told sum.Huge are_told is = absurd (none_told _ is (told.sections b (counted_task config app w load costs are h there b low.0) (lower_is b low)))
+    sum_told sum.Endless are_told is = absurd (none_told _ is (told.sections b (counted_task config app w load costs are h there b low.0) (lower_is b low)))
 
+    -- where no raised position does what counts, sections do not
+    none_made : (c : Counted) (n : ℕ) → ¬ (DoesRaised config app h b c) → SectionsSum config app h b (counted_weights c app) n
+    none_made c n none positions is = let le = light is.before positions is.of_walk is.raised in omega (arith, le)
+      where
+        nothing_at : (before further : List Position) (at : Position) → IsWalk app b (before ++ at ∷ further) → static_priority config h ≤ priority_at config app b at
+            → ending_at (counted_weights c app) at ≤ 0
+        nothing_at before further at walk raised = by (is_ending_counted c (operation_at app at)) refl
+          where
+            same : ending_at (counted_weights c app) at ≡ one_if (is_ending_counted c (operation_at app at))
+            same = counted_ending c app at
+
+            by : (d : Bool) → is_ending_counted c (operation_at app at) ≡ d → ending_at (counted_weights c app) at ≤ 0
+            by true does = absurd (none (at, ((before, walk_front app b before further at walk), raised), does))
+            by false off = let e = same in let zero = ap one_if off in omega (arith, e, zero)
+
+        light : (before positions : List Position) → IsWalk app b (before ++ positions)
+            → AllByRecursion (λ at. static_priority config h ≤ priority_at config app b at) positions
+            → sum_of (counted_weights c app) positions ≤ 0
+        light before [] walk raised = omega arith
+        light before (at ∷ []) walk raised = nothing_at before [] at walk raised.0
+        light before (at ∷ next ∷ further) walk raised =
+            let here = nothing_at before (next ∷ further) at walk raised.0 in
+            let le = counted_lighter c app at in
+            let rest = light (before ++ at ∷ []) (next ∷ further) (subst (IsWalk app b) (sym (append_assoc before (at ∷ []) (next ∷ further))) walk) raised.1 in
+            omega (arith, here, le, rest)
+
+    -- by walks
     made_few : (c : Counted) (o : Option ℕ) → IsSectionMade config app [] h b false c o → IsTold o
         → SectionsSum config app h b (counted_weights c app) (reckoned o)
     made_few c o (sums, is_told, is) number =
@@ -503,92 +535,151 @@ module _ (config : Config) (app : App) (w : Facts config app) (load : List Entry
         (λ n m le none positions part. let few = none positions part in omega (arith, few, le)) sums o is number
         (λ n same. (subst (IsToldSum (IsSection config app h b) (counted_weights c app)) same is_told).0.none_above)
 
-    section_acts : (j : ℕ) → is_over config h j ≡ true → SectionsSum config app h b (activation_weights app b j) (begun_by costs h (start.Section b) j).activations
-    section_acts j over =
-        let of = over_declared b j low over in
-        subst (λ w. SectionsSum config app h b w (reckoned (section_making costs h b j).activations)) (sym (other_weights b j low over))
-        (made_few (counts.Activations j) (section_making costs h b j).activations (makings_of_section j of).activations
-        (told.section_makings j (counted_task config app w load longest costs are h there j of.0) b (counted_task config app w load longest costs are h there b low.0) (level_upper config app w load longest costs are h there j of) (lower_is b low)).activations)
+    abbrev MadeWithin : (j n : ℕ) → Type 0
+    MadeWithin j n = SectionsSum config app h b (activation_weights app b j) n ⊎ (IsShutOut config h b j × (1 ≤ n))
+
+    -- once, where no raised position activates the task none
+    made_once : (j : ℕ) (o : Option ℕ) → is_over config h j ≡ true → IsShutOut config h b j → IsSectionMade config app [] h b true (counts.Activations j) o → MadeWithin j (reckoned o)
+    made_once j o over out (does, decides, is) = by does refl
+      where
+        by : (d : Bool) → does ≡ d → MadeWithin j (reckoned o)
+        by true on =
+            let same = ap reckoned is in
+            let one = ap one_if on in
+            inr (out, omega (arith, same, one))
+        by false off =
+            subst (λ w. SectionsSum config app h b w (reckoned o) ⊎ (IsShutOut config h b j × (1 ≤ reckoned o))) (sym (other_weights b j low over))
+            (inl (none_made (counts.Activations j) (reckoned o) (not_from_Decides does decides off)))
+
+    section_acts : (j : ℕ) → is_over config h j ≡ true → MadeWithin j (begun_by costs h (start.Section b) j).activations
+    section_acts j over = by (declaration config b).non refl (h == j) refl (makings_of_section j of).activations
+      where
+        of : IsOfLevel config h j
+        of = over_declared b j low over
+
+        made : Option ℕ
+        made = (section_making costs h b j).activations
+
+        is_number : IsTold made
+        is_number =
+            (told.section_makings j (counted_task config app w load costs are h there j of.0) b (counted_task config app w load costs are h there b low.0)
+            (level_upper config app w load costs are h there j of) (lower_is b low)).activations
+
+        by : (non : Bool) → (declaration config b).non ≡ non → (itself : Bool) → (h == j) ≡ itself → IsSectionMade config app [] h b (non || itself) (counts.Activations j) made
+            → MadeWithin j (reckoned made)
+        by true is itself e once = made_once j made over (inr is) once
+        by false is true e once = made_once j made over (inl (sym (eqb-true h j e))) once
+        by false is false e walks =
+            subst (λ w. SectionsSum config app h b w (reckoned made) ⊎ (IsShutOut config h b j × (1 ≤ reckoned made))) (sym (other_weights b j low over))
+            (inl (made_few (counts.Activations j) made walks is_number))
 
     section_sets : (j : ℕ) → is_over config h j ≡ true → SectionsSum config app h b (setting_weights app j) (begun_by costs h (start.Section b) j).settings
     section_sets j over =
         let of = over_declared b j low over in
         made_few (counts.Settings j) (section_making costs h b j).settings (makings_of_section j of).settings
-        (told.section_makings j (counted_task config app w load longest costs are h there j of.0) b (counted_task config app w load longest costs are h there b low.0) (level_upper config app w load longest costs are h there j of) (lower_is b low)).settings
+        (told.section_makings j (counted_task config app w load costs are h there j of.0) b (counted_task config app w load costs are h there b low.0) (level_upper config app w load costs are h there j of) (lower_is b low)).settings
 
-    abbrev Fits : Start → ℕ → Type 0
-    Fits s i = HasSections config app longest weights h b (start_by config load longest late costs h s (numbers i) (lasting i))
+    abbrev Fits : (raised : Bool) → Start → ℕ → Type 0
+    Fits raised s i = HasSections config app longest weights h b raised (start_by config load longest late costs h raised s (numbers raised i) (lasting raised i))
+
+    abbrev Fitting : (raised : Bool) → Type 0
+    Fitting raised = (i : ℕ) × (i < ways) × ((begins i).is_boot ≡ false) × (cond raised late 0 ≤ (begins i).lead) × HasSections config app longest weights h b raised (begins i)
+
+    lead_enough : (raised : Bool) → cond raised late 0 ≤ lead_of raised late
+    lead_enough true = omega arith
+    lead_enough false = omega arith
+
+    -- a start that fits is one of them
+    fitting : (raised : Bool) (s : Start) → Has all_starts s → is_boot s ≡ false → ((i : ℕ) → Fits raised s i) → Fitting raised
+    fitting raised s (i, lt, is) no_boot fits =
+        let at = at_place raised i lt in (
+          place raised i,
+          at.0,
+          ap (λ (v : Demand.Start). v.is_boot) at.1 ∙ ap is_boot is ∙ no_boot,
+          subst (λ (v : Demand.Start). cond raised late 0 ≤ v.lead) (sym at.1) (lead_enough raised),
+          subst (HasSections config app longest weights h b raised) (sym at.1) (subst (λ v. Fits raised v i) (sym is) (fits i)),
+        )
 
     -- what raises the task
-    entry_is : (task costs b).entry ≡ raising_counts config app longest b
-    entry_is = (are.tasks.each b low.0).entry
+    raises_preemptable : (declaration config b).non ≡ false → call_path service.GetResource ≤ (task costs b).entry
+    raises_preemptable preemptable =
+        let same = (are.tasks.each b low.0).entry in
+        let takes = ap {B = ℕ} (λ x. cond x 0 (call_path service.GetResource)) preemptable in
+        omega (arith, same, takes)
 
-    raises_some : call_path service.GetResource ≤ (task costs b).entry
-    raises_some = let same = entry_is in let le = by (declaration config b).non in omega (arith, same, le)
-      where
-        by : (x : Bool) → call_path service.GetResource ≤ cond x (longest + longer_entry config app b) (call_path service.GetResource)
-        by true = let le = entry_some (declaration config b).extended true (function app (body_of app.funcs b)).frame_words in omega (arith, le)
-        by false = omega arith
-
-    non_raises : (declaration config b).non ≡ true → (task costs b).entry ≡ longest + longer_entry config app b
-    non_raises non = entry_is ∙ ap (λ x. cond x (longest + longer_entry config app b) (call_path service.GetResource)) non
-
-    enters_few : (resumed : Bool) → enter_counts config app resumed b ≤ longer_entry config app b
-    enters_few true = omega arith
-    enters_few false = omega arith
-
-    there_is : (section costs h b).exists ≡ true → (i : ℕ) × (i < length all_starts) × ((begins i).is_boot ≡ false) × HasSections config app longest weights h b (begins i)
-    there_is exists =
-        let (i, lt, is) = has_section costs h b (counted_task config app w load longest costs are h there b low.0) (lower_is b low) exists in
-        (i, lt, ap is_boot is, subst (λ s. Fits s i) (sym is) (fits i))
+    there_is : (section costs h b).exists ≡ true → (raised : Bool) → Fitting raised
+    there_is exists raised =
+        fitting raised (start.Section b) (has_section costs h b (counted_task config app w load costs are h there b low.0) (lower_is b low) exists) refl (fits raised)
       where
         known : (n : ℕ) × (reckoned (section costs h b).counts ≡ n) × SectionsSum config app h b weights n
         known = sum_told costs_of.told costs_of.is_told costs_of.counts
 
-        fits : (i : ℕ) → Fits (start.Section b) i
-        fits i = record {
+        fits : (raised : Bool) (i : ℕ) → Fits raised (start.Section b) i
+        fits true i = record {
+          counts = known.0;
+          raising = 0;
+          sum = known.2;
+          takes = λ not_yet. absurd (true≢false not_yet);
+          front = let same = known.1 in omega (arith, same);
+          acts = section_acts;
+          sets = section_sets;
+        }
+        fits false i = record {
           counts = known.0;
           raising = (task costs b).entry;
           sum = known.2;
-          takes = λ at reach takes. let few = (takes_few at reach takes).0 in let some = raises_some in omega (arith, few, some);
-          enters = λ resumed non. let few = enters_few resumed in let same = non_raises non in omega (arith, few, same);
-          returns = λ non. let some = raises_some in omega (arith, some);
+          takes = λ _ preemptable at reach takes. let few = (takes_few at reach takes).0 in let some = raises_preemptable preemptable in omega (arith, few, some);
           front = let same = known.1 in omega (arith, same);
           acts = section_acts;
           sets = section_sets;
         }
 
-    there_is_none : (section costs h b).exists ≡ false → (i : ℕ) × (i < length all_starts) × ((begins i).is_boot ≡ false) × HasSections config app longest weights h b (begins i)
-    there_is_none exists =
-        let (i, lt, is) = has_free costs h in
-        (i, lt, ap is_boot is, subst (λ s. Fits s i) (sym is) (fits i))
+    there_is_none : (section costs h b).exists ≡ false → (raised : Bool) → Fitting raised
+    there_is_none exists raised = fitting raised start.Free (has_free costs h) refl (fits raised)
       where
         not_raised : ¬ (IsRaised config app h b)
         not_raised = not_from_Decides (section costs h b).exists costs_of.exists exists
 
-        fits : (i : ℕ) → Fits start.Free i
-        fits i = record {
+        fits : (raised : Bool) (i : ℕ) → Fits raised start.Free i
+        fits true i = record {
+          counts = 0;
+          raising = 0;
+          sum = no_section_sums config app h b weights 0 not_raised;
+          takes = λ not_yet. absurd (true≢false not_yet);
+          front = omega arith;
+          acts = λ j over. inl (no_section_sums config app h b (activation_weights app b j) 0 not_raised);
+          sets = λ j over. no_section_sums config app h b (setting_weights app j) 0 not_raised;
+        }
+        fits false i = record {
           counts = 0;
           raising = services_front costs h 0 costs.tasks;
           sum = no_section_sums config app h b weights 0 not_raised;
-          takes = λ at reach takes. (takes_few at reach takes).1;
-          enters = λ resumed non. absurd (not_raised (non_raised config app h b there non));
-          returns = λ non. absurd (not_raised (non_raised config app h b there non));
+          takes = λ _ preemptable at reach takes. (takes_few at reach takes).1;
           front = omega arith;
-          acts = λ j over. no_section_sums config app h b (activation_weights app b j) 0 not_raised;
+          acts = λ j over. inl (no_section_sums config app h b (activation_weights app b j) 0 not_raised);
           sets = λ j over. no_section_sums config app h b (setting_weights app j) 0 not_raised;
         }
 
-    sections : (i : ℕ) × (i < length all_starts) × ((begins i).is_boot ≡ false) × HasSections config app longest weights h b (begins i)
-    sections = by (section costs h b).exists refl
+    sections : (raised : Bool) → Fitting raised
+    sections raised = by (section costs h b).exists refl
       where
-        by : (x : Bool) → (section costs h b).exists ≡ x → (i : ℕ) × (i < length all_starts) × ((begins i).is_boot ≡ false) × HasSections config app longest weights h b (begins i)
-        by true e = there_is e
-        by false e = there_is_none e
+        by : (x : Bool) → (section costs h b).exists ≡ x → Fitting raised
+        by true e = there_is e raised
+        by false e = there_is_none e raised
 
-  pub fits_starts : FitsStarts config app longest weights h (task costs h).is_preemptable (length all_starts) begins
+  some_start : (i : ℕ) × (i < ways) × ((begins i).is_boot ≡ false) × (longest ≤ (begins i).inflow.front) × (late ≤ (begins i).lead)
+  some_start =
+      let at = at_place true 0 (omega arith) in (
+        0,
+        at.0,
+        ap (λ (v : Demand.Start). v.is_boot) at.1,
+        subst (λ (v : Demand.Start). longest ≤ v.inflow.front) (sym at.1) (omega arith),
+        subst (λ (v : Demand.Start). late ≤ v.lead) (sym at.1) (omega arith),
+      )
+
+  pub fits_starts : FitsStarts config app longest late weights h (task costs h).is_preemptable ways begins
   fits_starts = record {
-    some = (0, omega arith, refl, omega arith);
+    some = some_start;
     boots = boots;
     serves = λ t low. serves t (lower_serves t low);
     sections = sections;

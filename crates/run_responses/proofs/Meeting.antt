@@ -1,5 +1,5 @@
 -- Runs of images meet the bounds of computed costs.
-use Rattle.std.proofs.Common.{◌≡◌, ℕ, ◌+◌, ◌<◌, ◌≤◌, ◌⊎◌, inl, inr, sym, ◌∙◌, false, Bool, List, [], ◌∷◌, length, arith, Some, cond, true}
+use Rattle.std.proofs.Common.{◌≡◌, ℕ, ◌+◌, ◌-◌, ◌<◌, ◌≤◌, ◌⊎◌, inl, inr, sym, ◌∙◌, false, Bool, List, [], ◌∷◌, length, arith, Some, cond, true, ltb}
 use Rattle.std.proofs.lemmas.Bool.{cases_eq, cases_lt}
 use Rattle.std.specs.Prelude.{All}
 use Rattle.std.proofs.lemmas.List.Elements.{All-head, All-tail}
@@ -24,13 +24,13 @@ use Rattle.response_laws.specs.Response.{EntersOnce}
 use Rattle.response_laws.specs.SoundRuns.{IsLongestItem, IsCodeStart}
 use Rattle.response_laws.proofs.Images.{images_respond_by_code}
 use Rattle.run_responses.specs.RunCosts.{AreRunCosts}
-use Rattle.run_windows.specs.RunWindows.{run_starts, run_window, IsBoundWithin, AreRunBounds, AreTold}
+use Rattle.run_windows.specs.RunWindows.{margin, run_starts, run_window, IsBoundWithin, IsStartWithin, AreRunBounds, AreTold}
 use Rattle.run_responses.specs.Meeting.{AreCutTasks, ImagesMeetBounds}
 use Rattle.run_responses.proofs.StartLists.{by_place, joins_none}
 use Rattle.run_responses.proofs.Alarms.{is_set, marks}
 use Rattle.run_responses.proofs.Rounds.{law_costs, fits_rounds, cut_as, is_full, is_whole}
-use Rattle.run_responses.proofs.Windows.{enough, has_arrivals, has_expiries, lasts}
-use Rattle.run_responses.proofs.Fronts.{begins, fits_starts}
+use Rattle.run_responses.proofs.Windows.{front_of, lead_of, enough, has_arrivals, has_expiries, lasts}
+use Rattle.run_responses.proofs.Fronts.{start_of, begins, fits_starts}
 
 -- a number of a load is none of 0
 some_said : (f : Form) (owner : ℕ) (load : List Entry) → All IsNumber load → (said f owner load ≡ Some 0) → ⊥
@@ -42,7 +42,7 @@ some_said f owner (entry ∷ load) all is = by (is_of f owner entry) (some_said 
     by false none e = none e
 
 module _ (config : Config) (app : App) (wf : WellFormed config app) (load : List Entry) (late longest h r : ℕ) (cuts : ℕ → Bool) (costs : Costs) (item : IsLongestItem app longest)
-    (cut : AreCutTasks config app cuts) (are : AreRunCosts config app load longest costs) (there : h < length config.tasks) (told : AreTold costs h)
+    (cut : AreCutTasks config app cuts) (are : AreRunCosts config app load costs) (there : h < length config.tasks) (told : AreTold costs h)
     (bounds : AreRunBounds longest late costs h r) where
   abbrev w : Facts config app
   w = facts config app wf
@@ -51,7 +51,7 @@ module _ (config : Config) (app : App) (wf : WellFormed config app) (load : List
   set = is_set config app costs.alarms are.alarms
 
   abbrev law : Demand.Costs
-  law = law_costs config app w load longest costs are h there
+  law = law_costs config app w load costs are h there
 
   abbrev once : Bool
   once = (task costs h).is_preemptable
@@ -59,35 +59,53 @@ module _ (config : Config) (app : App) (wf : WellFormed config app) (load : List
   abbrev at : ℕ → Start
   at i = start_at (run_starts costs h) i
 
-  abbrev Bound : Start → Type 0
-  Bound s = IsBoundWithin longest late costs h (r + (longest + late)) s
+  -- so much a bound may be
+  abbrev most : (opens : Bool) → ℕ
+  most true = r + (longest + late)
+  most false = r + margin longest late
 
-  bound : (i : ℕ) → Bound (at i)
-  bound = by_place costs h Bound bounds
+  within : (i : ℕ) → IsStartWithin longest late costs h r (at i)
+  within = by_place costs h (IsStartWithin longest late costs h r) bounds
 
-  abbrev numbers : ℕ → Numbers
-  numbers i = (bound i).1.0
+  abbrev bound : (opens : Bool) (i : ℕ) → IsBoundWithin longest late costs h (front_of opens costs h (at i)) (most opens) (at i)
+  bound true i = (within i).opens
+  bound false i = (within i).serves
 
-  abbrev lasting : ℕ → ℕ
-  lasting i = (bound i).1.1
+  abbrev numbers : (opens : Bool) → ℕ → Numbers
+  numbers opens i = (bound opens i).1.0
+
+  abbrev lasting : (opens : Bool) → ℕ → ℕ
+  lasting opens i = (bound opens i).1.1
 
   abbrev starting : ℕ → Demand.Start
   starting = begins config app w load longest late costs are h there told numbers lasting
 
-  solves : (i : ℕ) → IsSolution costs (run_window longest late costs h (at i)) (numbers i) (lasting i)
-  solves i = (bound i).1.2.solves
+  solves : (opens : Bool) (i : ℕ) → IsSolution costs (run_window longest late costs h (front_of opens costs h (at i)) (at i)) (numbers opens i) (lasting opens i)
+  solves opens i = (bound opens i).1.2.solves
 
   apart : (i j : ℕ) → joins (at i) j ≡ false
   apart i = joins_none costs h i
 
-  code_start : (i : ℕ) → i < length (run_starts costs h) → IsCodeStart config set load late (longest + late) h r once law (starting i)
-  code_start i lt = record {
-    arrivals = has_arrivals config app w load longest late costs are h there told cuts cut (at i) (numbers i) (lasting i) (apart i) (solves i);
-    expiries = has_expiries config app w load longest late costs are h there told cuts cut (at i) (numbers i) (lasting i) (apart i) (solves i);
-    enough = enough config app w load longest late costs are h there told cuts cut (at i) (numbers i) (lasting i) (apart i) (solves i);
-    lasts = lasts config app w load longest late costs are h there told cuts cut (at i) (numbers i) (lasting i) (apart i) (solves i)
-        (bound i).0 r (bound i).1.4 (bound i).2;
+  in_time : (opens : Bool) (l : ℕ) → l ≤ most opens → l + lead_of opens late ≤ r + margin longest late
+  in_time true l le = omega (arith, le)
+  in_time false l le = omega (arith, le)
+
+  start_so : (opens : Bool) (i : ℕ) → IsCodeStart config set load late (longest + late) h r once law (start_of config app w load longest late costs are h there told numbers lasting opens i)
+  start_so opens i = record {
+    arrivals = has_arrivals config app w load longest late costs are h there told cuts cut opens (at i) (numbers opens i) (lasting opens i) (apart i) (solves opens i);
+    expiries = has_expiries config app w load longest late costs are h there told cuts cut opens (at i) (numbers opens i) (lasting opens i) (apart i) (solves opens i);
+    enough = enough config app w load longest late costs are h there told cuts cut opens (at i) (numbers opens i) (lasting opens i) (apart i) (solves opens i);
+    lasts = lasts config app w load longest late costs are h there told cuts cut opens (at i) (numbers opens i) (lasting opens i) (apart i) (solves opens i)
+        (bound opens i).0 r (bound opens i).1.4 (in_time opens (bound opens i).0 (bound opens i).2);
   }
+
+  code_start : (i : ℕ) → IsCodeStart config set load late (longest + late) h r once law (starting i)
+  code_start i = by (ltb i (length (run_starts costs h))) (start_so true i) (start_so false (i - length (run_starts costs h)))
+    where
+      by : (b : Bool) {x y : Demand.Start} → IsCodeStart config set load late (longest + late) h r once law x → IsCodeStart config set load late (longest + late) h r once law y
+          → IsCodeStart config set load late (longest + late) h r once law (cond b x y)
+      by true first second = first
+      by false first second = second
 
   -- no other task has the priority of h
   alone : (t : ℕ) → t < length config.tasks → static_priority config t ≡ static_priority config h → t ≡ h
@@ -103,20 +121,20 @@ module _ (config : Config) (app : App) (wf : WellFormed config app) (load : List
 
   enters : once ≡ true → EntersOnce config h cuts
   enters is = record {
-    preemptable = is_full config app load longest costs are h there is;
+    preemptable = is_full config app load costs are h there is;
     alone = alone;
-    whole = sym (cut_as config app w load longest costs are h there told cuts cut h there (are.tasks.each h there).clean (are.tasks.each h there).clears)
-        ∙ is_whole config app load longest costs are h there is;
+    whole = sym (cut_as config app w load costs are h there told cuts cut h there (are.tasks.each h there).clean (are.tasks.each h there).clears)
+        ∙ is_whole config app load costs are h there is;
   }
 
 pub images_meet_bounds : ImagesMeetBounds
 images_meet_bounds config app image load arrivals n late longest h r cuts costs wf code sound weighed pace item above come few in_load keeps cut works are there told bounds =
     images_respond_by_code config app image are.weights load arrivals n late longest h r cuts
     (set config app wf load late longest h r cuts costs item cut are there told bounds) (law config app wf load late longest h r cuts costs item cut are there told bounds)
-    (task costs h).is_preemptable (length (run_starts costs h)) (starting config app wf load late longest h r cuts costs item cut are there told bounds)
+    (task costs h).is_preemptable (length (run_starts costs h) + length (run_starts costs h)) (starting config app wf load late longest h r cuts costs item cut are there told bounds)
     (enters config app wf load late longest h r cuts costs item cut are there told bounds)
     wf code sound weighed pace are.are_counts (marks config app costs.alarms are.alarms) item come few above (λ line. some_said form.Every line load in_load.numbers) keeps works
-    (fits_rounds config app (facts config app wf) load longest costs are h there told cuts cut)
+    (fits_rounds config app (facts config app wf) load costs are h there told cuts cut)
     (fits_starts config app (facts config app wf) load longest late costs are h there told (numbers config app wf load late longest h r cuts costs item cut are there told bounds)
     (lasting config app wf load late longest h r cuts costs item cut are there told bounds))
-    (code_start config app wf load late longest h r cuts costs item cut are there told bounds)
+    (λ i _. code_start config app wf load late longest h r cuts costs item cut are there told bounds i)

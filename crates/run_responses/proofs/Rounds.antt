@@ -26,7 +26,7 @@ use Rattle.walk_sums.specs.declared.tasks.RoundSums.{RoundSums}
 use Rattle.walk_sums.specs.declared.counted.Counted.{Counted}
 use Rattle.walk_sums.specs.declared.counted.Counted.TheVariants as counts
 use Rattle.walk_sums.specs.Rounds
-use Rattle.walk_sums.specs.Rounds.{IsPart, IsTurn, IsClean, Reaches, is_wait}
+use Rattle.walk_sums.specs.Rounds.{IsTurn, IsClean, Reaches, is_wait}
 use Rattle.walk_sums.specs.Counted.{counted_weights}
 use Rattle.walk_sums.specs.Told.{NoneIsAbove, IsToldSum, are_limited, are_endless, AreToldRounds}
 use Rattle.response_bounds.specs.declared.costs.Costs.{Costs}
@@ -211,7 +211,7 @@ and_decided false b p q = (λ e. cc, λ both. p.1 both.0)
 is_true : (b : Bool) → Decides b (b ≡ true)
 is_true b = (λ e. e, λ e. e)
 
-module _ (config : Config) (app : App) (w : Facts config app) (load : List Entry) (longest : ℕ) (costs : Costs) (are : AreRunCosts config app load longest costs) (h : ℕ)
+module _ (config : Config) (app : App) (w : Facts config app) (load : List Entry) (costs : Costs) (are : AreRunCosts config app load costs) (h : ℕ)
     (there : h < length config.tasks) where
   pub level_upper : (t : ℕ) → IsOfLevel config h t → is_lower costs h t ≡ false
   level_upper t over =
@@ -283,7 +283,7 @@ module _ (config : Config) (app : App) (w : Facts config app) (load : List Entry
         (λ n is. subst (λ c. LaterRoundsSum app c t are.weights n) (cut_as t over.0 own.clean own.clears)
         (later_above app t are.weights n (counts_lighter app are.weights are.are_counts) own.clean (declaration config t).extended own.told (never t over.0) own.rounds is)))
       where
-        own : AreRunTaskCosts config app load longest are.weights t (task costs t)
+        own : AreRunTaskCosts config app load are.weights t (task costs t)
         own = are.tasks.each t over.0
 
         by : (round_entry config app (are.tasks.each t over.0).clean true t ≤ reckoned (task costs t).next)
@@ -388,9 +388,9 @@ entries_alike config app true t whole =
     subst (λ e. max (entry_path e true (function app (body_of app.funcs t)).frame_words) (entry_path e true (function app (body_of app.funcs t)).frame_words)
     ≡ max (entry_path e false (function app (body_of app.funcs t)).frame_words) (entry_path e true (function app (body_of app.funcs t)).frame_words)) (sym whole) refl
 
-module _ (config : Config) (app : App) (load : List Entry) (longest : ℕ) (costs : Costs) (are : AreRunCosts config app load longest costs) (h : ℕ)
+module _ (config : Config) (app : App) (load : List Entry) (costs : Costs) (are : AreRunCosts config app load costs) (h : ℕ)
     (there : h < length config.tasks) (once : (task costs h).is_preemptable ≡ true) where
-  abbrev own : AreRunTaskCosts config app load longest are.weights h (task costs h)
+  abbrev own : AreRunTaskCosts config app load are.weights h (task costs h)
   own = are.tasks.each h there
 
   both : (not (declaration config h).non ≡ true) × (not (own.clean && (declaration config h).extended) ≡ true)

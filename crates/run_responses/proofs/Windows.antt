@@ -21,14 +21,14 @@ use Rattle.response_bounds.specs.Windows.{Numbers, joins, rule_of, level_rule, c
 use Rattle.response_costs.specs.CostsOf.{no_counter}
 use Rattle.response_laws.specs.Sums.{is_over, sum_over, sum_counters}
 use Rattle.response_laws.specs.Demand
-use Rattle.response_laws.specs.Demand.{acts_due, sets_due, counts_due, IsEnteredOnce, IsEnough}
+use Rattle.response_laws.specs.Demand.{acts_due, sets_due, IsEnteredOnce, IsEnough}
 use Rattle.response_laws.specs.Bounded.{IsOfLevel}
 use Rattle.response_laws.specs.Response.{LastsWithin}
 use Rattle.response_laws.specs.Arrivals.{admission_window}
 use Rattle.response_laws.specs.Loaded.{HasArrivals}
 use Rattle.response_laws.specs.Expiries.{HasExpiries}
 use Rattle.run_responses.specs.RunCosts.{AreRunCosts}
-use Rattle.run_windows.specs.RunWindows.{margin, run_front, run_window, AreTold}
+use Rattle.run_windows.specs.RunWindows.{margin, opening_front, served_front, run_window, AreTold, begun_item}
 use Rattle.run_responses.specs.Meeting.{AreCutTasks}
 use Rattle.run_responses.proofs.Sums.{below_list, makings_sum, rounds_sum, ticking_sum, ticks_sum}
 use Rattle.run_responses.proofs.Alarms.{is_set, expire}
@@ -36,18 +36,28 @@ use Rattle.run_responses.proofs.Rounds.{law_costs, level_upper, counted_task, fi
 
 -- ---- the start of a window
 
+-- a start begins with its event, or with admissions in front of a service
+abbrev pub front_of : (opens : Bool) → Costs → (h : ℕ) → Start → ℕ
+front_of true costs h s = opening_front costs h s
+front_of false costs h s = served_front costs h s
+
+abbrev pub lead_of : (opens : Bool) → (late : ℕ) → ℕ
+lead_of true late = late
+lead_of false late = 0
+
 module _ (config : Config) (load : List Entry) (longest late : ℕ) (costs : Costs) (h : ℕ) where
   -- with so many rounds, and so many counts, the margin among them
-  abbrev pub start_by : Start → Numbers → (counts : ℕ) → Demand.Start
-  start_by s n counts = record {
+  abbrev pub start_by : (opens : Bool) → Start → Numbers → (counts : ℕ) → Demand.Start
+  start_by opens s n counts = record {
     is_boot = is_boot s;
+    lead = lead_of opens late;
     inflow = record {
       arrivals = λ line. arrivals counts (distance load line);
       alarm_acts = λ c j. min (arrivals counts (distance load (counter_line c)))
           (Arrivals.expiring (is_boot s) false c j (arrivals counts (distance load (counter_line c))) costs.alarms);
       alarm_sets = λ c j. min (arrivals counts (distance load (counter_line c)))
           (Arrivals.expiring (is_boot s) true c j (arrivals counts (distance load (counter_line c))) costs.alarms);
-      front = longest + run_front costs h s;
+      front = begun_item longest s + front_of opens costs h s;
       acts = λ j. (begun_by costs h s j).activations;
       sets = λ j. (begun_by costs h s j).settings;
     };
@@ -74,17 +84,18 @@ made_some a b some = by (a == 0) refl (b == 0) refl
     by true e false f = refl
     by false e y f = refl
 
-module _ (config : Config) (app : App) (w : Facts config app) (load : List Entry) (longest late : ℕ) (costs : Costs) (are : AreRunCosts config app load longest costs) (h : ℕ)
+module _ (config : Config) (app : App) (w : Facts config app) (load : List Entry) (longest late : ℕ) (costs : Costs) (are : AreRunCosts config app load costs) (h : ℕ)
     (there : h < length config.tasks) (told : AreTold costs h) (cuts : ℕ → Bool) (cut : AreCutTasks config app cuts)
-    (s : Start) (n : Numbers) (counts : ℕ) (no_join : (j : ℕ) → joins s j ≡ false) (solves : IsSolution costs (run_window longest late costs h s) n counts) where
+    (opens : Bool) (s : Start) (n : Numbers) (counts : ℕ) (no_join : (j : ℕ) → joins s j ≡ false)
+    (solves : IsSolution costs (run_window longest late costs h (front_of opens costs h s) s) n counts) where
   abbrev begins : Demand.Start
-  begins = start_by config load longest late costs h s n counts
+  begins = start_by config load longest late costs h opens s n counts
 
   abbrev law : Demand.Costs
-  law = law_costs config app w load longest costs are h there
+  law = law_costs config app w load costs are h there
 
   -- what fills the window
-  filled : margin longest late + (longest + run_front costs h s) + round_counts n 0 costs.tasks + Arrivals.tick_counts counts costs.counters ≤ counts
+  filled : margin longest late + (begun_item longest s + front_of opens costs h s) + round_counts n 0 costs.tasks + Arrivals.tick_counts counts costs.counters ≤ counts
   filled = solves.filled
 
   room : margin longest late ≤ counts
@@ -116,7 +127,7 @@ module _ (config : Config) (app : App) (w : Facts config app) (load : List Entry
   -- ---- which makings count
 
   abbrev window : Window
-  window = run_window longest late costs h s
+  window = run_window longest late costs h (front_of opens costs h s) s
 
   abbrev acts_of : ℕ → ℕ
   acts_of j = activations costs window n counts j
@@ -127,13 +138,13 @@ module _ (config : Config) (app : App) (w : Facts config app) (load : List Entry
   rule_is : (j : ℕ) → IsOfLevel config h j → (b : Bool) → ((j == h) && (task costs h).is_preemptable) ≡ b → rule_of costs window j ≡ cond b rule.Once rule.Each
   rule_is j over b e =
       ap (λ x. cond x rule.Joined (level_rule costs h j)) (no_join j)
-      ∙ ap (λ x. cond x rule.Lower (cond ((j == h) && (task costs h).is_preemptable) (cond (task costs h).is_clean rule.Entered rule.Once) rule.Each)) (level_upper config app w load longest costs are h there j over)
+      ∙ ap (λ x. cond x rule.Lower (cond ((j == h) && (task costs h).is_preemptable) (cond (task costs h).is_clean rule.Entered rule.Once) rule.Each)) (level_upper config app w load costs are h there j over)
       ∙ ap (λ x. cond x (cond (task costs h).is_clean rule.Entered rule.Once) rule.Each) e
       ∙ ap (λ x. cond b (cond x rule.Entered rule.Once) rule.Each) (are.tasks.each h there).is_clean
 
   made : (j : ℕ) (over : IsOfLevel config h j) (b : Bool) → ((j == h) && (task costs h).is_preemptable) ≡ b → IsAtMost (counted (cond b rule.Once rule.Each) (acts_of j) (sets_of j)) (n j)
   made j over b e =
-      subst (λ r. IsAtMost (counted r (acts_of j) (sets_of j)) (n j)) (rule_is j over b e) (solves.made j (counted_task config app w load longest costs are h there j over.0))
+      subst (λ r. IsAtMost (counted r (acts_of j) (sets_of j)) (n j)) (rule_is j over b e) (solves.made j (counted_task config app w load costs are h there j over.0))
 
   acts_few : (j : ℕ) → IsOfLevel config h j → acts_due config h law begins j ≤ acts_of j
   acts_few j over =
@@ -179,10 +190,10 @@ module _ (config : Config) (app : App) (w : Facts config app) (load : List Entry
         let sets = sets_few h of_own_level in
         omega (arith, most, acts, sets);
     cost =
-        next_same config app w load longest costs are h there told cuts cut h of_own_level ∙ ap reckoned (costs_alike config app load longest costs are h there once)
-        ∙ sym (first_same config app w load longest costs are h there told cuts cut h of_own_level);
-    acts = acts_alike config app load longest costs are h there once;
-    sets = sets_alike config app load longest costs are h there once;
+        next_same config app w load costs are h there told cuts cut h of_own_level ∙ ap reckoned (costs_alike config app load costs are h there once)
+        ∙ sym (first_same config app w load costs are h there told cuts cut h of_own_level);
+    acts = acts_alike config app load costs are h there once;
+    sets = sets_alike config app load costs are h there once;
   }
 
   -- the counts of rounds, and of ticks
@@ -197,8 +208,8 @@ module _ (config : Config) (app : App) (w : Facts config app) (load : List Entry
           → cond b ((n k).activations * law.first k + (n k).settings * law.next k) 0 ≤ shared (n k) (task costs k).first (task costs k).next
       by k lt false e = omega arith
       by k lt true e =
-          let firsts = ap (λ v. (n k).activations * v) (first_same config app w load longest costs are h there told cuts cut k (lt, e)) in
-          let nexts = ap (λ v. (n k).settings * v) (next_same config app w load longest costs are h there told cuts cut k (lt, e)) in
+          let firsts = ap (λ v. (n k).activations * v) (first_same config app w load costs are h there told cuts cut k (lt, e)) in
+          let nexts = ap (λ v. (n k).settings * v) (next_same config app w load costs are h there told cuts cut k (lt, e)) in
           omega (arith, firsts, nexts)
 
   ticks_few : sum_counters config (λ c. arrivals counts (distance load (counter_line c)) * law.tick c) ≤ Arrivals.tick_counts counts costs.counters
@@ -234,7 +245,7 @@ module _ (config : Config) (app : App) (w : Facts config app) (load : List Entry
 
   -- ---- how long it lasts
 
-  pub lasts : (l r : ℕ) → l ≡ cond (is_target_made (Some h) n) counts 0 → l ≤ r + (longest + late) → LastsWithin h late r begins
+  pub lasts : (l r : ℕ) → l ≡ cond (is_target_made (Some h) n) counts 0 → l + lead_of opens late ≤ r + margin longest late → LastsWithin h r begins
   lasts l r is le some =
       let made = ap (λ b. cond b counts 0) (made_some (n h).activations (n h).settings some) in
       let enough = room in

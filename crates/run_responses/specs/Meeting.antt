@@ -36,5 +36,5 @@ ImagesMeetBounds = (config : Config) (app : App) (image : Image) (load : List En
     → IsLongestItem app longest → NoStretchIsAbove config app late
     → AreArrivals (owners_in config) arrivals → n ≤ count_limit → IsLoad (owners_in config) load → KeepDistances load arrivals
     → AreCutTasks config app cuts → KeepsWork config load cuts (run_stages config app (events_of image arrivals n))
-    → AreRunCosts config app load longest costs → h < length config.tasks → AreTold costs h → AreRunBounds longest late costs h r
+    → AreRunCosts config app load costs → h < length config.tasks → AreTold costs h → AreRunBounds longest late costs h r
     → RespondsWithin config app n (longest + late) h r (events_of image arrivals n)

@@ -1,6 +1,6 @@
 -- Costs that runs keep: of entries and ticks their own counts; of rounds and sections those of items, with what is begun of them in front of entries and ticks
 -- that preempt them; of makings by walks alone.
-use Rattle.std.specs.Prelude.{ℕ, ◌+◌, ◌≤◌, ◌≡◌, ◌⊎◌, ◌&&◌, not, cond, Bool, true, false, List, [], length, Decides}
+use Rattle.std.specs.Prelude.{ℕ, ◌≤◌, ◌≡◌, ◌⊎◌, ◌&&◌, ◌||◌, ◌==◌, not, cond, Bool, true, false, List, [], length, Decides}
 use Rattle.sloth_base.specs.declared.config.Config.{Config}
 use Rattle.sloth_base.specs.declared.app.App.{App}
 use Rattle.sloth_base.specs.declared.service.Service.TheVariants as service
@@ -26,7 +26,7 @@ use Rattle.response_bounds.specs.declared.costs.Level.{Level}
 use Rattle.response_bounds.specs.declared.costs.Costs.{Costs}
 use Rattle.response_bounds.specs.Costs.{no_task, no_makings, no_services, no_level, no_section, no_section_makings}
 use Rattle.run_windows.specs.RunWindows.{call_path}
-use Rattle.response_costs.specs.Rounds.{AreRounds, longer_entry, round_cost, activations_of}
+use Rattle.response_costs.specs.Rounds.{AreRounds, round_cost, activations_of}
 use Rattle.response_costs.specs.CostsOf.{AreEach, IsGreatest, AreMade, AreServices, IsSectionCosts, IsSectionMade, no_counter, no_alarm, IsAlarm}
 
 -- ---- tasks
@@ -35,15 +35,15 @@ use Rattle.response_costs.specs.CostsOf.{AreEach, IsGreatest, AreMade, AreServic
 abbrev pub round_entry : Config → App → (clean resumed : Bool) → (t : ℕ) → ℕ
 round_entry config app clean resumed t = enter_counts config app (clean && resumed) t
 
--- what raises a task: its entry, with the longest item, where it is not preemptable, or else a GetResource
-abbrev pub raising_counts : Config → App → (longest t : ℕ) → ℕ
-raising_counts config app longest t = cond (declaration config t).non (longest + longer_entry config app t) (call_path service.GetResource)
+-- what raises a preemptable task in a window: a GetResource; one that is not is raised in front of it
+abbrev pub raising_counts : Config → (t : ℕ) → ℕ
+raising_counts config t = cond (declaration config t).non 0 (call_path service.GetResource)
 
 -- A preemptable task counts once in its own windows, if its turns are not cut into rounds.
 abbrev pub counts_once : Config → (clean : Bool) → (t : ℕ) → Bool
 counts_once config clean t = not (declaration config t).non && not (clean && (declaration config t).extended)
 
-pub record AreRunTaskCosts (config : Config) (app : App) (load : List Entry) (longest : ℕ) (weights : List BodyWeights) (t : ℕ) (c : TaskCosts) : Type 0 where
+pub record AreRunTaskCosts (config : Config) (app : App) (load : List Entry) (weights : List BodyWeights) (t : ℕ) (c : TaskCosts) : Type 0 where
   pub priority : c.priority ≡ static_priority config t
   pub clean : Bool
   pub clears : Decides clean (IsClean app t)
@@ -55,7 +55,7 @@ pub record AreRunTaskCosts (config : Config) (app : App) (load : List Entry) (lo
   pub rounds : AreRounds app clean (declaration config t).extended t weights told
   pub first : c.first ≡ round_cost (round_entry config app clean false t) (work load t) told.first
   pub next : c.next ≡ round_cost (round_entry config app clean true t) (work load t) told.later
-  pub entry : c.entry ≡ raising_counts config app longest t
+  pub entry : c.entry ≡ raising_counts config t
   pub service : IsGreatest app t call_path c.service
 
 -- ---- makings
@@ -69,9 +69,9 @@ pub record AreRunMakings (config : Config) (app : App) (j k : ℕ) (m : Makings)
   pub activations : AreMade config app [] clean k (activations_of k j) once m.first_activations m.next_activations
   pub settings : AreMade config app [] clean k (counts.Settings j) false m.first_settings m.next_settings
 
--- how often sections of task k for h make task j Ready, by walks
+-- How often sections of task k for h make task j Ready: they activate it once at most where k is not preemptable, or j is h; they set its events as walks say.
 pub record AreRunSectionMakings (config : Config) (app : App) (h j k : ℕ) (m : SectionMakings) : Type 0 where
-  pub activations : IsSectionMade config app [] h k false (counts.Activations j) m.activations
+  pub activations : IsSectionMade config app [] h k ((declaration config k).non || (h == j)) (counts.Activations j) m.activations
   pub settings : IsSectionMade config app [] h k false (counts.Settings j) m.settings
 
 -- those of lower tasks for task h
@@ -91,11 +91,11 @@ IsRunAlarm config app a costs = (told : AlarmCosts) × IsAlarm config app a told
 
 -- ---- all
 
--- Runs keep each of these numbers, where no item has more instructions than `longest`.
-pub record AreRunCosts (config : Config) (app : App) (load : List Entry) (longest : ℕ) (costs : Costs) : Type 0 where
+-- Runs keep each of these numbers.
+pub record AreRunCosts (config : Config) (app : App) (load : List Entry) (costs : Costs) : Type 0 where
   pub weights : List BodyWeights
   pub are_counts : AreCounts app weights
-  pub tasks : AreEach (length config.tasks) no_task (AreRunTaskCosts config app load longest weights) costs.tasks
+  pub tasks : AreEach (length config.tasks) no_task (AreRunTaskCosts config app load weights) costs.tasks
   pub counters : AreEach (length config.counters) no_counter (IsRunCounter config load) costs.counters
   pub alarms : AreEach (length config.alarms) no_alarm (IsRunAlarm config app) costs.alarms
   pub makings : AreEach (length config.tasks) [] (λ j. AreEach (length config.tasks) no_makings (AreRunMakings config app j)) costs.makings

@@ -1,5 +1,5 @@
 -- Windows that hold what comes into a run of a start, with an item that a lower task has begun, and the longest item and two stretches, in front of all; and
--- the numbers that they tell.
+-- the numbers that they tell. A stretch stands in front of where the window begins, or a service behind it, but not both.
 use Rattle.std.specs.Prelude.{ℕ, ◌+◌, ◌<◌, ◌≤◌, ◌≡◌, ◌==◌, ◌&&◌, ◌||◌, not, max, cond, Bool, true, false, List, [], ◌∷◌, ◌++◌, length, Option, Some, None}
 use Rattle.sloth_base.specs.declared.service.Service.{Service}
 use Rattle.sloth_base.specs.declared.service.Service.TheVariants as service
@@ -17,7 +17,7 @@ use Rattle.response_bounds.specs.declared.window.Start.{Start}
 use Rattle.response_bounds.specs.declared.window.Start.TheVariants as start
 use Rattle.response_bounds.specs.declared.window.Window.{Window}
 use Rattle.response_bounds.specs.Costs.{reckoned, task, making, section, section_making}
-use Rattle.response_bounds.specs.Windows.{is_lower, IsBound}
+use Rattle.response_bounds.specs.Windows.{is_lower, is_boot, IsBound}
 use Rattle.response_bounds.specs.Starts.{services_of, start_if}
 use Rattle.response_bounds.specs.Responses.{start_at}
 
@@ -63,14 +63,23 @@ activation_front costs h j =
 abbrev pub setting_front : Costs → (h j : ℕ) → ℕ
 setting_front costs h j = cond (is_made_in_front way.Setting costs h 0 (services_of costs j)) (call_path service.SetEvent) 0
 
--- The counts of other tasks behind the event with which the window begins: those of a service, or of a section with what raises its task.
-abbrev pub run_front : Costs → (h : ℕ) → Start → ℕ
-run_front costs h start.Free = services_front costs h 0 costs.tasks
-run_front costs h start.Boot = 0
-run_front costs h (start.Activation j) = activation_front costs h j
-run_front costs h (start.Setting j) = setting_front costs h j
-run_front costs h (start.Section k) = reckoned (section costs h k).counts + (task costs k).entry
-run_front costs h (start.Joining k) = 0
+-- The counts of other tasks behind the event with which the window begins, where that is the service, or has raised the task: those of a section.
+abbrev pub opening_front : Costs → (h : ℕ) → Start → ℕ
+opening_front costs h start.Free = 0
+opening_front costs h start.Boot = 0
+opening_front costs h (start.Activation j) = 0
+opening_front costs h (start.Setting j) = 0
+opening_front costs h (start.Section k) = reckoned (section costs h k).counts
+opening_front costs h (start.Joining k) = 0
+
+-- Where it begins with admissions that came while a service was running, those of the service, or of a section with what raises its task.
+abbrev pub served_front : Costs → (h : ℕ) → Start → ℕ
+served_front costs h start.Free = services_front costs h 0 costs.tasks
+served_front costs h start.Boot = 0
+served_front costs h (start.Activation j) = activation_front costs h j
+served_front costs h (start.Setting j) = setting_front costs h j
+served_front costs h (start.Section k) = reckoned (section costs h k).counts + (task costs k).entry
+served_front costs h (start.Joining k) = 0
 
 -- ---- starts
 
@@ -99,18 +108,27 @@ run_starts costs h = start.Free ∷ start.Boot ∷ run_task_starts costs h 0 cos
 abbrev pub margin : (longest late : ℕ) → ℕ
 margin longest late = longest + (late + late)
 
--- in front of all stands the item that a lower task has begun where the window begins
-abbrev pub run_window : (longest late : ℕ) → Costs → (h : ℕ) → Start → Window
-run_window longest late costs h s = record { target = Some h; start = s; front = margin longest late + (longest + run_front costs h s); span = None }
+-- the item that a lower task has begun where the window begins; behind boot there is none
+abbrev pub begun_item : (longest : ℕ) → Start → ℕ
+begun_item longest s = cond (is_boot s) 0 longest
 
--- the bound of a start is at most this
-abbrev pub IsBoundWithin : (longest late : ℕ) → Costs → (h most : ℕ) → Start → Type 0
-IsBoundWithin longest late costs h most s = (l : ℕ) × IsBound count_limit costs (run_window longest late costs h s) (Some l) × (l ≤ most)
+-- in front of all stand that item, and so many counts
+abbrev pub run_window : (longest late : ℕ) → Costs → (h front : ℕ) → Start → Window
+run_window longest late costs h front s = record { target = Some h; start = s; front = margin longest late + (begun_item longest s + front); span = None }
 
--- The bounds of all starts of h are at most r, with an item and a stretch more.
+-- the bound of a start, with so many counts in front, is at most this
+abbrev pub IsBoundWithin : (longest late : ℕ) → Costs → (h front most : ℕ) → Start → Type 0
+IsBoundWithin longest late costs h front most s = (l : ℕ) × IsBound count_limit costs (run_window longest late costs h front s) (Some l) × (l ≤ most)
+
+-- The bounds of a start of h are at most r, with an item and a stretch more; and where a service stands behind admissions, no stretch in front of those, with the
+-- margin more.
+pub record IsStartWithin (longest late : ℕ) (costs : Costs) (h r : ℕ) (s : Start) : Type 0 where
+  pub opens : IsBoundWithin longest late costs h (opening_front costs h s) (r + (longest + late)) s
+  pub serves : IsBoundWithin longest late costs h (served_front costs h s) (r + margin longest late) s
+
+-- so are those of all starts
 abbrev pub AreRunBounds : (longest late : ℕ) → Costs → (h r : ℕ) → Type 0
-AreRunBounds longest late costs h r =
-    (i : ℕ) → i < length (run_starts costs h) → IsBoundWithin longest late costs h (r + (longest + late)) (start_at (run_starts costs h) i)
+AreRunBounds longest late costs h r = (i : ℕ) → i < length (run_starts costs h) → IsStartWithin longest late costs h r (start_at (run_starts costs h) i)
 
 -- ---- numbers that are told
 

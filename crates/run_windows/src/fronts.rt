@@ -3,7 +3,7 @@ ghost use Rattle.std.specs.Prelude.{◌≡◌, ◌&&◌};
 ghost use Rattle.response_bounds.specs.declared.window.Start.TheVariants as start;
 ghost use Rattle.response_bounds.specs.Costs.{section};
 ghost use Rattle.response_bounds.specs.Starts.{services_of};
-ghost use Rattle.run_windows.specs.RunWindows.{call_words, call_path, may_serve, services_front, makes, is_made_in_front, activation_front, setting_front, run_front};
+ghost use Rattle.run_windows.specs.RunWindows.{call_words, call_path, may_serve, services_front, makes, is_made_in_front, activation_front, setting_front, opening_front, served_front};
 
 use code_lengths::{leaving_path, served_path};
 use response_bounds::costs::{Costs, SectionCosts, Services};
@@ -138,15 +138,26 @@ pub fn section(costs: &Costs, h: usize, k: usize) -> SectionCosts
 
 // The section of a task, with what raises it.
 fn section_front(costs: &Costs, h: usize, k: usize) -> u64
-    ensures { result ≡ run_front costs.now h (start.Section k) }
+    ensures { result ≡ served_front costs.now h (start.Section k) }
 {
     let counts = reckoned(section(costs, h, k).counts);
     u64::from(counts) + u64::from(task(costs, k).entry)
 }
 
-/// The counts of other tasks in front of a window of h, behind the event with which it begins.
-pub fn run_front(costs: &Costs, h: usize, start: Start) -> u64
-    ensures { result ≡ run_front costs.now h start }
+/// The counts of other tasks in front of a window of h, behind the event with which it begins, where that is the service.
+pub fn opening_front(costs: &Costs, h: usize, start: Start) -> u32
+    ensures { result ≡ opening_front costs.now h start }
+{
+    match start {
+        Start::Section(k) => reckoned(section(costs, h, k).counts),
+        Start::Free | Start::Boot | Start::Activation(_) | Start::Setting(_) | Start::Joining(_) =>
+            0,
+    }
+}
+
+/// Those behind admissions that came while a service was running, with the service.
+pub fn served_front(costs: &Costs, h: usize, start: Start) -> u64
+    ensures { result ≡ served_front costs.now h start }
 {
     match start {
         Start::Free => u64::from(services_front(costs, h)),

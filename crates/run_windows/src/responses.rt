@@ -4,9 +4,9 @@ ghost use Rattle.sloth_base.specs.Limits.{count_limit};
 ghost use Rattle.response_bounds.specs.Settling.{TakeCounts};
 ghost use Rattle.response_bounds.specs.Windows.{IsBound};
 ghost use Rattle.response_bounds.specs.Responses.{start_at};
-ghost use Rattle.run_windows.specs.RunWindows.{margin, run_front, run_window, run_starts, IsBoundWithin, IsRunResponse};
+ghost use Rattle.run_windows.specs.RunWindows.{margin, begun_item, run_window, run_starts, IsStartWithin, IsRunResponse};
 
-use crate::fronts::run_front;
+use crate::fronts::{opening_front, served_front};
 use crate::starts::run_starts;
 use crate::told::are_told;
 use response_bounds::costs::Costs;
@@ -17,34 +17,49 @@ use sloth_base::memory::NoMemory;
 use std::alloc::Global;
 use text_pieces::growth::push;
 
-// These counts in front, with an item that a lower task has begun, and the margin.
-fn with_margin(longest: u32, late: u32, front: u64) -> u64
+// The item that a lower task has begun where a window begins.
+fn begun_item(longest: u32, start: Start) -> u32
+    ensures { result ≡ begun_item longest start }
+{
+    match start {
+        Start::Boot => 0,
+        Start::Free
+        | Start::Activation(_)
+        | Start::Setting(_)
+        | Start::Section(_)
+        | Start::Joining(_) => longest,
+    }
+}
+
+// These counts in front, with this item, and the margin.
+fn with_margin(longest: u32, late: u32, item: u32, front: u64) -> u64
     requires { front ≤ count_limit }
-    ensures { result ≡ margin longest late + (longest + front) }
+    ensures { result ≡ margin longest late + (item + front) }
 {
     let stretches = u64::from(late) + u64::from(late);
-    let items = u64::from(longest) + u64::from(longest);
+    let items = u64::from(longest) + u64::from(item);
     items + stretches + front
 }
 
-// The bound of a start.
+// The bound of a start, with these counts in front.
 fn start_bound(
     longest: u32,
     late: u32,
     costs: &Costs,
     h: usize,
     start: Start,
+    front: u64,
     numbers: &mut [Made],
 ) -> Option<u32>
     requires costs { TakeCounts costs.now }
     requires count { length numbers.old ≡ length costs.now.tasks }
-    ensures { IfSome result (λ l. IsBound count_limit costs.now (run_window longest late costs.now h start) (Some l)) }
+    ensures { IfSome result (λ l. IsBound count_limit costs.now (run_window longest late costs.now h front start) (Some l)) }
 {
-    let front = run_front(costs, h, start);
     if front > u64::from(COUNT_LIMIT) {
         return None;
     }
-    let front = with_margin(longest, late, front);
+    let item = begun_item(longest, start);
+    let front = with_margin(longest, late, item, front);
     if front > u64::from(COUNT_LIMIT) {
         return None;
     }
@@ -57,7 +72,47 @@ fn start_bound(
     bound(costs, &window, COUNT_LIMIT, numbers)
 }
 
-// The greatest bound of these starts.
+// Less the longest item and a stretch.
+fn less(longest: u32, late: u32, most: u32) -> u32
+    ensures { most ≤ result + (longest + late) }
+{
+    most.saturating_sub(longest).saturating_sub(late)
+}
+
+// Less the margin.
+fn less_margin(longest: u32, late: u32, most: u32) -> u32
+    ensures { most ≤ result + margin longest late }
+{
+    less(longest, late, most).saturating_sub(late)
+}
+
+// Within how many counts the task leaves in windows of a start.
+fn start_response(
+    longest: u32,
+    late: u32,
+    costs: &Costs,
+    h: usize,
+    start: Start,
+    numbers: &mut [Made],
+) -> Option<u32>
+    requires costs { TakeCounts costs.now }
+    requires count { length numbers.old ≡ length costs.now.tasks }
+    ensures { IfSome result (λ r. IsStartWithin longest late costs.now h r start) }
+{
+    let opening = u64::from(opening_front(costs, h, start));
+    let served = served_front(costs, h, start);
+    match start_bound(longest, late, costs, h, start, opening, numbers) {
+        Some(opens) => match start_bound(longest, late, costs, h, start, served, numbers) {
+            Some(serves) => Some(less(longest, late, opens).max(less_margin(
+                longest, late, serves,
+            ))),
+            None => None,
+        },
+        None => None,
+    }
+}
+
+// The greatest of these starts.
 fn greatest(
     longest: u32,
     late: u32,
@@ -68,11 +123,11 @@ fn greatest(
 ) -> Option<u32>
     requires costs { TakeCounts costs.now }
     requires count { length numbers.old ≡ length costs.now.tasks }
-    ensures { IfSome result (λ most. (i : ℕ) → i < length starts.now → IsBoundWithin longest late costs.now h most (start_at starts.now i)) }
+    ensures { IfSome result (λ most. (i : ℕ) → i < length starts.now → IsStartWithin longest late costs.now h most (start_at starts.now i)) }
 {
     let mut most: u32 = 0;
     for start in starts {
-        match start_bound(longest, late, costs, h, *start, numbers) {
+        match start_response(longest, late, costs, h, *start, numbers) {
             Some(counts) => most = most.max(counts),
             None => return None,
         }
@@ -96,13 +151,6 @@ fn room(alloc: Global, count: usize) -> Result<Vec<Made>, NoMemory>
     Ok(numbers)
 }
 
-// Less the longest item and a stretch.
-fn less(longest: u32, late: u32, most: u32) -> u32
-    ensures { most ≤ result + (longest + late) }
-{
-    most.saturating_sub(longest).saturating_sub(late)
-}
-
 fn told_response(
     longest: u32,
     late: u32,
@@ -120,7 +168,7 @@ fn told_response(
         return None;
     }
     match greatest(longest, late, costs, h, starts, numbers) {
-        Some(most) => Some(less(longest, late, most)),
+        Some(most) => Some(most),
         None => None,
     }
 }
