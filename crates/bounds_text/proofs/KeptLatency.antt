@@ -70,17 +70,17 @@ long_entry false words = omega arith
 long_entry true words = omega arith
 
 module _ (config : Config) (app : App) (weights : List BodyWeights) where
-  entries : (t : ℕ) → t < length config.tasks → enter_counts config app false t ≤ running_counts config app (heaviest_ending weights)
+  pub entries : (t : ℕ) → t < length config.tasks → enter_counts config app false t ≤ running_counts config app (heaviest_ending weights)
   entries t there =
       let le = at_most_greatest (length config.tasks) (λ u. enter_counts config app false u) t there in
       omega (arith, le)
 
-  ticks : (c : ℕ) → c < length config.counters → tick_path config c ≤ running_counts config app (heaviest_ending weights)
+  pub ticks : (c : ℕ) → c < length config.counters → tick_path config c ≤ running_counts config app (heaviest_ending weights)
   ticks c there =
       let le = at_most_greatest (length config.counters) (λ d. tick_path config d) c there in
       omega (arith, le)
 
-  items : (f i : ℕ) → ending_weight weights f i ≤ running_counts config app (heaviest_ending weights)
+  pub items : (f i : ℕ) → ending_weight weights f i ≤ running_counts config app (heaviest_ending weights)
   items f i = let le = none_ends_heavier weights f i in omega (arith, le)
 
   long : (h : ℕ) → h < length config.tasks → 74 ≤ running_counts config app (heaviest_ending weights)

@@ -1,12 +1,13 @@
 mod Lines
 pub mod OneText
 mod Keeping
-mod KeptCounts
-mod KeptLatency
+pub mod KeptCounts
+pub mod KeptLatency
 mod TickLines
 pub mod OneLatency
 mod CountLines
 pub mod OneLowerCounts
 mod Told
+mod ShownWays
 pub mod OneTold
 pub mod KeptTold

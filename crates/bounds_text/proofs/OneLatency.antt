@@ -21,7 +21,7 @@ same-bound : (config : Config) (app : App) (one other : List Bound) → AreToldB
 same-bound config app one other a b t lt = one_told config app t (get_or one t bound.Endless) (get_or other t bound.Endless) (a.each t lt) (b.each t lt)
 
 -- items have one list of lengths for each body
-same-lengths : (app : App) (one other : List (List ℕ)) → AreLengths app one → AreLengths app other → one ≡ other
+pub same-lengths : (app : App) (one other : List (List ℕ)) → AreLengths app one → AreLengths app other → one ≡ other
 same-lengths app one other a b =
     ext_get_or [] one other (a.count ∙ sym b.count)
     (λ f h.

@@ -1,4 +1,5 @@
 pub mod BoundsText
+pub mod TaskBound
 pub mod KeptRuns
 pub mod Latency
 pub mod LowerCounts

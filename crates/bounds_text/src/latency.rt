@@ -44,8 +44,8 @@ fn highest_task(config: &Config) -> Option<usize>
     highest_among(config.tasks.items())
 }
 
-// The heaviest item of all bodies with which its task may leave.
-fn heaviest_ending(weights: &[BodyWeights]) -> u32
+/// The heaviest item of all bodies with which its task may leave.
+pub fn heaviest_ending(weights: &[BodyWeights]) -> u32
     ensures { result ≡ heaviest_ending weights.now }
 {
     let mut most = 0;
@@ -55,8 +55,8 @@ fn heaviest_ending(weights: &[BodyWeights]) -> u32
     most
 }
 
-// The instructions of the longest item.
-fn longest_item(lengths: &ItemLengths) -> u32
+/// The instructions of the longest item.
+pub fn longest_item(lengths: &ItemLengths) -> u32
     ensures { result ≡ longest_item lengths.now.bodies }
 {
     let mut most = 0;

@@ -9,6 +9,10 @@
 //! `specs/Latency`, counts `specs/LowerCounts`, what bounds promise of runs `specs/KeptRuns`. Sums: `walk_sums`
 //! (`Sections`); what runs spend, and the latency: `run_counts` (`Spending`, `Latency`).
 //!
+//! The lines of `why` for one task (`task_bound::task_bound_text`, `specs/TaskBound`): that of its bound; behind one above 1 a lower task and the lines of a section
+//! of as many items less one, so a greatest one; behind one without limit those of a cycle within a section. Where no such way was found, which is not proved
+//! never to be, the first line stands alone. Ways: `section_ways`.
+//!
 //! Blocking bounds: how much work of lower tasks may stand between a task's becoming Ready and its entry; and the latency of the task of highest
 //! priority.
 //!
@@ -32,6 +36,8 @@ pub mod latency;
 pub mod laws;
 pub mod lower_counts;
 pub mod stretches;
+pub mod task_bound;
+mod way_lines;
 
 use crate::bound::Bound;
 pub use bound::bounds;

@@ -1,0 +1,5 @@
+pub mod Stacks
+pub mod Walks
+pub mod Advances
+pub mod Stretches
+pub mod Closing

@@ -1,0 +1,15 @@
+use Rattle.std.proofs.Common.{List, ap, sym, ◌∙◌}
+use Rattle.section_ways.specs.declared.steps.Standing.{Standing}
+use Rattle.section_ways.specs.Standings.{position_of}
+use Rattle.section_ways.proofs.Closing.{closed}
+use Rattle.section_ways.proofs.tried.is_closed_from.Goals as goal
+
+pub is_section-requires-clause-told : goal.is_section-requires-clause-told
+is_section-requires-clause-told c = c.requires.start.told
+
+pub returns : goal.returns
+returns c = λ same.
+    closed c.args.config.now c.args.app.now c.args.pair.above c.args.pair.task c.args.stack.now.items c.is_section.new.stack.items c.args.points.now c.requires.start
+    (c.in_ok-is_section.ensures c.if-not-branch.false)
+    (ap (λ (s : List Standing). position_of s) (sym c.as_slice.ensures.value) ∙ c.is_standing.ensures same ∙ ap (λ (s : List Standing). position_of s) c.requires.same)
+    (c.are_several.ensures c.if-not-are_several.false)

@@ -1,0 +1,3 @@
+pub mod SectionWays
+pub mod Standings
+pub mod WantedWays

@@ -1,0 +1,215 @@
+//! Cycles within sections.
+use crate::frames::{Frame, Mode};
+use crate::items::{Level, called, func_at};
+use crate::levels::{Tables, table_at};
+use crate::points::Point;
+use crate::starts::call_from;
+use crate::walking::points_on;
+use bound_rules::bodies::Body;
+use sloth_base::app::App;
+use sloth_base::memory::NoMemory;
+use std::alloc::Global;
+use text_pieces::growth::push;
+
+/// The most points of a cycle that is given.
+pub const LONGEST: usize = 1_000_000;
+
+// A function that was reached: whether raised, at which item of which one before.
+#[derive(Clone, Copy)]
+struct Reached {
+    func: usize,
+    whole: bool,
+    item: usize,
+    before: usize,
+}
+
+fn is_known(reached: &[Reached], func: usize, whole: bool) -> bool {
+    reached
+        .iter()
+        .any(|one| one.func == func && one.whole == whole)
+}
+
+// Reaches what an item calls.
+fn reach(
+    app: &App,
+    bodies: &[Body],
+    priority: u32,
+    reached: &mut Vec<Reached>,
+    turn: usize,
+    from: Reached,
+    item: usize,
+) -> Result<(), NoMemory> {
+    let level = Level {
+        whole: from.whole,
+        priority,
+    };
+    let Some((func, whole)) = call_from(app, bodies, level, from.func, item) else {
+        return Ok(());
+    };
+    if is_known(reached.as_slice(), func, whole) {
+        return Ok(());
+    }
+    push(
+        reached,
+        Reached {
+            func,
+            whole,
+            item,
+            before: turn,
+        },
+    )
+}
+
+fn reach_all(
+    app: &App,
+    bodies: &[Body],
+    priority: u32,
+    reached: &mut Vec<Reached>,
+    turn: usize,
+    from: Reached,
+) -> Result<(), NoMemory> {
+    let Some(body) = bodies.get(from.func) else {
+        return Ok(());
+    };
+    for (item, mark) in body.reached.items().iter().enumerate() {
+        if *mark {
+            reach(app, bodies, priority, reached, turn, from, item)?;
+        }
+    }
+    Ok(())
+}
+
+// The items of the cycle of a function.
+fn cycle_in(tables: &Tables, func: usize, whole: bool) -> &[usize] {
+    match table_at(tables, whole).cycles.as_slice().get(func) {
+        Some(cycle) => cycle.items(),
+        None => &[],
+    }
+}
+
+// The calls that lead to one that was reached, the outermost first.
+fn callers_of(alloc: Global, reached: &[Reached], last: usize) -> Result<Vec<Frame>, NoMemory> {
+    let mut back = Vec::new(alloc);
+    let mut at = last;
+    for _turn in 0..reached.len() {
+        if 0 < at && at < reached.len() && reached[at].before < reached.len() {
+            let before = reached[reached[at].before];
+            let point = Point {
+                func: before.func,
+                item: reached[at].item,
+            };
+            push(
+                &mut back,
+                Frame {
+                    point,
+                    whole: before.whole,
+                    mode: Mode::Least,
+                },
+            )?;
+            at = reached[at].before;
+        }
+    }
+    let mut frames = Vec::new(alloc);
+    for number in 0..back.len() {
+        push(&mut frames, back[back.len() - 1 - number])?;
+    }
+    Ok(frames)
+}
+
+/// The functions in progress at a cycle, the innermost at its first item.
+pub fn cycle_start(
+    alloc: Global,
+    app: &App,
+    bodies: &[Body],
+    tables: &Tables,
+    body: usize,
+    whole: bool,
+) -> Result<Vec<Frame>, NoMemory> {
+    let mut reached = Vec::new(alloc);
+    push(
+        &mut reached,
+        Reached {
+            func: body,
+            whole,
+            item: 0,
+            before: 0,
+        },
+    )?;
+    for turn in 0..2 * app.funcs.items().len() + 1 {
+        if reached.len() <= turn {
+            return Ok(Vec::new(alloc));
+        }
+        let from = reached[turn];
+        if let Some(item) = cycle_in(tables, from.func, from.whole).first() {
+            let mut frames = callers_of(alloc, reached.as_slice(), turn)?;
+            let point = Point {
+                func: from.func,
+                item: *item,
+            };
+            push(
+                &mut frames,
+                Frame {
+                    point,
+                    whole: from.whole,
+                    mode: Mode::Least,
+                },
+            )?;
+            return Ok(frames);
+        }
+        reach_all(app, bodies, tables.priority, &mut reached, turn, from)?;
+    }
+    Ok(Vec::new(alloc))
+}
+
+// The points of a function from its first item to its `ret`, by the shortest way.
+fn push_passage(
+    alloc: Global,
+    app: &App,
+    bodies: &[Body],
+    tables: &Tables,
+    points: &mut Vec<Point>,
+    func: usize,
+) -> Result<(), NoMemory> {
+    let mut frames = Vec::new(alloc);
+    let point = Point { func, item: 0 };
+    push(
+        &mut frames,
+        Frame {
+            point,
+            whole: true,
+            mode: Mode::Least,
+        },
+    )?;
+    let left = if points.len() < LONGEST {
+        LONGEST - points.len()
+    } else {
+        0
+    };
+    let passage = points_on(alloc, app, bodies, tables, &mut frames, left)?;
+    for point in passage.as_slice() {
+        push(points, *point)?;
+    }
+    Ok(())
+}
+
+/// The points of the positions of a cycle, its first item at both ends.
+pub fn cycle_points(
+    alloc: Global,
+    app: &App,
+    bodies: &[Body],
+    tables: &Tables,
+    at: Frame,
+) -> Result<Vec<Point>, NoMemory> {
+    let mut points = Vec::new(alloc);
+    let func = at.point.func;
+    for item in cycle_in(tables, func, at.whole) {
+        push(&mut points, Point { func, item: *item })?;
+        if let Some(caller) = func_at(app, func) {
+            if let Some(other) = called(caller, *item) {
+                push_passage(alloc, app, bodies, tables, &mut points, other)?;
+            }
+        }
+    }
+    push(&mut points, at.point)?;
+    Ok(points)
+}

@@ -1,0 +1,160 @@
+//! The sizes of all functions, where their callers have raised the task and where it has to be raised to a priority.
+use crate::items::Level;
+use crate::orders::order_of;
+use crate::parts::{NO_PARTS, Parts, parts_of};
+use crate::sizes::{Called, Sizes, no_calls, no_sizes, put, sizes_of};
+use bound_rules::bodies::Body;
+use bound_rules::marks::number_at;
+use sloth_base::app::{App, Func};
+use sloth_base::list::List;
+use sloth_base::memory::NoMemory;
+use std::alloc::Global;
+use text_pieces::growth::push;
+
+/// The sizes of functions by their numbers, their greatest parts, and the items of a cycle in each, if there is one.
+#[derive(Drop)]
+pub struct Table {
+    pub sizes: Vec<Sizes>,
+    pub parts: Vec<Parts>,
+    pub cycles: Vec<List<usize>>,
+}
+
+/// At both levels; and of what is called where the task is raised.
+#[derive(Drop)]
+pub struct Tables {
+    pub priority: u32,
+    pub calls: Called,
+    pub whole: Table,
+    pub own: Table,
+}
+
+fn no_table(alloc: Global, count: usize) -> Result<Table, NoMemory> {
+    let mut table = Table {
+        sizes: Vec::new(alloc),
+        parts: Vec::new(alloc),
+        cycles: Vec::new(alloc),
+    };
+    for _number in 0..count {
+        push(&mut table.sizes, no_sizes(alloc))?;
+        push(&mut table.parts, NO_PARTS)?;
+        push(&mut table.cycles, List::from_vec(Vec::new(alloc)))?;
+    }
+    Ok(table)
+}
+
+// Puts the entries of a function.
+fn put_entry(table: &mut Table, number: usize, sizes: Sizes, parts: Parts, cycle: List<usize>) {
+    if number < table.sizes.len() && number < table.parts.len() && number < table.cycles.len() {
+        table.sizes[number] = sizes;
+        table.parts[number] = parts;
+        table.cycles[number] = cycle;
+    }
+}
+
+// What is called there, by the sizes from the first item.
+fn put_calls(calls: &mut Called, number: usize, sizes: &Sizes) {
+    put(
+        calls.on.as_mut_slice(),
+        number,
+        number_at(sizes.on.as_slice(), 0),
+    );
+    put(
+        calls.back.as_mut_slice(),
+        number,
+        number_at(sizes.back.as_slice(), 0),
+    );
+    put(
+        calls.least.as_mut_slice(),
+        number,
+        number_at(sizes.least.as_slice(), 0),
+    );
+}
+
+// The entries of a function where it is called raised.
+fn put_whole(
+    alloc: Global,
+    func: &Func,
+    body: &Body,
+    number: usize,
+    calls: &mut Called,
+    table: &mut Table,
+) -> Result<(), NoMemory> {
+    let level = Level {
+        whole: true,
+        priority: 0,
+    };
+    let order = order_of(alloc, func, body, level, calls.back.as_slice())?;
+    let sizes = sizes_of(alloc, func, body, level, calls, &order)?;
+    let parts = parts_of(
+        func,
+        body,
+        level,
+        &sizes,
+        table.parts.as_slice(),
+        table.parts.as_slice(),
+    );
+    put_calls(calls, number, &sizes);
+    put_entry(table, number, sizes, parts, order.cycle);
+    Ok(())
+}
+
+// Those where it is not.
+fn put_own(
+    alloc: Global,
+    func: &Func,
+    body: &Body,
+    number: usize,
+    level: Level,
+    calls: &Called,
+    whole: &Table,
+    table: &mut Table,
+) -> Result<(), NoMemory> {
+    let order = order_of(alloc, func, body, level, calls.back.as_slice())?;
+    let sizes = sizes_of(alloc, func, body, level, calls, &order)?;
+    let parts = parts_of(
+        func,
+        body,
+        level,
+        &sizes,
+        whole.parts.as_slice(),
+        table.parts.as_slice(),
+    );
+    put_entry(table, number, sizes, parts, order.cycle);
+    Ok(())
+}
+
+/// The tables for a priority, from the functions in an order in which each stands behind those that it calls.
+pub fn tables_of(
+    alloc: Global,
+    app: &App,
+    bodies: &[Body],
+    order: &[usize],
+    priority: u32,
+) -> Result<Tables, NoMemory> {
+    let funcs = app.funcs.items();
+    let mut calls = no_calls(alloc, funcs.len())?;
+    let mut whole = no_table(alloc, funcs.len())?;
+    let mut own = no_table(alloc, funcs.len())?;
+    let level = Level {
+        whole: false,
+        priority,
+    };
+    for number in order {
+        if *number < funcs.len() && *number < bodies.len() {
+            let (func, body) = (&funcs[*number], &bodies[*number]);
+            put_whole(alloc, func, body, *number, &mut calls, &mut whole)?;
+            put_own(alloc, func, body, *number, level, &calls, &whole, &mut own)?;
+        }
+    }
+    Ok(Tables {
+        priority,
+        calls,
+        whole,
+        own,
+    })
+}
+
+/// The table of a level.
+pub fn table_at(tables: &Tables, whole: bool) -> &Table {
+    if whole { &tables.whole } else { &tables.own }
+}
