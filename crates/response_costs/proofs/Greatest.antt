@@ -10,7 +10,7 @@ use Rattle.sloth_base.specs.ServiceCodes.{code_of, service_of}
 use Rattle.sloth_base.proofs.Services.{of_code}
 use Rattle.osek_scheduler.proofs.Facts.{Facts}
 use Rattle.response_costs.specs.CostsOf.{AreEach, ReachesService, IsGreatest}
-use Rattle.response_costs.specs.Services.{AreServiceTops, reaches, path_of, reached_path, IsGreatestTo}
+use Rattle.response_costs.specs.Services.{AreServiceTops, reaches, reached_path, IsGreatestTo}
 use Rattle.response_costs.proofs.Coming.{reaches_decided}
 
 code_few : (s : Service) → code_of s < 16
@@ -21,44 +21,44 @@ module _ (config : Config) (app : App) (w : Facts config app) (t : ℕ) (declare
   pub reach_decided : (s : Service) → Decides (reaches all s t) (ReachesService app t s)
   reach_decided s = reaches_decided config app w t declared _ _ ((are.each (code_of s) (code_few s) s (of_code s)).each t declared)
 
-  module _ (leaves : Bool) where
-    pub greatest_none : IsGreatestTo app t (path_of leaves) 0 0
+  module _ (path : Service → ℕ) where
+    pub greatest_none : IsGreatestTo app t path 0 0
     greatest_none = record { none_above = λ s lt r. absurd (let wrong : ⊥ = omega (arith, lt) in wrong); attained = inl refl }
 
     -- that of the service of a code is the path of some service that the task reaches, or 0
-    at_code : (o : Option Service) → (reached_path leaves all t o ≡ 0) ⊎ ((s : Service) × ReachesService app t s × (path_of leaves s ≡ reached_path leaves all t o))
+    at_code : (o : Option Service) → (reached_path path all t o ≡ 0) ⊎ ((s : Service) × ReachesService app t s × (path s ≡ reached_path path all t o))
     at_code None = inl refl
     at_code (Some s) = by (reaches all s t) refl
       where
-        by : (b : Bool) → reaches all s t ≡ b → (cond (reaches all s t) (path_of leaves s) 0 ≡ 0) ⊎ ((r : Service) × ReachesService app t r × (path_of leaves r ≡ cond (reaches all s t) (path_of leaves s) 0))
-        by true e = inr (s, (reach_decided s).0 e, sym (ap (λ b. cond b (path_of leaves s) 0) e))
-        by false e = inl (ap (λ b. cond b (path_of leaves s) 0) e)
+        by : (b : Bool) → reaches all s t ≡ b → (cond (reaches all s t) (path s) 0 ≡ 0) ⊎ ((r : Service) × ReachesService app t r × (path r ≡ cond (reaches all s t) (path s) 0))
+        by true e = inr (s, (reach_decided s).0 e, sym (ap (λ b. cond b (path s) 0) e))
+        by false e = inl (ap (λ b. cond b (path s) 0) e)
 
-    pub greatest_more : (code most next : ℕ) → IsGreatestTo app t (path_of leaves) code most → next ≡ max (reached_path leaves all t (service_of code)) most → IsGreatestTo app t (path_of leaves) (code + 1) next
+    pub greatest_more : (code most next : ℕ) → IsGreatestTo app t path code most → next ≡ max (reached_path path all t (service_of code)) most → IsGreatestTo app t path (code + 1) next
     greatest_more code most next g e = record {
       none_above = λ s lt r. ⊎_elim
           (λ before. let le = g.none_above s before r in omega (arith, le, e))
           (λ le. here s (let same : code_of s ≡ code = omega (arith, lt, le) in same) r)
           (cases_lt (code_of s) code);
-      attained = some (at_code (service_of code)) g.attained (cases_lt (reached_path leaves all t (service_of code)) most);
+      attained = some (at_code (service_of code)) g.attained (cases_lt (reached_path path all t (service_of code)) most);
     }
       where
-        here : (s : Service) → code_of s ≡ code → ReachesService app t s → path_of leaves s ≤ next
+        here : (s : Service) → code_of s ≡ code → ReachesService app t s → path s ≤ next
         here s same r =
             let is : service_of code ≡ Some s = ap service_of (sym same) ∙ of_code s in
-            let path = ap (reached_path leaves all t) is ∙ ap (λ b. cond b (path_of leaves s) 0) ((reach_decided s).1 r) in
-            omega (arith, e, path)
+            let e1 = ap (reached_path path all t) is ∙ ap (λ b. cond b (path s) 0) ((reach_decided s).1 r) in
+            omega (arith, e, e1)
 
-        some : (reached_path leaves all t (service_of code) ≡ 0) ⊎ ((s : Service) × ReachesService app t s × (path_of leaves s ≡ reached_path leaves all t (service_of code)))
-            → (most ≡ 0) ⊎ ((s : Service) × ReachesService app t s × (path_of leaves s ≡ most))
-            → (reached_path leaves all t (service_of code) < most) ⊎ (most ≤ reached_path leaves all t (service_of code))
-            → (next ≡ 0) ⊎ ((s : Service) × ReachesService app t s × (path_of leaves s ≡ next))
+        some : (reached_path path all t (service_of code) ≡ 0) ⊎ ((s : Service) × ReachesService app t s × (path s ≡ reached_path path all t (service_of code)))
+            → (most ≡ 0) ⊎ ((s : Service) × ReachesService app t s × (path s ≡ most))
+            → (reached_path path all t (service_of code) < most) ⊎ (most ≤ reached_path path all t (service_of code))
+            → (next ≡ 0) ⊎ ((s : Service) × ReachesService app t s × (path s ≡ next))
         some a (inl z) (inl lt) = absurd (let wrong : ⊥ = omega (arith, z, lt) in wrong)
         some a (inr (s, r, is)) (inl lt) = inr (s, r, omega (arith, is, lt, e))
         some (inl z) b (inr le) = inl (omega (arith, z, le, e))
         some (inr (s, r, is)) b (inr le) = inr (s, r, omega (arith, is, le, e))
 
-    pub greatest_all : (code most : ℕ) → 16 ≤ code → IsGreatestTo app t (path_of leaves) code most → IsGreatest app t (path_of leaves) most
+    pub greatest_all : (code most : ℕ) → 16 ≤ code → IsGreatestTo app t path code most → IsGreatest app t path most
     greatest_all code most le g = record {
       none_above = λ s r. let few = code_few s in g.none_above s (omega (arith, few, le)) r;
       attained = g.attained;

@@ -1,19 +1,19 @@
 mod Steps
 mod Members
 mod Coming
-mod Raised
-mod Nothing
+pub mod Raised
+pub mod Nothing
 mod Uncounted
 mod Topping
-mod Growing
-mod WeightsFit
-mod Bodies
+pub mod Growing
+pub mod WeightsFit
+pub mod Bodies
 mod Serving
 mod SectionMaking
-mod Making
-mod Greatest
-mod Sectioning
-mod Taking
+pub mod Making
+pub mod Greatest
+pub mod Sectioning
+pub mod Taking
 mod Naming
 mod CleanRounds
 mod OneSums

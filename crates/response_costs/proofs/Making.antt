@@ -23,7 +23,7 @@ nothing true w = refl
 nothing false w = refl
 
 -- the lesser priority, or steadiness
-once_decided : (a b : ℕ) (P : Type 0) (s : Bool) → Decides s P → Decides (leb a b || s) ((a ≤ b) ⊎ P)
+pub once_decided : (a b : ℕ) (P : Type 0) (s : Bool) → Decides s P → Decides (leb a b || s) ((a ≤ b) ⊎ P)
 once_decided a b P s d = by (leb_tells a b)
   where
     by : ((leb a b ≡ true) × (a ≤ b)) ⊎ ((leb a b ≡ false) × (b < a)) → Decides (leb a b || s) ((a ≤ b) ⊎ P)
@@ -45,7 +45,7 @@ module _ (config : Config) (app : App) (load : List Entry) (clean steady : List 
   Sets b = cond (not (b && not (get_or clean k false))) (get_or sums.settings k no_sums) no_sums
 
   module _ (are : AreMakingSums config app clean j sums) (once : Bool) where
-    activations_are : (b : Bool) → AreMade config app load (get_or clean k false) k (cond b (counts.Chains j) (counts.Activations j)) once (made once (work load k) (Acts b).first) (made once (work load k) (Acts b).later)
+    pub activations_are : (b : Bool) → AreMade config app load (get_or clean k false) k (cond b (counts.Chains j) (counts.Activations j)) once (made once (work load k) (Acts b).first) (made once (work load k) (Acts b).later)
     activations_are true = (get_or sums.chains k no_sums, are.chains.each k maker, refl, refl)
     activations_are false = (get_or sums.activations k no_sums, are.activations.each k maker, refl, refl)
 

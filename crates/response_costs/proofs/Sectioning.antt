@@ -29,7 +29,7 @@ use Rattle.response_bounds.specs.declared.costs.SectionCosts.{SectionCosts}
 use Rattle.response_bounds.specs.Costs.{no_section}
 use Rattle.response_costs.specs.CostsOf.{IsTaskSection}
 use Rattle.response_costs.specs.PathWeights.{ArePathWeights}
-use Rattle.response_costs.specs.Sections.{IsRaised, IsRaisedAt, section_counts}
+use Rattle.response_costs.specs.Sections.{AllWeigh, IsRaised, IsRaisedAt, section_counts}
 use Rattle.response_costs.specs.SectionSums.{is_lower, has_some}
 use Rattle.response_costs.proofs.Coming.{reached_stands}
 use Rattle.response_costs.proofs.Nothing.{walk_front}
@@ -71,16 +71,16 @@ module _ (config : Config) (app : App) (w : Facts config app) (h k : ℕ) (decla
 -- ---- what is told of them
 
 -- each item weighs something
-path_weighs : (config : Config) (app : App) → WellFormed config app → (weights : List BodyWeights) → ArePathWeights app weights → (f i : ℕ) (o : Op) → IsItem app f i o → 0 < ending_weight weights f i
+pub path_weighs : (config : Config) (app : App) → WellFormed config app → (weights : List BodyWeights) → ArePathWeights app weights → AllWeigh app weights
 path_weighs config app well weights (lengths, are, by) = weighs app lengths are (short app (config, well.in_range) lengths are) weights by
 
 -- of a lower task
-pub section_is : (config : Config) (app : App) (load : List Entry) (weights : List BodyWeights) (h k : ℕ) → WellFormed config app → ArePathWeights app weights → (s : Sum) → IsLower config h k
+pub section_is : (config : Config) (app : App) (load : List Entry) (weights : List BodyWeights) (h k : ℕ) → WellFormed config app → AllWeigh app weights → (s : Sum) → IsLower config h k
     → IsToldSum (IsSection config app h k) weights s → (c : SectionCosts) → c.exists ≡ has_some s → c.counts ≡ section_counts (work load k) s → IsTaskSection config app load weights h k c
-section_is config app load weights h k well are s low told c e n = (
+section_is config app load weights h k well weigh s low told c e n = (
   λ l. record {
     exists = subst (λ b. Decides b (IsRaised config app h k)) (sym e)
-        (exists_decided config app (facts_of config app well) h k low.0 weights (path_weighs config app well weights are) s told);
+        (exists_decided config app (facts_of config app well) h k low.0 weights weigh s told);
     told = s;
     is_told = told;
     counts = n;

@@ -14,7 +14,7 @@ use Rattle.response_bounds.specs.Settling.{TakeCounts}
 use Rattle.response_costs.specs.CostsOf.{AreCosts}
 use Rattle.response_costs.specs.Rounds.{round_entry, round_cost}
 
-entry_some : (extended resumed : Bool) (words : ℕ) → 1 ≤ entry_path extended resumed words
+pub entry_some : (extended resumed : Bool) (words : ℕ) → 1 ≤ entry_path extended resumed words
 entry_some false resumed words = omega arith
 entry_some true false words = omega arith
 entry_some true true words = omega arith
@@ -25,7 +25,7 @@ round_some config app false resumed t =
     let one = entry_some (declaration config t).extended true (function app (body_of app.funcs t)).frame_words in
     omega (arith, one)
 
-cost_some : (entry : ℕ) (w : Option ℕ) (s : Sum) → 1 ≤ entry → 1 ≤ reckoned (round_cost entry w s)
+pub cost_some : (entry : ℕ) (w : Option ℕ) (s : Sum) → 1 ≤ entry → 1 ≤ reckoned (round_cost entry w s)
 cost_some entry (Some own) s le = omega (arith, le)
 cost_some entry None (sum.Counts own) le = omega (arith, le)
 cost_some entry None sum.Huge le = omega arith

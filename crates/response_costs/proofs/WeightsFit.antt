@@ -47,7 +47,7 @@ plain_or_same f op.Return e = refl
 plain_or_same f _ e = absurd (true≢false e)
 
 -- each item has an instruction
-some_size : (app : App) (long : Bool) (o : Op) → 0 < size app long o
+pub some_size : (app : App) (long : Bool) (o : Op) → 0 < size app long o
 unfolding size
 some_size app long o = expanded_some app no_places 0 0 long o
 

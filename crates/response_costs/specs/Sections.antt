@@ -1,7 +1,11 @@
 -- The raised sections of lower tasks.
-use Rattle.std.specs.Prelude.{ℕ, ◌≤◌, ◌≡◌, true, Option, Some, None}
+use Rattle.std.specs.Prelude.{ℕ, ◌≤◌, ◌<◌, ◌≡◌, true, List, Option, Some, None}
 use Rattle.sloth_base.specs.declared.config.Config.{Config}
 use Rattle.sloth_base.specs.declared.app.App.{App}
+use Rattle.sloth_base.specs.declared.app.Op.{Op}
+use Rattle.code_rules.specs.Code.{IsItem}
+use Rattle.bound_rules.specs.declared.weights.BodyWeights.{BodyWeights}
+use Rattle.bound_rules.specs.Weights.{ending_weight}
 use Rattle.osek_scheduler.specs.Apart.{static_priority}
 use Rattle.raised_sections.specs.Walks.{Position}
 use Rattle.raised_sections.specs.Sections.{priority_at, operation_at}
@@ -28,3 +32,7 @@ abbrev pub section_counts : (work : Option ℕ) → Sum → Option ℕ
 section_counts work (sum.Counts counts) = Some counts
 section_counts work sum.Huge = None
 section_counts work sum.Endless = work
+
+-- each item weighs something
+abbrev pub AllWeigh : App → List BodyWeights → Type 0
+AllWeigh app weights = (f i : ℕ) (o : Op) → IsItem app f i o → 0 < ending_weight weights f i

@@ -51,9 +51,9 @@ abbrev pub path_of : (leaves : Bool) → Service → ℕ
 path_of leaves s = cond leaves (left_path s) (service_path s)
 
 -- of a service that it reaches
-abbrev pub reached_path : (leaves : Bool) → List (List ℕ) → (t : ℕ) → Option Service → ℕ
-reached_path leaves all t None = 0
-reached_path leaves all t (Some s) = cond (reaches all s t) (path_of leaves s) 0
+abbrev pub reached_path : (path : Service → ℕ) → List (List ℕ) → (t : ℕ) → Option Service → ℕ
+reached_path path all t None = 0
+reached_path path all t (Some s) = cond (reaches all s t) (path s) 0
 
 -- the greatest of the services of codes below this one
 pub record IsGreatestTo (app : App) (t : ℕ) (path : Service → ℕ) (code most : ℕ) : Type 0 where

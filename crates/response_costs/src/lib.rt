@@ -8,16 +8,16 @@
 #![tactic(auto)]
 
 mod levels;
-mod makings;
-mod objects;
+pub mod makings;
+pub mod objects;
 mod record;
-mod rounds;
-mod section_makings;
-mod sections;
-mod services;
+pub mod rounds;
+pub mod section_makings;
+pub mod sections;
+pub mod services;
 mod sought;
-mod tasks;
-mod tops;
+pub mod tasks;
+pub mod tops;
 mod weights;
 
 pub use record::response_costs;

@@ -61,7 +61,8 @@ fn one(sum: Sum) -> u32
     }
 }
 
-fn made(once: bool, work: Option<u32>, sum: Sum) -> Option<u32>
+/// How often at most, once where `once` says so.
+pub fn made(once: bool, work: Option<u32>, sum: Sum) -> Option<u32>
     ensures { result ≡ made once work sum }
 {
     if once {
@@ -81,7 +82,8 @@ pub struct MakingSums {
     pub settings: List<RoundSums>,
 }
 
-fn making_sums(
+/// Those for one task.
+pub fn making_sums(
     alloc: Global,
     config: &Config,
     app: &App,
@@ -112,8 +114,8 @@ fn making_sums(
     })
 }
 
-// Whether the task that is made cannot run between two makings of a round.
-fn is_once(config: &Config, steady: &[bool], maker: usize, named: usize) -> bool
+/// Whether the task that is made cannot run between two makings of a round.
+pub fn is_once(config: &Config, steady: &[bool], maker: usize, named: usize) -> bool
     requires maker { maker < length config.now.tasks }
     requires named { named < length config.now.tasks }
     ensures { result ≡ (leb (static_priority config.now named) (static_priority config.now maker) || get_or steady.now maker false) }
@@ -122,7 +124,8 @@ fn is_once(config: &Config, steady: &[bool], maker: usize, named: usize) -> bool
     tasks[named].priority <= tasks[maker].priority || is_marked(steady, maker)
 }
 
-fn sums_at(list: &[RoundSums], task: usize) -> RoundSums
+/// The sums of a task; none behind the last one.
+pub fn sums_at(list: &[RoundSums], task: usize) -> RoundSums
     ensures { result ≡ get_or list.now task no_sums }
 {
     match list.get(task) {
@@ -131,7 +134,8 @@ fn sums_at(list: &[RoundSums], task: usize) -> RoundSums
     }
 }
 
-fn activation_sums(sums: &MakingSums, itself: bool, maker: usize) -> RoundSums
+/// The sums of its activations of another task, or of its own ChainTask.
+pub fn activation_sums(sums: &MakingSums, itself: bool, maker: usize) -> RoundSums
     ensures { result ≡ cond itself (get_or sums.now.chains maker no_sums) (get_or sums.now.activations maker no_sums) }
 {
     if itself {

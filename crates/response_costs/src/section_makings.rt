@@ -61,15 +61,16 @@ fn takes_part(config: &Config, tasks: &[TaskCosts], above: usize, named: usize, 
     is_lower(config, above, task) && (!is_lower(config, above, named) && !joins(tasks, task))
 }
 
-fn is_once(config: &Config, above: usize, named: usize, task: usize) -> bool
+/// Whether a section makes the task Ready once at most.
+pub fn is_once(config: &Config, above: usize, named: usize, task: usize) -> bool
     requires { task < length config.now.tasks }
     ensures { result ≡ is_once config.now above named task }
 {
     config.tasks.items()[task].non || above == named
 }
 
-// Whether a section of a lower task does what counts, by its top.
-fn does(config: &Config, above: usize, task: usize, top: u64) -> bool
+/// Whether a section of a lower task does what counts, by its top.
+pub fn does(config: &Config, above: usize, task: usize, top: u64) -> bool
     requires above { above < length config.now.tasks }
     requires task { task < length config.now.tasks }
     ensures { result ≡ does config.now above task top }
@@ -235,8 +236,8 @@ fn whole_counted(
     )
 }
 
-// The sums of the sections of the tasks that are asked for, of what counts.
-fn asked_sums(
+/// The sums of the sections of the tasks that are asked for, of what counts.
+pub fn asked_sums(
     alloc: Global,
     config: &Config,
     app: &App,
@@ -260,7 +261,8 @@ fn asked_sums(
     whole_counted(alloc, config, app, &weights, bodies, order, above, asked)
 }
 
-fn sum_at(sums: &[Sum], task: usize) -> Sum
+/// The sum of a task; 0 behind the last one.
+pub fn sum_at(sums: &[Sum], task: usize) -> Sum
     ensures { result ≡ get_or sums.now task (told.Counts 0) }
 {
     match sums.get(task) {
@@ -369,7 +371,12 @@ fn number_at(row: &[Option<u32>], task: usize) -> Option<u32>
     }
 }
 
-fn makings_at(activations: &[Option<u32>], settings: &[Option<u32>], task: usize) -> SectionMakings
+/// Both numbers of a task.
+pub fn makings_at(
+    activations: &[Option<u32>],
+    settings: &[Option<u32>],
+    task: usize,
+) -> SectionMakings
     ensures { (result.activations ≡ get_or activations.now task None) × (result.settings ≡ get_or settings.now task None) }
 {
     SectionMakings {

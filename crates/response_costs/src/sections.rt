@@ -11,8 +11,7 @@ ghost use Rattle.walk_sums.specs.Known.{AreSums};
 ghost use Rattle.walk_sums.specs.Weights.{AreWeights};
 ghost use Rattle.response_bounds.specs.Costs.{no_section};
 ghost use Rattle.response_costs.specs.CostsOf.{AreEach, IsTaskSection};
-ghost use Rattle.response_costs.specs.PathWeights.{ArePathWeights};
-ghost use Rattle.response_costs.specs.Sections.{section_counts};
+ghost use Rattle.response_costs.specs.Sections.{AllWeigh, section_counts};
 ghost use Rattle.response_costs.specs.SectionSums.{is_lower, has_some};
 
 use bound_rules::bodies::Body;
@@ -77,7 +76,7 @@ fn lower_section(
     task: usize,
 ) -> SectionCosts
     requires well_formed { WellFormed config.now app.now }
-    requires are { ArePathWeights app.now weights.now }
+    requires weigh { AllWeigh app.now weights.now }
     requires fit { AreWeights app.now weights.now }
     requires whole { AreSums config.now app.now weights.now kinds.Sections None whole.now }
     requires own { AreSums config.now app.now weights.now kinds.Sections (Some (static_priority config.now above)) own.now }
@@ -104,7 +103,7 @@ fn section_of(
     task: usize,
 ) -> SectionCosts
     requires well_formed { WellFormed config.now app.now }
-    requires are { ArePathWeights app.now weights.now }
+    requires weigh { AllWeigh app.now weights.now }
     requires fit { AreWeights app.now weights.now }
     requires whole { AreSums config.now app.now weights.now kinds.Sections None whole.now }
     requires own { AreSums config.now app.now weights.now kinds.Sections (Some (static_priority config.now above)) own.now }
@@ -133,7 +132,7 @@ fn sections_by(
     above: usize,
 ) -> Result<Vec<SectionCosts>, NoMemory>
     requires well_formed { WellFormed config.now app.now }
-    requires are { ArePathWeights app.now weights.now }
+    requires weigh { AllWeigh app.now weights.now }
     requires fit { AreWeights app.now weights.now }
     requires whole { AreSums config.now app.now weights.now kinds.Sections None whole.now }
     requires own { AreSums config.now app.now weights.now kinds.Sections (Some (static_priority config.now above)) own.now }
@@ -161,7 +160,7 @@ pub fn sections(
     above: usize,
 ) -> Result<Vec<SectionCosts>, NoMemory>
     requires well_formed { WellFormed config.now app.now }
-    requires are { ArePathWeights app.now weights.now }
+    requires weigh { AllWeigh app.now weights.now }
     requires fit { AreWeights app.now weights.now }
     requires whole { AreSums config.now app.now weights.now kinds.Sections None whole.now }
     requires bodies { AreKnownBodies config.now app.now bodies.now }

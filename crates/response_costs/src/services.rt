@@ -218,7 +218,7 @@ fn path_of(leaves: bool, service: Service) -> u32
 }
 
 fn reached_path(leaves: bool, all: &[List<u64>], task: usize, code: u8) -> u32
-    ensures { result ≡ reached_path leaves all.now task (service_of code) }
+    ensures { result ≡ reached_path (path_of leaves) all.now task (service_of code) }
 {
     match Service::from_code(code) {
         Some(service) => {

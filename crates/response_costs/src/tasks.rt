@@ -36,21 +36,25 @@ use std::alloc::Global;
 use text_pieces::growth::push;
 use walk_sums::sum::Sum;
 
-fn entry(config: &Config, app: &App, resumed: bool, task: usize) -> u32
+/// The entry of a task, that starts anew or goes on behind a wait.
+pub fn entry(config: &Config, app: &App, resumed: bool, task: usize) -> u32
     requires inside { task < length config.now.tasks }
     requires body { HasTaskBody app.now.funcs task }
     requires frames { All (λ func. func.frame_words ≤ frame_limit) app.now.funcs }
-    ensures { result ≡ enter_path config.now app.now resumed task }
+    ensures is { result ≡ enter_path config.now app.now resumed task }
+    ensures short { result ≤ 108 }
 {
     let words = app.funcs.items()[body_of(app.funcs.items(), task)].frame_words;
     entry_path(config.tasks.items()[task].extended, resumed, words)
 }
 
-fn longer_entry(config: &Config, app: &App, task: usize) -> u32
+/// The longer entry of a task.
+pub fn longer_entry(config: &Config, app: &App, task: usize) -> u32
     requires inside { task < length config.now.tasks }
     requires body { HasTaskBody app.now.funcs task }
     requires frames { All (λ func. func.frame_words ≤ frame_limit) app.now.funcs }
-    ensures { result ≡ longer_entry config.now app.now task }
+    ensures is { result ≡ longer_entry config.now app.now task }
+    ensures short { result ≤ 108 }
 {
     let resumed = entry(config, app, true, task);
     resumed.max(entry(config, app, false, task))
@@ -70,7 +74,8 @@ fn round_entry(config: &Config, app: &App, clean: bool, resumed: bool, task: usi
     }
 }
 
-fn round_cost(entry: u32, work: Option<u32>, sum: Sum) -> Option<u32>
+/// What an entry and a round cost, by the load or the greatest sum.
+pub fn round_cost(entry: u32, work: Option<u32>, sum: Sum) -> Option<u32>
     ensures { result ≡ round_cost entry work sum }
 {
     match work {
@@ -110,7 +115,8 @@ fn is_preemptable(config: &Config, task: usize) -> bool
     !config.tasks.items()[task].non
 }
 
-fn is_autostarted(config: &Config, task: usize) -> bool
+/// Whether the task is activated as the system starts.
+pub fn is_autostarted(config: &Config, task: usize) -> bool
     requires { task < length config.now.tasks }
     ensures { result ≡ (declaration config.now task).autostart }
 {

@@ -5,6 +5,7 @@ use Rattle.sloth_base.specs.declared.config.Config.{Config}
 use Rattle.sloth_base.specs.declared.app.App.{App}
 use Rattle.load_text.specs.declared.entry.Entry.{Entry}
 use Rattle.load_text.specs.Loads.{deadline}
+use Rattle.response_text.specs.RunLines.{run_line, run_lines}
 use Rattle.response_text.specs.Lines.{is_open, response_at, response_line, response_lines, has_open}
 
 pub no_lines : (config : Config) (app : App) (load : List Entry) (responses : List (Option ℕ)) → response_lines config app load responses 0 ≡ []
@@ -19,6 +20,17 @@ one_line_more config app load responses t = ap (response_lines config app load r
 pub one_more_open : (load : List Entry) (responses : List (Option ℕ)) (t : ℕ)
     → has_open load responses (t + 1) ≡ (has_open load responses t || is_open (response_at responses t) (deadline load t))
 one_more_open load responses t = ap (has_open load responses) (add-one t)
+
+-- ---- those that runs keep
+
+pub no_run_lines : (config : Config) (load : List Entry) (responses : List (Option ℕ)) → run_lines config load responses 0 ≡ []
+unfolding run_lines
+no_run_lines config load responses = refl
+
+pub one_run_line_more : (config : Config) (load : List Entry) (responses : List (Option ℕ)) (t : ℕ)
+    → run_lines config load responses (t + 1) ≡ run_lines config load responses t ++ run_line config load t (response_at responses t)
+unfolding run_lines
+one_run_line_more config load responses t = ap (run_lines config load responses) (add-one t)
 
 -- ---- lines of the same responses
 

@@ -1,5 +1,6 @@
 pub mod FirstTasks
 mod PartLines
+mod Keeping
 pub mod OneText
 pub mod Refused
 mod Unread

@@ -4,3 +4,5 @@ pub mod Lines
 pub mod Parts
 pub mod ResponseText
 pub mod TaskText
+pub mod RunLines
+pub mod RunResponseText

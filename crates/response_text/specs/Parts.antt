@@ -1,7 +1,6 @@
 -- Of what the response of a task is made: a line for its start, for each kind of rounds and for each counter that ticks.
-use Rattle.std.specs.Prelude.{ℕ, zero, suc, ◌==◌, nat_lt, Bool, false, cond, List, [], ◌++◌, codes, get_or, position, bytes_eq, Option, Some, None}
+use Rattle.std.specs.Prelude.{ℕ, zero, suc, ◌==◌, nat_lt, Bool, false, cond, List, [], ◌++◌, codes, get_or, Option, Some, None}
 use Rattle.sloth_base.specs.declared.config.Config.{Config}
-use Rattle.sloth_base.specs.declared.config.TaskDecl.{TaskDecl}
 use Rattle.sloth_base.specs.Named.{declaration, counter_declaration}
 use Rattle.response_bounds.specs.declared.costs.CounterCosts.{CounterCosts}
 use Rattle.response_bounds.specs.declared.costs.Costs.{Costs}
@@ -99,12 +98,3 @@ is_never None = false
 -- where something makes it
 abbrev pub made_lines : Config → Costs → (tasks counters : ℕ) → Longest → List ℕ
 made_lines config costs tasks counters l = cond (is_never l.response) [] (part_lines config costs tasks counters l)
-
--- ---- the task
-
-abbrev pub has_name : (name : List ℕ) → TaskDecl → Bool
-has_name name t = bytes_eq name t.name
-
--- the task of this name, if there is one
-abbrev pub task_named : Config → (name : List ℕ) → Option ℕ
-task_named config name = position (has_name name) config.tasks

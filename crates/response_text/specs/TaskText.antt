@@ -3,6 +3,7 @@ use Rattle.std.specs.Prelude.{ℕ, ◌≡◌, List, ◌++◌, length, Option, So
 use Rattle.sloth_base.specs.declared.config.Config.{Config}
 use Rattle.sloth_base.specs.declared.app.App.{App}
 use Rattle.sloth_source.specs.Texts.{AreAccepted}
+use Rattle.sloth_source.specs.TaskNames.{task_named}
 use Rattle.load_text.specs.declared.entry.Entry.{Entry}
 use Rattle.load_text.specs.Loads.{deadline}
 use Rattle.response_bounds.specs.declared.costs.Costs.{Costs}
@@ -12,7 +13,7 @@ use Rattle.response_costs.specs.CostsOf.{AreCosts}
 use Rattle.response_text.specs.declared.told.Told.{Told}
 use Rattle.response_text.specs.Inputs.{IsLoadOf}
 use Rattle.response_text.specs.Lines.{is_open, response_line}
-use Rattle.response_text.specs.Parts.{made_lines, task_named}
+use Rattle.response_text.specs.Parts.{made_lines}
 
 -- the line of a task, of what its response is made, and whether its deadline is open
 abbrev pub told_of_task : Config → App → List Entry → Costs → (t : ℕ) → Longest → Told

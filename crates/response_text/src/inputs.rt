@@ -1,7 +1,9 @@
 //! The load of a text.
 ghost use Rattle.std.specs.Prelude.{◌<◌, length, IfOk, IfErr};
 ghost use Rattle.least_fault.specs.Order.{ErrorIs};
+ghost use Rattle.load_text.specs.Loads.{IsLoad};
 ghost use Rattle.load_text.specs.LoadText.{LoadFault};
+ghost use Rattle.trace_text.specs.ArrivalsText.{owners_read};
 ghost use Rattle.sloth_base.specs.DeclaredNames.{task_names, counter_names};
 ghost use Rattle.response_text.specs.Inputs.{IsLoadOf};
 
@@ -15,6 +17,7 @@ use std::alloc::Global;
 pub fn load_of(alloc: Global, config: &Config, text: &[u8]) -> Result<Vec<Entry>, BuildError>
     requires { length text.now < 4294967295 }
     ensures load { IfOk result (λ load. IsLoadOf config.now text.now load.items) }
+    ensures in_range { IfOk result (λ load. IsLoad (owners_read (task_names config.now) (counter_names config.now)) load.items) }
     ensures refused { IfErr result (λ error. ErrorIs (LoadFault (task_names config.now) (counter_names config.now) text.now) error) }
 {
     let tasks = task_names(alloc, config)?;

@@ -12,8 +12,8 @@ use sloth_base::config::Config;
 use sloth_base::memory::NoMemory;
 use std::alloc::Global;
 
-// A word, and a number behind it.
-fn push_number(text: &mut Vec<u8>, word: &[u8], number: u32) -> Result<(), NoMemory>
+/// A word, and a number behind it.
+pub fn push_number(text: &mut Vec<u8>, word: &[u8], number: u32) -> Result<(), NoMemory>
     ensures { OnOk result (text.new.items ≡ text.old.items ++ (word.now ++ decimal number)) }
 {
     let mut buffer = Buffer::new();
@@ -69,8 +69,8 @@ fn verdict_word(met: bool) -> &'static [u8]
     if met { b" met " } else { b" open " }
 }
 
-// Whether the deadline is met, if there is one.
-fn push_deadline(
+/// Whether the deadline is met, if there is one.
+pub fn push_deadline(
     text: &mut Vec<u8>,
     response: Option<u32>,
     deadline: Option<u32>,
@@ -126,7 +126,8 @@ fn push_words(
     Ok(())
 }
 
-fn response_at(responses: &[Option<u32>], task: u32) -> Option<u32>
+/// The response of a task; none behind the last one.
+pub fn response_at(responses: &[Option<u32>], task: u32) -> Option<u32>
     ensures { result ≡ response_at responses.now task }
 {
     match responses.get(task as usize) {

@@ -3,7 +3,7 @@ ghost use Rattle.std.specs.Prelude.{◌≡◌, ◌++◌, [], length, codes, OnOk
 ghost use Rattle.sloth_base.specs.Named.{declaration, counter_declaration};
 ghost use Rattle.response_bounds.specs.Windows.{numbers_of};
 ghost use Rattle.response_text.specs.Lines.{number_words};
-ghost use Rattle.response_text.specs.Parts.{told_number, some_line, part_line, start_word, start_name, start_line, first_word, round_line, round_lines, counter_costs, tick_line, tick_lines, part_lines, is_never, made_lines, has_name, task_named};
+ghost use Rattle.response_text.specs.Parts.{told_number, some_line, part_line, start_word, start_name, start_line, first_word, round_line, round_lines, counter_costs, tick_line, tick_lines, part_lines, is_never, made_lines};
 
 use crate::lines::push_response;
 use response_bounds::arrivals::arrivals;
@@ -12,9 +12,8 @@ use response_bounds::level::task;
 use response_bounds::longest::Longest;
 use response_bounds::rounds::number_of;
 use response_bounds::window::{Made, Start};
-use sloth_base::config::{Config, TaskDecl};
+use sloth_base::config::Config;
 use sloth_base::memory::NoMemory;
-use text_pieces::bytes::same;
 
 fn told_number(number: u32) -> Option<u32>
     ensures { result ≡ told_number number }
@@ -254,21 +253,4 @@ pub fn push_made(
         push_parts(text, config, costs, longest)?;
     }
     Ok(())
-}
-
-fn has_name(name: &[u8], task: &TaskDecl) -> bool
-    ensures { result ≡ has_name name.now task.now }
-{
-    same(name, task.name.bytes())
-}
-
-/// The task of this name, if there is one.
-pub fn task_named(config: &Config, name: &[u8]) -> Option<usize>
-    ensures { result ≡ task_named config.now name.now }
-{
-    config
-        .tasks
-        .items()
-        .iter()
-        .position(|task| has_name(name, task))
 }

@@ -9,12 +9,12 @@ ghost use Rattle.response_bounds.specs.Settling.{TakeCounts};
 ghost use Rattle.response_bounds.specs.Responses.{IsLongest};
 ghost use Rattle.response_costs.specs.CostsOf.{AreCosts};
 ghost use Rattle.response_text.specs.Inputs.{InputsErrorIs};
-ghost use Rattle.response_text.specs.Parts.{task_named};
+ghost use Rattle.sloth_source.specs.TaskNames.{task_named};
 ghost use Rattle.response_text.specs.TaskText.{told_of_task, HasParts, HasPartsOf, HasLoadParts, IsTaskText};
 
 use crate::inputs::load_of;
 use crate::lines::{is_open, push_line};
-use crate::parts::{push_made, task_named};
+use crate::parts::push_made;
 use crate::told::Told;
 use call_graph::ranking::Ranks;
 use load_text::{Entry, deadline_of};
@@ -27,7 +27,7 @@ use sloth_base::config::Config;
 use sloth_base::list::List;
 use sloth_base::memory::NoMemory;
 use sloth_base::refusal::BuildError;
-use sloth_source::read_checked;
+use sloth_source::{read_checked, task_named};
 use std::alloc::Global;
 use task_verify::verified::Verified;
 

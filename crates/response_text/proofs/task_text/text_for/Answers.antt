@@ -3,7 +3,7 @@ use Rattle.std.proofs.lemmas.Result.{IfOk-weaker}
 use Rattle.sloth_base.specs.declared.config.Config.{Config}
 use Rattle.load_text.specs.declared.entry.Entry.{Entry}
 use Rattle.response_text.specs.Inputs.{IsLoadOf}
-use Rattle.response_text.specs.Parts.{task_named}
+use Rattle.sloth_source.specs.TaskNames.{task_named}
 use Rattle.response_text.specs.TaskText.{HasPartsOf}
 use Rattle.response_text.proofs.task_text.text_for.Goals as goal
 

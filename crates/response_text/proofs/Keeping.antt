@@ -1,0 +1,36 @@
+-- Runs keep what is told.
+use Rattle.std.proofs.Common.{◌≡◌, ◌∙◌, ℕ, List, length, Option, Some, ap, subst}
+use Rattle.std.proofs.lemmas.List.{length-map}
+use Rattle.sloth_base.specs.declared.config.Config.{Config}
+use Rattle.sloth_base.specs.declared.config.TaskDecl.{TaskDecl}
+use Rattle.sloth_base.specs.declared.config.CounterDecl.{CounterDecl}
+use Rattle.sloth_base.specs.declared.app.App.{App}
+use Rattle.sloth_base.specs.DeclaredNames.{task_names, counter_names}
+use Rattle.sloth_base.specs.declared.lines.Owners.{Owners}
+use Rattle.sloth_base.specs.Owners.{owners_in}
+use Rattle.code_rules.specs.WellFormed.{WellFormed}
+use Rattle.load_text.specs.declared.entry.Entry.{Entry}
+use Rattle.load_text.specs.Loads.{IsLoad}
+use Rattle.trace_text.specs.ArrivalsText.{owners_read}
+use Rattle.run_windows.specs.RunWindows.{IsRunResponse}
+use Rattle.run_responses.proofs.Meeting.{images_meet_bounds}
+use Rattle.run_costs.specs.declared.record.RunCosts.{RunCosts}
+use Rattle.run_costs.specs.RunRecord.{IsRunRecord}
+use Rattle.response_text.specs.Lines.{response_at}
+use Rattle.response_text.specs.RunResponseText.{AreRunResponses, RunsKeepResponses}
+
+-- the owners of lines are those whose names are read
+pub owned : (config : Config) (load : List Entry) → IsLoad (owners_read (task_names config) (counter_names config)) load → IsLoad (owners_in config) load
+owned config load is =
+    let tasks : length (task_names config) ≡ length config.tasks = length-map config.tasks (λ (t : TaskDecl). t.name) in
+    let counters : length (counter_names config) ≡ length config.counters = length-map config.counters (λ (c : CounterDecl). c.name) in
+    let O : ℕ → ℕ → Owners = λ t c. record { tasks = t; counters = c } in
+    subst (λ o. IsLoad o load) (ap (λ t. O t (length (counter_names config))) tasks ∙ ap (O (length config.tasks)) counters) is
+
+pub runs_keep : (config : Config) (app : App) (load : List Entry) → WellFormed config app → IsLoad (owners_in config) load → (costs : RunCosts) → IsRunRecord config app load costs
+    → (responses : List (Option ℕ)) → AreRunResponses costs.longest costs.late costs.costs (length config.tasks) responses
+    → RunsKeepResponses config app load costs.longest costs.late responses
+runs_keep config app load code in_load costs are responses all image arrivals n h r cuts sound weighed pace come few keeps cut works there told =
+    let is : IsRunResponse costs.longest costs.late costs.costs h (Some r) = subst (IsRunResponse costs.longest costs.late costs.costs h) told (all.each h there) in
+    images_meet_bounds config app image load arrivals n costs.late costs.longest h r cuts costs.costs code (config, code.in_range) sound weighed pace are.longest are.late come few in_load keeps cut works
+    are.costs there is.0 is.1

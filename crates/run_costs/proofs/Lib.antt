@@ -1,0 +1,4 @@
+mod Sizes
+mod RunTaking
+mod RunMaking
+mod Times

@@ -1,0 +1,18 @@
+use Rattle.sloth_base.specs.declared.config.TaskDecl.{TaskDecl}
+use Rattle.std.proofs.Common.{List, arith, length, subst, ◌≤◌}
+use Rattle.response_bounds.specs.declared.costs.Level.{Level}
+use Rattle.response_bounds.specs.Costs.{no_level}
+use Rattle.run_responses.specs.RunCosts.{IsRunLevel}
+use Rattle.response_costs.proofs.Growing.{each_more, each_of}
+use Rattle.run_costs.proofs.levels.levels_by.Goals as goal
+
+pub loop-above-preserved : goal.loop-above-preserved
+loop-above-preserved c =
+    each_more (Level) (IsRunLevel c.args.config.now c.args.app.now c.args.weights.now) c.loop-above.list.items c.push.new.list.items c.in_ok-level.level (no_level) c.loop-above.above c.loop-above.invariant c.in_ok-push.ensures
+    (c.in_ok-level.ensures)
+
+pub returns : goal.returns
+returns c =
+    let over = subst (λ (x : List TaskDecl). length x ≤ c.loop-above.above) c.items-above-end.ensures c.loop-above-test.false in
+    let most = subst (λ (x : List TaskDecl). c.loop-above.above ≤ length x) c.items-above-end.ensures c.loop-above.auto.above-end in
+    each_of (Level) (IsRunLevel c.args.config.now c.args.app.now c.args.weights.now) c.loop-above.list.items (no_level) c.loop-above.above (length c.args.config.now.tasks) (omega (arith, over, most)) c.loop-above.invariant

@@ -1,0 +1,8 @@
+use Rattle.std.proofs.Common.{[], length}
+use Rattle.response_bounds.specs.Costs.{no_makings}
+use Rattle.run_responses.specs.RunCosts.{AreRunMakings}
+use Rattle.response_costs.specs.CostsOf.{AreEach}
+use Rattle.run_costs.proofs.makings.makings.Given as goal
+
+abbrev pub invariant-loop-named : goal.invariant-loop-named
+invariant-loop-named l = AreEach l.named ([]) (λ j. AreEach (length l.config.tasks) no_makings (AreRunMakings l.config l.app j)) l.table.items

@@ -1,0 +1,18 @@
+use Rattle.sloth_base.specs.declared.config.TaskDecl.{TaskDecl}
+use Rattle.std.proofs.Common.{List, arith, length, subst, ◌≤◌}
+use Rattle.response_bounds.specs.declared.costs.TaskCosts.{TaskCosts}
+use Rattle.response_bounds.specs.Costs.{no_task}
+use Rattle.run_responses.specs.RunCosts.{AreRunTaskCosts}
+use Rattle.response_costs.proofs.Growing.{each_more, each_of}
+use Rattle.run_costs.proofs.tasks.tasks_by.Goals as goal
+
+pub loop-task-preserved : goal.loop-task-preserved
+loop-task-preserved c =
+    each_more (TaskCosts) (AreRunTaskCosts c.args.config.now c.args.app.now c.args.load.now c.args.weights.now) c.loop-task.list.items c.push.new.list.items c.task_costs-costs.result (no_task) c.loop-task.task c.loop-task.invariant c.in_ok-push.ensures
+    (c.task_costs-costs.ensures)
+
+pub returns : goal.returns
+returns c =
+    let over = subst (λ (x : List TaskDecl). length x ≤ c.loop-task.task) c.items-task-end.ensures c.loop-task-test.false in
+    let most = subst (λ (x : List TaskDecl). c.loop-task.task ≤ length x) c.items-task-end.ensures c.loop-task.auto.task-end in
+    each_of (TaskCosts) (AreRunTaskCosts c.args.config.now c.args.app.now c.args.load.now c.args.weights.now) c.loop-task.list.items (no_task) c.loop-task.task (length c.args.config.now.tasks) (omega (arith, over, most)) c.loop-task.invariant
