@@ -2,7 +2,7 @@
 use Rattle.std.specs.Prelude.{ℕ, ◌≡◌, ◌++◌, ◌⊎◌, nat_lt, Bool, true, false, List, [], ◌∷◌, length, take, Option, Some, None, codes}
 use Rattle.command_line.specs.LastLine.{code_text}
 use Rattle.why_text.specs.RuleLines.{spaced_number, name_line, number_line}
-use Rattle.why_text.specs.declared.notes.Note.{Note}
+use Rattle.stage_faults.specs.declared.notes.Note.{Note}
 
 -- the line of an earlier thing, if there is one
 abbrev pub first_lines : Option ℕ → List ℕ

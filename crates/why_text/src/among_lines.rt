@@ -2,12 +2,13 @@
 ghost use Rattle.std.specs.Prelude.{◌≡◌, ◌++◌, OnOk, take};
 ghost use Rattle.why_text.specs.NameLines.{concerned_words, among_line, among_lines, more_lines, told_lines, HasMore};
 
-use crate::notes::{Note, order};
+use crate::notes::order;
 use crate::pieces::{push_bytes, push_number, push_word};
 use command_line::last_line::code_text;
 use indexmap::IndexSet;
 use oil_table::sets::insert;
 use sloth_base::memory::NoMemory;
+use stage_faults::Note;
 use std::alloc::Global;
 use text_pieces::growth::push;
 

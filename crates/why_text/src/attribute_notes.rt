@@ -1,7 +1,7 @@
 //! The faults of the attributes of an object (O8, O9, O10, O12).
 
 use crate::declared::{Declared, word_of};
-use crate::notes::{Note, add, add_behind};
+use crate::notes::{add, add_behind};
 use indexmap::IndexSet;
 use oil_alarms::first_in;
 use oil_parse::tree::{OilAttr, OilObject};
@@ -10,6 +10,7 @@ use oil_table::table::{allows, place_of};
 use oil_table::{Attribute, Limits, Place, attribute_of, block_place, is_beyond, is_single};
 use sloth_base::memory::NoMemory;
 use sloth_base::refusal::Code;
+use stage_faults::Note;
 use std::alloc::Global;
 use text_pieces::bytes::same;
 use text_pieces::growth::push;

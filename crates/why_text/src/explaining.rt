@@ -11,7 +11,7 @@ ghost use Rattle.why_text.specs.NameLines.{AreNameLines};
 ghost use Rattle.why_text.specs.WhyLines.{TellsFault, TellsCycle, IsCycleLine, IsCycleOn, HasCycleIn, HasWitnessLines, cause_of, AreLinesBy, AreWhyLines};
 
 use crate::named_events::named_events;
-use crate::naming::{names_text, no_text, oil_text};
+use crate::naming::{forms_text, names_text, no_text, oil_text};
 use crate::rule_lines::{cycle_line, witness_lines};
 use asm_lines::{SourceLine, read};
 use asm_parse::parse_app;
@@ -235,6 +235,7 @@ fn fault_for(
 enum Cause {
     Nothing,
     OilName,
+    SourceForm,
     SourceName,
     Cycle,
     Rule,
@@ -246,6 +247,7 @@ fn cause_of(code: Code) -> Cause
     match code {
         Code::O7 | Code::O8 | Code::O9 | Code::O10 | Code::O11 => Cause::OilName,
         Code::O12 | Code::O13 | Code::O14 | Code::O15 => Cause::OilName,
+        Code::A1 | Code::A2 | Code::A3 | Code::A4 => Cause::SourceForm,
         Code::A5 | Code::A6 | Code::A7 => Cause::SourceName,
         Code::V1 => Cause::Cycle,
         Code::V2 | Code::V3 | Code::V4 | Code::V5 | Code::V6 | Code::V7 => Cause::Rule,
@@ -300,6 +302,7 @@ fn lines_by(
 {
     match cause {
         Cause::OilName => oil_text(alloc, oil, refusal),
+        Cause::SourceForm => forms_text(alloc, src, refusal),
         Cause::SourceName => name_lines(alloc, oil, src, refusal),
         Cause::Cycle => cycle_lines(alloc, oil, src, refusal),
         Cause::Rule => fault_lines(alloc, oil, src, refusal),

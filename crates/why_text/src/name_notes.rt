@@ -1,6 +1,6 @@
 //! The faults of names and limits in task source (A5 to A7).
 
-use crate::notes::{Note, add, add_behind, line_number};
+use crate::notes::{add, add_behind, line_number};
 use asm_lines::{Mnemonic, Operand, SourceLine};
 use asm_scopes::{
     Body, Kind, Scope, is_data, is_item, is_label, is_task, kind_of, label_names, name_of,
@@ -12,6 +12,7 @@ use sloth_base::limits::{
 };
 use sloth_base::memory::NoMemory;
 use sloth_base::refusal::Code;
+use stage_faults::Note;
 use std::alloc::Global;
 use text_pieces::bytes::same;
 use text_pieces::growth::push;

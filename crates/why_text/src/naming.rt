@@ -4,10 +4,10 @@ ghost use Rattle.why_text.specs.NameLines.{first_lines, HasName, IsNamed, AreNam
 
 use crate::among_lines::push_among;
 use crate::name_notes::name_notes;
-use crate::notes::{Note, in_order, is_of};
+use crate::notes::{in_order, is_of};
 use crate::oil_notes::oil_notes;
 use crate::pieces::{push_name, push_number_line};
-use asm_lines::{SourceLine, read};
+use asm_lines::{SourceLine, read, read_lines};
 use asm_scopes::bodies_of;
 use oil_lex::tokens;
 use oil_parse::parse;
@@ -16,6 +16,7 @@ use sloth_base::config::Config;
 use sloth_base::list::List;
 use sloth_base::memory::NoMemory;
 use sloth_base::refusal::{BuildError, Refusal};
+use stage_faults::{Note, line_notes};
 use std::alloc::Global;
 
 // ---- the lines
@@ -95,6 +96,16 @@ pub fn oil_text(alloc: Global, oil: &[u8], refusal: Refusal) -> Result<List<u8>,
 }
 
 // ---- task source
+
+/// The lines behind a refusal of A1 to A4.
+pub fn forms_text(alloc: Global, src: &[u8], refusal: Refusal) -> Result<List<u8>, NoMemory>
+    requires { length src.now < 4294967295 }
+    ensures { IfOk result AreNameLines }
+{
+    let lines = read_lines(alloc, src)?;
+    let notes = line_notes(alloc, lines.items())?;
+    text_of(alloc, notes, refusal)
+}
 
 fn names_in(
     alloc: Global,

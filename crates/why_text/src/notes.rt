@@ -2,19 +2,8 @@
 
 use sloth_base::memory::NoMemory;
 use sloth_base::refusal::{Code, Refusal};
+use stage_faults::Note;
 use text_pieces::growth::push;
-
-/// A fault of a text: its line and code, and the name that it concerns, empty where there is none.
-#[derive(Clone, Copy)]
-pub struct Note<'t> {
-    pub line: u32,
-    pub code: Code,
-    pub name: &'t [u8],
-    /// The line of an earlier thing that it collides with.
-    pub first: Option<u32>,
-    /// Whether it follows from another fault.
-    pub follows: bool,
-}
 
 /// Where the fault stands among all: by its line, and on one line by its code.
 pub fn order(note: &Note) -> u64 {

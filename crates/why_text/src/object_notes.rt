@@ -2,7 +2,7 @@
 
 use crate::attribute_notes::attribute_notes;
 use crate::declared::Declared;
-use crate::notes::{Note, add, add_behind};
+use crate::notes::{add, add_behind};
 use oil_alarms::first_block;
 use oil_parse::tree::{OilAttr, OilObject};
 use oil_table::table::{is_nowhere, place_of};
@@ -12,6 +12,7 @@ use sloth_base::limits::{
 };
 use sloth_base::memory::NoMemory;
 use sloth_base::refusal::Code;
+use stage_faults::Note;
 use std::alloc::Global;
 use text_pieces::bytes::same;
 

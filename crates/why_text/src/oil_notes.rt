@@ -1,13 +1,14 @@
 //! The faults of an OIL tree's meaning (O7 to O15).
 
 use crate::declared::{Declared, declared_by};
-use crate::notes::{Note, add};
+use crate::notes::add;
 use crate::object_notes::{counts_with, no_counts, object_notes};
 use crate::task_notes::task_notes;
 use oil_parse::tree::{OilObject, OilTree};
 use oil_table::is_of_kind;
 use sloth_base::memory::NoMemory;
 use sloth_base::refusal::Code;
+use stage_faults::Note;
 use std::alloc::Global;
 
 fn lacks_os(objects: &[OilObject]) -> bool {

@@ -1,6 +1,6 @@
 //! The faults of priorities and events (O13, O15).
 
-use crate::notes::{Note, add, add_behind};
+use crate::notes::{add, add_behind};
 use indexmap::IndexSet;
 use oil_parse::tree::{OilAttr, OilObject};
 use oil_rules::event_word;
@@ -10,6 +10,7 @@ use oil_table::{first_use, is_of_kind, is_word, names_of, number_of};
 use sloth_base::config::EventDecl;
 use sloth_base::memory::NoMemory;
 use sloth_base::refusal::Code;
+use stage_faults::Note;
 use std::alloc::Global;
 use text_pieces::growth::push;
 use text_pieces::names::Names;

@@ -1,0 +1,211 @@
+//! The faults of bodies (A5 to A7).
+ghost use Rattle.std.specs.Prelude.{◌≡◌, ◌+◌, ◌<◌, ◌^◌, ◌⊎◌, length, take, All, OnOk};
+ghost use Rattle.sloth_base.specs.declared.refusal.Part.TheVariants.{Src};
+ghost use Rattle.least_fault.specs.Search.{Somewhere};
+ghost use Rattle.asm_scopes.specs.Statements.{label_names};
+ghost use Rattle.asm_scopes.specs.Bodies.{function_names};
+ghost use Rattle.asm_scopes.specs.NameFaults.{HeaderFault, BodyLineFault, LineNameFault, BodyNameFault};
+ghost use Rattle.stage_faults.specs.Told.{Adds};
+
+use crate::earlier_lines::{line_of_first, push_if};
+use crate::notes::{Note, add_if, add_named};
+use asm_lines::{Mnemonic, Operand, SourceLine};
+use asm_scopes::body_faults::{is_beyond, is_misnamed, is_strange, is_too_great};
+use asm_scopes::limits::{count_item, count_items, count_label};
+use asm_scopes::{Body, Scope, is_label, kind_of, label_names, name_of, written};
+use sloth_base::memory::NoMemory;
+use sloth_base::refusal::Code;
+use std::alloc::Global;
+use text_pieces::growth::push;
+use text_pieces::names::Names;
+
+// ---- headers
+
+// The name that A7 concerns on a line: on the first a task without a body, if there is one.
+fn strange_name<'t>(lacking: Option<&'t [u8]>, number: u32, name: &'t [u8]) -> &'t [u8] {
+    match lacking {
+        Some(task) if number == 1 => task,
+        _ => name,
+    }
+}
+
+// Behind the first `count` bodies, which begin on the lines `earlier`.
+fn add_header_faults<'t>(
+    notes: &mut Vec<Note<'t>>,
+    scope: &Scope,
+    lacking: Option<&'t [u8]>,
+    earlier: &[u32],
+    count: usize,
+    number: u32,
+    header: &'t SourceLine,
+) -> Result<(), NoMemory>
+    ensures { OnOk result (Adds Src (HeaderFault scope.now (take count scope.now.functions) count number header.now) notes.old.items notes.new.items) }
+{
+    let name = name_of(header);
+    let doubled = scope.functions.is_among_first(count, name);
+    let first = line_of_first(&scope.functions, earlier, name);
+    add_named(notes, doubled, number, Code::A5, name, first)?;
+    add_if(notes, is_too_great(count, header), number, Code::A6)?;
+    let strange = is_strange(scope, header);
+    let name = strange_name(lacking, number, name);
+    add_named(notes, strange, number, Code::A7, name, None)
+}
+
+// ---- lines
+
+// The first name that no object of the wanted kind has.
+fn unknown_operand<'t>(
+    scope: &Scope,
+    labels: &Names,
+    mnemonic: Mnemonic,
+    operands: &'t [Operand],
+) -> &'t [u8] {
+    for (place, operand) in operands.iter().enumerate() {
+        if scope.is_lacking(labels, kind_of(mnemonic, place), operand) {
+            return written(operand).unwrap_or(b"");
+        }
+    }
+    b""
+}
+
+fn unknown_name<'t>(scope: &Scope, labels: &Names, line: &'t SourceLine) -> &'t [u8] {
+    match line {
+        SourceLine::Statement { mnemonic, operands } => {
+            unknown_operand(scope, labels, *mnemonic, operands.items())
+        },
+        _ => b"",
+    }
+}
+
+// The line of an earlier label of the name of this one.
+fn first_label(labels: &Names, earlier: &[u32], line: &SourceLine) -> Option<u32> {
+    if is_label(line) {
+        line_of_first(labels, earlier, name_of(line))
+    } else {
+        None
+    }
+}
+
+// The name that A5 concerns: that of a doubled label, else the first that names nothing.
+fn misnamed<'t>(
+    scope: &Scope,
+    labels: &Names,
+    first: Option<u32>,
+    line: &'t SourceLine,
+) -> &'t [u8] {
+    match first {
+        Some(_) => name_of(line),
+        None => unknown_name(scope, labels, line),
+    }
+}
+
+// Behind the first `count` labels, which stand on the lines `earlier`, and so many items.
+fn add_line_faults<'t>(
+    notes: &mut Vec<Note<'t>>,
+    scope: &Scope,
+    labels: &Names,
+    earlier: &[u32],
+    count: usize,
+    items: usize,
+    number: u32,
+    line: &'t SourceLine,
+) -> Result<(), NoMemory>
+    ensures { OnOk result (Adds Src (BodyLineFault scope.now labels.now (take count labels.now) items number line.now) notes.old.items notes.new.items) }
+{
+    let test = is_misnamed(scope, labels, count, line);
+    let first = first_label(labels, earlier, line);
+    let name = misnamed(scope, labels, first, line);
+    add_named(notes, test, number, Code::A5, name, first)?;
+    add_if(notes, is_beyond(items, line), number, Code::A6)
+}
+
+// The faults of the lines of a body, whose header stands on line `number` behind so many items.
+fn line_faults<'t>(
+    alloc: Global,
+    notes: &mut Vec<Note<'t>>,
+    scope: &Scope,
+    labels: &Names,
+    items: usize,
+    number: u32,
+    lines: &'t [SourceLine],
+) -> Result<(), NoMemory>
+    requires few { number + length lines.now < 2 ^ 32 }
+    requires items { items + length lines.now < 2 ^ 64 }
+    requires labels { labels.now ≡ label_names lines.now }
+    ensures { OnOk result (Adds Src (Somewhere (LineNameFault scope.now labels.now items number) lines.now) notes.old.items notes.new.items) }
+{
+    let mut earlier = Vec::new(alloc);
+    let mut count = 0;
+    let mut items = items;
+    for (n, line) in lines.iter().enumerate() {
+        let number = number + n as u32 + 1;
+        add_line_faults(notes, scope, labels, &earlier, count, items, number, line)?;
+        push_if(&mut earlier, is_label(line), number)?;
+        count += count_label(line);
+        items += count_item(line);
+    }
+    Ok(())
+}
+
+// ---- bodies
+
+// The faults of a body behind the first `count` bodies, which begin on the lines `earlier` and have so many items.
+fn body_faults<'t>(
+    alloc: Global,
+    notes: &mut Vec<Note<'t>>,
+    scope: &Scope,
+    lacking: Option<&'t [u8]>,
+    earlier: &[u32],
+    count: usize,
+    items: usize,
+    body: &Body<'t>,
+) -> Result<(), NoMemory>
+    requires few { body.now.line + length body.now.lines < 2 ^ 32 }
+    requires items { items + length body.now.lines < 2 ^ 64 }
+    ensures { OnOk result (Adds Src (λ r.
+        HeaderFault scope.now (take count scope.now.functions) count body.now.line body.now.header r
+        ⊎ Somewhere (LineNameFault scope.now (label_names body.now.lines) items body.now.line) body.now.lines r) notes.old.items notes.new.items) }
+{
+    let labels = label_names(alloc, body.lines())?;
+    add_header_faults(
+        notes,
+        scope,
+        lacking,
+        earlier,
+        count,
+        body.line(),
+        body.header(),
+    )?;
+    line_faults(
+        alloc,
+        notes,
+        scope,
+        &labels,
+        items,
+        body.line(),
+        body.lines(),
+    )
+}
+
+/// The faults of these bodies. `lacking`: the first task without a body, if there is one.
+pub fn body_notes<'t>(
+    alloc: Global,
+    notes: &mut Vec<Note<'t>>,
+    scope: &Scope,
+    lacking: Option<&'t [u8]>,
+    bodies: &[Body<'t>],
+) -> Result<(), NoMemory>
+    requires few { length bodies.now < 2 ^ 32 }
+    requires short { All (λ body. body.line + length body.lines < 2 ^ 32) bodies.now }
+    requires functions { scope.now.functions ≡ function_names bodies.now }
+    ensures { OnOk result (Adds Src (Somewhere (BodyNameFault scope.now) bodies.now) notes.old.items notes.new.items) }
+{
+    let mut earlier = Vec::new(alloc);
+    let mut items = 0;
+    for (n, body) in bodies.iter().enumerate() {
+        body_faults(alloc, notes, scope, lacking, &earlier, n, items, body)?;
+        push(&mut earlier, body.line())?;
+        items += count_items(body.lines());
+    }
+    Ok(())
+}

@@ -1,0 +1,92 @@
+//! The faults of the lines of task source (A1 to A4).
+ghost use Rattle.std.specs.Prelude.{◌≡◌, ◌<◌, ◌^◌, ◌||◌, ◌&&◌, length, not, IfOk, OnOk};
+ghost use Rattle.sloth_base.specs.declared.refusal.Part.TheVariants.{Src};
+ghost use Rattle.asm_lines.specs.Grammar.{is_shapeless};
+ghost use Rattle.stage_faults.specs.Told.{Adds, AreAll};
+ghost use Rattle.stage_faults.specs.ToldLines.{is_misplaced, is_told_a1, ToldLine, ToldFault};
+
+use crate::notes::{Note, add_if};
+use asm_lines::SourceLine;
+use asm_lines::rules::{after_line, is_a1, is_a2, is_a3, is_a4};
+use sloth_base::memory::NoMemory;
+use sloth_base::refusal::Code;
+use std::alloc::Global;
+
+fn is_shaped(line: &SourceLine) -> bool
+    ensures { result ≡ not (is_shapeless line.now) }
+{
+    match line {
+        SourceLine::Shapeless => false,
+        _ => true,
+    }
+}
+
+// A1 that comes from the place alone, as of a statement of the other side.
+fn is_misplaced(inside: bool, line: &SourceLine) -> bool
+    ensures { result ≡ is_misplaced inside line.now }
+{
+    is_shaped(line) && is_a1(inside, line)
+}
+
+fn is_told_a1(inside: bool, earlier: bool, line: &SourceLine) -> bool
+    ensures { result ≡ is_told_a1 inside earlier line.now }
+{
+    is_a1(inside, line) && !(earlier && is_misplaced(inside, line))
+}
+
+// The faults of a line, but A1 where it comes from the place alone and an earlier one did.
+fn add_faults<'t>(
+    notes: &mut Vec<Note<'t>>,
+    inside: bool,
+    earlier: bool,
+    number: u32,
+    line: &SourceLine,
+) -> Result<(), NoMemory>
+    ensures { OnOk result (Adds Src (ToldLine inside earlier number line.now) notes.old.items notes.new.items) }
+{
+    add_if(notes, is_told_a1(inside, earlier, line), number, Code::A1)?;
+    add_if(notes, is_a2(inside, line), number, Code::A2)?;
+    add_if(notes, is_a3(line), number, Code::A3)?;
+    add_if(notes, is_a4(line), number, Code::A4)
+}
+
+fn is_earlier(earlier: bool, inside: bool, line: &SourceLine) -> bool
+    ensures { result ≡ (earlier || is_misplaced inside line.now) }
+{
+    earlier || is_misplaced(inside, line)
+}
+
+fn is_open(inside: bool, earlier: bool) -> bool
+    ensures { result ≡ (inside && not earlier) }
+{
+    inside && !earlier
+}
+
+fn add_all<'t>(notes: &mut Vec<Note<'t>>, lines: &[SourceLine]) -> Result<(), NoMemory>
+    requires { length lines.now < 2 ^ 32 }
+    ensures { OnOk result (Adds Src (ToldFault lines.now) notes.old.items notes.new.items) }
+{
+    let mut inside = false;
+    let mut earlier = false;
+    for (n, line) in lines.iter().enumerate() {
+        add_faults(notes, inside, earlier, n as u32 + 1, line)?;
+        earlier = is_earlier(earlier, inside, line);
+        inside = after_line(inside, line);
+    }
+    add_if(
+        notes,
+        is_open(inside, earlier),
+        lines.len() as u32,
+        Code::A1,
+    )
+}
+
+/// The faults of these lines. Of those that are A1 by their place alone, as the missing `end`, the first.
+pub fn line_notes<'t>(alloc: Global, lines: &[SourceLine]) -> Result<Vec<Note<'t>>, NoMemory>
+    requires { length lines.now < 2 ^ 32 }
+    ensures { IfOk result (λ notes. AreAll Src (ToldFault lines.now) notes.items) }
+{
+    let mut notes = Vec::new(alloc);
+    add_all(&mut notes, lines)?;
+    Ok(notes)
+}

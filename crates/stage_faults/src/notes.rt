@@ -1,0 +1,72 @@
+//! Faults with the names that they concern.
+ghost use Rattle.std.specs.Prelude.{OnOk, ◌≡◌};
+ghost use Rattle.sloth_base.specs.declared.refusal.Part.{Part};
+ghost use Rattle.least_fault.specs.Cases.{CaseOf, fault_at};
+ghost use Rattle.stage_faults.specs.Told.{Adds};
+
+use sloth_base::memory::NoMemory;
+use sloth_base::refusal::Code;
+use text_pieces::growth::push;
+
+/// A fault of a text: its line and code, and the name that it concerns, empty where there is none.
+#[derive(Clone, Copy)]
+pub struct Note<'t> {
+    pub line: u32,
+    pub code: Code,
+    pub name: &'t [u8],
+    /// The line of an earlier thing that it collides with.
+    pub first: Option<u32>,
+    /// Whether it follows from another fault.
+    pub follows: bool,
+}
+
+/// One fault more, with the name that it concerns and the line of an earlier thing.
+fn add<'t>(
+    notes: &mut Vec<Note<'t>>,
+    line: u32,
+    code: Code,
+    name: &'t [u8],
+    first: Option<u32>,
+) -> Result<(), NoMemory>
+    ensures { OnOk result ((part : Part) → Adds part (λ r. r ≡ fault_at part line code) notes.old.items notes.new.items) }
+{
+    push(
+        notes,
+        Note {
+            line,
+            code,
+            name,
+            first,
+            follows: false,
+        },
+    )
+}
+
+/// One fault more where a test says so, with the name that it concerns and the line of an earlier thing.
+pub fn add_named<'t>(
+    notes: &mut Vec<Note<'t>>,
+    test: bool,
+    line: u32,
+    code: Code,
+    name: &'t [u8],
+    first: Option<u32>,
+) -> Result<(), NoMemory>
+    ensures { OnOk result ((part : Part) → Adds part (CaseOf part test line code) notes.old.items notes.new.items) }
+{
+    if test {
+        return add(notes, line, code, name, first);
+    }
+    Ok(())
+}
+
+/// One fault more where a test says so, with no name.
+pub fn add_if<'t>(
+    notes: &mut Vec<Note<'t>>,
+    test: bool,
+    line: u32,
+    code: Code,
+) -> Result<(), NoMemory>
+    ensures { OnOk result ((part : Part) → Adds part (CaseOf part test line code) notes.old.items notes.new.items) }
+{
+    add_named(notes, test, line, code, b"", None)
+}

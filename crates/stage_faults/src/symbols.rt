@@ -1,0 +1,62 @@
+//! The faults of symbols (A5 and A6).
+ghost use Rattle.std.specs.Prelude.{◌≡◌, ◌<◌, ◌^◌, length, take, OnOk};
+ghost use Rattle.sloth_base.specs.declared.refusal.Part.TheVariants.{Src};
+ghost use Rattle.least_fault.specs.Search.{Somewhere};
+ghost use Rattle.asm_scopes.specs.Statements.{symbol_names};
+ghost use Rattle.asm_scopes.specs.NameFaults.{SymbolFault, DataFault};
+ghost use Rattle.stage_faults.specs.Told.{Adds};
+
+use crate::earlier_lines::{line_of_first, push_if};
+use crate::notes::{Note, add_if, add_named};
+use asm_lines::SourceLine;
+use asm_scopes::data_faults::{is_taken, is_too_much};
+use asm_scopes::limits::{bytes_of, count_data};
+use asm_scopes::{is_data, name_of};
+use sloth_base::memory::NoMemory;
+use sloth_base::refusal::Code;
+use std::alloc::Global;
+use text_pieces::names::Names;
+
+// Behind the first `count` symbols, which stand on the lines `earlier` and have so many bytes.
+fn add_faults<'t>(
+    notes: &mut Vec<Note<'t>>,
+    symbols: &Names,
+    earlier: &[u32],
+    count: usize,
+    bytes: usize,
+    number: u32,
+    line: &'t SourceLine,
+) -> Result<(), NoMemory>
+    requires { bytes < 2 ^ 63 }
+    ensures { OnOk result (Adds Src (SymbolFault (take count symbols.now) count bytes number line.now) notes.old.items notes.new.items) }
+{
+    let name = name_of(line);
+    let first = line_of_first(symbols, earlier, name);
+    let taken = is_taken(symbols, count, line);
+    add_named(notes, taken, number, Code::A5, name, first)?;
+    add_if(notes, is_too_much(count, bytes, line), number, Code::A6)
+}
+
+/// The faults of the symbols that these lines declare.
+pub fn symbol_notes<'t>(
+    alloc: Global,
+    notes: &mut Vec<Note<'t>>,
+    symbols: &Names,
+    lines: &'t [SourceLine],
+) -> Result<(), NoMemory>
+    requires few { length lines.now < 2 ^ 32 }
+    requires symbols { symbols.now ≡ symbol_names lines.now }
+    ensures { OnOk result (Adds Src (Somewhere DataFault lines.now) notes.old.items notes.new.items) }
+{
+    let mut earlier = Vec::new(alloc);
+    let mut count = 0;
+    let mut bytes = 0;
+    for (n, line) in lines.iter().enumerate() {
+        let number = n as u32 + 1;
+        add_faults(notes, symbols, &earlier, count, bytes, number, line)?;
+        push_if(&mut earlier, is_data(line), number)?;
+        count += count_data(line);
+        bytes += bytes_of(line);
+    }
+    Ok(())
+}
