@@ -99,7 +99,9 @@ tool-apart tool.Map = refl
 tool-apart tool.Shares = refl
 tool-apart tool.Response = refl
 tool-apart tool.Why = refl
+tool-apart tool.TaskBound = refl
 tool-apart tool.TaskResponse = refl
+tool-apart tool.RunResponse = refl
 tool-apart tool.Symbols = refl
 
 apart : (t : Tool) (word : List ℕ) → stands word ≡ true → tool_word t ≡ word → ⊥

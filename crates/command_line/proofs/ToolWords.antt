@@ -19,7 +19,7 @@ use Rattle.command_line.specs.Tools.{ToolUse, asks_counts, IsAskedFor, tool_word
 
 -- the tools
 abbrev all_tools : List Tool
-all_tools = tool.Elf ∷ tool.Unelf ∷ tool.Infer ∷ tool.At ∷ tool.AtAll ∷ tool.Losses ∷ tool.Wave ∷ tool.Picture ∷ tool.Check ∷ tool.Bounds ∷ tool.Latency ∷ tool.LowerCounts ∷ tool.Map ∷ tool.Shares ∷ tool.Response ∷ tool.Why ∷ tool.TaskResponse ∷ tool.Symbols ∷ []
+all_tools = tool.Elf ∷ tool.Unelf ∷ tool.Infer ∷ tool.At ∷ tool.AtAll ∷ tool.Losses ∷ tool.Wave ∷ tool.Picture ∷ tool.Check ∷ tool.Bounds ∷ tool.Latency ∷ tool.LowerCounts ∷ tool.Map ∷ tool.Shares ∷ tool.Response ∷ tool.Why ∷ tool.TaskBound ∷ tool.TaskResponse ∷ tool.RunResponse ∷ tool.Symbols ∷ []
 
 -- of the two of one word it is the one that is asked for
 abbrev is_asked_for : Tool → (asks : Bool) → Bool
@@ -52,7 +52,9 @@ found tool.Map asks h = refl
 found tool.Shares asks h = refl
 found tool.Response asks h = refl
 found tool.Why asks h = refl
+found tool.TaskBound asks h = refl
 found tool.TaskResponse asks h = refl
+found tool.RunResponse asks h = refl
 found tool.Symbols asks h = refl
 
 pub same-tool : (t u : Tool) (asks : Bool) → IsAskedFor t asks → IsAskedFor u asks → tool_word t ≡ tool_word u → word_count t ≡ word_count u → t ≡ u
@@ -100,7 +102,9 @@ word-limit tool.Map = tt
 word-limit tool.Shares = tt
 word-limit tool.Response = tt
 word-limit tool.Why = tt
+word-limit tool.TaskBound = tt
 word-limit tool.TaskResponse = tt
+word-limit tool.RunResponse = tt
 word-limit tool.Symbols = tt
 
 -- two lists of one length in front of others
@@ -209,7 +213,9 @@ counted tool.Map = refl
 counted tool.Shares = refl
 counted tool.Response = refl
 counted tool.Why = refl
+counted tool.TaskBound = refl
 counted tool.TaskResponse = refl
+counted tool.RunResponse = refl
 counted tool.Symbols = refl
 
 pub words-counted : (u : ToolUse) → IsToolUse u → length (tool_words u) ≡ word_count u.tool
@@ -437,7 +443,9 @@ few-files tool.Map = omega arith
 few-files tool.Shares = omega arith
 few-files tool.Response = omega arith
 few-files tool.Why = omega arith
+few-files tool.TaskBound = omega arith
 few-files tool.TaskResponse = omega arith
+few-files tool.RunResponse = omega arith
 few-files tool.Symbols = omega arith
 
 -- as many names are those of files as it reads

@@ -28,7 +28,9 @@ tool_word tool.Map = codes "map"
 tool_word tool.Shares = codes "shares"
 tool_word tool.Response = codes "response"
 tool_word tool.Why = codes "why"
+tool_word tool.TaskBound = codes "why"
 tool_word tool.TaskResponse = codes "response"
+tool_word tool.RunResponse = codes "responds"
 tool_word tool.Symbols = codes "symbols"
 
 -- how many names are its next words: those of the files that it reads, and of a task behind them
@@ -49,11 +51,14 @@ input_count tool.Map = 2
 input_count tool.Shares = 2
 input_count tool.Response = 3
 input_count tool.Why = 2
+input_count tool.TaskBound = 3
 input_count tool.TaskResponse = 4
+input_count tool.RunResponse = 3
 input_count tool.Symbols = 2
 
 -- how many of them are of files that it reads
 abbrev pub file_count : Tool → ℕ
+file_count tool.TaskBound = 2
 file_count tool.TaskResponse = 3
 file_count t = input_count t
 
@@ -75,7 +80,9 @@ further_word tool.Map = None
 further_word tool.Shares = None
 further_word tool.Response = None
 further_word tool.Why = None
+further_word tool.TaskBound = None
 further_word tool.TaskResponse = None
+further_word tool.RunResponse = None
 further_word tool.Symbols = None
 
 -- which counts it takes as its next words, if it takes any
@@ -96,7 +103,9 @@ counts_limit tool.Map = None
 counts_limit tool.Shares = None
 counts_limit tool.Response = None
 counts_limit tool.Why = None
+counts_limit tool.TaskBound = None
 counts_limit tool.TaskResponse = None
+counts_limit tool.RunResponse = None
 counts_limit tool.Symbols = None
 
 -- the word that stands behind its counts, if one does
@@ -122,7 +131,9 @@ writes_file tool.Map = false
 writes_file tool.Shares = false
 writes_file tool.Response = false
 writes_file tool.Why = false
+writes_file tool.TaskBound = false
 writes_file tool.TaskResponse = false
+writes_file tool.RunResponse = false
 writes_file tool.Symbols = true
 
 -- how many words it has
@@ -143,7 +154,9 @@ word_count tool.Map = 3
 word_count tool.Shares = 3
 word_count tool.Response = 4
 word_count tool.Why = 3
+word_count tool.TaskBound = 4
 word_count tool.TaskResponse = 5
+word_count tool.RunResponse = 4
 word_count tool.Symbols = 4
 
 -- ---- two tools of one word, and of as many words

@@ -45,8 +45,12 @@ pub enum Tool {
     Response,
     /// `why OIL SRC`: whether the texts are accepted, or what stands behind their refusal.
     Why,
+    /// `why OIL SRC TASK`: how much work of lower tasks may stand before one task, and the items of a greatest section.
+    TaskBound,
     /// `response OIL SRC LOAD TASK`: the same of one task, and of what it is made.
     TaskResponse,
+    /// `responds OIL SRC LOAD`: how soon each task has left the processor, in every run that keeps a load.
+    RunResponse,
     /// `symbols OIL SRC OUT`: the file of the image that debuggers read.
     Symbols,
 }
@@ -73,7 +77,9 @@ impl Tool {
             Tool::Shares => 2,
             Tool::Response => 3,
             Tool::Why => 2,
+            Tool::TaskBound => 3,
             Tool::TaskResponse => 4,
+            Tool::RunResponse => 3,
             Tool::Symbols => 2,
         }
     }
@@ -83,6 +89,7 @@ impl Tool {
         ensures { result ≡ file_count self }
     {
         match self {
+            Tool::TaskBound => 2,
             Tool::TaskResponse => 3,
             _ => self.input_count(),
         }
@@ -109,7 +116,9 @@ impl Tool {
             Tool::Shares => None,
             Tool::Response => None,
             Tool::Why => None,
+            Tool::TaskBound => None,
             Tool::TaskResponse => None,
+            Tool::RunResponse => None,
             Tool::Symbols => None,
         }
     }
@@ -138,7 +147,9 @@ impl Tool {
             Tool::Shares => None,
             Tool::Response => None,
             Tool::Why => None,
+            Tool::TaskBound => None,
             Tool::TaskResponse => None,
+            Tool::RunResponse => None,
             Tool::Symbols => None,
         }
     }
@@ -174,7 +185,9 @@ impl Tool {
             Tool::Shares => false,
             Tool::Response => false,
             Tool::Why => false,
+            Tool::TaskBound => false,
             Tool::TaskResponse => false,
+            Tool::RunResponse => false,
             Tool::Symbols => true,
         }
     }
@@ -255,6 +268,12 @@ fn tool_of_four(word: &str, asks: bool) -> Option<Tool>
     }
     if word == "response" {
         return Some(Tool::Response);
+    }
+    if word == "responds" {
+        return Some(Tool::RunResponse);
+    }
+    if word == "why" {
+        return Some(Tool::TaskBound);
     }
     if word == "symbols" {
         return Some(Tool::Symbols);

@@ -54,8 +54,10 @@ one_answer tool.Shares counts names inputs a b d p q =
     let oil = input inputs 0 in let src = input inputs 1 in one_source oil src (SharesSays oil src) (one_shares oil src) a b p q
 one_answer tool.Response counts names inputs a b d p q = one_response_answer (input inputs 0) (input inputs 1) (input inputs 2) a b p q
 one_answer tool.TaskResponse counts names inputs a b d p q = absurd (false≢true d)
+one_answer tool.RunResponse counts names inputs a b d p q = absurd (false≢true d)
 one_answer tool.Symbols counts names inputs a b d p q = absurd (false≢true d)
 one_answer tool.Why counts names inputs a b d p q = absurd (false≢true d)
+one_answer tool.TaskBound counts names inputs a b d p q = absurd (false≢true d)
 
 -- a tool that reads an image file reads a file
 pub reads-one : (t : Tool) → IsTrue (reads_image t) → 1 ≤ file_count t
@@ -75,7 +77,9 @@ reads-one tool.Map h = omega arith
 reads-one tool.Shares h = omega arith
 reads-one tool.Response h = omega arith
 reads-one tool.Why h = omega arith
+reads-one tool.TaskBound h = omega arith
 reads-one tool.TaskResponse h = omega arith
+reads-one tool.RunResponse h = omega arith
 reads-one tool.Symbols h = omega arith
 
 -- only a tool that reads an image file says that it is none, by its first fault
@@ -98,7 +102,9 @@ no-image tool.Map counts names inputs fault h = absurd h
 no-image tool.Shares counts names inputs fault h = absurd h
 no-image tool.Response counts names inputs fault h = absurd h
 no-image tool.Why counts names inputs fault h = absurd h
+no-image tool.TaskBound counts names inputs fault h = absurd h
 no-image tool.TaskResponse counts names inputs fault h = absurd h
+no-image tool.RunResponse counts names inputs fault h = absurd h
 no-image tool.Symbols counts names inputs fault h = absurd h
 
 -- these bytes are an image's
@@ -132,5 +138,7 @@ image-or-fault tool.Map counts names inputs a reads h = absurd (false≢true rea
 image-or-fault tool.Shares counts names inputs a reads h = absurd (false≢true reads)
 image-or-fault tool.Response counts names inputs a reads h = absurd (false≢true reads)
 image-or-fault tool.Why counts names inputs a reads h = absurd (false≢true reads)
+image-or-fault tool.TaskBound counts names inputs a reads h = absurd (false≢true reads)
 image-or-fault tool.TaskResponse counts names inputs a reads h = absurd (false≢true reads)
+image-or-fault tool.RunResponse counts names inputs a reads h = absurd (false≢true reads)
 image-or-fault tool.Symbols counts names inputs a reads h = absurd (false≢true reads)

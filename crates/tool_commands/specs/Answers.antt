@@ -13,8 +13,8 @@ use Rattle.tool_commands.specs.AtAnswers.{IsAtAnswer}
 use Rattle.tool_commands.specs.LossesAnswers.{IsLossesAnswer}
 use Rattle.tool_commands.specs.MapAnswers.{IsMapAnswer}
 use Rattle.tool_commands.specs.SharesAnswers.{IsSharesAnswer}
-use Rattle.tool_commands.specs.WhyAnswers.{IsWhyAnswer}
-use Rattle.tool_commands.specs.ResponseAnswers.{IsResponseAnswer, IsTaskResponseAnswer}
+use Rattle.tool_commands.specs.WhyAnswers.{IsWhyAnswer, IsTaskBoundAnswer}
+use Rattle.tool_commands.specs.ResponseAnswers.{IsResponseAnswer, IsTaskResponseAnswer, IsRunResponseAnswer}
 use Rattle.tool_commands.specs.PictureAnswers.{IsPictureAnswer}
 use Rattle.tool_commands.specs.SymbolsAnswers.{IsSymbolsAnswer}
 use Rattle.tool_commands.specs.WaveAnswers.{IsWaveAnswer}
@@ -43,8 +43,10 @@ IsAnswer tool.Map counts names inputs answer = IsMapAnswer (input inputs 0) (inp
 IsAnswer tool.Shares counts names inputs answer = IsSharesAnswer (input inputs 0) (input inputs 1) answer
 IsAnswer tool.Response counts names inputs answer = IsResponseAnswer (input inputs 0) (input inputs 1) (input inputs 2) answer
 IsAnswer tool.Why counts names inputs answer = IsWhyAnswer (input inputs 0) (input inputs 1) answer
+IsAnswer tool.TaskBound counts names inputs answer = IsTaskBoundAnswer (input inputs 0) (input inputs 1) (input names 2) answer
 IsAnswer tool.TaskResponse counts names inputs answer =
     IsTaskResponseAnswer (input inputs 0) (input inputs 1) (input inputs 2) (input names 3) answer
+IsAnswer tool.RunResponse counts names inputs answer = IsRunResponseAnswer (input inputs 0) (input inputs 1) (input inputs 2) answer
 IsAnswer tool.Symbols counts names inputs answer = IsSymbolsAnswer (input inputs 0) (input inputs 1) (input names 1) answer
 
 -- the first file that it reads is to be an image file
@@ -65,7 +67,9 @@ reads_image tool.Map = false
 reads_image tool.Shares = false
 reads_image tool.Response = false
 reads_image tool.Why = false
+reads_image tool.TaskBound = false
 reads_image tool.TaskResponse = false
+reads_image tool.RunResponse = false
 reads_image tool.Symbols = false
 
 -- its answer is determined by what it reads; the file of `symbols` by the image too, and of a response's starts more than one may be the greatest
@@ -86,7 +90,9 @@ is_determined tool.Map = true
 is_determined tool.Shares = true
 is_determined tool.Response = true
 is_determined tool.Why = false
+is_determined tool.TaskBound = false
 is_determined tool.TaskResponse = false
+is_determined tool.RunResponse = false
 is_determined tool.Symbols = false
 
 -- files have one answer of such a tool

@@ -1,6 +1,8 @@
 -- The answers of `why`.
-use Rattle.std.specs.Prelude.{ℕ, ◌≡◌, ◌++◌, List, [], codes}
+use Rattle.std.specs.Prelude.{ℕ, ◌≡◌, ◌++◌, List, [], codes, Some, None}
 use Rattle.sloth_base.specs.declared.refusal.Refusal.{Refusal}
+use Rattle.sloth_source.specs.Texts.{FirstRefusal}
+use Rattle.bounds_text.specs.TaskBound.{IsBoundText}
 use Rattle.command_line.specs.LastLine.{refusal_line}
 use Rattle.why_text.specs.WhyLines.{AreAcceptedTexts, IsWhy}
 use Rattle.why_text.specs.declared.why.Why.TheVariants as why
@@ -26,3 +28,16 @@ IsWhyAnswer oil src (answer.BadTrace fault) = ⊥
 IsWhyAnswer oil src answer.NoHolds = ⊥
 IsWhyAnswer oil src (answer.OpenDeadline lines) = ⊥
 IsWhyAnswer oil src answer.NoTask = ⊥
+
+-- `why` of one task: its bound, and of what that is made; the first refusal; or no task has the name
+abbrev pub IsTaskBoundAnswer : (oil src name : List ℕ) → ToolAnswer → Type 0
+IsTaskBoundAnswer oil src name (answer.Done outcome) = IsBoundText oil src name (Some outcome.text) × (outcome.file ≡ [])
+IsTaskBoundAnswer oil src name (answer.Refused refusal) = FirstRefusal oil src refusal
+IsTaskBoundAnswer oil src name answer.NoTask = IsBoundText oil src name None
+IsTaskBoundAnswer oil src name (answer.Stopped pc stop) = ⊥
+IsTaskBoundAnswer oil src name (answer.NotAnImage fault) = ⊥
+IsTaskBoundAnswer oil src name (answer.NotAnElf fault) = ⊥
+IsTaskBoundAnswer oil src name (answer.BadTrace fault) = ⊥
+IsTaskBoundAnswer oil src name answer.NoHolds = ⊥
+IsTaskBoundAnswer oil src name (answer.OpenDeadline lines) = ⊥
+IsTaskBoundAnswer oil src name (answer.Explained lines) = ⊥

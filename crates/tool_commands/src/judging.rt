@@ -13,11 +13,11 @@ use crate::infer_command::infer;
 use crate::losses_command::losses;
 use crate::map_command::map;
 use crate::picture_command::picture;
-use crate::response_command::{response, task_response};
+use crate::response_command::{response, run_response, task_response};
 use crate::shares_command::shares;
 use crate::symbols_command::symbols;
 use crate::wave_command::wave;
-use crate::why_command::why;
+use crate::why_command::{task_bound, why};
 use command_line::counts::{Counts, number_of, window_of};
 use command_line::tool::Tool;
 use sloth_base::list::List;
@@ -102,12 +102,24 @@ pub fn judge(
             inputs[2].items(),
         ),
         Tool::Why => why(alloc, inputs[0].items(), inputs[1].items()),
+        Tool::TaskBound => task_bound(
+            alloc,
+            inputs[0].items(),
+            inputs[1].items(),
+            name_of(names, 2),
+        ),
         Tool::TaskResponse => task_response(
             alloc,
             inputs[0].items(),
             inputs[1].items(),
             inputs[2].items(),
             name_of(names, 3),
+        ),
+        Tool::RunResponse => run_response(
+            alloc,
+            inputs[0].items(),
+            inputs[1].items(),
+            inputs[2].items(),
         ),
         Tool::Symbols => symbols(
             alloc,

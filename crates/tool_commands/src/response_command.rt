@@ -1,10 +1,10 @@
-//! The command `response`.
+//! The commands `response` and `responds`.
 ghost use Rattle.std.specs.Prelude.{◌≡◌, ◌≤◌, IfOk, length};
 ghost use Rattle.sloth_base.specs.Limits.{file_limit};
-ghost use Rattle.tool_commands.specs.ResponseAnswers.{IsResponseAnswer, IsTaskResponseAnswer, response_answer};
+ghost use Rattle.tool_commands.specs.ResponseAnswers.{IsResponseAnswer, IsTaskResponseAnswer, IsRunResponseAnswer, response_answer};
 
 use response_text::told::Told;
-use response_text::{response_parts, response_text};
+use response_text::{response_parts, response_text, run_response_text};
 use sloth_base::list::List;
 use sloth_base::memory::NoMemory;
 use sloth_base::refusal::BuildError;
@@ -57,6 +57,26 @@ pub fn task_response(
     match response_parts(alloc, oil, src, load, name) {
         Ok(Some(told)) => Ok(answer_of(alloc, told)),
         Ok(None) => Ok(ToolAnswer::NoTask),
+        Err(BuildError::Refused(refusal)) => Ok(ToolAnswer::Refused(refusal)),
+        Err(BuildError::Memory) => Err(NoMemory),
+    }
+}
+
+#[tactic(auto, using(crate::proofs::ResponseAnswers::run_told_answer))]
+/// How soon each task of two texts has left the processor in every run that keeps the load of a third; or the first refusal.
+pub fn run_response(
+    alloc: Global,
+    oil: &[u8],
+    src: &[u8],
+    load: &[u8],
+) -> Result<ToolAnswer, NoMemory>
+    requires oil { length oil.now ≤ file_limit }
+    requires src { length src.now ≤ file_limit }
+    requires load { length load.now ≤ file_limit }
+    ensures { IfOk result (λ answer. IsRunResponseAnswer oil.now src.now load.now answer) }
+{
+    match run_response_text(alloc, oil, src, load) {
+        Ok(told) => Ok(answer_of(alloc, told)),
         Err(BuildError::Refused(refusal)) => Ok(ToolAnswer::Refused(refusal)),
         Err(BuildError::Memory) => Err(NoMemory),
     }

@@ -3,14 +3,15 @@ ghost use Rattle.std.specs.Prelude.{◌≡◌, ◌≤◌, codes, IfOk, length};
 ghost use Rattle.sloth_base.specs.Limits.{file_limit};
 ghost use Rattle.why_text.specs.WhyLines.{IsWhy};
 ghost use Rattle.why_text.specs.declared.why.Why.TheVariants as why_is;
-ghost use Rattle.tool_commands.specs.WhyAnswers.{IsExplained, IsWhyAnswer};
+ghost use Rattle.tool_commands.specs.WhyAnswers.{IsExplained, IsWhyAnswer, IsTaskBoundAnswer};
 
+use bounds_text::task_bound::task_bound_text;
 use command_line::last_line::refusal_line;
 use sloth_base::list::List;
 use sloth_base::memory::NoMemory;
-use sloth_base::refusal::Refusal;
+use sloth_base::refusal::{BuildError, Refusal};
 use std::alloc::Global;
-use tool_answers::answer::ToolAnswer;
+use tool_answers::answer::{Outcome, ToolAnswer};
 use tool_answers::text_answer::told;
 use why_text::why::{Why, explain};
 
@@ -53,5 +54,27 @@ pub fn why(alloc: Global, oil: &[u8], src: &[u8]) -> Result<ToolAnswer, NoMemory
             let text = explained(alloc, oil, src, refusal, lines.items())?;
             Ok(ToolAnswer::Explained(text))
         },
+    }
+}
+
+/// Of one task its bound and of what that is made, or the first refusal; or that no task has the name.
+pub fn task_bound(
+    alloc: Global,
+    oil: &[u8],
+    src: &[u8],
+    name: &[u8],
+) -> Result<ToolAnswer, NoMemory>
+    requires oil { length oil.now ≤ file_limit }
+    requires src { length src.now ≤ file_limit }
+    ensures { IfOk result (λ answer. IsTaskBoundAnswer oil.now src.now name.now answer) }
+{
+    match task_bound_text(alloc, oil, src, name) {
+        Ok(Some(text)) => Ok(ToolAnswer::Done(Outcome {
+            file: List::from_vec(Vec::new(alloc)),
+            text,
+        })),
+        Ok(None) => Ok(ToolAnswer::NoTask),
+        Err(BuildError::Refused(refusal)) => Ok(ToolAnswer::Refused(refusal)),
+        Err(BuildError::Memory) => Err(NoMemory),
     }
 }
