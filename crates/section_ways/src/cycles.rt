@@ -87,6 +87,15 @@ fn cycle_in(tables: &Tables, func: usize, whole: bool) -> &[usize] {
     }
 }
 
+// These the other way round.
+fn turned(alloc: Global, back: &[Frame]) -> Result<Vec<Frame>, NoMemory> {
+    let mut frames = Vec::new(alloc);
+    for number in 0..back.len() {
+        push(&mut frames, back[back.len() - 1 - number])?;
+    }
+    Ok(frames)
+}
+
 // The calls that lead to one that was reached, the outermost first.
 fn callers_of(alloc: Global, reached: &[Reached], last: usize) -> Result<Vec<Frame>, NoMemory> {
     let mut back = Vec::new(alloc);
@@ -109,10 +118,30 @@ fn callers_of(alloc: Global, reached: &[Reached], last: usize) -> Result<Vec<Fra
             at = reached[at].before;
         }
     }
-    let mut frames = Vec::new(alloc);
-    for number in 0..back.len() {
-        push(&mut frames, back[back.len() - 1 - number])?;
-    }
+    turned(alloc, back.as_slice())
+}
+
+// The functions in progress at an item of one that was reached.
+fn frames_at(
+    alloc: Global,
+    reached: &[Reached],
+    turn: usize,
+    from: Reached,
+    item: usize,
+) -> Result<Vec<Frame>, NoMemory> {
+    let mut frames = callers_of(alloc, reached, turn)?;
+    let point = Point {
+        func: from.func,
+        item,
+    };
+    push(
+        &mut frames,
+        Frame {
+            point,
+            whole: from.whole,
+            mode: Mode::Least,
+        },
+    )?;
     Ok(frames)
 }
 
@@ -141,24 +170,18 @@ pub fn cycle_start(
         }
         let from = reached[turn];
         if let Some(item) = cycle_in(tables, from.func, from.whole).first() {
-            let mut frames = callers_of(alloc, reached.as_slice(), turn)?;
-            let point = Point {
-                func: from.func,
-                item: *item,
-            };
-            push(
-                &mut frames,
-                Frame {
-                    point,
-                    whole: from.whole,
-                    mode: Mode::Least,
-                },
-            )?;
-            return Ok(frames);
+            return frames_at(alloc, reached.as_slice(), turn, from, *item);
         }
         reach_all(app, bodies, tables.priority, &mut reached, turn, from)?;
     }
     Ok(Vec::new(alloc))
+}
+
+fn push_all(points: &mut Vec<Point>, further: &[Point]) -> Result<(), NoMemory> {
+    for point in further {
+        push(points, *point)?;
+    }
+    Ok(())
 }
 
 // The points of a function from its first item to its `ret`, by the shortest way.
@@ -186,10 +209,7 @@ fn push_passage(
         0
     };
     let passage = points_on(alloc, app, bodies, tables, &mut frames, left)?;
-    for point in passage.as_slice() {
-        push(points, *point)?;
-    }
-    Ok(())
+    push_all(points, passage.as_slice())
 }
 
 /// The points of the positions of a cycle, its first item at both ends.

@@ -12,20 +12,55 @@ use std::alloc::Global;
 use text_pieces::growth::push;
 
 /// The sizes of functions by their numbers, their greatest parts, and the items of a cycle in each, if there is one.
-#[derive(Drop)]
 pub struct Table {
     pub sizes: Vec<Sizes>,
     pub parts: Vec<Parts>,
     pub cycles: Vec<List<usize>>,
 }
 
+// Written out: what is derived is proved anew wherever a value is let go.
+impl Drop for Table {
+    fn drop(self) {
+        let Table {
+            sizes: _,
+            parts: _,
+            cycles: _,
+        } = self;
+    }
+}
+
 /// At both levels; and of what is called where the task is raised.
-#[derive(Drop)]
 pub struct Tables {
     pub priority: u32,
     pub calls: Called,
     pub whole: Table,
     pub own: Table,
+}
+
+// Written out, as above.
+impl Drop for Tables {
+    fn drop(self) {
+        let Tables {
+            priority: _,
+            calls: _,
+            whole: _,
+            own: _,
+        } = self;
+    }
+}
+
+// A function without sizes.
+fn push_none(alloc: Global, table: &mut Table) -> Result<(), NoMemory> {
+    push(&mut table.sizes, no_sizes(alloc))?;
+    push(&mut table.parts, NO_PARTS)?;
+    push(&mut table.cycles, List::from_vec(Vec::new(alloc)))
+}
+
+fn push_all_none(alloc: Global, table: &mut Table, count: usize) -> Result<(), NoMemory> {
+    for _number in 0..count {
+        push_none(alloc, table)?;
+    }
+    Ok(())
 }
 
 fn no_table(alloc: Global, count: usize) -> Result<Table, NoMemory> {
@@ -34,12 +69,20 @@ fn no_table(alloc: Global, count: usize) -> Result<Table, NoMemory> {
         parts: Vec::new(alloc),
         cycles: Vec::new(alloc),
     };
-    for _number in 0..count {
-        push(&mut table.sizes, no_sizes(alloc))?;
-        push(&mut table.parts, NO_PARTS)?;
-        push(&mut table.cycles, List::from_vec(Vec::new(alloc)))?;
-    }
+    push_all_none(alloc, &mut table, count)?;
     Ok(table)
+}
+
+fn no_tables(alloc: Global, priority: u32, count: usize) -> Result<Tables, NoMemory> {
+    let calls = no_calls(alloc, count)?;
+    let whole = no_table(alloc, count)?;
+    let own = no_table(alloc, count)?;
+    Ok(Tables {
+        priority,
+        calls,
+        whole,
+        own,
+    })
 }
 
 // Puts the entries of a function.
@@ -70,6 +113,22 @@ fn put_calls(calls: &mut Called, number: usize, sizes: &Sizes) {
     );
 }
 
+// The sizes of a function, its greatest parts and the items of a cycle in it, by the sizes and parts of those that it calls.
+fn entry_of(
+    alloc: Global,
+    func: &Func,
+    body: &Body,
+    level: Level,
+    calls: &Called,
+    whole: &[Parts],
+    own: &[Parts],
+) -> Result<(Sizes, Parts, List<usize>), NoMemory> {
+    let order = order_of(alloc, func, body, level, calls.back.as_slice())?;
+    let sizes = sizes_of(alloc, func, body, level, calls, &order)?;
+    let parts = parts_of(func, body, level, &sizes, whole, own);
+    Ok((sizes, parts, order.into_cycle()))
+}
+
 // The entries of a function where it is called raised.
 fn put_whole(
     alloc: Global,
@@ -83,18 +142,10 @@ fn put_whole(
         whole: true,
         priority: 0,
     };
-    let order = order_of(alloc, func, body, level, calls.back.as_slice())?;
-    let sizes = sizes_of(alloc, func, body, level, calls, &order)?;
-    let parts = parts_of(
-        func,
-        body,
-        level,
-        &sizes,
-        table.parts.as_slice(),
-        table.parts.as_slice(),
-    );
+    let known = table.parts.as_slice();
+    let (sizes, parts, cycle) = entry_of(alloc, func, body, level, calls, known, known)?;
     put_calls(calls, number, &sizes);
-    put_entry(table, number, sizes, parts, order.cycle);
+    put_entry(table, number, sizes, parts, cycle);
     Ok(())
 }
 
@@ -104,22 +155,41 @@ fn put_own(
     func: &Func,
     body: &Body,
     number: usize,
-    level: Level,
-    calls: &Called,
-    whole: &Table,
-    table: &mut Table,
+    tables: &mut Tables,
 ) -> Result<(), NoMemory> {
-    let order = order_of(alloc, func, body, level, calls.back.as_slice())?;
-    let sizes = sizes_of(alloc, func, body, level, calls, &order)?;
-    let parts = parts_of(
-        func,
-        body,
-        level,
-        &sizes,
-        whole.parts.as_slice(),
-        table.parts.as_slice(),
-    );
-    put_entry(table, number, sizes, parts, order.cycle);
+    let level = Level {
+        whole: false,
+        priority: tables.priority,
+    };
+    let whole = tables.whole.parts.as_slice();
+    let own = tables.own.parts.as_slice();
+    let (sizes, parts, cycle) = entry_of(alloc, func, body, level, &tables.calls, whole, own)?;
+    put_entry(&mut tables.own, number, sizes, parts, cycle);
+    Ok(())
+}
+
+// The entries of functions, each of which stands behind those that it calls.
+fn put_all(
+    alloc: Global,
+    funcs: &[Func],
+    bodies: &[Body],
+    order: &[usize],
+    tables: &mut Tables,
+) -> Result<(), NoMemory> {
+    for number in order {
+        if *number < funcs.len() && *number < bodies.len() {
+            let (func, body) = (&funcs[*number], &bodies[*number]);
+            put_whole(
+                alloc,
+                func,
+                body,
+                *number,
+                &mut tables.calls,
+                &mut tables.whole,
+            )?;
+            put_own(alloc, func, body, *number, tables)?;
+        }
+    }
     Ok(())
 }
 
@@ -132,26 +202,9 @@ pub fn tables_of(
     priority: u32,
 ) -> Result<Tables, NoMemory> {
     let funcs = app.funcs.items();
-    let mut calls = no_calls(alloc, funcs.len())?;
-    let mut whole = no_table(alloc, funcs.len())?;
-    let mut own = no_table(alloc, funcs.len())?;
-    let level = Level {
-        whole: false,
-        priority,
-    };
-    for number in order {
-        if *number < funcs.len() && *number < bodies.len() {
-            let (func, body) = (&funcs[*number], &bodies[*number]);
-            put_whole(alloc, func, body, *number, &mut calls, &mut whole)?;
-            put_own(alloc, func, body, *number, level, &calls, &whole, &mut own)?;
-        }
-    }
-    Ok(Tables {
-        priority,
-        calls,
-        whole,
-        own,
-    })
+    let mut tables = no_tables(alloc, priority, funcs.len())?;
+    put_all(alloc, funcs, bodies, order, &mut tables)?;
+    Ok(tables)
 }
 
 /// The table of a level.

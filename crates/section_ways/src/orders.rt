@@ -10,10 +10,24 @@ use task_verify::ways::{falls, way};
 use text_pieces::growth::push;
 
 /// The items in an order of finish, and the items of a cycle, if there is one.
-#[derive(Drop)]
 pub struct Order {
     pub items: List<usize>,
-    pub cycle: List<usize>,
+    cycle: List<usize>,
+}
+
+// Written out: what is derived is proved anew wherever a value is let go.
+impl Drop for Order {
+    fn drop(self) {
+        let Order { items: _, cycle: _ } = self;
+    }
+}
+
+impl Order {
+    /// The items of the cycle.
+    pub fn into_cycle(self) -> List<usize> {
+        let Order { items: _, cycle } = self;
+        cycle
+    }
 }
 
 // The item, where the task is raised there too.
@@ -145,13 +159,54 @@ fn cycle_from(
 }
 
 // The tables of a search.
-#[derive(Drop)]
 struct Search {
     seen: Vec<bool>,
     done: Vec<bool>,
     stack: Vec<usize>,
     order: Vec<usize>,
     cycle: Vec<usize>,
+}
+
+// Written out, as above.
+impl Drop for Search {
+    fn drop(self) {
+        let Search {
+            seen: _,
+            done: _,
+            stack: _,
+            order: _,
+            cycle: _,
+        } = self;
+    }
+}
+
+impl Search {
+    // The tables before a body of so many items is searched.
+    fn new(alloc: Global, count: usize) -> Result<Search, NoMemory> {
+        let seen = no_marks(alloc, count)?;
+        let done = no_marks(alloc, count)?;
+        Ok(Search {
+            seen,
+            done,
+            stack: Vec::new(alloc),
+            order: Vec::new(alloc),
+            cycle: Vec::new(alloc),
+        })
+    }
+
+    fn into_order(self) -> Order {
+        let Search {
+            seen: _,
+            done: _,
+            stack: _,
+            order,
+            cycle,
+        } = self;
+        Order {
+            items: List::from_vec(order),
+            cycle: List::from_vec(cycle),
+        }
+    }
 }
 
 // Finishes an item, from which nothing new is seen: one that it goes on to and that is not done closes a cycle.
@@ -223,24 +278,7 @@ pub fn order_of(
     level: Level,
     backs: &[u32],
 ) -> Result<Order, NoMemory> {
-    let count = func.items.items().len();
-    let mut search = Search {
-        seen: no_marks(alloc, count)?,
-        done: no_marks(alloc, count)?,
-        stack: Vec::new(alloc),
-        order: Vec::new(alloc),
-        cycle: Vec::new(alloc),
-    };
+    let mut search = Search::new(alloc, func.items.items().len())?;
     search_all(alloc, func, body, level, backs, &mut search)?;
-    let Search {
-        seen: _,
-        done: _,
-        stack: _,
-        order,
-        cycle,
-    } = search;
-    Ok(Order {
-        items: List::from_vec(order),
-        cycle: List::from_vec(cycle),
-    })
+    Ok(search.into_order())
 }

@@ -1,5 +1,6 @@
 //! The section of frames.
 ghost use Rattle.std.specs.Prelude.{◌≡◌, ◌≤◌, ◌<◌, ◌+◌, ◌++◌, [], IfOk, OnOk, cond, get_or, length, ltb, take};
+ghost use Rattle.std.specs.List.{flat_map};
 ghost use Rattle.sloth_base.specs.Limits.{item_limit};
 ghost use Rattle.map_text.specs.LineRows.{item_count};
 ghost use Rattle.symbol_image.specs.FrameRows.{HasFrames};
@@ -244,6 +245,25 @@ fn put_row(
     }
 }
 
+// Appends the entries of rows.
+fn put_rows(
+    alloc: Global,
+    section: &mut Vec<u8>,
+    app: &App,
+    places: &Places,
+    code_end: u32,
+    memory: &[u8],
+    rows: &[Row],
+) -> Result<(), NoMemory>
+    requires { HasFrames app.now places.now code_end }
+    ensures { OnOk result (section.new.items ≡ section.old.items ++ flat_map (row_entry app.now places.now code_end memory.now) rows.now) }
+{
+    for row in rows {
+        put_row(alloc, section, app, places, code_end, memory, row)?;
+    }
+    Ok(())
+}
+
 /// The section of the frames of all code.
 #[tactic(auto, unfolding(crate::specs::Frames::frame_section))]
 pub fn frame_section(
@@ -261,8 +281,6 @@ pub fn frame_section(
     put_common_entry(alloc, &mut section, ITEMS, true)?;
     put_common_entry(alloc, &mut section, SERVICES, false)?;
     put_common_entry(alloc, &mut section, TAKEN, false)?;
-    for row in rows {
-        put_row(alloc, &mut section, app, places, code_end, memory, row)?;
-    }
+    put_rows(alloc, &mut section, app, places, code_end, memory, rows)?;
     Ok(section)
 }

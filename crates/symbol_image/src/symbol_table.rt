@@ -1,6 +1,8 @@
 //! The table of symbols, and the table of their names.
-ghost use Rattle.std.specs.Prelude.{◌≡◌, ◌++◌, IfOk, OnOk};
-ghost use Rattle.symbol_image.specs.SymbolTable.{name_table, section_number, symbol_bytes, symbol_info, symbol_table};
+ghost use Rattle.std.specs.Prelude.{◌≡◌, ◌++◌, IfOk, OnOk, length};
+ghost use Rattle.std.specs.List.{flat_map};
+ghost use Rattle.symbol_image.specs.Fields.{text_bytes};
+ghost use Rattle.symbol_image.specs.SymbolTable.{name_table, section_number, symbol_bytes, symbol_info, symbol_table, table_from};
 
 use crate::fields::{put_bytes, put_length, put_text};
 use crate::symbol::{Binding, Symbol, SymbolKind};
@@ -56,6 +58,23 @@ fn put_symbol(
     put_u16(table, section_number(borders, symbol.address))
 }
 
+// Appends symbols and their names.
+fn put_each(
+    table: &mut Vec<u8>,
+    names: &mut Vec<u8>,
+    borders: &Borders,
+    symbols: &[Symbol],
+) -> Result<(), NoMemory>
+    ensures symbols { OnOk result (table.new.items ≡ table.old.items ++ table_from borders.now (length names.old.items) symbols.now) }
+    ensures names { OnOk result (names.new.items ≡ names.old.items ++ flat_map (λ symbol. text_bytes symbol.name) symbols.now) }
+{
+    for symbol in symbols {
+        put_symbol(table, borders, names.len(), symbol)?;
+        put_text(names, symbol.name.items())?;
+    }
+    Ok(())
+}
+
 /// The two tables.
 #[derive(Drop)]
 pub struct Tables {
@@ -71,10 +90,7 @@ pub fn tables_of(alloc: Global, borders: &Borders, symbols: &[Symbol]) -> Result
 {
     let mut table = Vec::from_slice(alloc, &[0; 16])?;
     let mut names = Vec::from_slice(alloc, &[0])?;
-    for symbol in symbols {
-        put_symbol(&mut table, borders, names.len(), symbol)?;
-        put_text(&mut names, symbol.name.items())?;
-    }
+    put_each(&mut table, &mut names, borders, symbols)?;
     Ok(Tables {
         symbols: table,
         names,
