@@ -1,5 +1,5 @@
 -- The admissions of a busy period are no more than the arrivals that fit into its window.
-use Rattle.std.proofs.Common.{◌≡◌, ℕ, suc, ◌+◌, ◌-◌, ◌<◌, ◌≤◌, ◌⊎◌, ◌==◌, ◌&&◌, List, [], ◌∷◌, ◌++◌, length, Bool, true, false, cond, leb, ltb, Option, Some, None, refl, sym, ap, ◌∙◌, subst, arith, inl, inr}
+use Rattle.std.proofs.Common.{◌≡◌, ℕ, ◌+◌, ◌-◌, ◌<◌, ◌≤◌, ◌⊎◌, ◌==◌, ◌&&◌, List, [], ◌∷◌, ◌++◌, length, Bool, true, false, cond, leb, ltb, Option, Some, None, refl, sym, ap, ◌∙◌, subst, arith, inl, inr}
 use Rattle.std.specs.Prelude.{AllPairs, is_some}
 use Rattle.std.specs.List.{AllByRecursion}
 use Rattle.std.proofs.lemmas.Bool.{cases_lt, ne_eqb, and_right, false≢true, lt-ltb, le-leb, and_from}
@@ -26,6 +26,7 @@ use Rattle.run_counts.specs.Stages.{charged, run_stages}
 use Rattle.osek_scheduler.specs.Runs.{OsekRun}
 use Rattle.osek_scheduler.proofs.Leading.{follows_leads}
 use Rattle.response_laws.proofs.Linked.{last_end, each_append, each_so, behind_is}
+use Rattle.response_laws.proofs.Ordering.{ahead}
 use Rattle.response_laws.proofs.Booted.{HasStarted, has_started, no_boot}
 use Rattle.response_laws.proofs.Windows.{fewer_inside, few_arrivals}
 use Rattle.response_laws.proofs.Responding.{IsBrief, near, run_no_less}
@@ -67,20 +68,13 @@ module _ (config : Config) (n : ℕ) (arrivals : List Arrival) (events : List St
           which (inl lt) = all out.0 out.1.admits lt
           which (inr past) = let none = out.1.leaves k line past in omega (arith, none)
 
-  admitted_inside : (low high line : ℕ) → low ≤ high
+  pub admitted_inside : (low high line : ℕ) → low ≤ high
       → passing_inside (λ (e : Stamped). is_number line (admitted_line e.event)) (λ e. e.stamp.at) low high events ≤ arrivals_inside low high line arrivals
   admitted_inside low high line le =
       fewer_inside (λ (e : Stamped). is_number line (admitted_line e.event)) (λ e. e.stamp.at) (λ (a : Arrival). a.line == line) (λ a. a.at)
       events arrivals (λ k. few_at k line) low high le
 
 -- ---- where the admissions of a period stand
-
--- what the events ahead of an event owe
-pub ahead : (e : Stamped) (events : List Stamped) → AllPairs IsOrdered (e ∷ events) → AllByRecursion (IsOrdered e) events × AllPairs IsOrdered events
-ahead e events pairs = (
-  recursion_from_All (IsOrdered e) events (λ k d lt. pairs 0 (suc k) d (omega arith) (omega (arith, lt))),
-  λ i j d lt within. pairs (suc i) (suc j) d (omega (arith, lt)) (omega (arith, within)),
-)
 
 module _ (config : Config) (app : App) (late : ℕ) where
   -- each stage ends near each one behind it, and its own moment
@@ -197,7 +191,7 @@ all_inside low high line (x ∷ xs) each =
         let here = ap {B = ℕ} (λ b. cond b 1 0) inside in
         omega (arith, here)
 
-inside-append : {X : Type 0} (test : X → Bool) (moment : X → ℕ) (low high : ℕ) (xs ys : List X)
+pub inside-append : {X : Type 0} (test : X → Bool) (moment : X → ℕ) (low high : ℕ) (xs ys : List X)
     → passing_inside test moment low high (xs ++ ys) ≡ passing_inside test moment low high xs + passing_inside test moment low high ys
 inside-append test moment low high [] ys = omega arith
 inside-append test moment low high (x ∷ xs) ys = let rest = inside-append test moment low high xs ys in omega (arith, rest)

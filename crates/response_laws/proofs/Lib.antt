@@ -1,5 +1,6 @@
 pub mod Sums
 pub mod Linked
+pub mod Ordering
 pub mod Steps
 pub mod Shares
 pub mod RoundSums
@@ -46,6 +47,7 @@ pub mod SingleStarts
 pub mod SectionStarts
 pub mod CodeStarts
 pub mod Ticks
+pub mod Unmade
 pub mod AlarmSteps
 pub mod Expiring
 pub mod Masks
@@ -53,3 +55,4 @@ pub mod Settings
 pub mod Spanned
 pub mod SoundRuns
 pub mod Images
+pub mod Admissions

@@ -36,7 +36,7 @@ use Rattle.run_counts.proofs.Owned.{HasParts, run_owned}
 use Rattle.response_laws.specs.Busy.{LeavesFirst}
 use Rattle.response_laws.specs.Turns.{makes_ready}
 use Rattle.response_laws.specs.Bounded.{EndsSoon}
-use Rattle.response_laws.proofs.Arriving.{ahead}
+use Rattle.response_laws.proofs.Ordering.{ahead}
 use Rattle.response_laws.proofs.Linked.{Known, Linked, last_state, linked_front, linked_behind, each_append, each_joined, each_so, stages_linked, stages_known}
 use Rattle.response_laws.proofs.Settled.{admit_active}
 use Rattle.response_laws.proofs.Blocking.{IsLowService}
@@ -44,7 +44,7 @@ use Rattle.response_laws.proofs.Blocking.{IsLowService}
 -- ---- two cuts of a list
 
 -- the event at which one cut is made is that of the other cut, stands in front of it, or behind it
-data Cut (a : List Stamped) (x : Stamped) (p b : List Stamped) (y : Stamped) (q : List Stamped) : Type 0 where
+pub data Cut (a : List Stamped) (x : Stamped) (p b : List Stamped) (y : Stamped) (q : List Stamped) : Type 0 where
   at_one : x ≡ y → Cut a x p b y q
   in_front : (mid : List Stamped) → b ≡ a ++ x ∷ mid → p ≡ mid ++ y ∷ q → Cut a x p b y q
   behind_it : (mid : List Stamped) → a ≡ b ++ y ∷ mid → q ≡ mid ++ x ∷ p → Cut a x p b y q
@@ -57,7 +57,7 @@ abbrev tail_of : List Stamped → List Stamped
 tail_of [] = []
 tail_of (x ∷ xs) = xs
 
-cut : (a : List Stamped) (x : Stamped) (p b : List Stamped) (y : Stamped) (q : List Stamped) → a ++ x ∷ p ≡ b ++ y ∷ q → Cut a x p b y q
+pub cut : (a : List Stamped) (x : Stamped) (p b : List Stamped) (y : Stamped) (q : List Stamped) → a ++ x ∷ p ≡ b ++ y ∷ q → Cut a x p b y q
 cut [] x p [] y q e = at_one (ap (head_or x) e)
 cut [] x p (z ∷ b) y q e = in_front b (ap (λ v. v ∷ b) (sym (ap (head_or x) e))) (ap tail_of e)
 cut (w ∷ a) x p [] y q e = behind_it a (ap (λ v. v ∷ a) (ap (head_or w) e)) (sym (ap tail_of e))

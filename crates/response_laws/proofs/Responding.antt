@@ -1,6 +1,6 @@
 -- A task responds within the longest of the starts in which it has a round, and an event.
 use Rattle.std.proofs.Common.{◌≡◌, ℕ, ◌+◌, ◌<◌, ◌≤◌, ◌⊎◌, ◌&&◌, ◌||◌, not, List, [], ◌∷◌, ◌++◌, Bool, true, false, cond, length, refl, sym, ap, ◌∙◌, subst, arith, inl, inr, append_assoc, append-nil, ◌==◌}
-use Rattle.std.specs.Prelude.{is_some}
+use Rattle.std.specs.Prelude.{AllPairs, is_some}
 use Rattle.sloth_base.specs.Events.{admitted_line}
 use Rattle.osek_scheduler.specs.Steps.{OsekStep}
 use Rattle.std.specs.List.{AllByRecursion}
@@ -33,8 +33,9 @@ use Rattle.response_laws.specs.Turns.{as_said, is_ready_for, is_made, makes_read
 use Rattle.response_laws.specs.Busy.{is_quiet, LeavesFirst, IsLeaving, LeavesOnce}
 use Rattle.response_laws.specs.Demand.{Costs, Start, acts_due, sets_due, IsEnough}
 use Rattle.response_laws.specs.Bounded.{BoundsRounds, EndsSoon, StartsInOne}
-use Rattle.response_laws.specs.Response.{LeavesBefore, HasPace, EntersOnce, LastsWithin, RespondsInTime}
-use Rattle.response_laws.proofs.Linked.{Known, last_state, last_end, each_append, each_joined, last_end-append, stages_linked, stages_known, stages-append, leads_to, behind_is}
+use Rattle.response_laws.specs.Response.{LeavesBefore, EndsWithin, HasPace, EntersOnce, LastsWithin, RespondsInTime}
+use Rattle.response_laws.proofs.Linked.{Known, last_state, last_end, each_append, each_joined, each_so, last_end-append, stages_linked, stages_known, stages-append, leads_to, behind_is}
+use Rattle.response_laws.proofs.Ordering.{ordered_front, ends_before, all_end}
 use Rattle.response_laws.proofs.Sums.{total-append}
 use Rattle.response_laws.proofs.Period.{Calm, quiet_calm, leaving_calm, period_holds}
 use Rattle.response_laws.proofs.Begun.{Begun, Scan, scanned, pending, nothing, scan}
@@ -321,7 +322,7 @@ module _ (config : Config) (app : App) (n late more : ℕ) (arrivals : List Arri
 
     -- from the first event on the period goes on as long as the task does not leave
     goes_on : (period further : List Stage) → stages config app at s behind ≡ period ++ further → AllByRecursion (IsBusy config h) period
-        → (once ≡ true → LeavesOnce h begun.first (begun.behind ++ period)) → last_end at period ≤ made.stamp.at + r
+        → (once ≡ true → LeavesOnce h begun.first (begun.behind ++ period)) → (last_end at period ≤ made.stamp.at + r) × (last_end at period ≤ end_of begun.first + r)
     goes_on period further same busy low =
         let acts = has_making (activated h) in
         let sets = has_making (was_set h) in
@@ -335,7 +336,7 @@ module _ (config : Config) (app : App) (n late more : ℕ) (arrivals : List Arri
         let near = at_making IsSoon (each_append IsSoon (begun.first ∷ begun.behind) period here.1).0
         (and_from (not (is_ready (task making.found h).state)) (is_ready (task making.next h).state) (not_from_false (is_ready (task making.found h).state) not_before) ready) in
         let ends = here.2 in
-        omega (arith, ends, joined, near)
+        (omega (arith, ends, joined, near), omega (arith, ends, joined))
       where
         part : run_stages config app events ≡ begun.before ++ ((begun.first ∷ (begun.behind ++ period)) ++ further)
         part =
@@ -396,47 +397,66 @@ module _ (config : Config) (app : App) (n late more : ℕ) (arrivals : List Arri
     some_events [] = omega arith
     some_events (x ∷ xs) = omega arith
 
+    -- an event begins behind the end of the period's first one
+    begins_behind : (first : List Stamped) (e : Stamped) (rest : List Stamped) → behind ≡ first ++ e ∷ rest → is_admit e ≡ false → end_of begun.first ≤ e.stamp.from
+    begins_behind first e rest parts other =
+        let placed = subst (AllPairs IsOrdered) (is ∙ ap (λ es. before ++ made ∷ es) parts ∙ sym (append_assoc before (made ∷ first) (e ∷ rest))) in_time.placed in
+        let ended = each_so (λ x. IsOrdered x e) (λ x. is_admit x ≡ false → x.stamp.at < e.stamp.from) (λ x ordered. ends_before x e ordered other) (before ++ made ∷ first)
+        (ordered_front (before ++ made ∷ first) e rest placed) in
+        let up_ended = (each_append (λ x. is_admit x ≡ false → x.stamp.at < e.stamp.from) up first
+        (subst (AllByRecursion (λ x. is_admit x ≡ false → x.stamp.at < e.stamp.from)) (sym (append_assoc before (made ∷ []) first)) ended)).0 in
+        let all = all_end config app e.stamp.from 0 (opening config app) up (omega arith) up_ended in
+        (each_append (λ x. end_of x ≤ e.stamp.from) begun.before (begun.first ∷ begun.behind) (subst (AllByRecursion (λ x. end_of x ≤ e.stamp.from)) begun.parts all)).1.0
+
+    -- an event in front of which the task has not left
+    pub pends : (first : List Stamped) (e : Stamped) (rest : List Stamped) → behind ≡ first ++ e ∷ rest → AllByRecursion (λ x. is_left h x.event ≡ false) first
+        → is_admit e ≡ false → EndsWithin r made.stamp.at e
+    pends first e rest parts none other =
+        let halves = leads-parts config app first (e ∷ rest) s run.0 (subst (λ es. AreStepsTo config app es s run.0) parts behind_leads) in
+        let due = due_on config app late h makes.declared at s halves.0 first halves.1 (inl makes.behind) none in
+        let xs = stages config app at s first in
+        let reached = leads_to config app at s halves.0 first halves.1 in
+        let last : Stage = stage config app (last_end at xs) (last_state s xs) e in
+        let busy_last : IsBusy config h last = due_busy config h (last_state s xs) makes.declared (subst (λ x. IsDue x h) (sym reached) due.1) in
+        let there = ap (stages config app at s) parts ∙ stages-append config app at s first (e ∷ rest)
+        ∙ sym (append_assoc xs (last ∷ []) (stages config app (end_of last) last.next rest)) in
+        let le = goes_on (xs ++ last ∷ []) (stages config app (end_of last) last.next rest) there
+        (each_joined (IsBusy config h) xs (last ∷ []) due.0 (busy_last, tt))
+        (λ on ahead further end same.
+        let le = prefix_few (begun.first ∷ (begun.behind ++ xs)) last ahead further end
+        (ap (λ zs. begun.first ∷ zs) (append_assoc begun.behind xs (last ∷ [])) ∙ same) in
+        let own = begun.few on in
+        let zero = none_left at s first none in
+        let both = total-append (λ x. cond (is_left h x.stamped.event) 1 0) begun.behind xs in
+        omega (arith, le, own, zero, both)) in
+        let ends = last_end-append at xs (last ∷ []) ∙ ap {B = ℕ} (λ b. cond b (last_end at xs) (e.stamp.at + 1)) other in
+        let from = begins_behind first e rest parts other in
+        let soon = le.0 in
+        let short = le.1 in
+        record { ends = omega (arith, soon, ends); spans = omega (arith, short, ends, from) }
+
     pub responds : made.stamp.at + r + more ≤ n → LeavesBefore h (made.stamp.at + r) behind
     responds many = by (leaving config app late h behind)
       where
         by : Leaving config app late h behind → LeavesBefore h (made.stamp.at + r) behind
-        by (leaves first left rest parts none leaves_h) =
-            let halves = leads-parts config app first (left ∷ rest) s run.0 (subst (λ es. AreStepsTo config app es s run.0) parts behind_leads) in
-            let due = due_on config app late h makes.declared at s halves.0 first halves.1 (inl makes.behind) none in
-            let xs = stages config app at s first in
-            let reached = leads_to config app at s halves.0 first halves.1 in
-            let last : Stage = stage config app (last_end at xs) (last_state s xs) left in
-            let busy_last : IsBusy config h last = due_busy config h (last_state s xs) makes.declared (subst (λ x. IsDue x h) (sym reached) due.1) in
-            let there = ap (stages config app at s) parts ∙ stages-append config app at s first (left ∷ rest)
-            ∙ sym (append_assoc xs (last ∷ []) (stages config app (end_of last) last.next rest)) in
-            let le = goes_on (xs ++ last ∷ []) (stages config app (end_of last) last.next rest) there
-            (each_joined (IsBusy config h) xs (last ∷ []) due.0 (busy_last, tt))
-            (λ on ahead further end e.
-            let le = prefix_few (begun.first ∷ (begun.behind ++ xs)) last ahead further end
-            (ap (λ zs. begun.first ∷ zs) (append_assoc begun.behind xs (last ∷ [])) ∙ e) in
-            let own = begun.few on in
-            let zero = none_left at s first none in
-            let both = total-append (λ x. cond (is_left h x.stamped.event) 1 0) begun.behind xs in
-            omega (arith, le, own, zero, both)) in
-            let ends = last_end-append at xs (last ∷ []) ∙ ap {B = ℕ} (λ b. cond b (last_end at xs) (left.stamp.at + 1)) (left_no_admit h left leaves_h) in
-            record {
-              front = first;
-              left = left;
-              rest = rest;
-              parts = parts;
-              first = none;
-              leaves = leaves_h;
-              in_time = omega (arith, le, ends);
-            }
+        by (leaves first left rest parts none leaves_h) = record {
+          front = first;
+          left = left;
+          rest = rest;
+          parts = parts;
+          first = none;
+          leaves = leaves_h;
+          in_time = (pends first left rest parts none (left_no_admit h left leaves_h)).ends;
+        }
         by (leaves_not none) =
             let due = due_on config app late h makes.declared at s run.0 behind behind_leads (inl makes.behind) none in
-            let le = goes_on (stages config app at s behind) [] (sym (append-nil (stages config app at s behind))) due.0
+            let le = (goes_on (stages config app at s behind) [] (sym (append-nil (stages config app at s behind))) due.0
             (λ on ahead further end e.
             let le = whole_few ahead further end (begun.first ∷ (begun.behind ++ stages config app at s behind)) e in
             let own = begun.few on in
             let zero = none_left at s behind none in
             let both = total-append (λ x. cond (is_left h x.stamped.event) 1 0) begun.behind (stages config app at s behind) in
-            omega (arith, le, own, zero, both)) in
+            omega (arith, le, own, zero, both))).0 in
             let some = subst (λ es. 1 ≤ length es) (sym is) (some_events before) in
             let end = pace.reaches some in
             let last = sym (ap (last_end 0) all ∙ last_end-append 0 front (stages config app at s behind)) in
@@ -445,5 +465,9 @@ module _ (config : Config) (app : App) (n late more : ℕ) (arrivals : List Arri
             absurd (omega (arith, le, end, last, no_less, enough_counts))
 
 pub respond_in_time : RespondsInTime
-respond_in_time config app n late more arrivals events h r cuts costs once starts start enters wf run in_time pace shared bounds ways enough lasts before behind made found s is leads makes many =
-    responds config app n late more arrivals events h r cuts costs once starts start enters wf run in_time pace shared bounds ways enough lasts before behind made found s is leads makes many
+respond_in_time config app n late more arrivals events h r cuts costs once starts start enters wf run in_time pace shared bounds ways enough lasts = record {
+  leaves = λ before behind made found s is leads makes many.
+      responds config app n late more arrivals events h r cuts costs once starts start enters wf run in_time pace shared bounds ways enough lasts before behind made found s is leads makes many;
+  pends = λ before front rest made e found s is leads makes none other.
+      pends config app n late more arrivals events h r cuts costs once starts start enters wf run in_time pace shared bounds ways enough lasts before (front ++ e ∷ rest) made found s is leads makes front e rest refl none other;
+}

@@ -41,7 +41,7 @@ module _ (j : ℕ) (P : Task → Type 0) where
   Kept x = P (task x j)
 
   -- an action on another task
-  other_activated : (t : ℕ) (x : System) → (t ≡ j → ⊥) → Kept x → Kept (acted_state (action.Activate t) x)
+  pub other_activated : (t : ℕ) (x : System) → (t ≡ j → ⊥) → Kept x → Kept (acted_state (action.Activate t) x)
   other_activated t x n h =
       by_suspended (task x t).state (activated_state x t) x Kept
       (λ _. at_task x t j (record (task x t) { state = mode.Ready }) P h (λ e. absurd (n (sym e)))) (λ _. h)
@@ -70,7 +70,7 @@ module _ (j : ℕ) (P : Task → Type 0) where
         cond_both ((alarm x a).left == 1) (acted_state does (with_left a (alarm x a).cycle x)) (with_left a ((alarm x a).left - 1) x) Kept
         (λ _. safe does (with_left a (alarm x a).cycle x) is h) (λ _. h)
 
-    alarms_kept : (c first : ℕ) (ds : List AlarmDecl) (x : System) → has_alarm c test ds ≡ false → Kept x → Kept (alarms_ticked_state c first ds x)
+    pub alarms_kept : (c first : ℕ) (ds : List AlarmDecl) (x : System) → has_alarm c test ds ≡ false → Kept x → Kept (alarms_ticked_state c first ds x)
     alarms_kept c first [] x none h = h
     alarms_kept c first (d ∷ ds) x none h =
         let both = or_parts ((d.counter == c) && test d.action) (has_alarm c test ds) none in

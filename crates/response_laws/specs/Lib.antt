@@ -13,6 +13,8 @@ pub mod Makers
 pub mod Once
 pub mod CodeStarts
 pub mod Ticks
+pub mod Made
 pub mod Expiries
 pub mod Settings
 pub mod SoundRuns
+pub mod Admissions

@@ -9,7 +9,7 @@ use Rattle.sloth_base.specs.Named.{declaration}
 use Rattle.code_rules.specs.WellFormed.{WellFormed}
 use Rattle.osek_scheduler.specs.Apart.{static_priority}
 use Rattle.osek_scheduler.specs.State.{System, opening}
-use Rattle.osek_scheduler.specs.InTime.{InTime}
+use Rattle.osek_scheduler.specs.InTime.{InTime, is_admit}
 use Rattle.osek_scheduler.specs.Runs.{AreStepsTo, OsekRun}
 use Rattle.osek_blocking.specs.Blocking.{MakesReady}
 use Rattle.raised_sections.specs.Pace.{last_count}
@@ -30,11 +30,29 @@ pub record LeavesBefore (h limit : ℕ) (events : List Stamped) : Type 0 where
   pub in_time : left.stamp.at < limit
 
 -- From the moment of an event that makes task h Ready on, the task leaves within r counts, if the run has so many instructions and `more`.
-abbrev pub RespondsWithin : Config → App → (n more h r : ℕ) → List Stamped → Type 0
-RespondsWithin config app n more h r events =
+abbrev pub LeavesWithin : Config → App → (n more h r : ℕ) → List Stamped → Type 0
+LeavesWithin config app n more h r events =
     (before behind : List Stamped) (made : Stamped) (found s : System) → events ≡ before ++ made ∷ behind
     → AreStepsTo config app before (opening config app) found → MakesReady config app h made.event found s
     → made.stamp.at + r + more ≤ n → LeavesBefore h (made.stamp.at + r) behind
+
+-- the event ends before r counts from a moment have passed, and spans no more
+pub record EndsWithin (r moment : ℕ) (e : Stamped) : Type 0 where
+  pub ends : e.stamp.at < moment + r
+  pub spans : e.stamp.at < e.stamp.from + r
+
+-- However long the run is: each event behind one that makes task h Ready, up to the one with which the task leaves, ends within r counts of its moment, and
+-- spans no more. Admissions, which stand in other events, are left out.
+abbrev pub PendsWithin : Config → App → (h r : ℕ) → List Stamped → Type 0
+PendsWithin config app h r events =
+    (before front rest : List Stamped) (made e : Stamped) (found s : System) → events ≡ before ++ made ∷ (front ++ e ∷ rest)
+    → AreStepsTo config app before (opening config app) found → MakesReady config app h made.event found s
+    → AllByRecursion (λ x. is_left h x.event ≡ false) front → is_admit e ≡ false → EndsWithin r made.stamp.at e
+
+-- task h responds within r counts
+pub record RespondsWithin (config : Config) (app : App) (n more h r : ℕ) (events : List Stamped) : Type 0 where
+  pub leaves : LeavesWithin config app n more h r events
+  pub pends : PendsWithin config app h r events
 
 -- the pace of a run of n instructions
 pub record HasPace (n late more : ℕ) (events : List Stamped) : Type 0 where

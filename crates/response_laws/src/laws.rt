@@ -8,6 +8,7 @@ ghost use Rattle.response_laws.specs.Ticks.{TicksMakeByAlarms};
 ghost use Rattle.response_laws.specs.Expiries.{TicksMakeAsAlarmsExpire};
 ghost use Rattle.response_laws.specs.Settings.{CleanTasksHaveSettings};
 ghost use Rattle.response_laws.specs.Response.{RespondsInTime};
+ghost use Rattle.response_laws.specs.Admissions.{AdmissionsFindSuspended};
 ghost use Rattle.response_laws.specs.Loaded.{RespondsUnderLoad};
 ghost use Rattle.response_laws.specs.Shares.{LowerTasksSpendOneItem};
 ghost use Rattle.response_laws.specs.CodeStarts.{CodeFitsStarts};
@@ -63,8 +64,8 @@ pub fn clean_tasks_have_settings()
 {}
 
 /// In every run whose rounds are within their costs, and whose busy periods start in given ways, each with enough, a task leaves within the longest of
-/// these in which it has a round, and what stands in front of that, from the moment of the event that makes it Ready on, if the run is that long. A
-/// preemptable task may be looked at from where it left last on; then it is entered once.
+/// these in which it has a round, and what stands in front of that, from the moment of the event that makes it Ready on, if the run is that long; and
+/// however long it is, each event up to there ends within that. A preemptable task may be looked at from where it left last on; then it is entered once.
 pub fn runs_respond_in_time()
     ensures { RespondsInTime }
 {}
@@ -95,4 +96,10 @@ pub fn code_fits_starts()
 /// bring in by their code, and as many expiries as alarms may have. But for the `work` lines nothing is asked of the run.
 pub fn images_respond_by_code()
     ensures { ImagesRespondByCode }
+{}
+
+/// In every run whose arrivals keep a load, each arrival of a task that responds within their distance, and that nothing else makes Ready, finds it Suspended:
+/// where an event that is no arrival follows, or the run has so many instructions more as the response asks for, or the distance is that much more.
+pub fn admissions_find_suspended()
+    ensures { AdmissionsFindSuspended }
 {}

@@ -23,6 +23,9 @@
 //!   (`images_respond`; `specs/SoundRuns`).
 //! - What lower tasks bring into a period follows from their code (`code_fits_starts`; `specs/CodeStarts`), so the response time of a task does
 //!   (`images_respond_by_code`).
+//! - A task that nothing but its arrivals makes Ready (`specs/Made`), and that responds within their distance, is Suspended where the next one is admitted, so none
+//!   is lost (`admissions_find_suspended`; `specs/Admissions`): until it has left each event ends within its response, however long the run is
+//!   (`PendsWithin` of `specs/Response`).
 //!
 //! What a task has begun of an item in front of an entry or a tick that preempts it is of its own counts, and within the item's weight. In a busy period that
 //! holds of lower tasks' sections too; besides them lower tasks spend one item at most (`lower_tasks_spend_one_item`; `specs/Shares`). Stages, rounds and own

@@ -23,14 +23,14 @@ one_more_open load responses t = ap (has_open load responses) (add-one t)
 
 -- ---- those that runs keep
 
-pub no_run_lines : (config : Config) (load : List Entry) (responses : List (Option ℕ)) → run_lines config load responses 0 ≡ []
+pub no_run_lines : (config : Config) (app : App) (load : List Entry) (responses : List (Option ℕ)) → run_lines config app load responses 0 ≡ []
 unfolding run_lines
-no_run_lines config load responses = refl
+no_run_lines config app load responses = refl
 
-pub one_run_line_more : (config : Config) (load : List Entry) (responses : List (Option ℕ)) (t : ℕ)
-    → run_lines config load responses (t + 1) ≡ run_lines config load responses t ++ run_line config load t (response_at responses t)
+pub one_run_line_more : (config : Config) (app : App) (load : List Entry) (responses : List (Option ℕ)) (t : ℕ)
+    → run_lines config app load responses (t + 1) ≡ run_lines config app load responses t ++ run_line config app load t (response_at responses t)
 unfolding run_lines
-one_run_line_more config load responses t = ap (run_lines config load responses) (add-one t)
+one_run_line_more config app load responses t = ap (run_lines config app load responses) (add-one t)
 
 -- ---- lines of the same responses
 

@@ -1,5 +1,4 @@
 pub mod Inputs
-pub mod Made
 pub mod Lines
 pub mod Parts
 pub mod ResponseText

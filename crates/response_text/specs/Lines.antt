@@ -5,7 +5,7 @@ use Rattle.sloth_base.specs.declared.app.App.{App}
 use Rattle.sloth_base.specs.Named.{declaration}
 use Rattle.load_text.specs.declared.entry.Entry.{Entry}
 use Rattle.load_text.specs.Loads.{distance, deadline}
-use Rattle.response_text.specs.Made.{is_made_by_arrivals}
+use Rattle.response_laws.specs.Made.{is_made_by_arrivals}
 
 -- ---- a response
 

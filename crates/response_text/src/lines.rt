@@ -83,7 +83,8 @@ pub fn push_deadline(
     }
 }
 
-fn push_kept(text: &mut Vec<u8>, kept: bool) -> Result<(), NoMemory>
+/// That a task keeps its arrivals, where it does.
+pub fn push_kept(text: &mut Vec<u8>, kept: bool) -> Result<(), NoMemory>
     ensures { OnOk result (text.new.items ≡ text.old.items ++ kept_words kept) }
 {
     if kept {
@@ -92,7 +93,8 @@ fn push_kept(text: &mut Vec<u8>, kept: bool) -> Result<(), NoMemory>
     Ok(())
 }
 
-fn keeps_arrivals(
+/// Whether each arrival of a task finds it Suspended: nothing else makes it Ready, and its response is at most their distance.
+pub fn keeps_arrivals(
     config: &Config,
     app: &App,
     load: &[Entry],

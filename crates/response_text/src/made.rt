@@ -2,7 +2,8 @@
 ghost use Rattle.std.specs.Prelude.{◌≡◌, ◌<◌, length};
 ghost use Rattle.std.specs.List.{list_any};
 ghost use Rattle.sloth_base.specs.Named.{declaration};
-ghost use Rattle.response_text.specs.Made.{is_making, makes, has_maker, is_named, is_activation, activates, is_plain, is_made_by_arrivals};
+ghost use Rattle.response_laws.specs.Made.{is_making, makes, has_maker, is_named, is_activating, is_plain, is_made_by_arrivals};
+ghost use Rattle.response_laws.specs.Ticks.{activates};
 
 use sloth_base::app::{App, Func, Item, Op};
 use sloth_base::config::{Action, AlarmDecl, Config, TaskDecl};
@@ -41,8 +42,8 @@ fn is_named(task: u32, funcs: &[Func]) -> bool
     funcs.iter().any(|func| has_maker(task, func))
 }
 
-fn is_activation(task: u32, action: Action) -> bool
-    ensures { result ≡ is_activation task action }
+fn activates(task: u32, action: Action) -> bool
+    ensures { result ≡ activates task action }
 {
     match action {
         Action::Activate(other) => other.0 == task,
@@ -50,17 +51,17 @@ fn is_activation(task: u32, action: Action) -> bool
     }
 }
 
-fn activates(task: u32, alarm: &AlarmDecl) -> bool
-    ensures { result ≡ activates task alarm.now }
+fn is_activating(task: u32, alarm: &AlarmDecl) -> bool
+    ensures { result ≡ is_activating task alarm.now }
 {
-    is_activation(task, alarm.action)
+    activates(task, alarm.action)
 }
 
 // Whether an alarm activates the task.
 fn is_activated(task: u32, alarms: &[AlarmDecl]) -> bool
-    ensures { result ≡ list_any (activates task) alarms.now }
+    ensures { result ≡ list_any (is_activating task) alarms.now }
 {
-    alarms.iter().any(|alarm| activates(task, alarm))
+    alarms.iter().any(|alarm| is_activating(task, alarm))
 }
 
 fn is_plain(task: &TaskDecl) -> bool

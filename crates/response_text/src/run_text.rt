@@ -58,13 +58,14 @@ fn responses(
 fn run_told_of(
     alloc: Global,
     config: &Config,
+    app: &App,
     load: &[Entry],
     responses: &[Option<u32>],
 ) -> Result<Told, NoMemory>
     requires few { length config.now.tasks ≤ task_limit }
-    ensures { IfOk result (λ told. told ≡ run_told_of config.now load.now responses.now) }
+    ensures { IfOk result (λ told. told ≡ run_told_of config.now app.now load.now responses.now) }
 {
-    let text = run_lines(alloc, config, load, responses)?;
+    let text = run_lines(alloc, config, app, load, responses)?;
     Ok(Told {
         text: List::from_vec(text),
         is_open: has_open(load, responses, config.tasks.items().len() as u32),
@@ -91,7 +92,7 @@ fn told_by(
         &found.costs,
         config.tasks.items().len() as u32,
     )?;
-    run_told_of(alloc, config, load, &responses)
+    run_told_of(alloc, config, app, load, &responses)
 }
 
 // Those of task code that keeps all rules.

@@ -33,7 +33,7 @@ use Rattle.run_responses.proofs.Windows.{front_of, lead_of, enough, has_arrivals
 use Rattle.run_responses.proofs.Fronts.{start_of, begins, fits_starts}
 
 -- a number of a load is none of 0
-some_said : (f : Form) (owner : ℕ) (load : List Entry) → All IsNumber load → (said f owner load ≡ Some 0) → ⊥
+pub some_said : (f : Form) (owner : ℕ) (load : List Entry) → All IsNumber load → (said f owner load ≡ Some 0) → ⊥
 some_said f owner [] all is = cc
 some_said f owner (entry ∷ load) all is = by (is_of f owner entry) (some_said f owner load (All-tail IsNumber entry load all)) is
   where

@@ -2,8 +2,8 @@ use Rattle.std.proofs.Common.{◌≡◌, List, Option, ℕ, length, subst, sym}
 use Rattle.std.proofs.lemmas.Result.{IfOk-weaker}
 use Rattle.sloth_base.specs.declared.config.TaskDecl.{TaskDecl}
 use Rattle.response_text.specs.declared.told.Told.{Told}
-use Rattle.response_text.specs.RunResponseText.{AreRunResponses, run_told_of, HasRunResponses}
-use Rattle.response_text.proofs.Keeping.{runs_keep}
+use Rattle.response_text.specs.RunResponseText.{AreRunResponses, RunsKeepResponses, run_told_of, HasRunResponses}
+use Rattle.response_text.proofs.Keeping.{runs_keep, lose_none}
 use Rattle.response_text.proofs.run_text.told_by.Goals as goal
 
 pub returns : goal.returns
@@ -17,13 +17,16 @@ returns c =
     subst (λ (ts : List TaskDecl). AreRunResponses costs.longest costs.late costs.costs (length ts) c.in_ok-responses.responses.items) c.items.ensures c.in_ok-responses.ensures in
     let all : AreRunResponses costs.longest costs.late costs.costs (length config.tasks) responses =
     subst (λ (l : List (Option ℕ)). AreRunResponses costs.longest costs.late costs.costs (length config.tasks) l) (sym c.deref.ensures.value) held in
-    let made : (told : Told) → told ≡ run_told_of config load responses → HasRunResponses config app load told =
+    let kept : RunsKeepResponses config app load costs.longest costs.late responses =
+    runs_keep config app load c.requires.well_formed c.requires.in_load costs c.requires.costs responses all in
+    let made : (told : Told) → told ≡ run_told_of config app load responses → HasRunResponses config app load told =
     λ told is. record {
       costs = costs;
       are_costs = c.requires.costs;
       responses = responses;
       are_responses = all;
-      kept = runs_keep config app load c.requires.well_formed c.requires.in_load costs c.requires.costs responses all;
+      kept = kept;
+      none_lost = lose_none config app load c.requires.well_formed c.requires.in_load costs.longest costs.late responses kept;
       is = is;
     } in
     IfOk-weaker _ _ _ (λ told is. made _ is) c.run_told_of.ensures

@@ -4,8 +4,6 @@ use Rattle.std.specs.List.{list_any}
 use Rattle.sloth_base.specs.declared.config.Config.{Config}
 use Rattle.sloth_base.specs.declared.config.TaskDecl.{TaskDecl}
 use Rattle.sloth_base.specs.declared.config.AlarmDecl.{AlarmDecl}
-use Rattle.sloth_base.specs.declared.config.Action.{Action}
-use Rattle.sloth_base.specs.declared.config.Action.TheVariants as action
 use Rattle.sloth_base.specs.declared.app.App.{App}
 use Rattle.sloth_base.specs.declared.app.Func.{Func}
 use Rattle.sloth_base.specs.declared.app.Item.{Item}
@@ -14,6 +12,7 @@ use Rattle.sloth_base.specs.declared.app.Op.TheVariants as op
 use Rattle.sloth_base.specs.declared.service.Service.TheVariants as service
 use Rattle.sloth_base.specs.Named.{declaration}
 use Rattle.sloth_base.specs.ServiceCodes.{is_service}
+use Rattle.response_laws.specs.Ticks.{activates}
 
 -- an ActivateTask or a ChainTask that names the task
 abbrev pub is_making : (t : ℕ) → Op → Bool
@@ -32,13 +31,9 @@ has_maker t func = list_any (makes t) func.items
 abbrev pub is_named : (t : ℕ) → List Func → Bool
 is_named t funcs = list_any (has_maker t) funcs
 
--- an alarm of this action activates the task
-abbrev pub is_activation : (t : ℕ) → Action → Bool
-is_activation t (action.Activate u) = u == t
-is_activation t (action.Set u mask) = false
-
-abbrev pub activates : (t : ℕ) → AlarmDecl → Bool
-activates t alarm = is_activation t alarm.action
+-- an alarm that activates the task
+abbrev pub is_activating : (t : ℕ) → AlarmDecl → Bool
+is_activating t alarm = activates t alarm.action
 
 -- a basic task that does not start with the system
 abbrev pub is_plain : TaskDecl → Bool
@@ -47,4 +42,4 @@ is_plain t = not t.extended && not t.autostart
 -- a basic task that is made by its arrivals alone: not as the system starts, not by ActivateTask or ChainTask, and by no alarm
 abbrev pub is_made_by_arrivals : Config → App → (t : ℕ) → Bool
 is_made_by_arrivals config app t =
-    is_plain (declaration config t) && (not (is_named t app.funcs) && not (list_any (activates t) config.alarms))
+    is_plain (declaration config t) && (not (is_named t app.funcs) && not (list_any (is_activating t) config.alarms))
