@@ -1,2 +1,5 @@
 pub mod Telling
 pub mod Misplaced
+pub mod Places
+pub mod ToldOnce
+pub mod Guarded

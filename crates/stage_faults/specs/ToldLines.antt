@@ -4,6 +4,8 @@ use Rattle.sloth_base.specs.declared.refusal.Code.TheVariants as code
 use Rattle.sloth_base.specs.declared.refusal.Refusal.{Refusal}
 use Rattle.least_fault.specs.Search.{Somewhere}
 use Rattle.asm_lines.specs.declared.source_line.SourceLine.{SourceLine}
+use Rattle.asm_lines.specs.declared.source_line.SourceLine.TheVariants.{Statement}
+use Rattle.asm_lines.specs.Forms.{is_operand_count}
 use Rattle.asm_lines.specs.Grammar.{is_shapeless}
 use Rattle.asm_lines.specs.Faults.{SourceCase, is_a1, is_a2, is_a3, is_a4, after_line, is_end_inside}
 
@@ -20,9 +22,18 @@ any_misplaced inside (s ∷ ls) = is_misplaced inside s || any_misplaced (after_
 abbrev pub is_told_a1 : Bool → Bool → SourceLine → Bool
 is_told_a1 inside earlier s = is_a1 inside s && not (earlier && is_misplaced inside s)
 
+-- the number of operands is right
+abbrev pub is_counted : SourceLine → Bool
+is_counted (Statement m os) = is_operand_count m (length os)
+is_counted _ = false
+
+-- A4 of the operands of a line that has as many as it may have: of others no form is known
+abbrev pub is_told_a4 : SourceLine → Bool
+is_told_a4 s = is_counted s && is_a4 s
+
 -- r is a fault that is told of line n
 abbrev pub ToldLine : Bool → Bool → ℕ → SourceLine → Refusal → Type 0
-ToldLine inside earlier n s r = SourceCase (is_told_a1 inside earlier s) n code.A1 r ⊎ (SourceCase (is_a2 inside s) n code.A2 r ⊎ (SourceCase (is_a3 s) n code.A3 r ⊎ SourceCase (is_a4 s) n code.A4 r))
+ToldLine inside earlier n s r = SourceCase (is_told_a1 inside earlier s) n code.A1 r ⊎ (SourceCase (is_a2 inside s) n code.A2 r ⊎ (SourceCase (is_a3 s) n code.A3 r ⊎ SourceCase (is_told_a4 s) n code.A4 r))
 
 -- the same of a line with these lines before it
 abbrev pub ToldAt : List SourceLine → SourceLine → Refusal → Type 0

@@ -4,7 +4,7 @@ ghost use Rattle.sloth_base.specs.declared.refusal.Part.TheVariants.{Src};
 ghost use Rattle.least_fault.specs.Search.{Somewhere};
 ghost use Rattle.asm_scopes.specs.Statements.{label_names};
 ghost use Rattle.asm_scopes.specs.Bodies.{function_names};
-ghost use Rattle.asm_scopes.specs.NameFaults.{HeaderFault, BodyLineFault, LineNameFault, BodyNameFault};
+ghost use Rattle.stage_faults.specs.ToldNames.{is_header_beyond, is_line_beyond, ToldHeader, ToldBodyLine, ToldLineName, ToldBody};
 ghost use Rattle.stage_faults.specs.Told.{Adds};
 
 use crate::earlier_lines::{line_of_first, push_if};
@@ -12,7 +12,8 @@ use crate::notes::{Note, add_if, add_named};
 use asm_lines::{Mnemonic, Operand, SourceLine};
 use asm_scopes::body_faults::{is_beyond, is_misnamed, is_strange, is_too_great};
 use asm_scopes::limits::{count_item, count_items, count_label};
-use asm_scopes::{Body, Scope, is_label, kind_of, label_names, name_of, written};
+use asm_scopes::{Body, Scope, is_item, is_label, kind_of, label_names, name_of, written};
+use sloth_base::limits::{BODY_LIMIT, ITEM_LIMIT};
 use sloth_base::memory::NoMemory;
 use sloth_base::refusal::Code;
 use std::alloc::Global;
@@ -29,6 +30,13 @@ fn strange_name<'t>(lacking: Option<&'t [u8]>, number: u32, name: &'t [u8]) -> &
     }
 }
 
+// A6 of a header behind so many bodies, or a body behind more than there may be.
+fn is_header_beyond(count: usize, header: &SourceLine) -> bool
+    ensures { result ≡ is_header_beyond count header.now }
+{
+    is_too_great(count, header) || count > BODY_LIMIT
+}
+
 // Behind the first `count` bodies, which begin on the lines `earlier`.
 fn add_header_faults<'t>(
     notes: &mut Vec<Note<'t>>,
@@ -39,13 +47,13 @@ fn add_header_faults<'t>(
     number: u32,
     header: &'t SourceLine,
 ) -> Result<(), NoMemory>
-    ensures { OnOk result (Adds Src (HeaderFault scope.now (take count scope.now.functions) count number header.now) notes.old.items notes.new.items) }
+    ensures { OnOk result (Adds Src (ToldHeader scope.now (take count scope.now.functions) count number header.now) notes.old.items notes.new.items) }
 {
     let name = name_of(header);
     let doubled = scope.functions.is_among_first(count, name);
     let first = line_of_first(&scope.functions, earlier, name);
     add_named(notes, doubled, number, Code::A5, name, first)?;
-    add_if(notes, is_too_great(count, header), number, Code::A6)?;
+    add_if(notes, is_header_beyond(count, header), number, Code::A6)?;
     let strange = is_strange(scope, header);
     let name = strange_name(lacking, number, name);
     add_named(notes, strange, number, Code::A7, name, None)
@@ -99,6 +107,13 @@ fn misnamed<'t>(
     }
 }
 
+// A6 of a line behind so many items, or an item behind more than there may be.
+fn is_line_beyond(items: usize, line: &SourceLine) -> bool
+    ensures { result ≡ is_line_beyond items line.now }
+{
+    is_beyond(items, line) || (is_item(line) && items > ITEM_LIMIT)
+}
+
 // Behind the first `count` labels, which stand on the lines `earlier`, and so many items.
 fn add_line_faults<'t>(
     notes: &mut Vec<Note<'t>>,
@@ -110,13 +125,13 @@ fn add_line_faults<'t>(
     number: u32,
     line: &'t SourceLine,
 ) -> Result<(), NoMemory>
-    ensures { OnOk result (Adds Src (BodyLineFault scope.now labels.now (take count labels.now) items number line.now) notes.old.items notes.new.items) }
+    ensures { OnOk result (Adds Src (ToldBodyLine scope.now labels.now (take count labels.now) items number line.now) notes.old.items notes.new.items) }
 {
     let test = is_misnamed(scope, labels, count, line);
     let first = first_label(labels, earlier, line);
     let name = misnamed(scope, labels, first, line);
     add_named(notes, test, number, Code::A5, name, first)?;
-    add_if(notes, is_beyond(items, line), number, Code::A6)
+    add_if(notes, is_line_beyond(items, line), number, Code::A6)
 }
 
 // The faults of the lines of a body, whose header stands on line `number` behind so many items.
@@ -132,7 +147,7 @@ fn line_faults<'t>(
     requires few { number + length lines.now < 2 ^ 32 }
     requires items { items + length lines.now < 2 ^ 64 }
     requires labels { labels.now ≡ label_names lines.now }
-    ensures { OnOk result (Adds Src (Somewhere (LineNameFault scope.now labels.now items number) lines.now) notes.old.items notes.new.items) }
+    ensures { OnOk result (Adds Src (Somewhere (ToldLineName scope.now labels.now items number) lines.now) notes.old.items notes.new.items) }
 {
     let mut earlier = Vec::new(alloc);
     let mut count = 0;
@@ -163,8 +178,8 @@ fn body_faults<'t>(
     requires few { body.now.line + length body.now.lines < 2 ^ 32 }
     requires items { items + length body.now.lines < 2 ^ 64 }
     ensures { OnOk result (Adds Src (λ r.
-        HeaderFault scope.now (take count scope.now.functions) count body.now.line body.now.header r
-        ⊎ Somewhere (LineNameFault scope.now (label_names body.now.lines) items body.now.line) body.now.lines r) notes.old.items notes.new.items) }
+        ToldHeader scope.now (take count scope.now.functions) count body.now.line body.now.header r
+        ⊎ Somewhere (ToldLineName scope.now (label_names body.now.lines) items body.now.line) body.now.lines r) notes.old.items notes.new.items) }
 {
     let labels = label_names(alloc, body.lines())?;
     add_header_faults(
@@ -198,7 +213,7 @@ pub fn body_notes<'t>(
     requires few { length bodies.now < 2 ^ 32 }
     requires short { All (λ body. body.line + length body.lines < 2 ^ 32) bodies.now }
     requires functions { scope.now.functions ≡ function_names bodies.now }
-    ensures { OnOk result (Adds Src (Somewhere (BodyNameFault scope.now) bodies.now) notes.old.items notes.new.items) }
+    ensures { OnOk result (Adds Src (Somewhere (ToldBody scope.now) bodies.now) notes.old.items notes.new.items) }
 {
     let mut earlier = Vec::new(alloc);
     let mut items = 0;

@@ -1,16 +1,15 @@
 //! The faults of the lines of task source (A1 to A4).
-ghost use Rattle.std.specs.Prelude.{◌≡◌, ◌<◌, ◌^◌, ◌||◌, ◌&&◌, length, not, IfOk, OnOk};
+ghost use Rattle.std.specs.Prelude.{◌≡◌, ◌<◌, ◌^◌, ◌||◌, ◌&&◌, length, not, OnOk};
 ghost use Rattle.sloth_base.specs.declared.refusal.Part.TheVariants.{Src};
 ghost use Rattle.asm_lines.specs.Grammar.{is_shapeless};
-ghost use Rattle.stage_faults.specs.Told.{Adds, AreAll};
-ghost use Rattle.stage_faults.specs.ToldLines.{is_misplaced, is_told_a1, ToldLine, ToldFault};
+ghost use Rattle.stage_faults.specs.Told.{Adds};
+ghost use Rattle.stage_faults.specs.ToldLines.{is_misplaced, is_told_a1, is_counted, is_told_a4, ToldLine, ToldFault};
 
 use crate::notes::{Note, add_if};
-use asm_lines::SourceLine;
 use asm_lines::rules::{after_line, is_a1, is_a2, is_a3, is_a4};
+use asm_lines::{SourceLine, takes};
 use sloth_base::memory::NoMemory;
 use sloth_base::refusal::Code;
-use std::alloc::Global;
 
 fn is_shaped(line: &SourceLine) -> bool
     ensures { result ≡ not (is_shapeless line.now) }
@@ -34,6 +33,22 @@ fn is_told_a1(inside: bool, earlier: bool, line: &SourceLine) -> bool
     is_a1(inside, line) && !(earlier && is_misplaced(inside, line))
 }
 
+fn is_counted(line: &SourceLine) -> bool
+    ensures { result ≡ is_counted line.now }
+{
+    match line {
+        SourceLine::Statement { mnemonic, operands } => takes(*mnemonic, operands.items().len()),
+        _ => false,
+    }
+}
+
+/// A4 of the operands of a line that has as many as it may have.
+pub fn is_told_a4(line: &SourceLine) -> bool
+    ensures { result ≡ is_told_a4 line.now }
+{
+    is_counted(line) && is_a4(line)
+}
+
 // The faults of a line, but A1 where it comes from the place alone and an earlier one did.
 fn add_faults<'t>(
     notes: &mut Vec<Note<'t>>,
@@ -47,7 +62,7 @@ fn add_faults<'t>(
     add_if(notes, is_told_a1(inside, earlier, line), number, Code::A1)?;
     add_if(notes, is_a2(inside, line), number, Code::A2)?;
     add_if(notes, is_a3(line), number, Code::A3)?;
-    add_if(notes, is_a4(line), number, Code::A4)
+    add_if(notes, is_told_a4(line), number, Code::A4)
 }
 
 fn is_earlier(earlier: bool, inside: bool, line: &SourceLine) -> bool
@@ -62,7 +77,8 @@ fn is_open(inside: bool, earlier: bool) -> bool
     inside && !earlier
 }
 
-fn add_all<'t>(notes: &mut Vec<Note<'t>>, lines: &[SourceLine]) -> Result<(), NoMemory>
+/// The faults of these lines. Of those that are A1 by their place alone, as the missing `end`, the first.
+pub fn add_all<'t>(notes: &mut Vec<Note<'t>>, lines: &[SourceLine]) -> Result<(), NoMemory>
     requires { length lines.now < 2 ^ 32 }
     ensures { OnOk result (Adds Src (ToldFault lines.now) notes.old.items notes.new.items) }
 {
@@ -79,14 +95,4 @@ fn add_all<'t>(notes: &mut Vec<Note<'t>>, lines: &[SourceLine]) -> Result<(), No
         lines.len() as u32,
         Code::A1,
     )
-}
-
-/// The faults of these lines. Of those that are A1 by their place alone, as the missing `end`, the first.
-pub fn line_notes<'t>(alloc: Global, lines: &[SourceLine]) -> Result<Vec<Note<'t>>, NoMemory>
-    requires { length lines.now < 2 ^ 32 }
-    ensures { IfOk result (λ notes. AreAll Src (ToldFault lines.now) notes.items) }
-{
-    let mut notes = Vec::new(alloc);
-    add_all(&mut notes, lines)?;
-    Ok(notes)
 }

@@ -3,7 +3,7 @@ ghost use Rattle.std.specs.Prelude.{◌≡◌, ◌<◌, ◌^◌, length, IfOk};
 ghost use Rattle.sloth_base.specs.declared.refusal.Part.TheVariants.{Src};
 ghost use Rattle.asm_scopes.specs.Bodies.{bodies_of};
 ghost use Rattle.asm_scopes.specs.Scopes.{scope_of};
-ghost use Rattle.asm_scopes.specs.NameFaults.{NameFault};
+ghost use Rattle.stage_faults.specs.ToldNames.{ToldName};
 ghost use Rattle.stage_faults.specs.Told.{AreAll};
 
 use crate::bodies::body_notes;
@@ -43,7 +43,7 @@ fn notes_in_scope<'t>(
     requires few { length lines.now < 2 ^ 32 }
     requires bodies { bodies.now ≡ bodies_of lines.now }
     requires scope { scope.now ≡ scope_of config.now lines.now bodies.now }
-    ensures { IfOk result (λ notes. AreAll Src (NameFault config.now lines.now) notes.items) }
+    ensures { IfOk result (λ notes. AreAll Src (ToldName config.now lines.now) notes.items) }
 {
     let mut notes = Vec::new(alloc);
     let lacking = task_without_body(alloc, config, bodies)?;
@@ -63,7 +63,7 @@ pub fn name_notes<'t>(
 ) -> Result<Vec<Note<'t>>, NoMemory>
     requires few { length lines.now < 2 ^ 32 }
     requires bodies { bodies.now ≡ bodies_of lines.now }
-    ensures { IfOk result (λ notes. AreAll Src (NameFault config.now lines.now) notes.items) }
+    ensures { IfOk result (λ notes. AreAll Src (ToldName config.now lines.now) notes.items) }
 {
     let scope = scope_of(alloc, config, lines, bodies)?;
     notes_in_scope(alloc, config, lines, bodies, &scope)

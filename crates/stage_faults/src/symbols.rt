@@ -3,7 +3,7 @@ ghost use Rattle.std.specs.Prelude.{◌≡◌, ◌<◌, ◌^◌, length, take, O
 ghost use Rattle.sloth_base.specs.declared.refusal.Part.TheVariants.{Src};
 ghost use Rattle.least_fault.specs.Search.{Somewhere};
 ghost use Rattle.asm_scopes.specs.Statements.{symbol_names};
-ghost use Rattle.asm_scopes.specs.NameFaults.{SymbolFault, DataFault};
+ghost use Rattle.stage_faults.specs.ToldNames.{is_symbol_beyond, ToldSymbol, ToldData};
 ghost use Rattle.stage_faults.specs.Told.{Adds};
 
 use crate::earlier_lines::{line_of_first, push_if};
@@ -12,10 +12,19 @@ use asm_lines::SourceLine;
 use asm_scopes::data_faults::{is_taken, is_too_much};
 use asm_scopes::limits::{bytes_of, count_data};
 use asm_scopes::{is_data, name_of};
+use sloth_base::limits::SYMBOL_LIMIT;
 use sloth_base::memory::NoMemory;
 use sloth_base::refusal::Code;
 use std::alloc::Global;
 use text_pieces::names::Names;
+
+// A6 of a symbol behind so many, of so many bytes, or a symbol behind more than there may be.
+fn is_symbol_beyond(count: usize, bytes: usize, line: &SourceLine) -> bool
+    requires { bytes < 2 ^ 63 }
+    ensures { result ≡ is_symbol_beyond count bytes line.now }
+{
+    is_too_much(count, bytes, line) || (is_data(line) && count > SYMBOL_LIMIT)
+}
 
 // Behind the first `count` symbols, which stand on the lines `earlier` and have so many bytes.
 fn add_faults<'t>(
@@ -28,13 +37,18 @@ fn add_faults<'t>(
     line: &'t SourceLine,
 ) -> Result<(), NoMemory>
     requires { bytes < 2 ^ 63 }
-    ensures { OnOk result (Adds Src (SymbolFault (take count symbols.now) count bytes number line.now) notes.old.items notes.new.items) }
+    ensures { OnOk result (Adds Src (ToldSymbol (take count symbols.now) count bytes number line.now) notes.old.items notes.new.items) }
 {
     let name = name_of(line);
     let first = line_of_first(symbols, earlier, name);
     let taken = is_taken(symbols, count, line);
     add_named(notes, taken, number, Code::A5, name, first)?;
-    add_if(notes, is_too_much(count, bytes, line), number, Code::A6)
+    add_if(
+        notes,
+        is_symbol_beyond(count, bytes, line),
+        number,
+        Code::A6,
+    )
 }
 
 /// The faults of the symbols that these lines declare.
@@ -46,7 +60,7 @@ pub fn symbol_notes<'t>(
 ) -> Result<(), NoMemory>
     requires few { length lines.now < 2 ^ 32 }
     requires symbols { symbols.now ≡ symbol_names lines.now }
-    ensures { OnOk result (Adds Src (Somewhere DataFault lines.now) notes.old.items notes.new.items) }
+    ensures { OnOk result (Adds Src (Somewhere ToldData lines.now) notes.old.items notes.new.items) }
 {
     let mut earlier = Vec::new(alloc);
     let mut count = 0;

@@ -1,0 +1,4 @@
+mod FaultLines
+mod NamedFaults
+mod Apart
+mod Trees

@@ -1,3 +1,4 @@
 pub mod RuleLines
+pub mod NamedFaults
 pub mod NameLines
 pub mod WhyLines

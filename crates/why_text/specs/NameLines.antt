@@ -1,8 +1,13 @@
 -- The lines behind a refusal of names and forms.
-use Rattle.std.specs.Prelude.{ℕ, ◌≡◌, ◌++◌, ◌⊎◌, nat_lt, Bool, true, false, List, [], ◌∷◌, length, take, Option, Some, None, codes}
+use Rattle.std.specs.Prelude.{ℕ, ◌≡◌, ◌++◌, ◌⊎◌, nat_lt, All, Bool, true, false, List, [], ◌∷◌, length, take, Option, Some, None, codes}
+use Rattle.std.specs.List.Sorted.{IsNonDecreasingBy}
+use Rattle.sloth_base.specs.declared.refusal.Part.{Part}
+use Rattle.sloth_base.specs.declared.refusal.Refusal.{Refusal}
 use Rattle.command_line.specs.LastLine.{code_text}
-use Rattle.why_text.specs.RuleLines.{spaced_number, name_line, number_line}
 use Rattle.stage_faults.specs.declared.notes.Note.{Note}
+use Rattle.stage_faults.specs.Told.{AreAll, AreInOrder, TellSame, note_order}
+use Rattle.why_text.specs.NamedFaults.{StandApart}
+use Rattle.why_text.specs.RuleLines.{spaced_number, name_line, number_line}
 
 -- the line of an earlier thing, if there is one
 abbrev pub first_lines : Option ℕ → List ℕ
@@ -36,11 +41,6 @@ more_lines false = []
 abbrev pub told_lines : List Note → List ℕ
 told_lines notes = among_lines (take 1000 notes) ++ more_lines (nat_lt 1000 (length notes))
 
--- such lines behind these bytes
-pub record HasMore (old new : List ℕ) : Type 0 where
-  pub notes : List Note
-  pub are : new ≡ old ++ told_lines notes
-
 -- a name with the line of an earlier thing, or nothing
 pub record HasName (lines : List ℕ) : Type 0 where
   pub name : List ℕ
@@ -50,8 +50,44 @@ pub record HasName (lines : List ℕ) : Type 0 where
 abbrev pub IsNamed : List ℕ → Type 0
 IsNamed lines = (lines ≡ []) ⊎ HasName lines
 
--- a name, and behind it the lines of faults
-pub record AreNameLines (lines : List ℕ) : Type 0 where
+-- ---- each fault of a set
+
+-- a name, and behind it the lines of faults in order, which tell the same as these
+pub record TellsNotes (notes : List Note) (lines : List ℕ) : Type 0 where
   pub named : List ℕ
   pub is_named : IsNamed named
-  pub more : HasMore named lines
+  pub told : List Note
+  pub in_order : AreInOrder told
+  pub same : TellSame notes told
+  pub are : lines ≡ named ++ told_lines told
+
+-- a name, and behind it the lines of all faults of the set F, in order and once, and of no other: the first 1,000, and where there are more the last line
+pub record AreFaultLines (part : Part) (F : Refusal → Type 0) (lines : List ℕ) : Type 0 where
+  pub named : List ℕ
+  pub is_named : IsNamed named
+  pub notes : List Note
+  pub in_order : AreInOrder notes
+  pub all : AreAll part F notes
+  pub are : lines ≡ named ++ told_lines notes
+
+-- a name, and behind it the lines of faults by line and code, each line once, which tell the same as these
+pub record TellsNamed (faults : List Note) (lines : List ℕ) : Type 0 where
+  pub named : List ℕ
+  pub is_named : IsNamed named
+  pub told : List Note
+  pub sorted : IsNonDecreasingBy note_order told
+  pub apart : StandApart told
+  pub own : All (λ (note : Note). note.follows ≡ false) told
+  pub same : TellSame faults told
+  pub are : lines ≡ named ++ told_lines told
+
+-- A name, and behind it the lines of all faults of the set F, by line and code, each line once, and of no other. A fault may have several, under different names.
+pub record AreNamedLines (part : Part) (F : Refusal → Type 0) (lines : List ℕ) : Type 0 where
+  pub named : List ℕ
+  pub is_named : IsNamed named
+  pub notes : List Note
+  pub sorted : IsNonDecreasingBy note_order notes
+  pub apart : StandApart notes
+  pub own : All (λ (note : Note). note.follows ≡ false) notes
+  pub all : AreAll part F notes
+  pub are : lines ≡ named ++ told_lines notes

@@ -4,8 +4,15 @@ use Rattle.sloth_base.specs.declared.config.Config.{Config}
 use Rattle.sloth_base.specs.declared.app.App.{App}
 use Rattle.sloth_base.specs.declared.refusal.Code.{Code}
 use Rattle.sloth_base.specs.declared.refusal.Code.TheVariants as code
+use Rattle.sloth_base.specs.declared.refusal.BuildError.{BuildError}
+use Rattle.sloth_base.specs.declared.refusal.BuildError.TheVariants as error
+use Rattle.sloth_base.specs.declared.refusal.Part.TheVariants.{Oil, Src}
 use Rattle.sloth_base.specs.declared.refusal.Refusal.{Refusal}
 use Rattle.sloth_base.specs.Named.{function}
+use Rattle.least_fault.specs.Order.{NoFault}
+use Rattle.asm_lines.specs.Faults.{source_lines, SourceLinesFault}
+use Rattle.oil_parse.specs.declared.tree.OilTree.{OilTree}
+use Rattle.oil_parse.specs.Text.{HasTree}
 use Rattle.sloth_source.specs.OilText.{OilText}
 use Rattle.sloth_source.specs.RankedTexts.{HasRanks}
 use Rattle.sloth_source.specs.SourceText.{HasApp}
@@ -14,7 +21,10 @@ use Rattle.fault_witnesses.specs.CallChains.{IsCycle}
 use Rattle.fault_witnesses.specs.Witnesses.{IsWitness}
 use Rattle.fault_witnesses.specs.declared.chains.Link.{Link}
 use Rattle.fault_witnesses.specs.declared.witnesses.Witness.{Witness}
-use Rattle.why_text.specs.NameLines.{AreNameLines}
+use Rattle.stage_faults.specs.ToldModel.{ToldModel}
+use Rattle.stage_faults.specs.ToldNarrow.{ToldForm}
+use Rattle.stage_faults.specs.ToldNames.{ToldName}
+use Rattle.why_text.specs.NameLines.{AreFaultLines, AreNamedLines}
 use Rattle.why_text.specs.RuleLines.{witness_lines, cycle_line}
 use Rattle.why_text.specs.declared.explaining.Cause.{Cause}
 use Rattle.why_text.specs.declared.explaining.Cause.TheVariants as cause
@@ -59,6 +69,27 @@ pub record TellsCycle (oil src : List ℕ) (r : Refusal) (lines : List ℕ) : Ty
   pub configuration : OilText oil config
   pub calls : HasCycleIn src config r.line lines
 
+-- a text has no tree, for this error; want of memory says nothing
+abbrev pub LacksTree : List ℕ → BuildError → Type 0
+LacksTree oil (error.Refused r) = (tree : OilTree) → HasTree oil tree → ⊥
+LacksTree oil error.Memory = Unit {0}
+
+-- The lines tell each fault of the meaning of the text's tree.
+abbrev pub TellsMeaning : List ℕ → List ℕ → Type 0
+TellsMeaning oil lines = (tree : OilTree) → HasTree oil tree → AreNamedLines Oil (ToldModel tree) lines
+
+-- The lines tell each fault of the source's lines.
+abbrev pub TellsForms : List ℕ → List ℕ → Type 0
+TellsForms src lines = AreFaultLines Src (ToldForm src) lines
+
+-- They tell each fault of its names and limits for a configuration, where its lines have no fault.
+abbrev pub TellsNamesFor : Config → List ℕ → List ℕ → Type 0
+TellsNamesFor config src lines = NoFault (SourceLinesFault src) → AreFaultLines Src (ToldName config (source_lines src)) lines
+
+-- so they do for the configuration of a text
+abbrev pub TellsNames : (oil src : List ℕ) → List ℕ → Type 0
+TellsNames oil src lines = (config : Config) → OilText oil config → TellsNamesFor config src lines
+
 -- what explains a refusal, by its code
 abbrev pub cause_of : Code → Cause
 cause_of code.O7 = cause.OilName
@@ -94,9 +125,9 @@ cause_of _ = cause.Nothing
 -- what the lines are, by what explains the refusal
 abbrev pub AreLinesBy : Cause → (oil src : List ℕ) → Refusal → List ℕ → Type 0
 AreLinesBy cause.Nothing oil src r lines = lines ≡ []
-AreLinesBy cause.OilName oil src r lines = AreNameLines lines
-AreLinesBy cause.SourceForm oil src r lines = AreNameLines lines
-AreLinesBy cause.SourceName oil src r lines = AreNameLines lines
+AreLinesBy cause.OilName oil src r lines = TellsMeaning oil lines
+AreLinesBy cause.SourceForm oil src r lines = TellsForms src lines
+AreLinesBy cause.SourceName oil src r lines = TellsNames oil src lines
 AreLinesBy cause.Cycle oil src r lines = (lines ≡ []) ⊎ TellsCycle oil src r lines
 AreLinesBy cause.Rule oil src r lines = (lines ≡ []) ⊎ TellsFault oil src r lines
 

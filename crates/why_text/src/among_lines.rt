@@ -1,16 +1,11 @@
 //! The lines `among`: each fault of the stage that is at fault.
 ghost use Rattle.std.specs.Prelude.{◌≡◌, ◌++◌, OnOk, take};
-ghost use Rattle.why_text.specs.NameLines.{concerned_words, among_line, among_lines, more_lines, told_lines, HasMore};
+ghost use Rattle.why_text.specs.NameLines.{concerned_words, among_line, among_lines, more_lines, told_lines};
 
-use crate::notes::order;
 use crate::pieces::{push_bytes, push_number, push_word};
 use command_line::last_line::code_text;
-use indexmap::IndexSet;
-use oil_table::sets::insert;
 use sloth_base::memory::NoMemory;
 use stage_faults::Note;
-use std::alloc::Global;
-use text_pieces::growth::push;
 
 // How many faults are told.
 const AMONG_LIMIT: usize = 1_000;
@@ -62,34 +57,10 @@ fn push_more(text: &mut Vec<u8>, more: bool) -> Result<(), NoMemory>
     Ok(())
 }
 
-// The lines of these faults, of no more than 1,000.
-fn push_told(text: &mut Vec<u8>, notes: &[Note]) -> Result<(), NoMemory>
+/// The lines of these faults, of no more than 1,000.
+pub fn push_told(text: &mut Vec<u8>, notes: &[Note]) -> Result<(), NoMemory>
     ensures { OnOk result (text.new.items ≡ text.old.items ++ told_lines notes.now) }
 {
     push_notes(text, first_notes(notes, AMONG_LIMIT))?;
     push_more(text, notes.len() > AMONG_LIMIT)
-}
-
-// The faults that follow from no other, each once; of many the first.
-fn told_notes<'t>(alloc: Global, notes: &[Note<'t>]) -> Result<Vec<Note<'t>>, NoMemory> {
-    let mut seen = IndexSet::new(alloc);
-    let mut list = Vec::new(alloc);
-    for note in notes {
-        let fault = (order(note), note.name);
-        if note.follows || list.len() > AMONG_LIMIT || seen.contains(&fault) {
-            continue;
-        }
-        insert(&mut seen, fault)?;
-        push(&mut list, *note)?;
-    }
-    Ok(list)
-}
-
-/// A line for each of these faults but those that follow from others, each once; behind 1,000 the line `among more`.
-pub fn push_among(alloc: Global, text: &mut Vec<u8>, notes: &[Note]) -> Result<(), NoMemory>
-    ensures { OnOk result (HasMore text.old.items text.new.items) }
-{
-    let notes = told_notes(alloc, notes)?;
-    push_told(text, &notes)?;
-    Ok(())
 }

@@ -1,5 +1,6 @@
 //! The lines behind a refusal.
-ghost use Rattle.std.specs.Prelude.{◌≡◌, ◌<◌, ◌⊎◌, length, [], IfOk, IfSome};
+ghost use Rattle.std.specs.Prelude.{◌≡◌, ◌<◌, ◌⊎◌, length, [], IfOk, IfSome, IfNone};
+ghost use Rattle.sloth_base.specs.declared.config.Config.{Config};
 ghost use Rattle.sloth_base.specs.Named.{function};
 ghost use Rattle.sloth_base.specs.ConfigRange.{InRange};
 ghost use Rattle.code_rules.specs.AppRange.{AppInRange};
@@ -7,11 +8,11 @@ ghost use Rattle.call_graph.specs.Ranks.{RanksOf};
 ghost use Rattle.sloth_source.specs.OilText.{OilText};
 ghost use Rattle.sloth_source.specs.SourceText.{HasApp};
 ghost use Rattle.sloth_source.specs.RankedTexts.{HasRanks};
-ghost use Rattle.why_text.specs.NameLines.{AreNameLines};
-ghost use Rattle.why_text.specs.WhyLines.{TellsFault, TellsCycle, IsCycleLine, IsCycleOn, HasCycleIn, HasWitnessLines, cause_of, AreLinesBy, AreWhyLines};
+ghost use Rattle.why_text.specs.WhyLines.{TellsFault, TellsNames, TellsCycle, IsCycleLine, IsCycleOn, HasCycleIn, HasWitnessLines, cause_of, AreLinesBy, AreWhyLines};
 
+use crate::meaning::oil_text;
 use crate::named_events::named_events;
-use crate::naming::{forms_text, names_text, no_text, oil_text};
+use crate::naming::{forms_text, names_text};
 use crate::rule_lines::{cycle_line, witness_lines};
 use asm_lines::{SourceLine, read};
 use asm_parse::parse_app;
@@ -39,6 +40,7 @@ fn no_lines(alloc: Global) -> List<u8>
 fn config_of(alloc: Global, oil: &[u8]) -> Result<Option<Config>, NoMemory>
     requires { length oil.now < 4294967295 }
     ensures means { IfOk result (λ found. IfSome found (OilText oil.now)) }
+    ensures none { IfOk result (λ found. IfNone found ((config : Config) → OilText oil.now config → ⊥)) }
     ensures in_range { IfOk result (λ found. IfSome found InRange) }
 {
     match read_config(alloc, oil) {
@@ -52,11 +54,11 @@ fn config_of(alloc: Global, oil: &[u8]) -> Result<Option<Config>, NoMemory>
 fn name_lines(alloc: Global, oil: &[u8], src: &[u8], refusal: Refusal) -> Result<List<u8>, NoMemory>
     requires oil { length oil.now < 4294967295 }
     requires src { length src.now < 4294967295 }
-    ensures { IfOk result AreNameLines }
+    ensures { IfOk result (TellsNames oil.now src.now) }
 {
     match config_of(alloc, oil)? {
         Some(config) => names_text(alloc, &config, src, refusal),
-        None => no_text(alloc, refusal),
+        None => Ok(no_lines(alloc)),
     }
 }
 
@@ -178,7 +180,8 @@ fn fault_text(
     }
 }
 
-fn fault_of(
+/// The lines that tell a fault of this task code of V2 to V12, of at most 4,294,967,294 bytes of source.
+pub fn fault_of(
     alloc: Global,
     src: &[u8],
     config: &Config,
@@ -195,8 +198,8 @@ fn fault_of(
     fault_text(alloc, config, app, ranks, lines.items(), refusal)
 }
 
-// What both texts mean, if no rule up to V1 is broken.
-fn ranked_of(alloc: Global, oil: &[u8], src: &[u8]) -> Result<Option<Ranked>, NoMemory>
+/// What both texts mean, of at most 4,294,967,294 bytes each, if no rule up to V1 is broken.
+pub fn ranked_of(alloc: Global, oil: &[u8], src: &[u8]) -> Result<Option<Ranked>, NoMemory>
     requires oil { length oil.now < 4294967295 }
     requires src { length src.now < 4294967295 }
     ensures has_ranks { IfOk result (λ found. IfSome found (λ ranked. HasRanks oil.now src.now ranked.config ranked.app)) }

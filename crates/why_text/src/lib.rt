@@ -1,8 +1,8 @@
 //! The lines of the command `why`: a refusal with what stands behind it.
 //!
 //! `explain` says of texts that they are accepted, or gives their first refusal and the lines behind it. Of a refusal of task code (V1 to V12) these tell a witness of
-//! `fault_witnesses`, or there are none; of names, forms and limits (O7 to O15, A1 to A7) they have the form of a name and of faults. `stage_faults` gives each fault of A1 to A4
-//! and no other; of O7 to O15 and A5 to A7 it is tested. Lines: `specs/WhyLines`, `specs/RuleLines`, `specs/NameLines`.
+//! `fault_witnesses`, or there are none. Of names, forms and limits (O7 to O15, A1 to A7) they tell each fault of the stage and no other, in order and once, up to 1,000 (`AreFaultLines`,
+//! `AreNamedLines`, by `stage_faults`). Lines: `specs/WhyLines`, `specs/RuleLines`, `specs/NameLines`.
 #![tactic(auto)]
 
 mod among_lines;
@@ -11,8 +11,9 @@ mod call_lines;
 mod declared;
 mod explaining;
 mod item_lines;
-mod name_notes;
+mod meaning;
 mod named_events;
+mod named_faults;
 mod naming;
 mod notes;
 mod numbered;
@@ -23,3 +24,8 @@ mod rule_lines;
 mod task_notes;
 mod way_lines;
 pub mod why;
+
+pub use explaining::{fault_of, ranked_of};
+pub use numbered::{label_line, label_name};
+pub use pieces::{push_bytes, push_number, push_word};
+pub use way_lines::{push_list_line, push_way_line};

@@ -5,20 +5,6 @@ use sloth_base::refusal::{Code, Refusal};
 use stage_faults::Note;
 use text_pieces::growth::push;
 
-/// Where the fault stands among all: by its line, and on one line by its code.
-pub fn order(note: &Note) -> u64 {
-    u64::from(note.line) * 64 + u64::from(note.code as u8)
-}
-
-/// The number of the line at a place, from 1.
-pub fn line_number(place: usize) -> u32 {
-    if place < 4_294_967_295 {
-        place as u32 + 1
-    } else {
-        u32::MAX
-    }
-}
-
 /// One fault more, with its name.
 pub fn add<'t>(
     notes: &mut Vec<Note<'t>>,
@@ -47,13 +33,6 @@ pub fn add_behind<'t>(
             follows: false,
         },
     )
-}
-
-/// The faults in the order in which they are told.
-pub fn in_order<'t>(notes: Vec<Note<'t>>) -> Result<Vec<Note<'t>>, NoMemory> {
-    let mut notes = notes;
-    notes.sort_by_key(|note| order(note))?;
-    Ok(notes)
 }
 
 /// Whether the fault is that of the refusal.

@@ -39,7 +39,8 @@ fn push_start(text: &mut Vec<u8>, func: &Func, label: Option<usize>) -> Result<(
     }
 }
 
-fn push_way_line(text: &mut Vec<u8>, func: &Func, items: &[usize]) -> Result<(), NoMemory>
+/// The line of a way's items.
+pub fn push_way_line(text: &mut Vec<u8>, func: &Func, items: &[usize]) -> Result<(), NoMemory>
     ensures { OnOk result (text.new.items ≡ text.old.items ++ way_line func.now items.now) }
 {
     push_bytes(text, b"way")?;

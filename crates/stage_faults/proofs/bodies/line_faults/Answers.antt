@@ -4,7 +4,7 @@ use Rattle.std.proofs.Math.Nat.{add_assoc}
 use Rattle.std.proofs.lemmas.List.{length-take-le}
 use Rattle.sloth_base.specs.declared.refusal.Part.TheVariants.{Src}
 use Rattle.asm_scopes.specs.Statements.{is_label, is_item, name_of, label_names}
-use Rattle.asm_scopes.specs.NameFaults.{BodyLineFault, LineNameFault}
+use Rattle.stage_faults.specs.ToldNames.{ToldBodyLine, ToldLineName}
 use Rattle.asm_scopes.proofs.Fronts.{count_more, kept_front}
 use Rattle.stage_faults.specs.Told.{Adds}
 use Rattle.stage_faults.proofs.Telling.{adds_nowhere, adds_more, adds_end}
@@ -12,7 +12,7 @@ use Rattle.stage_faults.proofs.bodies.line_faults.Goals as goal
 
 pub loop-n-init : goal.loop-n-init
 loop-n-init c = record {
-  told = adds_nowhere Src (LineNameFault c.args.scope.now c.args.labels.now c.args.items c.args.number) c.args.notes.now.items;
+  told = adds_nowhere Src (ToldLineName c.args.scope.now c.args.labels.now c.args.items c.args.number) c.args.notes.now.items;
   labels = refl;
   items = omega arith;
 }
@@ -32,11 +32,11 @@ loop-n-preserved c =
     let names : take c.loop-n.count labels ≡ label_names front =
     ap (take c.loop-n.count) c.requires.labels ∙ ap (λ (n : ℕ). take n (label_names xs)) k.labels ∙ kept_front is_label name_of xs i in
     let place : i ≡ length front = sym (length-take-le i xs c.loop-n.auto.n-end) in
-    let one = subst (λ (e : List (List ℕ)). Adds Src (BodyLineFault scope labels e c.loop-n.items (number + i + 1) x) a b) names c.in_ok-add_line_faults.ensures in
-    let two = subst (λ (n : ℕ). Adds Src (BodyLineFault scope labels (label_names front) n (number + i + 1) x) a b) k.items one in
-    let found = subst (λ (n : ℕ). Adds Src (BodyLineFault scope labels (label_names front) (c.args.items + count_by is_item front) (number + n + 1) x) a b) place two in
+    let one = subst (λ (e : List (List ℕ)). Adds Src (ToldBodyLine scope labels e c.loop-n.items (number + i + 1) x) a b) names c.in_ok-add_line_faults.ensures in
+    let two = subst (λ (n : ℕ). Adds Src (ToldBodyLine scope labels (label_names front) n (number + i + 1) x) a b) k.items one in
+    let found = subst (λ (n : ℕ). Adds Src (ToldBodyLine scope labels (label_names front) (c.args.items + count_by is_item front) (number + n + 1) x) a b) place two in
     record {
-      told = adds_more Src (LineNameFault scope labels c.args.items number) xs i x c.args.notes.now.items a b c.loop-n-test.true c.index-lines-n.is k.told found;
+      told = adds_more Src (ToldLineName scope labels c.args.items number) xs i x c.args.notes.now.items a b c.loop-n-test.true c.index-lines-n.is k.told found;
       labels = ap (λ n. c.loop-n.count + n) c.count_label-count.ensures ∙ ap (λ n. n + (if is_label x then 1 else 0)) k.labels
           ∙ count_more is_label xs i x c.loop-n-test.true c.index-lines-n.is;
       items = ap (λ n. c.loop-n.items + n) c.count_item-items.ensures ∙ ap (λ n. n + (if is_item x then 1 else 0)) k.items
@@ -48,4 +48,4 @@ pub returns : goal.returns
 returns c =
     let xs = c.args.lines.now in
     let e : c.loop-n.n ≡ length xs = omega arith in
-    adds_end Src (LineNameFault c.args.scope.now c.args.labels.now c.args.items c.args.number) xs c.loop-n.n c.args.notes.now.items c.loop-n.notes.items e c.loop-n.invariant.told
+    adds_end Src (ToldLineName c.args.scope.now c.args.labels.now c.args.items c.args.number) xs c.loop-n.n c.args.notes.now.items c.loop-n.notes.items e c.loop-n.invariant.told

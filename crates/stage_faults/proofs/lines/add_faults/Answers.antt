@@ -2,8 +2,8 @@ use Rattle.std.proofs.Common.{◌⊎◌}
 use Rattle.std.proofs.lemmas.Result.{on_ok_weaker}
 use Rattle.sloth_base.specs.declared.refusal.Part.TheVariants.{Src}
 use Rattle.sloth_base.specs.declared.refusal.Code.TheVariants.{A1, A2, A3, A4}
-use Rattle.asm_lines.specs.Faults.{SourceCase, is_a2, is_a3, is_a4}
-use Rattle.stage_faults.specs.ToldLines.{is_told_a1}
+use Rattle.asm_lines.specs.Faults.{SourceCase, is_a2, is_a3}
+use Rattle.stage_faults.specs.ToldLines.{is_told_a1, is_told_a4}
 use Rattle.stage_faults.proofs.Telling.{case_is, adds_both}
 use Rattle.stage_faults.proofs.lines.add_faults.Goals as goal
 
@@ -23,7 +23,7 @@ returns c =
     let three = case_is Src (is_a3 s) c.is_a3.result n A3 d e c.is_a3.ensures (c.in_ok-add_if-3.ensures Src) in
     on_ok_weaker c.add_if-4.result
     (λ told.
-    adds_both Src (SourceCase t n A1) (λ r. SourceCase (is_a2 i s) n A2 r ⊎ (SourceCase (is_a3 s) n A3 r ⊎ SourceCase (is_a4 s) n A4 r)) a b f one
-    (adds_both Src (SourceCase (is_a2 i s) n A2) (λ r. SourceCase (is_a3 s) n A3 r ⊎ SourceCase (is_a4 s) n A4 r) b d f two
-    (adds_both Src (SourceCase (is_a3 s) n A3) (SourceCase (is_a4 s) n A4) d e f three (case_is Src (is_a4 s) c.is_a4.result n A4 e f c.is_a4.ensures (told Src)))))
+    adds_both Src (SourceCase t n A1) (λ r. SourceCase (is_a2 i s) n A2 r ⊎ (SourceCase (is_a3 s) n A3 r ⊎ SourceCase (is_told_a4 s) n A4 r)) a b f one
+    (adds_both Src (SourceCase (is_a2 i s) n A2) (λ r. SourceCase (is_a3 s) n A3 r ⊎ SourceCase (is_told_a4 s) n A4 r) b d f two
+    (adds_both Src (SourceCase (is_a3 s) n A3) (SourceCase (is_told_a4 s) n A4) d e f three (case_is Src (is_told_a4 s) c.is_told_a4.result n A4 e f c.is_told_a4.ensures (told Src)))))
     c.add_if-4.ensures

@@ -8,7 +8,8 @@ use Rattle.asm_lines.specs.Faults.{SourceCase}
 use Rattle.asm_scopes.specs.declared.scope.Scope.{Scope}
 use Rattle.asm_scopes.specs.Bodies.{BodyText, bodies_of}
 use Rattle.asm_scopes.specs.Scopes.{scope_of}
-use Rattle.asm_scopes.specs.NameFaults.{is_body_missing, DataFault, BodyNameFault, NameFault}
+use Rattle.asm_scopes.specs.NameFaults.{is_body_missing}
+use Rattle.stage_faults.specs.ToldNames.{ToldData, ToldBody, ToldName}
 use Rattle.asm_scopes.proofs.Short.{few_bodies, short_bodies, EndsBefore}
 use Rattle.stage_faults.specs.Told.{Adds}
 use Rattle.stage_faults.proofs.Telling.{case_is, adds_both, all_made}
@@ -38,11 +39,11 @@ returns c =
     let a = c.symbol_notes.new.notes.items in
     let b = c.body_notes.new.notes.items in
     let d = c.add_named.new.notes.items in
-    let Bodies = Somewhere (BodyNameFault (scope_of config lines bodies)) bodies in
+    let Bodies = Somewhere (ToldBody (scope_of config lines bodies)) bodies in
     let scope = c.requires.scope ∙ ap (scope_of config lines) c.requires.bodies in
-    let of_bodies = subst (λ (s : Scope). Adds Src (Somewhere (BodyNameFault s) bodies) a b) scope
-    (subst (λ (bs : List BodyText). Adds Src (Somewhere (BodyNameFault c.args.scope.now) bs) a b) c.requires.bodies c.in_ok-body_notes.ensures) in
+    let of_bodies = subst (λ (s : Scope). Adds Src (Somewhere (ToldBody s) bodies) a b) scope
+    (subst (λ (bs : List BodyText). Adds Src (Somewhere (ToldBody c.args.scope.now) bs) a b) c.requires.bodies c.in_ok-body_notes.ensures) in
     let of_tasks = case_is Src t c.in_ok-lacks.lacks 1 A7 b d (c.in_ok-lacks.ensures ∙ ap (is_body_missing config) c.requires.bodies) (c.in_ok-add_named.ensures Src) in
-    all_made Src (NameFault config lines) start d c.new-notes.ensures.items
-    (adds_both Src (Somewhere DataFault lines) (λ r. Bodies r ⊎ SourceCase t 1 A7 r) start a d c.in_ok-symbol_notes.ensures
+    all_made Src (ToldName config lines) start d c.new-notes.ensures.items
+    (adds_both Src (Somewhere ToldData lines) (λ r. Bodies r ⊎ SourceCase t 1 A7 r) start a d c.in_ok-symbol_notes.ensures
     (adds_both Src Bodies (SourceCase t 1 A7) a b d of_bodies of_tasks))

@@ -3,7 +3,8 @@ use Rattle.std.proofs.lemmas.Result.{on_ok_weaker}
 use Rattle.sloth_base.specs.declared.refusal.Code.TheVariants.{A5, A6}
 use Rattle.sloth_base.specs.declared.refusal.Part.TheVariants.{Src}
 use Rattle.asm_lines.specs.Faults.{SourceCase}
-use Rattle.asm_scopes.specs.NameFaults.{is_taken, is_too_much}
+use Rattle.asm_scopes.specs.NameFaults.{is_taken}
+use Rattle.stage_faults.specs.ToldNames.{is_symbol_beyond}
 use Rattle.stage_faults.proofs.Telling.{case_is, adds_both}
 use Rattle.stage_faults.proofs.symbols.add_faults.Goals as goal
 
@@ -12,12 +13,12 @@ returns c =
     let l = c.args.line.now in
     let n = c.args.number in
     let t = is_taken (take c.args.count c.args.symbols.now) l in
-    let m = is_too_much c.args.count c.args.bytes l in
+    let m = is_symbol_beyond c.args.count c.args.bytes l in
     let a = c.args.notes.now.items in
     let b = c.add_named.new.notes.items in
     let d = c.add_if.new.notes.items in
     on_ok_weaker c.add_if.result
     (λ told.
     adds_both Src (SourceCase t n A5) (SourceCase m n A6) a b d (case_is Src t c.is_taken-taken.result n A5 a b c.is_taken-taken.ensures (c.in_ok-add_named.ensures Src))
-    (case_is Src m c.is_too_much.result n A6 b d c.is_too_much.ensures (told Src)))
+    (case_is Src m c.is_symbol_beyond.result n A6 b d c.is_symbol_beyond.ensures (told Src)))
     c.add_if.ensures

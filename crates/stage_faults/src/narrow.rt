@@ -1,0 +1,158 @@
+//! A4 of lines that load or store less than a word, whose places may be words of the frame in form alone.
+ghost use Rattle.std.specs.Prelude.{◌≡◌, ◌<◌, ◌^◌, ◌++◌, map, length, codes, IfOk, OnOk};
+ghost use Rattle.std.specs.List.{list_any, take_while};
+ghost use Rattle.sloth_base.specs.ImageRange.{continues_word};
+ghost use Rattle.sloth_base.specs.declared.refusal.Part.TheVariants.{Src};
+ghost use Rattle.least_fault.specs.Search.{Somewhere};
+ghost use Rattle.text_pieces.specs.Names.{referent};
+ghost use Rattle.asm_lines.specs.Bytes.{is_blank, trim_start};
+ghost use Rattle.asm_lines.specs.Lines.{lines, without_returns};
+ghost use Rattle.stage_faults.specs.Told.{Adds};
+ghost use Rattle.stage_faults.specs.ToldNarrow.{loads_narrow, stores_narrow, is_narrow, first_word, behind_word, is_word_a4, is_narrow_a4, NarrowFault};
+ghost use Rattle.stage_faults.specs.ToldLines.{is_told_a4};
+
+use crate::lines::is_told_a4;
+use crate::notes::{Note, add_if};
+use asm_lines::cutting::{line_of, split};
+use asm_lines::{SourceLine, read_lines};
+use sloth_base::memory::NoMemory;
+use sloth_base::refusal::Code;
+use std::alloc::Global;
+use text_pieces::bytes::{after, continues_word, front, same};
+use text_pieces::growth::push;
+
+// ---- words
+
+fn is_blank(byte: u8) -> bool
+    ensures { result ≡ is_blank byte }
+{
+    byte == b' ' || byte == b'\t'
+}
+
+fn leading_blanks(text: &[u8]) -> usize
+    ensures { result ≡ length (take_while is_blank text.now) }
+{
+    text.iter().take_while(|byte| is_blank(**byte)).count()
+}
+
+fn word_length(text: &[u8]) -> usize
+    ensures { result ≡ length (take_while continues_word text.now) }
+{
+    text.iter()
+        .take_while(|byte| continues_word(**byte))
+        .count()
+}
+
+fn trim_start(line: &[u8]) -> &[u8]
+    ensures { result.now ≡ trim_start line.now }
+{
+    after(line, leading_blanks(line))
+}
+
+fn first_word(line: &[u8]) -> &[u8]
+    ensures { result.now ≡ first_word line.now }
+{
+    let text = trim_start(line);
+    front(text, word_length(text))
+}
+
+fn behind_word(line: &[u8]) -> &[u8]
+    ensures { result.now ≡ behind_word line.now }
+{
+    let text = trim_start(line);
+    after(text, word_length(text))
+}
+
+fn loads_narrow(word: &[u8]) -> bool
+    ensures { result ≡ loads_narrow word.now }
+{
+    same(word, b"lb") || same(word, b"lbu") || same(word, b"lh") || same(word, b"lhu")
+}
+
+fn stores_narrow(word: &[u8]) -> bool
+    ensures { result ≡ stores_narrow word.now }
+{
+    same(word, b"sb") || same(word, b"sh")
+}
+
+fn is_narrow(word: &[u8]) -> bool
+    ensures { result ≡ is_narrow word.now }
+{
+    loads_narrow(word) || stores_narrow(word)
+}
+
+// ---- a line
+
+fn as_word_load(alloc: Global, line: &[u8]) -> Result<Vec<u8>, NoMemory>
+    ensures { IfOk result (λ text. text.items ≡ codes "lw" ++ behind_word line.now) }
+{
+    let mut text = Vec::new(alloc);
+    text.extend_from_slice(b"lw")?;
+    text.extend_from_slice(behind_word(line))?;
+    Ok(text)
+}
+
+fn any_told_a4(lines: &[SourceLine]) -> bool
+    ensures { result ≡ list_any is_told_a4 lines.now }
+{
+    lines.iter().any(|line| is_told_a4(line))
+}
+
+fn is_word_a4(alloc: Global, line: &[u8]) -> Result<bool, NoMemory>
+    ensures { IfOk result (λ test. test ≡ is_word_a4 line.now) }
+{
+    let text = as_word_load(alloc, line)?;
+    let lines = read_lines(alloc, &text)?;
+    Ok(any_told_a4(lines.items()))
+}
+
+fn is_narrow_a4(alloc: Global, line: &[u8]) -> Result<bool, NoMemory>
+    ensures { IfOk result (λ test. test ≡ is_narrow_a4 line.now) }
+{
+    if is_narrow(first_word(line)) {
+        return is_word_a4(alloc, line);
+    }
+    Ok(false)
+}
+
+// ---- all lines
+
+// The lines of the parts between LF bytes.
+fn lines_of<'a>(alloc: Global, parts: &[&'a [u8]]) -> Result<Vec<&'a [u8]>, NoMemory>
+    ensures { IfOk result (λ read. map referent read.items ≡ without_returns (map referent parts.now)) }
+{
+    let mut read = Vec::new(alloc);
+    for (n, part) in parts.iter().enumerate() {
+        push(&mut read, line_of(*part, n + 1 == parts.len()))?;
+    }
+    Ok(read)
+}
+
+#[tactic(auto, unfolding(asm_lines::specs::Lines::lines))]
+fn lines<'a>(alloc: Global, text: &'a [u8]) -> Result<Vec<&'a [u8]>, NoMemory>
+    ensures { IfOk result (λ read. map referent read.items ≡ lines text.now) }
+{
+    let parts = split(alloc, text, b'\n')?;
+    let read = lines_of(alloc, parts.as_slice())?;
+    Ok(read)
+}
+
+fn add_lines<'t>(alloc: Global, notes: &mut Vec<Note<'t>>, lines: &[&[u8]]) -> Result<(), NoMemory>
+    requires { length lines.now < 2 ^ 32 }
+    ensures { OnOk result (Adds Src (Somewhere NarrowFault (map referent lines.now)) notes.old.items notes.new.items) }
+{
+    for (n, line) in lines.iter().enumerate() {
+        let test = is_narrow_a4(alloc, *line)?;
+        add_if(notes, test, n as u32 + 1, Code::A4)?;
+    }
+    Ok(())
+}
+
+/// A4 of the lines of a text that load or store less than a word.
+pub fn add_narrow<'t>(alloc: Global, notes: &mut Vec<Note<'t>>, text: &[u8]) -> Result<(), NoMemory>
+    requires { length text.now < 4294967295 }
+    ensures { OnOk result (Adds Src (Somewhere NarrowFault (lines text.now)) notes.old.items notes.new.items) }
+{
+    let lines = lines(alloc, text)?;
+    add_lines(alloc, notes, lines.as_slice())
+}

@@ -1,0 +1,105 @@
+//! The faults of the attributes of an object (O8, O9, O10, O12).
+ghost use Rattle.std.specs.Prelude.{◌≡◌, ◌&&◌, not, is_none, OnOk};
+ghost use Rattle.sloth_base.specs.declared.refusal.Part.TheVariants.{Oil};
+ghost use Rattle.least_fault.specs.Search.{Somewhere};
+ghost use Rattle.stage_faults.specs.Told.{Adds};
+ghost use Rattle.stage_faults.specs.ToldModel.{is_at_fault, is_inside, fault_behind, ToldRow, ToldAttribute};
+
+use crate::notes::{Note, add_if};
+use oil_parse::tree::OilAttr;
+use oil_rules::Front;
+use oil_rules::attribute_faults::{is_refused, is_unlisted, opened, place_by, refers_to_none};
+use oil_table::{Attribute, EarlierUses, Limits, Place, attribute_of, is_beyond, is_second};
+use sloth_base::memory::NoMemory;
+use sloth_base::refusal::Code;
+use std::alloc::Global;
+
+// O8, O10 or O12 of the attribute itself.
+fn is_at_fault(
+    objects: &Front,
+    scheduler: bool,
+    limits: Limits,
+    row: Option<Attribute>,
+    attr: &OilAttr,
+) -> bool
+    ensures { result ≡ is_at_fault objects.now scheduler limits row attr.now }
+{
+    is_unlisted(row)
+        || refers_to_none(objects, scheduler, row, &attr.value)
+        || is_refused(row, &attr.value)
+        || is_beyond(limits, row, attr)
+}
+
+fn is_inside(fault: Option<u32>, attr: &OilAttr) -> bool
+    ensures { result ≡ is_inside fault attr.now }
+{
+    match fault {
+        Some(depth) => depth < attr.depth,
+        None => false,
+    }
+}
+
+fn fault_behind(fault: Option<u32>, at_fault: bool, attr: &OilAttr) -> Option<u32>
+    ensures { result ≡ fault_behind fault at_fault attr.now }
+{
+    if is_inside(fault, attr) {
+        return fault;
+    }
+    if at_fault {
+        return Some(attr.depth);
+    }
+    None
+}
+
+fn is_told_unlisted(row: Option<Attribute>, follows: bool) -> bool
+    ensures { result ≡ (is_none row && not follows) }
+{
+    is_unlisted(row) && !follows
+}
+
+fn add_row_faults<'t>(
+    notes: &mut Vec<Note<'t>>,
+    objects: &Front,
+    scheduler: bool,
+    row: Option<Attribute>,
+    follows: bool,
+    before: &EarlierUses,
+    attr: &OilAttr,
+) -> Result<(), NoMemory>
+    requires { before.now.depth ≡ 0 }
+    ensures { OnOk result (Adds Oil (ToldRow objects.now scheduler row follows before.now.attrs attr.now) notes.old.items notes.new.items) }
+{
+    let line = attr.line;
+    add_if(notes, is_told_unlisted(row, follows), line, Code::O8)?;
+    add_if(notes, is_second(row, before, attr), line, Code::O9)?;
+    let missing = refers_to_none(objects, scheduler, row, &attr.value);
+    add_if(notes, missing, line, Code::O10)?;
+    add_if(notes, is_refused(row, &attr.value), line, Code::O12)
+}
+
+/// O8, O9, O10 and O12 of the attributes of an object, but O8 in the block of one that is at fault itself.
+pub fn add_attributes<'t>(
+    alloc: Global,
+    notes: &mut Vec<Note<'t>>,
+    objects: &Front,
+    scheduler: bool,
+    limits: Limits,
+    place: Place,
+    attrs: &[OilAttr],
+) -> Result<(), NoMemory>
+    ensures { OnOk result (Adds Oil (Somewhere (ToldAttribute objects.now scheduler limits place) attrs.now) notes.old.items notes.new.items) }
+{
+    let mut before = EarlierUses::new(alloc, 0);
+    let mut inner = Place::Nowhere;
+    let mut fault = None;
+    for (number, attr) in attrs.iter().enumerate() {
+        let row = attribute_of(place_by(place, inner, attr), attr.name.bytes());
+        let follows = is_inside(fault, attr);
+        add_row_faults(notes, objects, scheduler, row, follows, &before, attr)?;
+        let at_fault = is_at_fault(objects, scheduler, limits, row, attr);
+        fault = fault_behind(fault, at_fault, attr);
+        inner = opened(place, inner, attr);
+        before = before.with(&attrs[..=number], attr)?;
+    }
+    Ok(())
+}

@@ -1,0 +1,158 @@
+//! The faults of the objects of a tree, but those in the blocks of alarms.
+ghost use Rattle.std.specs.Prelude.{◌≡◌, ◌&&◌, nat_lt, true, OnOk};
+ghost use Rattle.sloth_base.specs.declared.refusal.Part.TheVariants.{Oil};
+ghost use Rattle.least_fault.specs.Search.{Somewhere};
+ghost use Rattle.oil_table.specs.Objects.{is_of_kind, has_scheduler};
+ghost use Rattle.oil_table.specs.Events.{events_of};
+ghost use Rattle.oil_rules.specs.ObjectFaults.{is_known, KindFault};
+ghost use Rattle.stage_faults.specs.Told.{Adds};
+ghost use Rattle.stage_faults.specs.ToldModel.{is_far_above, is_told_above, ToldKnown, ToldInner, ToldObject, ToldTree};
+
+use crate::notes::{Note, add_if};
+use crate::oil_attributes::add_attributes;
+use crate::oil_tasks::{add_events, add_of_task};
+use oil_alarms::limits::CounterLimits;
+use oil_parse::tree::{OilObject, OilTree};
+use oil_rules::Front;
+use oil_rules::object_faults::{is_above, is_doubled, is_strange_mode, lacks_attribute};
+use oil_table::table::{is_nowhere, place_of};
+use oil_table::{EventTable, is_of_kind};
+use sloth_base::limits::{ALARM_LIMIT, COUNTER_LIMIT, EVENT_LIMIT, RESOURCE_LIMIT, TASK_LIMIT};
+use sloth_base::memory::NoMemory;
+use sloth_base::refusal::Code;
+use std::alloc::Global;
+
+// ---- an object
+
+fn is_behind_more(kind: &[u8], limit: usize, count: usize, object: &OilObject) -> bool
+    ensures { result ≡ (is_of_kind kind.now object.now && nat_lt limit count) }
+{
+    is_of_kind(object, kind) && limit < count
+}
+
+fn is_far_above(front: &Front, object: &OilObject) -> bool
+    ensures { result ≡ is_far_above front.now object.now }
+{
+    is_behind_more(b"TASK", TASK_LIMIT, front.tasks(), object)
+        || is_behind_more(b"RESOURCE", RESOURCE_LIMIT, front.resources(), object)
+        || is_behind_more(b"EVENT", EVENT_LIMIT, front.events(), object)
+        || is_behind_more(b"COUNTER", COUNTER_LIMIT, front.counters(), object)
+        || is_behind_more(b"ALARM", ALARM_LIMIT, front.alarms(), object)
+}
+
+fn is_told_above(front: &Front, object: &OilObject) -> bool
+    ensures { result ≡ is_told_above front.now object.now }
+{
+    is_above(front, object) || is_far_above(front, object)
+}
+
+fn add_known<'t>(
+    notes: &mut Vec<Note<'t>>,
+    scheduler: bool,
+    front: &Front,
+    object: &OilObject,
+) -> Result<(), NoMemory>
+    ensures { OnOk result (Adds Oil (ToldKnown scheduler front.now object.now) notes.old.items notes.new.items) }
+{
+    let line = object.line;
+    add_if(notes, is_doubled(scheduler, front, object), line, Code::O9)?;
+    add_if(notes, lacks_attribute(object), line, Code::O11)?;
+    add_if(notes, is_strange_mode(object), line, Code::O12)?;
+    add_if(notes, is_told_above(front, object), line, Code::O14)
+}
+
+fn add_inner<'t>(
+    alloc: Global,
+    notes: &mut Vec<Note<'t>>,
+    table: &Front,
+    counters: &CounterLimits,
+    scheduler: bool,
+    events: &EventTable,
+    front: &Front,
+    object: &OilObject,
+) -> Result<(), NoMemory>
+    requires { counters.now ≡ table.now }
+    ensures { OnOk result (Adds Oil (ToldInner table.now scheduler events.now front.now object.now) notes.old.items notes.new.items) }
+{
+    add_known(notes, scheduler, front, object)?;
+    let attrs = object.attrs.items();
+    let limits = counters.limits_of(attrs);
+    let place = place_of(object.kind.bytes());
+    add_attributes(alloc, notes, table, scheduler, limits, place, attrs)?;
+    add_of_task(alloc, notes, events, front, object)
+}
+
+fn add_known_object<'t>(
+    alloc: Global,
+    notes: &mut Vec<Note<'t>>,
+    table: &Front,
+    counters: &CounterLimits,
+    scheduler: bool,
+    events: &EventTable,
+    front: &Front,
+    object: &OilObject,
+) -> Result<(), NoMemory>
+    requires { counters.now ≡ table.now }
+    ensures { OnOk result (Adds Oil (λ r. (is_known object.now ≡ true) × ToldInner table.now scheduler events.now front.now object.now r) notes.old.items notes.new.items) }
+{
+    if is_nowhere(place_of(object.kind.bytes())) {
+        return Ok(());
+    }
+    add_inner(
+        alloc, notes, table, counters, scheduler, events, front, object,
+    )
+}
+
+fn add_kind<'t>(notes: &mut Vec<Note<'t>>, object: &OilObject) -> Result<(), NoMemory>
+    ensures { OnOk result (Adds Oil (KindFault object.now) notes.old.items notes.new.items) }
+{
+    let is_strange = is_nowhere(place_of(object.kind.bytes()));
+    add_if(notes, is_strange, object.line, Code::O7)
+}
+
+// ---- all
+
+fn add_objects<'t>(
+    alloc: Global,
+    notes: &mut Vec<Note<'t>>,
+    objects: &[OilObject],
+    table: &Front,
+    counters: &CounterLimits,
+    scheduler: bool,
+    events: &EventTable,
+) -> Result<(), NoMemory>
+    requires { counters.now ≡ table.now }
+    ensures { OnOk result (Adds Oil (Somewhere (ToldObject table.now scheduler events.now) objects.now) notes.old.items notes.new.items) }
+{
+    let mut front = Front::new(alloc);
+    for (number, object) in objects.iter().enumerate() {
+        add_kind(notes, object)?;
+        add_known_object(
+            alloc, notes, table, counters, scheduler, events, &front, object,
+        )?;
+        front = front.with(&objects[..=number], object)?;
+    }
+    Ok(())
+}
+
+/// The faults that are told of a tree's objects, but those in the blocks of alarms.
+pub fn add_tree<'t>(
+    alloc: Global,
+    notes: &mut Vec<Note<'t>>,
+    tree: &OilTree,
+    table: &Front,
+    counters: &CounterLimits,
+    scheduler: bool,
+    events: &EventTable,
+) -> Result<(), NoMemory>
+    requires objects { table.now ≡ tree.now.objects }
+    requires counters { counters.now ≡ table.now }
+    requires scheduler { scheduler ≡ has_scheduler tree.now.objects }
+    requires events { events.now ≡ events_of tree.now.objects }
+    ensures { OnOk result (Adds Oil (ToldTree tree.now) notes.old.items notes.new.items) }
+{
+    let objects = tree.objects.items();
+    add_objects(alloc, notes, objects, table, counters, scheduler, events)?;
+    add_events(notes, objects)?;
+    add_if(notes, !table.has_os(), tree.cpu_line, Code::O11)
+}

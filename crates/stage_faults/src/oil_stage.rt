@@ -1,0 +1,72 @@
+//! The faults of an OIL tree's meaning (O7 to O15).
+ghost use Rattle.std.specs.Prelude.{◌≡◌, codes, IfOk};
+ghost use Rattle.sloth_base.specs.declared.refusal.Part.TheVariants.{Oil};
+ghost use Rattle.oil_table.specs.Objects.{has_scheduler, names_of};
+ghost use Rattle.oil_table.specs.Events.{events_of};
+ghost use Rattle.stage_faults.specs.Told.{AreAll};
+ghost use Rattle.stage_faults.specs.ToldModel.{ToldModel};
+
+use crate::notes::Note;
+use crate::oil_blocks::add_alarms;
+use crate::oil_objects::add_tree;
+use oil_alarms::limits::CounterLimits;
+use oil_alarms::task_events::TaskEvents;
+use oil_parse::tree::OilTree;
+use oil_rules::Front;
+use oil_table::events::events_of;
+use oil_table::{EventTable, has_scheduler, names_of};
+use sloth_base::config::EventDecl;
+use sloth_base::memory::NoMemory;
+use std::alloc::Global;
+use text_pieces::names::Names;
+
+fn notes_by<'t>(
+    alloc: Global,
+    tree: &OilTree,
+    table: &Front,
+    counters: &CounterLimits,
+    tasks: &TaskEvents,
+    scheduler: bool,
+    events: &EventTable,
+) -> Result<Vec<Note<'t>>, NoMemory>
+    requires objects { table.now ≡ tree.now.objects }
+    requires counters { counters.now ≡ tree.now.objects }
+    requires tasks { tasks.now ≡ tree.now.objects }
+    requires scheduler { scheduler ≡ has_scheduler tree.now.objects }
+    requires events { events.now ≡ events_of tree.now.objects }
+    ensures { IfOk result (λ notes. AreAll Oil (ToldModel tree.now) notes.items) }
+{
+    let mut notes = Vec::new(alloc);
+    add_tree(alloc, &mut notes, tree, table, counters, scheduler, events)?;
+    add_alarms(alloc, &mut notes, tasks, counters, tree.objects.items())?;
+    Ok(notes)
+}
+
+fn notes_with_events<'t>(
+    alloc: Global,
+    tree: &OilTree,
+    event_names: &Names,
+    events: &[EventDecl],
+) -> Result<Vec<Note<'t>>, NoMemory>
+    requires event_numbers { event_names.now ≡ names_of (codes "EVENT") tree.now.objects }
+    requires events { events.now ≡ events_of tree.now.objects }
+    ensures { IfOk result (λ notes. AreAll Oil (ToldModel tree.now) notes.items) }
+{
+    let objects = tree.objects.items();
+    let events = EventTable::new(events, event_names);
+    let table = Front::of(alloc, objects)?;
+    let counters = CounterLimits::of(alloc, objects)?;
+    let tasks = TaskEvents::of(alloc, objects)?;
+    let scheduler = has_scheduler(objects);
+    notes_by(alloc, tree, &table, &counters, &tasks, scheduler, &events)
+}
+
+/// The faults that are told of a tree, without names.
+pub fn model_notes<'t>(alloc: Global, tree: &OilTree) -> Result<Vec<Note<'t>>, NoMemory>
+    ensures { IfOk result (λ notes. AreAll Oil (ToldModel tree.now) notes.items) }
+{
+    let objects = tree.objects.items();
+    let events = events_of(alloc, objects)?;
+    let event_names = names_of(alloc, objects, b"EVENT")?;
+    notes_with_events(alloc, tree, &event_names, events.as_slice())
+}

@@ -1,0 +1,82 @@
+//! The faults of the attributes of a task that rest on other tasks and on events (O13, O15), and events without a bit (O15).
+ghost use Rattle.std.specs.Prelude.{◌≡◌, codes, OnOk};
+ghost use Rattle.sloth_base.specs.declared.refusal.Part.TheVariants.{Oil};
+ghost use Rattle.least_fault.specs.Search.{Somewhere};
+ghost use Rattle.oil_table.specs.Objects.{is_used};
+ghost use Rattle.oil_table.specs.Events.{BitFault};
+ghost use Rattle.oil_rules.specs.TaskFaults.{TaskFault};
+ghost use Rattle.oil_rules.specs.TreeFaults.{TaskFaults};
+ghost use Rattle.stage_faults.specs.Told.{Adds};
+
+use crate::notes::{Note, add_if};
+use oil_parse::tree::{OilAttr, OilObject};
+use oil_rules::Front;
+use oil_rules::references::References;
+use oil_rules::task_faults::{is_given_with, repeats_priority};
+use oil_table::events::{lacks_bit, number_masks, taken_more};
+use oil_table::{EventTable, is_of_kind};
+use sloth_base::memory::NoMemory;
+use sloth_base::refusal::Code;
+use std::alloc::Global;
+
+fn add_task_faults<'t>(
+    notes: &mut Vec<Note<'t>>,
+    front: &Front,
+    given: bool,
+    before: &References,
+    attr: &OilAttr,
+) -> Result<(), NoMemory>
+    requires { given ≡ is_used before.now.attrs (codes "PRIORITY") }
+    ensures { OnOk result (Adds Oil (TaskFault before.now.events front.now before.now.attrs attr.now) notes.old.items notes.new.items) }
+{
+    let repeated = repeats_priority(front, given, attr);
+    add_if(notes, repeated, attr.line, Code::O13)?;
+    add_if(notes, before.shares_bit(attr), attr.line, Code::O15)
+}
+
+fn add_of_attributes<'e, 't>(
+    alloc: Global,
+    notes: &mut Vec<Note<'t>>,
+    events: &'e EventTable<'e>,
+    front: &Front,
+    attrs: &'e [OilAttr],
+) -> Result<(), NoMemory>
+    ensures { OnOk result (Adds Oil (Somewhere (TaskFault events.now front.now) attrs.now) notes.old.items notes.new.items) }
+{
+    let mut before = References::new(alloc, events);
+    let mut given = false;
+    for (number, attr) in attrs.iter().enumerate() {
+        add_task_faults(notes, front, given, &before, attr)?;
+        given = is_given_with(given, attr);
+        before = before.with(&attrs[..=number], attr)?;
+    }
+    Ok(())
+}
+
+/// O13 and O15 of the attributes of an object, if it is a task.
+pub fn add_of_task<'e, 't>(
+    alloc: Global,
+    notes: &mut Vec<Note<'t>>,
+    events: &'e EventTable<'e>,
+    front: &Front,
+    object: &'e OilObject,
+) -> Result<(), NoMemory>
+    ensures { OnOk result (Adds Oil (TaskFaults events.now front.now object.now) notes.old.items notes.new.items) }
+{
+    if is_of_kind(object, b"TASK") {
+        return add_of_attributes(alloc, notes, events, front, object.attrs.items());
+    }
+    Ok(())
+}
+
+/// O15 of the events that find no free bit.
+pub fn add_events<'t>(notes: &mut Vec<Note<'t>>, objects: &[OilObject]) -> Result<(), NoMemory>
+    ensures { OnOk result (Adds Oil (Somewhere (BitFault objects.now) objects.now) notes.old.items notes.new.items) }
+{
+    let mut taken = number_masks(objects);
+    for object in objects {
+        add_if(notes, lacks_bit(taken, object), object.line, Code::O15)?;
+        taken = taken_more(taken, object);
+    }
+    Ok(())
+}
