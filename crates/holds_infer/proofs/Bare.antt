@@ -1,5 +1,5 @@
 -- Bodies that differ in the lists of their labels alone.
-use Rattle.std.proofs.Common.{◌≡◌, ℕ, ◌<◌, inl, inr, List, [], ◌∷◌, length, sym, ap, ◌∙◌}
+use Rattle.std.proofs.Common.{◌≡◌, ℕ, ◌<◌, inl, inr, List, [], ◌∷◌, length, map, get_or, sym, ap, ◌∙◌, arith}
 use Rattle.std.proofs.Math.ListN.{get_or-map}
 use Rattle.std.proofs.lemmas.List.{length-map, ext_get_or}
 use Rattle.sloth_base.specs.declared.app.App.{App}
@@ -59,6 +59,15 @@ module _ (f g : Func) (same : bare_func f ≡ bare_func g) where
 
       rest : record { name = f.name; line = f.line; task = f.task; frame_words = f.frame_words; items = f.items; labels = g.labels } ≡ g
       rest = ap (λ (x : Func). record { name = x.name; line = x.line; task = x.task; frame_words = x.frame_words; items = x.items; labels = g.labels }) same
+
+-- bodies that are the same one by one but for their lists
+pub same_bodies : (fs gs : List Func) → length gs ≡ length fs → ((b : ℕ) → b < length fs → bare_func (get_or fs b no_function) ≡ bare_func (get_or gs b no_function))
+    → map bare_func fs ≡ map bare_func gs
+same_bodies fs gs count each =
+    ext_get_or (bare_func no_function) (map bare_func fs) (map bare_func gs) (length-map fs bare_func ∙ sym count ∙ sym (length-map gs bare_func))
+    (λ b l.
+    let m : b < length fs = let n = length-map fs bare_func in omega (arith, n, l) in
+    get_or-map bare_func fs b no_function ∙ each b m ∙ sym (get_or-map bare_func gs b no_function))
 
 -- with the same bodies all is the same
 pub app_same : (app other : App) → SameButLists app other → ((b : ℕ) → b < length app.funcs → function app b ≡ function other b) → app ≡ other

@@ -2,7 +2,7 @@
 use Rattle.std.proofs.Common.{◌≡◌, ℕ, ◌+◌, ◌<◌, ◌≤◌, Bool, true, false, List, [], ◌∷◌, ◌++◌, length, map, get_or, Option, Some, None, refl, sym, ap, ◌∙◌, subst, arith, ⊎_elim}
 use Rattle.std.specs.Prelude.{is_some, All}
 use Rattle.std.proofs.lemmas.Bool.{cases_lt, cases_eq, true≢false}
-use Rattle.std.proofs.lemmas.List.{get_or-map, get_or_past, length-map, ext_get_or, get_or_push, get_or_append_left}
+use Rattle.std.proofs.lemmas.List.{get_or-map, get_or_past, length-map, get_or_push, get_or_append_left}
 use Rattle.sloth_base.specs.declared.config.Config.{Config}
 use Rattle.sloth_base.specs.declared.app.App.{App}
 use Rattle.sloth_base.specs.declared.app.Func.{Func}
@@ -26,12 +26,12 @@ use Rattle.asm_lines.specs.Places.{PlaceLists, list_or, list_at}
 use Rattle.holds_infer.specs.Spread.{AreLists, relisted_label, relisted_func}
 use Rattle.holds_infer.specs.BodyFilling.{HaveTheirLabels, HasResourceLists, IsBodyFilling, AreBodyFillings}
 use Rattle.holds_infer.proofs.Held.{held_of_label}
-use Rattle.holds_infer.proofs.Bare.{functions_same, count_functions, items_same, place_same, count_same, path_same, body_same, app_same}
+use Rattle.holds_infer.proofs.Bare.{functions_same, count_functions, items_same, place_same, count_same, path_same, body_same, app_same, same_bodies}
 use Rattle.holds_infer.proofs.Spreading.{mark_at, listed, all_none}
 use Rattle.holds_infer.proofs.OtherLists.{ranks_there, range_there}
 use Rattle.holds_infer.proofs.WellFormedLists.{rightly}
 
-bare_relisted : (lists : PlaceLists) (ls : List Label) → map bare_label ls ≡ map bare_label (map (relisted_label lists) ls)
+pub bare_relisted : (lists : PlaceLists) (ls : List Label) → map bare_label ls ≡ map bare_label (map (relisted_label lists) ls)
 bare_relisted lists [] = refl
 bare_relisted lists (l ∷ ls) = ap (λ x. bare_label l ∷ x) (bare_relisted lists ls)
 
@@ -117,13 +117,7 @@ module _ (app : App) (fs : List Func) (are : AreBodyFillings app.funcs fs) where
   other = record { funcs = fs; symbols = app.symbols }
 
   pub filled : SameButLists app other
-  filled = ap (λ xs. record { funcs = xs; symbols = app.symbols })
-      (ext_get_or (bare_func no_function) (map bare_func app.funcs) (map bare_func fs)
-      (length-map app.funcs bare_func ∙ sym are.count ∙ sym (length-map fs bare_func))
-      (λ b l.
-      let m : b < length app.funcs = let n = length-map app.funcs bare_func in omega (arith, n, l) in
-      get_or-map bare_func app.funcs b no_function (bare_func no_function) m ∙ (are.each b m).same
-      ∙ sym (get_or-map bare_func fs b no_function (bare_func no_function) (let n = are.count in omega (arith, n, m)))))
+  filled = ap (λ xs. record { funcs = xs; symbols = app.symbols }) (same_bodies app.funcs fs are.count (λ b l. (are.each b l).same))
 
   pub all_clear : AreClear other
   all_clear b = ⊎_elim

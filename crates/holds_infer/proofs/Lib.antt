@@ -1,9 +1,11 @@
 pub mod Accepts
 pub mod Bare
 pub mod BodyFillings
+pub mod Excluded
 pub mod Faultless
 pub mod Held
 pub mod InPlace
+pub mod LongerWays
 pub mod Loops
 pub mod OneBody
 pub mod OneSource
@@ -12,5 +14,6 @@ pub mod Refill
 pub mod Relabels
 pub mod Spreading
 pub mod Texts
+pub mod WayResources
 pub mod WellFormedLists
 pub mod Written

@@ -146,7 +146,7 @@ onto : {X : Type 0} (P : X → Type 0) (x : X) (xs : List X) → P x → All P x
 onto P x xs h t zero d l = h
 onto P x xs h t (suc k) d l = t k d (omega (arith, l))
 
-all_but_last : (P : ℕ → Type 0) (xs : List ℕ) → All P xs → All P (without_last xs)
+pub all_but_last : (P : ℕ → Type 0) (xs : List ℕ) → All P xs → All P (without_last xs)
 all_but_last P [] h = h
 all_but_last P (x ∷ []) h = all_none P
 all_but_last P (x ∷ y ∷ ys) h = onto P x (without_last (y ∷ ys)) (h 0 x (omega arith)) (all_but_last P (y ∷ ys) (tail_of P x (y ∷ ys) h))
@@ -160,7 +160,7 @@ behind_known P service.GetResource r held is h = by (is_in r held)
 behind_known P service.ReleaseResource r held is h = all_but_last P held h
 behind_known P _ r held is h = h
 
-got : (config : Config) (app : App) (f : Func) (call : Call) → IsOp config app f (op.Serve call) → call.service ≡ service.GetResource → IsResource config call.object
+pub got : (config : Config) (app : App) (f : Func) (call : Call) → IsOp config app f (op.Serve call) → call.service ≡ service.GetResource → IsResource config call.object
 got config app f call is e =
     let P : Service → Type 0 = λ s. AreOperands config s call.object call.mask in
     (subst P e is).0

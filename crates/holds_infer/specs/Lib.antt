@@ -3,6 +3,9 @@ pub mod FilledSource
 pub mod FilledText
 pub mod Filling
 pub mod InferErrors
+pub mod LabelAnswers
+pub mod LabelWays
 pub mod Relabel
 pub mod RightLists
 pub mod Spread
+pub mod WayLists

@@ -45,7 +45,8 @@ fn relisted_labels(
     Ok(List::from_vec(made))
 }
 
-fn relisted_func(
+/// The body with the lists of these places at its labels.
+pub fn relisted_func(
     alloc: Global,
     lists: &[Option<List<ResId>>],
     func: &Func,

@@ -1,5 +1,5 @@
 //! Laws of the definitions.
-ghost use Rattle.std.specs.Prelude.{◌≡◌, ℕ, List};
+ghost use Rattle.std.specs.Prelude.{◌≡◌, ◌<◌, ℕ, List, length};
 ghost use Rattle.sloth_base.specs.declared.config.Config.{Config};
 ghost use Rattle.sloth_base.specs.declared.app.App.{App};
 ghost use Rattle.code_rules.specs.WellFormed.{WellFormed};
@@ -12,6 +12,9 @@ ghost use Rattle.sloth_source.specs.RankedTexts.{EarlyRefusal};
 ghost use Rattle.sloth_base.specs.declared.refusal.Refusal.{Refusal};
 ghost use Rattle.holds_infer.specs.FilledText.{filled_text};
 ghost use Rattle.holds_infer.specs.FilledSource.{IsFilledSource, HasNoLists};
+ghost use Rattle.sloth_base.specs.Named.{function};
+ghost use Rattle.holds_infer.specs.LabelWays.{AreOtherWays};
+ghost use Rattle.holds_infer.specs.declared.other_ways.OtherWays.{OtherWays};
 
 /// Other lists at the lines of labels change the lists of the labels alone.
 pub fn lists_alone()
@@ -36,4 +39,10 @@ pub fn one_source()
 /// Lists at the labels of task code keep every rule in one way at most.
 pub fn one_filling()
     ensures { (config : Config) (app one other : App) → IsFilling config app one → IsFilling config app other → one ≡ other }
+{}
+
+/// Two ways to a label that hold different resources leave no lists for the labels that keep every rule.
+pub fn ways_exclude_lists()
+    ensures { (config : Config) (app other : App) (body : ℕ) (ways : OtherWays) → body < length app.funcs → AreOtherWays (function app body) ways
+        → IsFilling config app other → ⊥ }
 {}

@@ -80,8 +80,8 @@ fn visit(
     Ok(())
 }
 
-// What item `number` does.
-fn op_at(func: &Func, number: usize) -> Op
+/// What item `number` does.
+pub fn op_at(func: &Func, number: usize) -> Op
     requires { number < length func.now.items }
     ensures { result ≡ (item_of func.now number).op }
 {
@@ -123,8 +123,8 @@ fn spread(
     }
 }
 
-// So many places without a list.
-fn no_lists(alloc: Global, count: usize) -> Result<Vec<Option<List<ResId>>>, NoMemory>
+/// So many places without a list.
+pub fn no_lists(alloc: Global, count: usize) -> Result<Vec<Option<List<ResId>>>, NoMemory>
     ensures count { IfOk result (λ lists. length lists.items ≡ count) }
     ensures clear { IfOk result (λ lists. (i : ℕ) → get_or lists.items i None ≡ None) }
 {

@@ -1,0 +1,261 @@
+//! The ways through a body: breadth first, the lower item first, and as far as the rules on resources are kept.
+ghost use Rattle.std.specs.Prelude.{◌≡◌, ◌<◌, ℕ, length, set, get_or, is_some, Some, None, IfOk, IfSome, OnOk};
+ghost use Rattle.holds_infer.specs.RightLists.{HasItsLabels};
+ghost use Rattle.holds_infer.specs.WayLists.{IsWayList, AreWayLists, AreHeldBehind};
+
+use crate::holding_ways::goes;
+use crate::spread::{no_lists, op_at};
+use asm_lines::list_at;
+use fault_witnesses::clean_steps::is_orderly;
+use sloth_base::app::Func;
+use sloth_base::list::List;
+use sloth_base::memory::NoMemory;
+use sloth_base::numbers::ResId;
+use std::alloc::Global;
+use task_verify::held_resources::{held_after, held_by, is_held};
+use task_verify::ways::{jump_of, next_of};
+use text_pieces::growth::push;
+
+/// An item that leads to a place at which other resources are held by the first way there.
+#[derive(Clone, Copy)]
+pub struct Meeting {
+    pub item: usize,
+    pub place: usize,
+}
+
+/// What the first way to each place holds, the last item of that way, and where the first two ways meet that hold different resources, if some do.
+#[derive(Drop)]
+pub struct BodyWays {
+    pub lists: List<Option<List<ResId>>>,
+    pub before: List<usize>,
+    pub meeting: Option<Meeting>,
+}
+
+/// These as the list of a label.
+pub fn resources(alloc: Global, held: &[u32]) -> Result<Vec<ResId>, NoMemory>
+    ensures { IfOk result (λ list. list.items ≡ held.now) }
+{
+    let mut list = Vec::new(alloc);
+    for resource in held {
+        push(&mut list, ResId(*resource))?;
+    }
+    Ok(list)
+}
+
+// The place has this list.
+fn keep(
+    alloc: Global,
+    lists: &mut [Option<List<ResId>>],
+    place: usize,
+    held: &[u32],
+) -> Result<(), NoMemory>
+    requires { place < length lists.old }
+    ensures { OnOk result (lists.new ≡ set lists.old place (Some held.now)) }
+{
+    let list = resources(alloc, held)?;
+    lists[place] = Some(List::from_vec(list));
+    Ok(())
+}
+
+// What is held behind an item, if it is orderly with these.
+fn orderly_behind(func: &Func, item: usize, held: Vec<u32>) -> Result<Option<List<u32>>, NoMemory>
+    requires inside { item < length func.now.items }
+    requires held { IsWayList func.now item held.items }
+    ensures { IfOk result (λ found. IfSome found (AreHeldBehind func.now item)) }
+{
+    let op = op_at(func, item);
+    if !is_orderly(&held, &op) {
+        return Ok(None);
+    }
+    let behind = held_after(held, op)?;
+    Ok(Some(List::from_vec(behind)))
+}
+
+fn has_list(lists: &[Option<List<ResId>>], item: usize) -> bool
+    ensures { result ≡ is_some (get_or lists.now item None) }
+{
+    match lists.get(item) {
+        Some(list) => list.is_some(),
+        None => false,
+    }
+}
+
+// What is held behind an item that was reached, if it is orderly.
+fn held_behind(
+    alloc: Global,
+    func: &Func,
+    lists: &[Option<List<ResId>>],
+    item: usize,
+) -> Result<Option<List<u32>>, NoMemory>
+    requires inside { item < length func.now.items }
+    requires lists { AreWayLists func.now lists.now }
+    ensures { IfOk result (λ found. IfSome found (AreHeldBehind func.now item)) }
+{
+    if !has_list(lists, item) {
+        return Ok(None);
+    }
+    let held = held_by(alloc, list_at(lists, item))?;
+    orderly_behind(func, item, held)
+}
+
+// Comes from an item to a place with these held. Whether the place has another list already.
+fn arrive(
+    alloc: Global,
+    func: &Func,
+    lists: &mut [Option<List<ResId>>],
+    before: &mut [usize],
+    reached: &mut Vec<usize>,
+    from: usize,
+    to: usize,
+    held: &[u32],
+) -> Result<bool, NoMemory>
+    requires inside { from < length func.now.items }
+    requires labels { HasItsLabels func.now }
+    requires held { AreHeldBehind func.now from held.now }
+    requires lists { AreWayLists func.now lists.old }
+    ensures { OnOk result (AreWayLists func.now lists.new) }
+{
+    if to >= lists.len() || to >= before.len() {
+        return Ok(false);
+    }
+    if !goes(func, from, to) {
+        return Ok(false);
+    }
+    if lists[to].is_some() {
+        return Ok(!is_held(list_at(lists, to), held));
+    }
+    keep(alloc, lists, to, held)?;
+    before[to] = from;
+    push(reached, to)?;
+    Ok(false)
+}
+
+// Goes on from an item. The place at which other resources are held, if there is one.
+fn leave(
+    alloc: Global,
+    func: &Func,
+    lists: &mut [Option<List<ResId>>],
+    before: &mut [usize],
+    reached: &mut Vec<usize>,
+    item: usize,
+) -> Result<Option<usize>, NoMemory>
+    requires inside { item < length func.now.items }
+    requires labels { HasItsLabels func.now }
+    requires lists { AreWayLists func.now lists.old }
+    ensures { OnOk result (AreWayLists func.now lists.new) }
+{
+    let Some(held) = held_behind(alloc, func, lists, item)? else {
+        return Ok(None);
+    };
+    let next = next_of(func, item);
+    let jump = jump_of(func, item);
+    let first = if jump < next { jump } else { next };
+    let second = if jump < next { next } else { jump };
+    if arrive(
+        alloc,
+        func,
+        lists,
+        before,
+        reached,
+        item,
+        first,
+        held.items(),
+    )? {
+        return Ok(Some(first));
+    }
+    if arrive(
+        alloc,
+        func,
+        lists,
+        before,
+        reached,
+        item,
+        second,
+        held.items(),
+    )? {
+        return Ok(Some(second));
+    }
+    Ok(None)
+}
+
+// Goes on from each item that was reached, until two ways meet that hold different resources.
+fn go_on(
+    alloc: Global,
+    func: &Func,
+    lists: &mut [Option<List<ResId>>],
+    before: &mut [usize],
+    reached: &mut Vec<usize>,
+) -> Result<Option<Meeting>, NoMemory>
+    requires labels { HasItsLabels func.now }
+    requires lists { AreWayLists func.now lists.old }
+    ensures { OnOk result (AreWayLists func.now lists.new) }
+{
+    let count = func.items.items().len();
+    for turn in 0..count {
+        if turn >= reached.len() || reached[turn] >= count {
+            return Ok(None);
+        }
+        let item = reached[turn];
+        if let Some(place) = leave(alloc, func, lists, before, reached, item)? {
+            return Ok(Some(Meeting { item, place }));
+        }
+    }
+    Ok(None)
+}
+
+// The first item is reached, with nothing held.
+fn begin(
+    alloc: Global,
+    func: &Func,
+    lists: &mut [Option<List<ResId>>],
+    reached: &mut Vec<usize>,
+) -> Result<(), NoMemory>
+    requires { (i : ℕ) → get_or lists.old i None ≡ None }
+    ensures { OnOk result (AreWayLists func.now lists.new) }
+{
+    if lists.is_empty() {
+        return Ok(());
+    }
+    keep(alloc, lists, 0, &[])?;
+    push(reached, 0)?;
+    Ok(())
+}
+
+fn walk(
+    alloc: Global,
+    func: &Func,
+    lists: &mut [Option<List<ResId>>],
+    before: &mut [usize],
+) -> Result<Option<Meeting>, NoMemory>
+    requires labels { HasItsLabels func.now }
+    requires clear { (i : ℕ) → get_or lists.old i None ≡ None }
+    ensures { OnOk result (AreWayLists func.now lists.new) }
+{
+    let mut reached = Vec::new(alloc);
+    begin(alloc, func, lists, &mut reached)?;
+    go_on(alloc, func, lists, before, &mut reached)
+}
+
+fn zeros(alloc: Global, count: usize) -> Result<Vec<usize>, NoMemory> {
+    let mut numbers = Vec::new(alloc);
+    for _place in 0..count {
+        push(&mut numbers, 0)?;
+    }
+    Ok(numbers)
+}
+
+/// The ways from the first item of a body.
+pub fn body_ways(alloc: Global, func: &Func) -> Result<BodyWays, NoMemory>
+    requires { HasItsLabels func.now }
+    ensures { IfOk result (λ ways. AreWayLists func.now ways.lists) }
+{
+    let count = func.items.items().len();
+    let mut lists = no_lists(alloc, count)?;
+    let mut before = zeros(alloc, count)?;
+    let meeting = walk(alloc, func, &mut lists, &mut before)?;
+    Ok(BodyWays {
+        lists: List::from_vec(lists),
+        before: List::from_vec(before),
+        meeting,
+    })
+}

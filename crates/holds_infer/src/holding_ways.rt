@@ -1,0 +1,104 @@
+//! Whether items are a way to a place, and what they hold.
+ghost use Rattle.std.specs.Prelude.{◌≡◌, ◌<◌, length, true, IfOk, IfSome};
+ghost use Rattle.sloth_base.specs.Named.{item_of};
+ghost use Rattle.code_rules.specs.Code.{IsPathStep};
+ghost use Rattle.fault_witnesses.specs.CleanWays.{is_orderly};
+ghost use Rattle.holds_infer.specs.RightLists.{HasItsLabels};
+ghost use Rattle.holds_infer.specs.LabelWays.{way_place, HoldsOnWay, IsHoldingWay};
+
+use crate::spread::op_at;
+use fault_witnesses::clean_steps::is_orderly;
+use sloth_base::app::Func;
+use sloth_base::list::List;
+use sloth_base::memory::NoMemory;
+use std::alloc::Global;
+use task_verify::held_resources::held_after;
+use task_verify::ways::{jump_of, next_of};
+
+/// A way through a body, by the numbers of its items, and the resources that are held behind the last of them, in the order in which they were taken.
+#[derive(Drop)]
+pub struct HoldingWay {
+    pub items: List<usize>,
+    pub held: List<u32>,
+}
+
+// Item `number` of a way, and behind its last one the goal.
+fn way_place(way: &[usize], goal: usize, number: usize) -> usize
+    ensures { result ≡ way_place way.now goal number }
+{
+    match way.get(number) {
+        Some(item) => *item,
+        None => goal,
+    }
+}
+
+// Whether the way begins with the first item, or without items at the body's begin.
+fn starts(way: &[usize], goal: usize) -> bool
+    ensures { result ≡ true → way_place way.now goal 0 ≡ 0 }
+{
+    way_place(way, goal, 0) == 0
+}
+
+/// Whether an item goes on or jumps to a place, another one.
+pub fn goes(func: &Func, item: usize, place: usize) -> bool
+    requires inside { item < length func.now.items }
+    requires labels { HasItsLabels func.now }
+    ensures { result ≡ true → IsPathStep func.now item place }
+{
+    item != place && (next_of(func, item) == place || jump_of(func, item) == place)
+}
+
+// Whether an item of the body leads to a place, and is orderly with these held.
+fn leads(func: &Func, held: &[u32], item: usize, place: usize) -> bool
+    requires { HasItsLabels func.now }
+    ensures inside { result ≡ true → item < length func.now.items }
+    ensures orderly { result ≡ true → is_orderly held.now (item_of func.now item).op ≡ true }
+    ensures goes { result ≡ true → IsPathStep func.now item place }
+{
+    item < func.items.items().len()
+        && is_orderly(held, &func.items.items()[item].op)
+        && goes(func, item, place)
+}
+
+// What is held behind the items of a way, if it leads to the goal.
+fn held_on_way(
+    alloc: Global,
+    func: &Func,
+    goal: usize,
+    way: &[usize],
+) -> Result<Option<List<u32>>, NoMemory>
+    requires { HasItsLabels func.now }
+    ensures { IfOk result (λ found. IfSome found (HoldsOnWay func.now goal way.now)) }
+{
+    if !starts(way, goal) {
+        return Ok(None);
+    }
+    let mut held = Vec::new(alloc);
+    for number in 0..way.len() {
+        let item = way[number];
+        if !leads(func, &held, item, way_place(way, goal, number + 1)) {
+            return Ok(None);
+        }
+        held = held_after(held, op_at(func, item))?;
+    }
+    Ok(Some(List::from_vec(held)))
+}
+
+/// The way with what its items hold, if it leads from the first item of the body to the goal and keeps the rules on resources.
+pub fn holding_way(
+    alloc: Global,
+    func: &Func,
+    goal: usize,
+    way: Vec<usize>,
+) -> Result<Option<HoldingWay>, NoMemory>
+    requires { HasItsLabels func.now }
+    ensures { IfOk result (λ found. IfSome found (IsHoldingWay func.now goal)) }
+{
+    match held_on_way(alloc, func, goal, way.as_slice())? {
+        Some(held) => Ok(Some(HoldingWay {
+            items: List::from_vec(way),
+            held,
+        })),
+        None => Ok(None),
+    }
+}

@@ -1,0 +1,203 @@
+//! What the lists of labels can be, or why no lists keep the rules.
+ghost use Rattle.std.specs.Prelude.{◌≡◌, ◌<◌, ◌⊎◌, [], length, IfOk, IfSome};
+ghost use Rattle.code_rules.specs.AppRange.{AppInRange};
+ghost use Rattle.call_graph.specs.Ranks.{RanksOf};
+ghost use Rattle.holds_infer.specs.FilledSource.{HasNoLists};
+ghost use Rattle.holds_infer.specs.LabelAnswers.{is_list_rule, TellsWays, TellsBrokenRule, TellsRule, TellsReason, HasReason, IsNoListsText, IsLabelAnswer};
+
+use crate::other_rules::other_rule;
+use crate::other_ways::other_ways;
+use crate::reason_lines::{other_ways_lines, rule_lines};
+use crate::sources::{FillError, fill_source};
+use crate::way_fillings::way_filled;
+use call_graph::ranking::Ranks;
+use fault_witnesses::chains::function_at;
+use sloth_base::app::App;
+use sloth_base::config::Config;
+use sloth_base::list::List;
+use sloth_base::memory::NoMemory;
+use sloth_base::refusal::{Code, Refusal};
+use sloth_source::Ranked;
+use std::alloc::Global;
+use why_text::{fault_of, ranked_of};
+
+/// What is said of the lists of labels.
+#[derive(Drop)]
+pub enum LabelAnswer {
+    /// One choice of lists keeps the rules.
+    Filled,
+    /// No lists keep them, with the text that says why.
+    NoLists(List<u8>),
+    /// The texts have a refusal that comes before the rules V2 to V12.
+    Unjudged,
+}
+
+// ---- two ways to a label
+
+// The lines of the first two ways to a label that hold different resources, body by body.
+fn ways_of(alloc: Global, config: &Config, app: &App) -> Result<Option<List<u8>>, NoMemory>
+    requires { AppInRange config.now app.now }
+    ensures { IfOk result (λ found. IfSome found (TellsWays config.now app.now)) }
+{
+    for body in 0..app.funcs.items().len() {
+        let func = function_at(app, body);
+        if let Some(ways) = other_ways(alloc, func)? {
+            let text = other_ways_lines(alloc, config, func, &ways)?;
+            return Ok(Some(List::from_vec(text)));
+        }
+    }
+    Ok(None)
+}
+
+// ---- a rule that is broken
+
+fn is_list_rule(code: Code) -> bool
+    ensures { result ≡ is_list_rule code }
+{
+    matches!(code, Code::V7)
+}
+
+// The lines of a rule that this task code breaks.
+fn broken_rule(
+    alloc: Global,
+    src: &[u8],
+    config: &Config,
+    app: &App,
+    ranks: &Ranks,
+    refusal: Refusal,
+) -> Result<Option<List<u8>>, NoMemory>
+    requires src { length src.now < 4294967295 }
+    requires in_range { AppInRange config.now app.now }
+    requires belong { RanksOf app.now ranks.now }
+    ensures { IfOk result (λ found. IfSome found (TellsBrokenRule config.now app.now)) }
+{
+    if is_list_rule(refusal.code) {
+        return Ok(None);
+    }
+    match fault_of(alloc, src, config, app, ranks, refusal)? {
+        Some(behind) => {
+            let text = rule_lines(alloc, refusal, behind.items())?;
+            Ok(Some(List::from_vec(text)))
+        },
+        None => Ok(None),
+    }
+}
+
+fn least_rule(
+    alloc: Global,
+    src: &[u8],
+    config: &Config,
+    app: &App,
+    ranks: &Ranks,
+) -> Result<Option<List<u8>>, NoMemory>
+    requires src { length src.now < 4294967295 }
+    requires in_range { AppInRange config.now app.now }
+    requires belong { RanksOf app.now ranks.now }
+    ensures { IfOk result (λ found. IfSome found (TellsBrokenRule config.now app.now)) }
+{
+    match other_rule(alloc, config, app, ranks)? {
+        Some(refusal) => broken_rule(alloc, src, config, app, ranks, refusal),
+        None => Ok(None),
+    }
+}
+
+// The lines of a rule that is broken with the lists that ways hold at the labels.
+fn rule_of(
+    alloc: Global,
+    src: &[u8],
+    config: &Config,
+    app: &App,
+    ranks: &Ranks,
+) -> Result<Option<List<u8>>, NoMemory>
+    requires src { length src.now < 4294967295 }
+    requires in_range { AppInRange config.now app.now }
+    requires belong { RanksOf app.now ranks.now }
+    ensures { IfOk result (λ found. IfSome found (TellsRule config.now app.now)) }
+{
+    let filled = way_filled(alloc, app)?;
+    match least_rule(alloc, src, config, &filled, ranks)? {
+        Some(lines) => Ok(Some(lines)),
+        None => Ok(None),
+    }
+}
+
+// ---- all
+
+fn reason_of(
+    alloc: Global,
+    src: &[u8],
+    config: &Config,
+    app: &App,
+    ranks: &Ranks,
+) -> Result<Option<List<u8>>, NoMemory>
+    requires src { length src.now < 4294967295 }
+    requires in_range { AppInRange config.now app.now }
+    requires belong { RanksOf app.now ranks.now }
+    ensures { IfOk result (λ found. IfSome found (TellsReason config.now app.now)) }
+{
+    match ways_of(alloc, config, app)? {
+        Some(lines) => Ok(Some(lines)),
+        None => match rule_of(alloc, src, config, app, ranks)? {
+            Some(lines) => Ok(Some(lines)),
+            None => Ok(None),
+        },
+    }
+}
+
+fn reason_for(alloc: Global, oil: &[u8], src: &[u8]) -> Result<Option<List<u8>>, NoMemory>
+    requires oil { length oil.now < 4294967295 }
+    requires src { length src.now < 4294967295 }
+    ensures { IfOk result (λ found. IfSome found (HasReason oil.now src.now)) }
+{
+    match ranked_of(alloc, oil, src)? {
+        Some(Ranked { config, app, ranks }) => reason_of(alloc, src, &config, &app, &ranks),
+        None => Ok(None),
+    }
+}
+
+fn reason_lines(alloc: Global, oil: &[u8], src: &[u8]) -> Result<List<u8>, NoMemory>
+    requires oil { length oil.now < 4294967295 }
+    requires src { length src.now < 4294967295 }
+    ensures { IfOk result (λ lines. (lines ≡ []) ⊎ HasReason oil.now src.now lines) }
+{
+    match reason_for(alloc, oil, src)? {
+        Some(lines) => Ok(lines),
+        None => Ok(List::from_vec(Vec::new(alloc))),
+    }
+}
+
+fn no_lists_text(alloc: Global, oil: &[u8], src: &[u8]) -> Result<List<u8>, NoMemory>
+    requires oil { length oil.now < 4294967295 }
+    requires src { length src.now < 4294967295 }
+    ensures { IfOk result (IsNoListsText oil.now src.now) }
+{
+    let lines = reason_lines(alloc, oil, src)?;
+    let mut text = Vec::from_slice(alloc, b"no holds\n")?;
+    text.extend_from_slice(lines.items())?;
+    Ok(List::from_vec(text))
+}
+
+fn no_lists(alloc: Global, oil: &[u8], src: &[u8]) -> Result<LabelAnswer, NoMemory>
+    requires oil { length oil.now < 4294967295 }
+    requires src { length src.now < 4294967295 }
+    requires none { HasNoLists oil.now src.now }
+    ensures { IfOk result (IsLabelAnswer oil.now src.now) }
+{
+    let text = no_lists_text(alloc, oil, src)?;
+    Ok(LabelAnswer::NoLists(text))
+}
+
+/// That one choice of lists for the labels keeps the rules; or that none does, and why; or that a refusal comes before these rules. Each text has at most
+/// 4,294,967,294 bytes.
+pub fn labels_text(alloc: Global, oil: &[u8], src: &[u8]) -> Result<LabelAnswer, NoMemory>
+    requires oil { length oil.now < 4294967295 }
+    requires src { length src.now < 4294967295 }
+    ensures { IfOk result (IsLabelAnswer oil.now src.now) }
+{
+    match fill_source(alloc, oil, src) {
+        Ok(_) => Ok(LabelAnswer::Filled),
+        Err(FillError::Refused(_)) => Ok(LabelAnswer::Unjudged),
+        Err(FillError::NoHolds) => no_lists(alloc, oil, src),
+        Err(FillError::Memory) => Err(NoMemory),
+    }
+}

@@ -1,0 +1,126 @@
+//! Two ways to a label that hold different resources.
+ghost use Rattle.std.specs.Prelude.{◌≡◌, ◌<◌, length, IfOk, IfSome};
+ghost use Rattle.sloth_base.specs.Named.{label_of};
+ghost use Rattle.holds_infer.specs.RightLists.{HasItsLabels};
+ghost use Rattle.holds_infer.specs.LabelWays.{AreOtherWays};
+
+use crate::body_ways::{Meeting, body_ways, resources};
+use crate::holding_ways::{HoldingWay, holding_way};
+use sloth_base::app::Func;
+use sloth_base::memory::NoMemory;
+use std::alloc::Global;
+use task_verify::held_resources::is_held;
+use text_pieces::growth::push;
+
+/// A label by its number, and two ways to it that hold different resources.
+#[derive(Drop)]
+pub struct OtherWays {
+    pub label: usize,
+    pub one: HoldingWay,
+    pub other: HoldingWay,
+}
+
+// The first label at a place.
+fn label_at(func: &Func, place: usize) -> Option<usize>
+    ensures { IfSome result (λ k. k < length func.now.labels) }
+{
+    for (number, label) in func.labels.items().iter().enumerate() {
+        if label.item as usize == place {
+            return Some(number);
+        }
+    }
+    None
+}
+
+fn reversed(alloc: Global, items: &[usize]) -> Result<Vec<usize>, NoMemory> {
+    let mut list = Vec::new(alloc);
+    for number in 0..items.len() {
+        push(&mut list, items[items.len() - 1 - number])?;
+    }
+    Ok(list)
+}
+
+// The items of the first way to an item, and the item itself.
+fn way_by(alloc: Global, before: &[usize], item: usize) -> Result<Vec<usize>, NoMemory> {
+    let mut back = Vec::new(alloc);
+    let mut at = item;
+    for _turn in 0..before.len() {
+        if at > 0 && at < before.len() {
+            push(&mut back, at)?;
+            at = before[at];
+        }
+    }
+    push(&mut back, 0)?;
+    reversed(alloc, &back)
+}
+
+// The items of the first way to a place.
+fn first_way(alloc: Global, before: &[usize], place: usize) -> Result<Vec<usize>, NoMemory> {
+    if place == 0 || place >= before.len() {
+        return Ok(Vec::new(alloc));
+    }
+    way_by(alloc, before, before[place])
+}
+
+fn place_of(func: &Func, label: usize) -> usize
+    requires { label < length func.now.labels }
+    ensures { result ≡ (label_of func.now label).item }
+{
+    func.labels.items()[label].item as usize
+}
+
+// Both ways, if they lead to the label and hold different resources.
+fn ways_if(
+    alloc: Global,
+    func: &Func,
+    label: usize,
+    one: Vec<usize>,
+    other: Vec<usize>,
+) -> Result<Option<OtherWays>, NoMemory>
+    requires labels { HasItsLabels func.now }
+    requires known { label < length func.now.labels }
+    ensures { IfOk result (λ found. IfSome found (AreOtherWays func.now)) }
+{
+    let place = place_of(func, label);
+    let Some(one) = holding_way(alloc, func, place, one)? else {
+        return Ok(None);
+    };
+    let Some(other) = holding_way(alloc, func, place, other)? else {
+        return Ok(None);
+    };
+    let held = resources(alloc, one.held.items())?;
+    if is_held(&held, other.held.items()) {
+        return Ok(None);
+    }
+    Ok(Some(OtherWays { label, one, other }))
+}
+
+// The two ways that meet.
+fn ways_at(
+    alloc: Global,
+    func: &Func,
+    before: &[usize],
+    meeting: Meeting,
+) -> Result<Option<OtherWays>, NoMemory>
+    requires { HasItsLabels func.now }
+    ensures { IfOk result (λ found. IfSome found (AreOtherWays func.now)) }
+{
+    let Some(label) = label_at(func, meeting.place) else {
+        return Ok(None);
+    };
+    let one = first_way(alloc, before, meeting.place)?;
+    let other = way_by(alloc, before, meeting.item)?;
+    ways_if(alloc, func, label, one, other)
+}
+
+/// The first two ways through a body that meet at a label with different resources held, if some do.
+pub fn other_ways(alloc: Global, func: &Func) -> Result<Option<OtherWays>, NoMemory>
+    requires { HasItsLabels func.now }
+    ensures { IfOk result (λ found. IfSome found (AreOtherWays func.now)) }
+{
+    let ways = body_ways(alloc, func)?;
+    match ways.meeting {
+        Some(meeting) => ways_at(alloc, func, ways.before.items(), meeting),
+        None => Ok(None),
+    }
+}

@@ -1,0 +1,92 @@
+//! The lines that say why no lists keep the rules.
+ghost use Rattle.std.specs.Prelude.{◌≡◌, ◌++◌, IfOk, OnOk};
+ghost use Rattle.holds_infer.specs.LabelAnswers.{led_line, holding_lines, label_line, other_ways_lines, rule_line};
+
+use crate::holding_ways::HoldingWay;
+use crate::other_ways::OtherWays;
+use command_line::last_line::code_text;
+use sloth_base::app::Func;
+use sloth_base::config::Config;
+use sloth_base::memory::NoMemory;
+use sloth_base::refusal::Refusal;
+use std::alloc::Global;
+use why_text::{
+    label_line, label_name, push_bytes, push_list_line, push_number, push_way_line, push_word,
+};
+
+fn push_led(text: &mut Vec<u8>, func: &Func, items: &[usize]) -> Result<(), NoMemory>
+    ensures { OnOk result (text.new.items ≡ text.old.items ++ led_line func.now items.now) }
+{
+    if items.is_empty() {
+        return push_bytes(text, b"way -\n");
+    }
+    push_way_line(text, func, items)
+}
+
+// A way, and what it holds.
+fn push_holding(
+    text: &mut Vec<u8>,
+    config: &Config,
+    func: &Func,
+    way: &HoldingWay,
+) -> Result<(), NoMemory>
+    ensures { OnOk result (text.new.items ≡ text.old.items ++ holding_lines config.now func.now way.now) }
+{
+    push_led(text, func, way.items.items())?;
+    push_list_line(text, config, b"holds", way.held.items())
+}
+
+fn push_label(text: &mut Vec<u8>, func: &Func, label: usize) -> Result<(), NoMemory>
+    ensures { OnOk result (text.new.items ≡ text.old.items ++ label_line func.now label) }
+{
+    push_bytes(text, b"label")?;
+    push_number(text, label_line(func, label))?;
+    push_word(text, label_name(func, label))?;
+    push_bytes(text, b"\n")
+}
+
+fn push_ways(
+    text: &mut Vec<u8>,
+    config: &Config,
+    func: &Func,
+    ways: &OtherWays,
+) -> Result<(), NoMemory>
+    ensures { OnOk result (text.new.items ≡ text.old.items ++ other_ways_lines config.now func.now ways.now) }
+{
+    push_label(text, func, ways.label)?;
+    push_holding(text, config, func, &ways.one)?;
+    push_holding(text, config, func, &ways.other)
+}
+
+/// The lines of two ways to a label.
+pub fn other_ways_lines(
+    alloc: Global,
+    config: &Config,
+    func: &Func,
+    ways: &OtherWays,
+) -> Result<Vec<u8>, NoMemory>
+    ensures { IfOk result (λ text. text.items ≡ other_ways_lines config.now func.now ways.now) }
+{
+    let mut text = Vec::new(alloc);
+    push_ways(&mut text, config, func, ways)?;
+    Ok(text)
+}
+
+fn push_rule(text: &mut Vec<u8>, refusal: Refusal) -> Result<(), NoMemory>
+    ensures { OnOk result (text.new.items ≡ text.old.items ++ rule_line refusal) }
+{
+    push_bytes(text, b"rule")?;
+    push_number(text, refusal.line)?;
+    push_word(text, code_text(refusal.code))?;
+    push_bytes(text, b"\n")
+}
+
+/// The line of a rule, and these lines.
+pub fn rule_lines(alloc: Global, refusal: Refusal, behind: &[u8]) -> Result<Vec<u8>, NoMemory>
+    ensures { IfOk result (λ text. text.items ≡ rule_line refusal ++ behind.now) }
+{
+    let mut text = Vec::new(alloc);
+    push_rule(&mut text, refusal)?;
+    push_bytes(&mut text, behind)?;
+    Ok(text)
+}
