@@ -238,6 +238,28 @@ impl Osek {
         lines_above(&self.config, &self.store, task.0)
     }
 
+    /// The configuration. Takes no memory.
+    pub fn config(&self) -> &Config
+        ensures is { result.now ≡ self.now.config }
+        ensures sound { IsSound self.now.config self.now.app self.now.system }
+    {
+        &self.config
+    }
+
+    /// The task code. Takes no memory.
+    pub fn app(&self) -> &App
+        ensures { result.now ≡ self.now.app }
+    {
+        &self.app
+    }
+
+    /// The system as it stands. Takes no memory.
+    pub fn store(&self) -> &Store
+        ensures { result.now ≡ self.now.system }
+    {
+        &self.store
+    }
+
     /// How many tasks the configuration has. Takes no memory.
     pub fn task_count(&self) -> usize
         ensures { result ≡ length self.now.config.tasks }

@@ -37,9 +37,9 @@ fn push_shown(line: &mut LineText, state: TaskState, runs: bool)
     }
 }
 
-// The line of a task.
+/// The line of a task, by its name; that of one that is Active says whether it runs.
 #[tactic(auto, unfolding(crate::specs::SystemText::state_line))]
-fn state_line(name: &[u8], runs: bool, state: TaskState) -> LineText
+pub fn state_line(name: &[u8], runs: bool, state: TaskState) -> LineText
     requires { length name.now ≤ name_limit }
     ensures { result ≡ state_line name.now runs state }
 {

@@ -12,3 +12,9 @@ pub mod Longer
 pub mod Decided
 pub mod ScanOrder
 pub mod Endings
+pub mod Told
+pub mod Within
+pub mod Items
+pub mod Below
+pub mod ExactEvents
+pub mod Fronts

@@ -6,3 +6,9 @@ pub mod TraceAnswers
 pub mod Counts
 pub mod Timed
 pub mod Scan
+pub mod NextEvents
+pub mod MachineEvents
+pub mod Rows
+pub mod ReasonLines
+pub mod Front
+pub mod Reasons

@@ -10,18 +10,35 @@
 //! `in_time`; `specs/Counts`, `specs/Timed`). One pass over events with the arrivals says whether each may stand there, by its stamp, the events
 //! before it and the arrivals that are left (`Pass::new`, `look`; `specs/Scan`). The limits of a stretch as numbers: `stretches::boot_limit`,
 //! `longest_stretch`. In time: `osek_scheduler` (`InTime`).
+//!
+//! What stands behind a verdict on a text of events, for the command `why .. TRACE N`.
+//!
+//! `explain_trace` gives the verdict of `check`, or the refusal of the other texts. Behind a line with which the events are no run any more it tells
+//! the states of the tasks in front of it, and each event that may stand there: exactly those with which there is a run still, each with the count before
+//! which it must begin, if there is one (`next_events`; `specs/NextEvents`, `specs/Reasons`). Lines: `specs/ReasonLines`. How they are found: `specs/Rows`,
+//! `specs/MachineEvents`. Runs: `osek_scheduler` (`Runs`); walks: `walked_events` (`Walk`).
 #![tactic(auto)]
 
 pub mod answer;
 pub mod answer_laws;
+mod front;
 mod inputs;
 pub mod laws;
+mod limits;
+mod lines;
+mod machine_events;
+pub mod next_event;
 pub mod numbers;
 pub mod pass;
+mod reason;
+mod rows;
 pub mod stretches;
 pub mod timing;
 pub mod verdict;
 
 pub use answer::{TraceAnswer, judge_trace};
+pub use next_event::NextEvent;
+pub use reason::{TraceReason, explain_trace};
+pub use rows::next_events;
 pub use timing::Timing;
 pub use verdict::{Verdict, check};

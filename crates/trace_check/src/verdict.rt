@@ -35,8 +35,8 @@ pub enum Verdict {
     Time,
 }
 
-// The event of the first line, if an LF ends it.
-fn next_event(names: &DeclaredNames, text: &[u8]) -> Option<Stamped>
+/// The event of the first line, if an LF ends it.
+pub fn next_event(names: &DeclaredNames, text: &[u8]) -> Option<Stamped>
     requires tasks { AreNames names.now.tasks }
     requires funcs { AreNames names.now.funcs }
     requires counters { AreNames names.now.counters }

@@ -94,6 +94,20 @@ impl Walk {
         })
     }
 
+    /// The scheduler as it stands. Takes no memory.
+    pub fn osek(&self) -> &Osek
+        ensures { result.now ≡ self.now.machine }
+    {
+        &self.osek
+    }
+
+    /// For each task that is Ready since an admit that admit's moment, else 0. Takes no memory.
+    pub fn moments(&self) -> &[u32; LINE_COUNT]
+        ensures { result.now ≡ self.now.moments }
+    {
+        &self.moments
+    }
+
     // Whether a task of the configuration is Active.
     fn is_running(&self, task: u32) -> bool
         ensures { result ≡ (ltb task (length self.now.machine.config.tasks) && is_active (task_of self.now.machine.system task).state) }

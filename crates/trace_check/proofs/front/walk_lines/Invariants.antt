@@ -1,0 +1,15 @@
+use Rattle.std.proofs.Common.{◌≡◌, [], List, length}
+use Rattle.sloth_base.specs.declared.app.App.{App}
+use Rattle.sloth_base.specs.declared.config.Config.{Config}
+use Rattle.sloth_base.specs.declared.event.Stamped.{Stamped}
+use Rattle.walked_events.proofs.ReadEvents.{HasRead}
+use Rattle.walked_events.specs.Walk.{IsWalked}
+use Rattle.trace_check.proofs.front.walk_lines.Given as goal
+
+abbrev pub invariant-loop-line : goal.invariant-loop-line
+invariant-loop-line l = record {
+  events : List Stamped;
+  reads : HasRead l.names.tasks l.names.funcs l.names.counters l.text events l.rest;
+  count : l._line ≡ length events;
+  walks : (config : Config) (app : App) → IsWalked config app [] l.fn.walk → IsWalked config app events l.walk;
+}

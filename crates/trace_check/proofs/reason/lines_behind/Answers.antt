@@ -1,0 +1,4 @@
+use Rattle.trace_check.proofs.reason.lines_behind.Goals as goal
+
+pub step_lines-requires-clause-strays : goal.step_lines-requires-clause-strays
+step_lines-requires-clause-strays c = c.requires.strays c.in-Step.line c.in-Step.is

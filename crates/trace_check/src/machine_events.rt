@@ -1,0 +1,147 @@
+//! Which events have a next state, and which event the next item of a task is.
+ghost use Rattle.std.specs.Prelude.{◌≡◌, ◌<◌, is_some, length};
+ghost use Rattle.osek_scheduler.specs.Next.{next_state};
+ghost use Rattle.osek_machine.specs.PlanSteps.{IsRead};
+ghost use Rattle.osek_machine.specs.Steps.{IsSound};
+ghost use Rattle.trace_check.specs.MachineEvents.{item_event, own_plan, planned_event, served_event, service_event, shown_result};
+
+use osek_machine::events::{answer_plan, back_plan, entry_plan, leave_plan, running_plan};
+use osek_machine::items::{own_operation, run_plan};
+use osek_machine::priority::{is_idle, is_next_tick, no_ticks};
+use osek_machine::services::{call_in, call_plan};
+use osek_machine::store::Store;
+use osek_machine::{Osek, events};
+use osek_scheduler::plan::Plan;
+use sloth_base::app::App;
+use sloth_base::config::Config;
+use sloth_base::event::Event;
+use sloth_base::service::Service;
+
+// Whether an event has a next state.
+fn is_next(config: &Config, app: &App, store: &Store, event: &Event) -> bool
+    requires sound { IsSound config.now app.now store.now }
+    requires read { IsRead config.now app.now store.now }
+    ensures { result ≡ is_some (next_state config.now app.now event.now store.now) }
+{
+    match *event {
+        Event::Boot => !store.booted(),
+        Event::Admit(task) => store.booted() && (task as usize) < config.tasks.items().len(),
+        Event::Enter(task) => entry_plan(config, app, store, task).is_some(),
+        Event::Run {
+            task,
+            func,
+            item,
+            result,
+        } => running_plan(config, app, store, task, func, item, result).is_some(),
+        Event::Call {
+            task,
+            service,
+            status,
+        } => answer_plan(config, app, store, task, service, status).is_some(),
+        Event::Left { task, service } => leave_plan(config, app, store, task, service).is_some(),
+        Event::Back(task) => back_plan(config, store, task).is_some(),
+        Event::Idle => store.booted() && is_idle(config, store) && no_ticks(config, store),
+        Event::Due(counter) => {
+            store.booted() && (counter as usize) < config.counters.items().len()
+        }
+        Event::Tick(counter) => store.booted() && is_next_tick(config, store, counter),
+        Event::Stray => false,
+    }
+}
+
+/// Whether an event has a next state.
+pub fn has_next(osek: &Osek, event: &Event) -> bool
+    ensures { result ≡ is_some (next_state osek.now.config osek.now.app event.now osek.now.system) }
+{
+    is_next(osek.config(), osek.app(), osek.store(), event)
+}
+
+// The plan of the next item of a task, where that is no service.
+fn own_plan(_config: &Config, app: &App, store: &Store, task: u32) -> Option<Plan>
+    requires read { IsRead _config.now app.now store.now }
+    requires declared { task < length store.now.tasks }
+    ensures { result ≡ own_plan app.now task store.now }
+{
+    let own = store.task(task as usize);
+    let op = own_operation(app, own)?;
+    run_plan(app, store, own, &op)
+}
+
+// The result that a plan shows.
+fn shown_result(plan: Option<Plan>) -> Option<u32>
+    ensures { result ≡ shown_result plan }
+{
+    match plan {
+        Some(plan) => plan.answer,
+        None => None,
+    }
+}
+
+// The run of the next item of a task.
+fn item_of(config: &Config, app: &App, store: &Store, task: u32) -> Option<Event>
+    requires read { IsRead config.now app.now store.now }
+    requires declared { task < length store.now.tasks }
+    ensures { result ≡ item_event app.now task store.now }
+{
+    let plan = own_plan(config, app, store, task);
+    let result = shown_result(plan)?;
+    let frame = store.task(task as usize).innermost()?;
+    Some(Event::Run {
+        task,
+        func: frame.func(),
+        item: frame.item(),
+        result,
+    })
+}
+
+// A service that goes on with a status, or with which its task leaves.
+fn served_event(task: u32, service: Service, answer: Option<u32>) -> Event
+    ensures { result ≡ served_event task service answer }
+{
+    match answer {
+        Some(status) => Event::Call {
+            task,
+            service,
+            status,
+        },
+        None => Event::Left { task, service },
+    }
+}
+
+// The same by its plan, if there is one.
+fn planned_event(task: u32, service: Service, plan: Option<Plan>) -> Option<Event>
+    ensures { result ≡ planned_event task service plan }
+{
+    match plan {
+        Some(plan) => Some(served_event(task, service, plan.answer)),
+        None => None,
+    }
+}
+
+// The service that the next item of a task is.
+fn service_of(config: &Config, app: &App, store: &Store, task: u32) -> Option<Event>
+    requires read { IsRead config.now app.now store.now }
+    requires declared { task < length store.now.tasks }
+    ensures { result ≡ service_event config.now app.now task store.now }
+{
+    let op = own_operation(app, store.task(task as usize))?;
+    let call = call_in(&op)?;
+    let plan = call_plan(config, store, call.service, task, &call);
+    planned_event(task, call.service, plan)
+}
+
+/// The run of the next item of a task.
+pub fn item_event(osek: &Osek, task: u32) -> Option<Event>
+    requires { task < length osek.now.config.tasks }
+    ensures { result ≡ item_event osek.now.app task osek.now.system }
+{
+    item_of(osek.config(), osek.app(), osek.store(), task)
+}
+
+/// The service that the next item of a task is.
+pub fn service_event(osek: &Osek, task: u32) -> Option<Event>
+    requires { task < length osek.now.config.tasks }
+    ensures { result ≡ service_event osek.now.config osek.now.app task osek.now.system }
+{
+    service_of(osek.config(), osek.app(), osek.store(), task)
+}
