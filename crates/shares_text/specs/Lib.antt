@@ -1,1 +1,4 @@
 pub mod SharesText
+pub mod UnusedText
+pub mod Uses
+pub mod UsesBy

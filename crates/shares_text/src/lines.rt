@@ -15,8 +15,8 @@ use sloth_base::config::Config;
 use sloth_base::memory::NoMemory;
 use sloth_base::numbers::RES_SCHEDULER;
 
-// A space and a name.
-fn push_word(text: &mut Vec<u8>, name: &[u8]) -> Result<(), NoMemory>
+/// A space and a name.
+pub fn push_word(text: &mut Vec<u8>, name: &[u8]) -> Result<(), NoMemory>
     ensures { OnOk result (text.new.items ≡ text.old.items ++ (codes " " ++ name.now)) }
 {
     text.extend_from_slice(b" ")?;
@@ -165,8 +165,8 @@ fn push_keepers(text: &mut Vec<u8>, config: &Config, list: &[Keeper]) -> Result<
     push_further(text, config, list)
 }
 
-// A space and a number.
-fn push_number(text: &mut Vec<u8>, number: u32) -> Result<(), NoMemory>
+/// A space and a number.
+pub fn push_number(text: &mut Vec<u8>, number: u32) -> Result<(), NoMemory>
     ensures { OnOk result (text.new.items ≡ text.old.items ++ (codes " " ++ decimal number)) }
 {
     let mut buffer = Buffer::new();

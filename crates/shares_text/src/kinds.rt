@@ -1,0 +1,98 @@
+//! What may be used: the objects of a configuration, and the data and functions of its task code.
+ghost use Rattle.std.specs.Prelude.{◌≡◌};
+ghost use Rattle.shares_text.specs.Uses.{event_mask};
+ghost use Rattle.shares_text.specs.UnusedText.{kind_word, count_of, object_name, header_line};
+
+use sloth_base::app::App;
+use sloth_base::config::Config;
+
+/// A kind of things. Those of a kind have numbers from 0.
+#[derive(Clone, Copy)]
+pub enum Kind {
+    Task,
+    Resource,
+    Event,
+    Alarm,
+    Symbol,
+    Function,
+}
+
+/// Its word in a line.
+pub fn kind_word(kind: Kind) -> &'static [u8]
+    ensures { result.now ≡ kind_word kind }
+{
+    match kind {
+        Kind::Task => b"task",
+        Kind::Resource => b"resource",
+        Kind::Event => b"event",
+        Kind::Alarm => b"alarm",
+        Kind::Symbol => b"symbol",
+        Kind::Function => b"function",
+    }
+}
+
+/// How many there are of a kind.
+pub fn count_of(config: &Config, app: &App, kind: Kind) -> usize
+    ensures { result ≡ count_of config.now app.now kind }
+{
+    match kind {
+        Kind::Task => config.tasks.items().len(),
+        Kind::Resource => config.resources.items().len(),
+        Kind::Event => config.events.items().len(),
+        Kind::Alarm => config.alarms.items().len(),
+        Kind::Symbol => app.symbols.items().len(),
+        Kind::Function => app.funcs.items().len(),
+    }
+}
+
+/// The name of one.
+pub fn object_name<'t>(config: &'t Config, app: &'t App, kind: Kind, number: usize) -> &'t [u8]
+    ensures { result.now ≡ object_name config.now app.now kind number }
+{
+    match kind {
+        Kind::Task => match config.tasks.items().get(number) {
+            Some(task) => task.name.bytes(),
+            None => b"",
+        },
+        Kind::Resource => match config.resources.items().get(number) {
+            Some(name) => name.bytes(),
+            None => b"",
+        },
+        Kind::Event => match config.events.items().get(number) {
+            Some(event) => event.name.bytes(),
+            None => b"",
+        },
+        Kind::Alarm => match config.alarms.items().get(number) {
+            Some(alarm) => alarm.name.bytes(),
+            None => b"",
+        },
+        Kind::Symbol => match app.symbols.items().get(number) {
+            Some(symbol) => symbol.name.bytes(),
+            None => b"",
+        },
+        Kind::Function => match app.funcs.items().get(number) {
+            Some(func) => func.name.bytes(),
+            None => b"",
+        },
+    }
+}
+
+/// The line of a function's header.
+pub fn header_line(app: &App, number: usize) -> u32
+    ensures { result ≡ header_line app.now number }
+{
+    match app.funcs.items().get(number) {
+        Some(func) => func.line,
+        None => 0,
+    }
+}
+
+/// The mask of an event.
+pub fn event_mask(config: &Config, number: usize) -> u32
+    ensures { result ≡ event_mask config.now number }
+{
+    match config.events.items().get(number) {
+        Some(event) => event.mask,
+        None => 0,
+    }
+}

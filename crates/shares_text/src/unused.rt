@@ -1,0 +1,138 @@
+//! The lines of what nothing uses, from the texts.
+ghost use Rattle.std.specs.Prelude.{◌≡◌, ◌<◌, ◌≤◌, ◌++◌, cond, [], length, IfOk, IfErr, OnOk};
+ghost use Rattle.sloth_base.specs.Limits.{task_limit};
+ghost use Rattle.call_graph.specs.Ranks.{RanksOf};
+ghost use Rattle.sloth_source.specs.Texts.{SourcesErrorIs};
+ghost use Rattle.shares_text.specs.UnusedText.{kind_word, object_name, further_words, unused_line, lines_of, unused_lines, HasUnused, IsUnusedText};
+ghost use Rattle.shares_text.specs.UsesBy.{is_used_by};
+
+use crate::kinds::{Kind, count_of, header_line, kind_word, object_name};
+use crate::lines::{push_number, push_word};
+use crate::uses::is_used;
+use call_graph::ranking::Ranks;
+use sloth_base::app::App;
+use sloth_base::config::Config;
+use sloth_base::memory::NoMemory;
+use sloth_base::refusal::BuildError;
+use sloth_source::read_checked;
+use std::alloc::Global;
+use task_verify::verified::Verified;
+
+// What stands behind the name.
+fn push_further(text: &mut Vec<u8>, app: &App, kind: Kind, number: usize) -> Result<(), NoMemory>
+    ensures { OnOk result (text.new.items ≡ text.old.items ++ further_words app.now kind number) }
+{
+    match kind {
+        Kind::Task => {
+            text.extend_from_slice(b" arrivals")?;
+            Ok(())
+        }
+        Kind::Resource => Ok(()),
+        Kind::Event => Ok(()),
+        Kind::Alarm => Ok(()),
+        Kind::Symbol => Ok(()),
+        Kind::Function => push_number(text, header_line(app, number)),
+    }
+}
+
+fn push_line(
+    text: &mut Vec<u8>,
+    config: &Config,
+    app: &App,
+    kind: Kind,
+    number: usize,
+) -> Result<(), NoMemory>
+    ensures { OnOk result (text.new.items ≡ text.old.items ++ unused_line config.now app.now kind number) }
+{
+    text.extend_from_slice(kind_word(kind))?;
+    push_word(text, object_name(config, app, kind, number))?;
+    push_further(text, app, kind, number)?;
+    text.extend_from_slice(b"\n")?;
+    Ok(())
+}
+
+// The line, unless it is used.
+fn push_unless(
+    text: &mut Vec<u8>,
+    config: &Config,
+    app: &App,
+    used: bool,
+    kind: Kind,
+    number: usize,
+) -> Result<(), NoMemory>
+    ensures { OnOk result (text.new.items ≡ text.old.items ++ cond used [] (unused_line config.now app.now kind number)) }
+{
+    if !used {
+        push_line(text, config, app, kind, number)?;
+    }
+    Ok(())
+}
+
+// The lines of a kind.
+fn push_kind(
+    text: &mut Vec<u8>,
+    config: &Config,
+    app: &App,
+    users: &[u32],
+    kind: Kind,
+) -> Result<(), NoMemory>
+    requires { length config.now.tasks ≤ task_limit }
+    ensures { OnOk result (text.new.items ≡ text.old.items ++ lines_of config.now app.now (is_used_by config.now app.now users.now) kind) }
+{
+    for number in 0..count_of(config, app, kind) {
+        let used = is_used(config, app, users, kind, number);
+        push_unless(text, config, app, used, kind, number)?;
+    }
+    Ok(())
+}
+
+// The lines of all kinds.
+fn unused_lines(
+    alloc: Global,
+    config: &Config,
+    app: &App,
+    users: &[u32],
+) -> Result<Vec<u8>, NoMemory>
+    requires { length config.now.tasks ≤ task_limit }
+    ensures { IfOk result (λ text. text.items ≡ unused_lines config.now app.now (is_used_by config.now app.now users.now)) }
+{
+    let mut text = Vec::new(alloc);
+    push_kind(&mut text, config, app, users, Kind::Task)?;
+    push_kind(&mut text, config, app, users, Kind::Resource)?;
+    push_kind(&mut text, config, app, users, Kind::Event)?;
+    push_kind(&mut text, config, app, users, Kind::Alarm)?;
+    push_kind(&mut text, config, app, users, Kind::Symbol)?;
+    push_kind(&mut text, config, app, users, Kind::Function)?;
+    Ok(text)
+}
+
+// The lines of task code that keeps all rules.
+fn checked_lines(alloc: Global, verified: &Verified, ranks: &Ranks) -> Result<Vec<u8>, NoMemory>
+    requires { RanksOf verified.now.app ranks.now }
+    ensures { IfOk result (λ text. HasUnused verified.now.config verified.now.app text.items) }
+{
+    let users = ranks.users.items();
+    unused_lines(alloc, verified.config(), verified.app(), users)
+}
+
+// The same, as an answer.
+fn text_of(alloc: Global, verified: &Verified, ranks: &Ranks) -> Result<Vec<u8>, BuildError>
+    requires { RanksOf verified.now.app ranks.now }
+    ensures text { IfOk result (λ text. HasUnused verified.now.config verified.now.app text.items) }
+    ensures memory { IfErr result (λ error. error ≡ BuildError.Memory) }
+{
+    let text = checked_lines(alloc, verified, ranks)?;
+    Ok(text)
+}
+
+/// The lines of the tasks that nothing but arrivals activates, and of the resources, events, alarms, symbols and functions that nothing uses, of
+/// texts of at most 4,294,967,294 bytes; or the first refusal (O1 to O15, A1 to A7, V1 to V12).
+pub fn unused_text(alloc: Global, oil: &[u8], src: &[u8]) -> Result<Vec<u8>, BuildError>
+    requires oil { length oil.now < 4294967295 }
+    requires src { length src.now < 4294967295 }
+    ensures text { IfOk result (λ text. IsUnusedText oil.now src.now text.items) }
+    ensures refused { IfErr result (SourcesErrorIs oil.now src.now) }
+{
+    let checked = read_checked(alloc, oil, src)?;
+    text_of(alloc, &checked.verified, &checked.ranks)
+}
