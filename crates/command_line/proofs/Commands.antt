@@ -103,6 +103,9 @@ tool-apart tool.TaskBound = refl
 tool-apart tool.TaskResponse = refl
 tool-apart tool.RunResponse = refl
 tool-apart tool.Symbols = refl
+tool-apart tool.Labels = refl
+tool-apart tool.TraceReason = refl
+tool-apart tool.Unused = refl
 
 apart : (t : Tool) (word : List ℕ) → stands word ≡ true → tool_word t ≡ word → ⊥
 apart t word stood e = let not : stands word ≡ false = subst (λ w. stands w ≡ false) e (tool-apart t) in true≢false (sym stood ∙ not)

@@ -15,16 +15,18 @@ use Rattle.command_line.specs.declared.counts.Window.{Window}
 use Rattle.command_line.specs.declared.tool.Tool.{Tool}
 use Rattle.command_line.specs.declared.tool.Tool.TheVariants as tool
 use Rattle.command_line.specs.Command.{IsCommand, NoTool, Uses, words_of}
-use Rattle.command_line.specs.Tools.{ToolUse, asks_counts, IsAskedFor, tool_word, tool_words, input_count, file_count, file_names, further_word, closing_word, word_count, counts_limit, writes_file, counts_words, output_words, last_words, AreCounts, IsOutput, IsToolUse, IsWindow}
+use Rattle.command_line.specs.Tools.{ToolUse, asks_second, IsAskedFor, tool_word, tool_words, input_count, file_count, file_names, further_word, closing_word, word_count, counts_limit, writes_file, counts_words, output_words, last_words, AreCounts, IsOutput, IsToolUse, IsWindow}
 
 -- the tools
 abbrev all_tools : List Tool
-all_tools = tool.Elf ∷ tool.Unelf ∷ tool.Infer ∷ tool.At ∷ tool.AtAll ∷ tool.Losses ∷ tool.Wave ∷ tool.Picture ∷ tool.Check ∷ tool.Bounds ∷ tool.Latency ∷ tool.LowerCounts ∷ tool.Map ∷ tool.Shares ∷ tool.Response ∷ tool.Why ∷ tool.TaskBound ∷ tool.TaskResponse ∷ tool.RunResponse ∷ tool.Symbols ∷ []
+all_tools = tool.Elf ∷ tool.Unelf ∷ tool.Infer ∷ tool.At ∷ tool.AtAll ∷ tool.Losses ∷ tool.Wave ∷ tool.Picture ∷ tool.Check ∷ tool.Bounds ∷ tool.Latency ∷ tool.LowerCounts ∷ tool.Map ∷ tool.Shares ∷ tool.Response ∷ tool.Why ∷ tool.TaskBound ∷ tool.TaskResponse ∷ tool.RunResponse ∷ tool.Symbols ∷ tool.Labels ∷ tool.TraceReason ∷ tool.Unused ∷ []
 
 -- of the two of one word it is the one that is asked for
 abbrev is_asked_for : Tool → (asks : Bool) → Bool
 is_asked_for tool.Latency asks = not asks
 is_asked_for tool.LowerCounts asks = asks
+is_asked_for tool.TaskBound asks = not asks
+is_asked_for tool.Labels asks = asks
 is_asked_for _ asks = true
 
 -- the first of these that has a word and so many words, and is asked for
@@ -52,10 +54,15 @@ found tool.Map asks h = refl
 found tool.Shares asks h = refl
 found tool.Response asks h = refl
 found tool.Why asks h = refl
-found tool.TaskBound asks h = refl
+found tool.TaskBound false h = refl
+found tool.TaskBound true h = absurd (true≢false h)
 found tool.TaskResponse asks h = refl
 found tool.RunResponse asks h = refl
 found tool.Symbols asks h = refl
+found tool.Labels true h = refl
+found tool.Labels false h = absurd (false≢true h)
+found tool.TraceReason asks h = refl
+found tool.Unused asks h = refl
 
 pub same-tool : (t u : Tool) (asks : Bool) → IsAskedFor t asks → IsAskedFor u asks → tool_word t ≡ tool_word u → word_count t ≡ word_count u → t ≡ u
 same-tool t u asks a b e n =
@@ -64,20 +71,8 @@ same-tool t u asks a b e n =
     ∙ (ap (λ w. first_with w (word_count t) asks all_tools) e ∙ (ap (λ k. first_with (tool_word u) k asks all_tools) n ∙ found u asks b)) in cc
 
 -- the tool of some words is the one that they ask for
-asked-by : (t : Tool) (inputs rest : List (List ℕ)) → length inputs ≡ input_count t
-    → IsAskedFor t (asks_counts (tool_word t ∷ inputs ++ (option_to_list (further_word t) ++ rest)))
-asked-by tool.Latency [] rest e = absurd (let wrong : ⊥ = omega (arith, e) in wrong)
-asked-by tool.Latency (a ∷ []) rest e = absurd (let wrong : ⊥ = omega (arith, e) in wrong)
-asked-by tool.Latency (a ∷ b ∷ []) rest e = refl
-asked-by tool.Latency (a ∷ b ∷ c ∷ more) rest e = absurd (let wrong : ⊥ = omega (arith, e) in wrong)
-asked-by tool.LowerCounts [] rest e = absurd (let wrong : ⊥ = omega (arith, e) in wrong)
-asked-by tool.LowerCounts (a ∷ []) rest e = absurd (let wrong : ⊥ = omega (arith, e) in wrong)
-asked-by tool.LowerCounts (a ∷ b ∷ []) rest e = refl
-asked-by tool.LowerCounts (a ∷ b ∷ c ∷ more) rest e = absurd (let wrong : ⊥ = omega (arith, e) in wrong)
-asked-by _ inputs rest e = tt
-
-pub asked-for : (u : ToolUse) → IsToolUse u → IsAskedFor u.tool (asks_counts (tool_words u))
-asked-for u is = asked-by u.tool u.inputs (counts_words u.counts ++ last_words u.tool u.output) is.counted
+pub asked-for : (u : ToolUse) → IsToolUse u → IsAskedFor u.tool (asks_second (tool_words u))
+asked-for u is = is.asked
 
 -- the limits of counts are words of 32 bits
 abbrev IsWordLimit : Option Limit → Type 0
@@ -106,6 +101,9 @@ word-limit tool.TaskBound = tt
 word-limit tool.TaskResponse = tt
 word-limit tool.RunResponse = tt
 word-limit tool.Symbols = tt
+word-limit tool.Labels = tt
+word-limit tool.TraceReason = omega arith
+word-limit tool.Unused = tt
 
 -- two lists of one length in front of others
 fronts : (xs ys : List (List ℕ)) (r s : List (List ℕ)) → length xs ≡ length ys → xs ++ r ≡ ys ++ s → (xs ≡ ys) × (r ≡ s)
@@ -217,6 +215,9 @@ counted tool.TaskBound = refl
 counted tool.TaskResponse = refl
 counted tool.RunResponse = refl
 counted tool.Symbols = refl
+counted tool.Labels = refl
+counted tool.TraceReason = refl
+counted tool.Unused = refl
 
 pub words-counted : (u : ToolUse) → IsToolUse u → length (tool_words u) ≡ word_count u.tool
 words-counted u is =
@@ -261,8 +262,8 @@ same-use u w e l m =
     let first : tool_word u.tool ≡ tool_word w.tool = cc in
     let behind : rest_words u.tool u ≡ rest_words w.tool w = cc in
     let many : word_count u.tool ≡ word_count w.tool = sym (words-counted u l) ∙ ap (λ (x : List (List ℕ)). length x) e ∙ words-counted w m in
-    let asked : IsAskedFor w.tool (asks_counts (tool_words u)) = subst (λ words. IsAskedFor w.tool (asks_counts words)) (sym e) (asked-for w m) in
-    let t : u.tool ≡ w.tool = same-tool u.tool w.tool (asks_counts (tool_words u)) (asked-for u l) asked first many in
+    let asked : IsAskedFor w.tool (asks_second (tool_words u)) = subst (λ words. IsAskedFor w.tool (asks_second words)) (sym e) (asked-for w m) in
+    let t : u.tool ≡ w.tool = same-tool u.tool w.tool (asks_second (tool_words u)) (asked-for u l) asked first many in
     let rest : rest_words u.tool u ≡ rest_words u.tool w = behind ∙ ap (λ x. rest_words x w) (sym t) in
     let counted : length w.inputs ≡ input_count u.tool = m.counted ∙ ap input_count (sym t) in
     let counts = subst (λ x. AreCounts (counts_limit x) w.counts) (sym t) m.counts in
@@ -280,11 +281,11 @@ pub record Behind (words : List (List ℕ)) (t : Tool) (u : ToolUse) : Type 0 wh
 pub record Begins (words : List (List ℕ)) (t : Tool) : Type 0 where
   pub first : get_or words 0 [] ≡ tool_word t
   pub many : length words ≡ word_count t
-  pub asked : IsAskedFor t (asks_counts words)
+  pub asked : IsAskedFor t (asks_second words)
 
 pub begins-as : (words : List (List ℕ)) (t : Tool) (u : ToolUse) → Begins words t → words ≡ tool_words u → IsToolUse u → u.tool ≡ t
 begins-as words t u b e is =
-    same-tool u.tool t (asks_counts words) (subst (λ w. IsAskedFor u.tool (asks_counts w)) (sym e) (asked-for u is)) b.asked
+    same-tool u.tool t (asks_second words) (subst (λ w. IsAskedFor u.tool (asks_second w)) (sym e) (asked-for u is)) b.asked
     (ap (λ w. get_or w 0 []) (sym e) ∙ b.first) (sym (words-counted u is) ∙ ap (λ (w : List (List ℕ)). length w) (sym e) ∙ b.many)
 
 pub behind-inputs : (words : List (List ℕ)) (t : Tool) (u : ToolUse) → Begins words t → words ≡ tool_words u → IsToolUse u → Behind words t u
@@ -374,7 +375,7 @@ behind-words words rest n e = ap words_of e ∙ sym (drop-map (λ (w : String Gl
 
 -- how the words begin
 pub begin : (words : List (String Global)) (word : String Global) (t : Tool) → Some word ≡ slice_get words 0 → string_bytes word ≡ tool_word t
-    → length words ≡ word_count t → IsAskedFor t (asks_counts (words_of words)) → Begins (words_of words) t
+    → length words ≡ word_count t → IsAskedFor t (asks_second (words_of words)) → Begins (words_of words) t
 begin words word t first is many asked = record {
   first = first-word words word first ∙ is;
   many = length-map words (λ (w : String Global). string_bytes w) ∙ many;
@@ -415,9 +416,13 @@ is-tool (w ∷ words) t count n o behind rest closed begins same long further co
     ∙ ap (λ b. option_to_list (further_word t) ++ b) (counted ∙ ap (λ r. counts_words n ++ r) (closing ∙ ap (λ r. option_to_list (closing_word t) ++ r) output)) in
     let parted : V ≡ words_of (take (count + 1 - 1) words) ++ drop (input_count t) V =
     words-parted count words ∙ ap (λ j. words_of (take j words) ++ drop count V) (sym k)
-    ∙ ap (λ j. words_of (take (count + 1 - 1) words) ++ drop j V) same in (
-      ap (λ x. x ∷ V) first ∙ ap (λ l. tool_word t ∷ l) (parted ∙ ap (λ l. words_of (take (count + 1 - 1) words) ++ l) last),
+    ∙ ap (λ j. words_of (take (count + 1 - 1) words) ++ drop j V) same in
+    let used : ToolUse = record { tool = t; inputs = words_of (take (count + 1 - 1) words); counts = n; output = o } in
+    let is : string_bytes w ∷ V ≡ tool_words used =
+    ap (λ x. x ∷ V) first ∙ ap (λ l. tool_word t ∷ l) (parted ∙ ap (λ l. words_of (take (count + 1 - 1) words) ++ l) last) in (
+      is,
       record {
+        asked = subst (λ l. IsAskedFor t (asks_second l)) is begins.asked;
         counted = ap (λ j. length (words_of (take j words))) k ∙ words-taken count words (omega (arith, long)) ∙ same;
         counts = are;
         output = writes;
@@ -447,6 +452,9 @@ few-files tool.TaskBound = omega arith
 few-files tool.TaskResponse = omega arith
 few-files tool.RunResponse = omega arith
 few-files tool.Symbols = omega arith
+few-files tool.Labels = omega arith
+few-files tool.TraceReason = omega arith
+few-files tool.Unused = omega arith
 
 -- as many names are those of files as it reads
 pub files-counted : (u : ToolUse) → length u.inputs ≡ input_count u.tool → length (file_names u) ≡ file_count u.tool

@@ -1,5 +1,5 @@
 -- The commands that read files, judge what they hold, and end with one answer: a row for each in each of these tables.
-use Rattle.std.specs.Prelude.{ℕ, ◌≡◌, ◌≤◌, ◌+◌, List, [], ◌∷◌, ◌++◌, length, get_or, take, codes, decimal, Bool, true, false, Option, Some, None, option_to_list}
+use Rattle.std.specs.Prelude.{ℕ, ◌≡◌, ◌≤◌, ◌+◌, List, [], ◌∷◌, ◌++◌, length, get_or, take, codes, decimal, Bool, true, false, cond, Option, Some, None, option_to_list}
 use Rattle.std.specs.Str.{bytes_eq}
 use Rattle.sloth_base.specs.Limits.{count_limit, picture_limit}
 use Rattle.command_line.specs.declared.counts.Counts.{Counts}
@@ -32,6 +32,9 @@ tool_word tool.TaskBound = codes "why"
 tool_word tool.TaskResponse = codes "response"
 tool_word tool.RunResponse = codes "responds"
 tool_word tool.Symbols = codes "symbols"
+tool_word tool.Labels = codes "why"
+tool_word tool.TraceReason = codes "why"
+tool_word tool.Unused = codes "unused"
 
 -- how many names are its next words: those of the files that it reads, and of a task behind them
 abbrev pub input_count : Tool → ℕ
@@ -55,6 +58,9 @@ input_count tool.TaskBound = 3
 input_count tool.TaskResponse = 4
 input_count tool.RunResponse = 3
 input_count tool.Symbols = 2
+input_count tool.Labels = 2
+input_count tool.TraceReason = 4
+input_count tool.Unused = 2
 
 -- how many of them are of files that it reads
 abbrev pub file_count : Tool → ℕ
@@ -84,6 +90,9 @@ further_word tool.TaskBound = None
 further_word tool.TaskResponse = None
 further_word tool.RunResponse = None
 further_word tool.Symbols = None
+further_word tool.Labels = Some (codes "labels")
+further_word tool.TraceReason = None
+further_word tool.Unused = None
 
 -- which counts it takes as its next words, if it takes any
 abbrev pub counts_limit : Tool → Option Limit
@@ -107,6 +116,9 @@ counts_limit tool.TaskBound = None
 counts_limit tool.TaskResponse = None
 counts_limit tool.RunResponse = None
 counts_limit tool.Symbols = None
+counts_limit tool.Labels = None
+counts_limit tool.TraceReason = Some (limit.One count_limit)
+counts_limit tool.Unused = None
 
 -- the word that stands behind its counts, if one does
 abbrev pub closing_word : Tool → Option (List ℕ)
@@ -135,6 +147,9 @@ writes_file tool.TaskBound = false
 writes_file tool.TaskResponse = false
 writes_file tool.RunResponse = false
 writes_file tool.Symbols = true
+writes_file tool.Labels = false
+writes_file tool.TraceReason = false
+writes_file tool.Unused = false
 
 -- how many words it has
 abbrev pub word_count : Tool → ℕ
@@ -158,17 +173,26 @@ word_count tool.TaskBound = 4
 word_count tool.TaskResponse = 5
 word_count tool.RunResponse = 4
 word_count tool.Symbols = 4
+word_count tool.Labels = 4
+word_count tool.TraceReason = 6
+word_count tool.Unused = 3
 
 -- ---- two tools of one word, and of as many words
 
+-- the further word of the second one, by the first word
+abbrev pub second_word : (word : List ℕ) → List ℕ
+second_word word = cond (bytes_eq word (codes "why")) (codes "labels") (codes "counts")
+
 -- the fourth word is that of the second one
-abbrev pub asks_counts : (words : List (List ℕ)) → Bool
-asks_counts words = bytes_eq (get_or words 3 []) (codes "counts")
+abbrev pub asks_second : (words : List (List ℕ)) → Bool
+asks_second words = bytes_eq (get_or words 3 []) (second_word (get_or words 0 []))
 
 -- a tool that is one of the two is the one that is asked for
 abbrev pub IsAskedFor : Tool → (asks : Bool) → Type 0
 IsAskedFor tool.Latency asks = asks ≡ false
 IsAskedFor tool.LowerCounts asks = asks ≡ true
+IsAskedFor tool.TaskBound asks = asks ≡ false
+IsAskedFor tool.Labels asks = asks ≡ true
 IsAskedFor _ asks = Unit {0}
 
 -- ---- uses
@@ -247,8 +271,9 @@ IsOutput false (Some name) = ⊥
 IsOutput true None = ⊥
 IsOutput true (Some name) = Unit {0}
 
--- it has what its rows of the tables ask for
+-- it has what its rows of the tables ask for, and of two tools of one word it is the one that its words ask for
 pub record IsToolUse (used : ToolUse) : Type 0 where
+  pub asked : IsAskedFor used.tool (asks_second (tool_words used))
   pub counted : length used.inputs ≡ input_count used.tool
   pub counts : AreCounts (counts_limit used.tool) used.counts
   pub output : IsOutput (writes_file used.tool) used.output

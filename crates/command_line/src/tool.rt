@@ -53,6 +53,12 @@ pub enum Tool {
     RunResponse,
     /// `symbols OIL SRC OUT`: the file of the image that debuggers read.
     Symbols,
+    /// `why OIL SRC labels`: whether lists of labels keep the rules, or where none do.
+    Labels,
+    /// `why OIL SRC ARR TRACE N`: whether a text of events is that of a run, or where it fails to be, and what could stand there.
+    TraceReason,
+    /// `unused OIL SRC`: the objects, symbols and functions that nothing uses, and the tasks that nothing activates.
+    Unused,
 }
 
 impl Tool {
@@ -81,6 +87,9 @@ impl Tool {
             Tool::TaskResponse => 4,
             Tool::RunResponse => 3,
             Tool::Symbols => 2,
+            Tool::Labels => 2,
+            Tool::TraceReason => 4,
+            Tool::Unused => 2,
         }
     }
 
@@ -120,6 +129,9 @@ impl Tool {
             Tool::TaskResponse => None,
             Tool::RunResponse => None,
             Tool::Symbols => None,
+            Tool::Labels => Some("labels"),
+            Tool::TraceReason => None,
+            Tool::Unused => None,
         }
     }
 
@@ -151,6 +163,9 @@ impl Tool {
             Tool::TaskResponse => None,
             Tool::RunResponse => None,
             Tool::Symbols => None,
+            Tool::Labels => None,
+            Tool::TraceReason => Some(Limit::One(COUNT_LIMIT)),
+            Tool::Unused => None,
         }
     }
 
@@ -189,6 +204,9 @@ impl Tool {
             Tool::TaskResponse => false,
             Tool::RunResponse => false,
             Tool::Symbols => true,
+            Tool::Labels => false,
+            Tool::TraceReason => false,
+            Tool::Unused => false,
         }
     }
 }
@@ -242,6 +260,9 @@ fn tool_of_three(word: &str, asks: bool) -> Option<Tool>
     if word == "why" {
         return Some(Tool::Why);
     }
+    if word == "unused" {
+        return Some(Tool::Unused);
+    }
     None
 }
 
@@ -273,7 +294,11 @@ fn tool_of_four(word: &str, asks: bool) -> Option<Tool>
         return Some(Tool::RunResponse);
     }
     if word == "why" {
-        return Some(Tool::TaskBound);
+        return if asks {
+            Some(Tool::Labels)
+        } else {
+            Some(Tool::TaskBound)
+        };
     }
     if word == "symbols" {
         return Some(Tool::Symbols);
@@ -308,6 +333,9 @@ fn tool_of_six(word: &str, asks: bool) -> Option<Tool>
     }
     if word == "check" {
         return Some(Tool::Check);
+    }
+    if word == "why" {
+        return Some(Tool::TraceReason);
     }
     None
 }

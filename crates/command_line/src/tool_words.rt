@@ -4,7 +4,7 @@ ghost use Rattle.std.specs.Option.{option_map};
 ghost use Rattle.command_line.specs.declared.counts.Counts.{Counts as AnyCounts};
 ghost use Rattle.command_line.specs.declared.counts.Limit.TheVariants as limit;
 ghost use Rattle.command_line.specs.declared.counts.Window.{Window as AnyWindow};
-ghost use Rattle.command_line.specs.Tools.{BeginWith, IsWindow, IsOutput, output_words, asks_counts};
+ghost use Rattle.command_line.specs.Tools.{BeginWith, IsWindow, IsOutput, output_words, second_word, asks_second};
 ghost use Rattle.command_line.specs.Command.{IsCommand, NoTool, Uses, words_of};
 ghost use Rattle.command_line.specs.Words.{use_of};
 
@@ -44,12 +44,19 @@ fn behind_word<'a>(word: Option<&str>, words: &'a [String]) -> Option<&'a [Strin
     }
 }
 
-// Whether the counts of lower tasks are asked for, by a word that begins as those of their latency do.
-fn asks_counts(words: &[String]) -> bool
-    ensures { result ≡ asks_counts (words_of words.now) }
+// The further word of the second of two tools of one word.
+fn second_word(word: &str) -> &'static str
+    ensures { result.now ≡ second_word word.now }
+{
+    if word == "why" { "labels" } else { "counts" }
+}
+
+// Whether the second of two tools of one word is asked for.
+fn asks_second(words: &[String]) -> bool
+    ensures { result ≡ asks_second (words_of words.now) }
 {
     match words.get(3) {
-        Some(word) => word.as_str() == "counts",
+        Some(word) => word.as_str() == second_word(words[0].as_str()),
         None => false,
     }
 }
@@ -138,7 +145,7 @@ pub fn tool_command(words: &[String]) -> Option<ToolWords<'_>>
     ensures some { IfSome result (λ t. IsCommand (words_of words.now) (Uses (use_of t))) }
     ensures none { IfNone result (NoTool (words_of words.now)) }
 {
-    let tool = tool_named(words.first()?, words.len(), asks_counts(words))?;
+    let tool = tool_named(words.first()?, words.len(), asks_second(words))?;
     let behind = tool.input_count() + 1;
     if words.len() < behind {
         return None;

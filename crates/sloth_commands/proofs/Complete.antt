@@ -164,7 +164,7 @@ usage-by status.TooLong answer words old new text r p none = absurd (none r.0 r.
 usage-by status.Stopped answer words old new text r p none = absurd (none r.0 r.1)
 usage-by status.NotAnImage answer words old new text r p none = absurd (none r.0 r.1)
 usage-by status.NotAnElf answer words old new text r p none = absurd (none (Uses r.0) r.1)
-usage-by status.Explained answer words old new text r p none = absurd (none (Uses r.0) r.1)
+usage-by (status.Explained kind) answer words old new text r p none = absurd (none (Uses r.0) r.1)
 usage-by status.BadTrace answer words old new text r p none = absurd (none (Uses r.0) r.1)
 usage-by status.NoHolds answer words old new text r p none = absurd (none (Uses r.0) r.1)
 usage-by status.OpenDeadline answer words old new text r p none = absurd (none (Uses r.0) r.1)
@@ -209,7 +209,7 @@ refused-by status.Stopped answer words old new text c oil src arr r q p is there
 refused-by status.NotAnImage answer words old new text c oil src arr r q p is there works refusal =
     absurd (subst (λ x. IsNoImage old.files x q.2) (one-command words q.0 (Builds c) q.1 is) q.3).inputs
 refused-by status.NotAnElf answer words old new text c oil src arr r q p is there works refusal = absurd (no-tool words q.0 (Builds c) q.1 is tt)
-refused-by status.Explained answer words old new text c oil src arr r q p is there works refusal = absurd (no-tool words q.0 (Builds c) q.1 is tt)
+refused-by (status.Explained kind) answer words old new text c oil src arr r q p is there works refusal = absurd (no-tool words q.0 (Builds c) q.1 is tt)
 refused-by status.BadTrace answer words old new text c oil src arr r q p is there works refusal = absurd (no-tool words q.0 (Builds c) q.1 is tt)
 refused-by status.NoHolds answer words old new text c oil src arr r q p is there works refusal = absurd (no-tool words q.0 (Builds c) q.1 is tt)
 refused-by status.OpenDeadline answer words old new text c oil src arr r q p is there works refusal = absurd (no-tool words q.0 (Builds c) q.1 is tt)
@@ -280,7 +280,7 @@ module _ (old new : World) (c : Building) (oil src arr : List ℕ) (config : Con
   complete-by status.NotAnImage answer words text q p is =
       absurd (subst (λ x. IsNoImage old.files x q.2) (one-command words q.0 (Builds c) q.1 is) q.3).inputs
   complete-by status.NotAnElf answer words text q p is = absurd (no-tool words q.0 (Builds c) q.1 is tt)
-  complete-by status.Explained answer words text q p is = absurd (no-tool words q.0 (Builds c) q.1 is tt)
+  complete-by (status.Explained kind) answer words text q p is = absurd (no-tool words q.0 (Builds c) q.1 is tt)
   complete-by status.BadTrace answer words text q p is = absurd (no-tool words q.0 (Builds c) q.1 is tt)
   complete-by status.NoHolds answer words text q p is = absurd (no-tool words q.0 (Builds c) q.1 is tt)
   complete-by status.OpenDeadline answer words text q p is = absurd (no-tool words q.0 (Builds c) q.1 is tt)

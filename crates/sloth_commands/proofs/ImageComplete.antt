@@ -177,9 +177,9 @@ module _ (words : List (List ℕ)) (old new : Files) (text : List ℕ) (c : Comm
   verdict status.NotAnElf q =
       inl (own-image old c file (tool_answer.NotAnElf q.2) tells i (subst (AnswersAs old (tool_answer.NotAnElf q.2)) (one-command words (Uses q.0) c q.1 is) q.3)
       (λ fault e. let same : tool_answer.NotAnElf q.2 ≡ tool_answer.NotAnImage fault = e in cc))
-  verdict status.Explained q =
-      inl (own-image old c file (tool_answer.Explained q.2) tells i (subst (AnswersAs old (tool_answer.Explained q.2)) (one-command words (Uses q.0) c q.1 is) q.3)
-      (λ fault e. let same : tool_answer.Explained q.2 ≡ tool_answer.NotAnImage fault = e in cc))
+  verdict (status.Explained kind) q =
+      inl (own-image old c file (tool_answer.Explained kind q.2) tells i (subst (AnswersAs old (tool_answer.Explained kind q.2)) (one-command words (Uses q.0) c q.1 is) q.3)
+      (λ fault e. let same : tool_answer.Explained kind q.2 ≡ tool_answer.NotAnImage fault = e in cc))
   verdict status.BadTrace q =
       inl (own-image old c file (tool_answer.BadTrace q.2) tells i (subst (AnswersAs old (tool_answer.BadTrace q.2)) (one-command words (Uses q.0) c q.1 is) q.3)
       (λ fault e. let same : tool_answer.BadTrace q.2 ≡ tool_answer.NotAnImage fault = e in cc))
@@ -279,7 +279,7 @@ module _ (words : List (List ℕ)) (old new : World) (answer : Status) (e : Exec
   executed-by status.WriteFault arrivals text read works q p =
       absurd (subst (IsCommandUnwritten old.files new.files) (one-command words q.0 (Executes e) q.1 is) q.2)
   executed-by status.NotAnElf arrivals text read works q p = absurd (no-tool words q.0 (Executes e) q.1 is tt)
-  executed-by status.Explained arrivals text read works q p = absurd (no-tool words q.0 (Executes e) q.1 is tt)
+  executed-by (status.Explained kind) arrivals text read works q p = absurd (no-tool words q.0 (Executes e) q.1 is tt)
   executed-by status.BadTrace arrivals text read works q p = absurd (no-tool words q.0 (Executes e) q.1 is tt)
   executed-by status.NoHolds arrivals text read works q p = absurd (no-tool words q.0 (Executes e) q.1 is tt)
   executed-by status.OpenDeadline arrivals text read works q p = absurd (no-tool words q.0 (Executes e) q.1 is tt)
@@ -321,7 +321,7 @@ module _ (words : List (List ℕ)) (old new : World) (answer : Status) (e : Exec
   refused-by status.WriteFault text r works least q p =
       absurd (subst (IsCommandUnwritten old.files new.files) (one-command words q.0 (Executes e) q.1 is) q.2)
   refused-by status.NotAnElf text r works least q p = absurd (no-tool words q.0 (Executes e) q.1 is tt)
-  refused-by status.Explained text r works least q p = absurd (no-tool words q.0 (Executes e) q.1 is tt)
+  refused-by (status.Explained kind) text r works least q p = absurd (no-tool words q.0 (Executes e) q.1 is tt)
   refused-by status.BadTrace text r works least q p = absurd (no-tool words q.0 (Executes e) q.1 is tt)
   refused-by status.NoHolds text r works least q p = absurd (no-tool words q.0 (Executes e) q.1 is tt)
   refused-by status.OpenDeadline text r works least q p = absurd (no-tool words q.0 (Executes e) q.1 is tt)
@@ -361,7 +361,7 @@ module _ (words : List (List ℕ)) (old new : World) (answer : Status) (img file
       absurd (no-long-read old.files new.files (Lists img) file tells i (subst (IsLongRead old.files new.files) (one-command words q.0 (Lists img) q.1 is) q.2))
   listed-by status.WriteFault text q p = absurd (subst (IsCommandUnwritten old.files new.files) (one-command words q.0 (Lists img) q.1 is) q.2)
   listed-by status.NotAnElf text q p = absurd (no-tool words q.0 (Lists img) q.1 is tt)
-  listed-by status.Explained text q p = absurd (no-tool words q.0 (Lists img) q.1 is tt)
+  listed-by (status.Explained kind) text q p = absurd (no-tool words q.0 (Lists img) q.1 is tt)
   listed-by status.BadTrace text q p = absurd (no-tool words q.0 (Lists img) q.1 is tt)
   listed-by status.NoHolds text q p = absurd (no-tool words q.0 (Lists img) q.1 is tt)
   listed-by status.OpenDeadline text q p = absurd (no-tool words q.0 (Lists img) q.1 is tt)

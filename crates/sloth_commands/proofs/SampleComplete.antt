@@ -46,7 +46,7 @@ module _ (words : List (List ℕ)) (old new : World) (answer : Status) (seed : �
   refused-by status.NotAnImage text r refusal q p =
       absurd (subst (λ x. IsNoImage old.files x q.2) (one-command words q.0 (Samples seed img) q.1 is) q.3).inputs
   refused-by status.NotAnElf text r refusal q p = absurd (no-tool words q.0 (Samples seed img) q.1 is tt)
-  refused-by status.Explained text r refusal q p = absurd (no-tool words q.0 (Samples seed img) q.1 is tt)
+  refused-by (status.Explained kind) text r refusal q p = absurd (no-tool words q.0 (Samples seed img) q.1 is tt)
   refused-by status.BadTrace text r refusal q p = absurd (no-tool words q.0 (Samples seed img) q.1 is tt)
   refused-by status.NoHolds text r refusal q p = absurd (no-tool words q.0 (Samples seed img) q.1 is tt)
   refused-by status.OpenDeadline text r refusal q p = absurd (no-tool words q.0 (Samples seed img) q.1 is tt)
@@ -79,7 +79,7 @@ module _ (words : List (List ℕ)) (old new : World) (answer : Status) (seed : �
   sampled-by status.NotAnImage text config app accepted works q p =
       absurd (subst (λ x. IsNoImage old.files x q.2) (one-command words q.0 (Samples seed img) q.1 is) q.3).inputs
   sampled-by status.NotAnElf text config app accepted works q p = absurd (no-tool words q.0 (Samples seed img) q.1 is tt)
-  sampled-by status.Explained text config app accepted works q p = absurd (no-tool words q.0 (Samples seed img) q.1 is tt)
+  sampled-by (status.Explained kind) text config app accepted works q p = absurd (no-tool words q.0 (Samples seed img) q.1 is tt)
   sampled-by status.BadTrace text config app accepted works q p = absurd (no-tool words q.0 (Samples seed img) q.1 is tt)
   sampled-by status.NoHolds text config app accepted works q p = absurd (no-tool words q.0 (Samples seed img) q.1 is tt)
   sampled-by status.OpenDeadline text config app accepted works q p = absurd (no-tool words q.0 (Samples seed img) q.1 is tt)

@@ -257,7 +257,7 @@ FilesAfter (tool_answer.NotAnElf fault) old new output = AreFilesSame old new
 FilesAfter (tool_answer.BadTrace fault) old new output = AreFilesSame old new
 FilesAfter tool_answer.NoHolds old new output = AreFilesSame old new
 FilesAfter (tool_answer.OpenDeadline lines) old new output = AreFilesSame old new
-FilesAfter (tool_answer.Explained text) old new output = AreFilesSame old new
+FilesAfter (tool_answer.Explained kind text) old new output = AreFilesSame old new
 FilesAfter tool_answer.NoTask old new output = AreFilesSame old new
 
 -- the tool has an answer with this status and this text, and the files hold what it says
@@ -359,8 +359,8 @@ IsRequired status.NoHolds words old new text =
 IsRequired status.OpenDeadline words old new text =
     (u : ToolUse) × IsCommand words (Uses u) × (lines : List ℕ) × IsToolAnswer old u (tool_answer.OpenDeadline lines) × (text ≡ lines)
     × AreFilesSame old new
-IsRequired status.Explained words old new text =
-    (u : ToolUse) × IsCommand words (Uses u) × (lines : List ℕ) × IsToolAnswer old u (tool_answer.Explained lines) × (text ≡ lines) × AreFilesSame old new
+IsRequired (status.Explained kind) words old new text =
+    (u : ToolUse) × IsCommand words (Uses u) × (lines : List ℕ) × IsToolAnswer old u (tool_answer.Explained kind lines) × (text ≡ lines) × AreFilesSame old new
 
 -- The sink took the text that the answer requires, and the files hold what it requires; or a put failed, the answer is WriteFault, and
 -- this holds of another answer and a part of its text.

@@ -26,5 +26,5 @@ IsCheckAnswer oil src arr text n (answer.NotAnImage fault) = ⊥
 IsCheckAnswer oil src arr text n (answer.NotAnElf fault) = ⊥
 IsCheckAnswer oil src arr text n answer.NoHolds = ⊥
 IsCheckAnswer oil src arr text n (answer.OpenDeadline lines) = ⊥
-IsCheckAnswer oil src arr text n (answer.Explained lines) = ⊥
+IsCheckAnswer oil src arr text n (answer.Explained kind lines) = ⊥
 IsCheckAnswer oil src arr text n answer.NoTask = ⊥

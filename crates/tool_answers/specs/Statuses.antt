@@ -2,8 +2,16 @@
 use Rattle.std.specs.Prelude.{ℕ}
 use Rattle.tool_answers.specs.declared.answer.ToolAnswer.{ToolAnswer}
 use Rattle.tool_answers.specs.declared.answer.ToolAnswer.TheVariants as tool_answer
+use Rattle.tool_answers.specs.declared.status.Explanation.{Explanation}
+use Rattle.tool_answers.specs.declared.status.Explanation.TheVariants as explanation
 use Rattle.tool_answers.specs.declared.status.Status.{Status}
 use Rattle.tool_answers.specs.declared.status.Status.TheVariants as status
+
+-- the exit status of a command that ended with an explanation
+abbrev pub explained_status : Explanation → ℕ
+explained_status explanation.Refusal = 2
+explained_status explanation.NoHolds = 11
+explained_status explanation.BadTrace = 10
 
 -- the exit status of a command that ended so
 abbrev pub exit_status : Status → ℕ
@@ -20,7 +28,7 @@ exit_status status.NotAnElf = 9
 exit_status status.BadTrace = 10
 exit_status status.NoHolds = 11
 exit_status status.OpenDeadline = 12
-exit_status status.Explained = 2
+exit_status (status.Explained kind) = explained_status kind
 
 -- the status of an answer
 abbrev pub tool_status : ToolAnswer → Status
@@ -32,5 +40,5 @@ tool_status (tool_answer.NotAnElf fault) = status.NotAnElf
 tool_status (tool_answer.BadTrace fault) = status.BadTrace
 tool_status tool_answer.NoHolds = status.NoHolds
 tool_status (tool_answer.OpenDeadline lines) = status.OpenDeadline
-tool_status (tool_answer.Explained text) = status.Explained
+tool_status (tool_answer.Explained kind text) = status.Explained kind
 tool_status tool_answer.NoTask = status.Usage

@@ -1,7 +1,7 @@
 //! The answers of tools.
 ghost use Rattle.std.specs.Prelude.{◌≡◌};
 
-use crate::status::Status;
+use crate::status::{Explanation, Status};
 use elf_image::fault::ElfFault;
 use image_file::fault::ImageFault;
 use rv32_instr::Stop;
@@ -38,8 +38,8 @@ pub enum ToolAnswer {
     NoHolds,
     /// A text that says of a deadline that it is not met.
     OpenDeadline(List<u8>),
-    /// The whole text of a refusal with what stands behind it.
-    Explained(List<u8>),
+    /// The whole text of an answer with what stands behind it.
+    Explained { kind: Explanation, text: List<u8> },
     /// No task has the name that is asked for.
     NoTask,
 }
@@ -60,7 +60,7 @@ impl ToolAnswer {
             ToolAnswer::BadTrace(_) => Status::BadTrace,
             ToolAnswer::NoHolds => Status::NoHolds,
             ToolAnswer::OpenDeadline(_) => Status::OpenDeadline,
-            ToolAnswer::Explained(_) => Status::Explained,
+            ToolAnswer::Explained { kind, .. } => Status::Explained(*kind),
             ToolAnswer::NoTask => Status::Usage,
         }
     }

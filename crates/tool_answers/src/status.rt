@@ -1,6 +1,32 @@
 //! How a command ended.
 ghost use Rattle.std.specs.Prelude.{◌≡◌};
 
+/// What an explanation stands behind.
+#[derive(Clone, Copy, Debug)]
+pub enum Explanation {
+    /// A refusal.
+    Refusal,
+    /// That no lists of labels keep the rules.
+    NoHolds,
+    /// That a text is no trace of a run.
+    BadTrace,
+}
+
+impl Explanation {
+    ghost use Rattle.tool_answers.specs.Statuses.{explained_status};
+
+    // The exit status of the process.
+    fn code(self) -> u8
+        ensures { result ≡ explained_status self }
+    {
+        match self {
+            Explanation::Refusal => 2,
+            Explanation::NoHolds => 11,
+            Explanation::BadTrace => 10,
+        }
+    }
+}
+
 /// How a command ended.
 #[derive(Clone, Copy, Debug)]
 pub enum Status {
@@ -17,8 +43,8 @@ pub enum Status {
     BadTrace,
     NoHolds,
     OpenDeadline,
-    /// Refused, with what stands behind the refusal.
-    Explained,
+    /// Ended so, with what stands behind it.
+    Explained(Explanation),
 }
 
 impl Status {
@@ -42,7 +68,7 @@ impl Status {
             Status::BadTrace => 10,
             Status::NoHolds => 11,
             Status::OpenDeadline => 12,
-            Status::Explained => 2,
+            Status::Explained(kind) => kind.code(),
         }
     }
 }

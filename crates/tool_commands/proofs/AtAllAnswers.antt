@@ -45,7 +45,7 @@ all-view img arr k (answer.NotAnElf fault) h = absurd h
 all-view img arr k (answer.BadTrace fault) h = absurd h
 all-view img arr k answer.NoHolds h = absurd h
 all-view img arr k (answer.OpenDeadline text) h = absurd h
-all-view img arr k (answer.Explained lines) h = absurd h
+all-view img arr k (answer.Explained kind lines) h = absurd h
 all-view img arr k answer.NoTask h = absurd h
 
 one-shown : (img arr : List ℕ) (k : ℕ) (a b : ToolAnswer) → IsAllAnswer img arr k a → IsAllAnswer img arr k b → a ≡ b

@@ -45,7 +45,7 @@ elf-view file (answer.NotAnElf fault) h = absurd h
 elf-view file (answer.BadTrace fault) h = absurd h
 elf-view file answer.NoHolds h = absurd h
 elf-view file (answer.OpenDeadline lines) h = absurd h
-elf-view file (answer.Explained lines) h = absurd h
+elf-view file (answer.Explained kind lines) h = absurd h
 elf-view file answer.NoTask h = absurd h
 
 elf-file : (file one other : List ℕ) → AreOfOneImage file one → AreOfOneImage file other → one ≡ other
@@ -75,7 +75,7 @@ unelf-view file (answer.NotAnImage fault) h = absurd h
 unelf-view file (answer.BadTrace fault) h = absurd h
 unelf-view file answer.NoHolds h = absurd h
 unelf-view file (answer.OpenDeadline lines) h = absurd h
-unelf-view file (answer.Explained lines) h = absurd h
+unelf-view file (answer.Explained kind lines) h = absurd h
 unelf-view file answer.NoTask h = absurd h
 
 image-file : (file one other : List ℕ) → AreOfOneImage one file → AreOfOneImage other file → one ≡ other

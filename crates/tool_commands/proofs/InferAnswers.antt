@@ -22,7 +22,7 @@ infer-view : (oil src : List ℕ) (a : ToolAnswer) → IsInferAnswer oil src a �
 infer-view oil src (answer.Done outcome) h = inl (record { outcome = outcome; is = refl; file = h.0; text = h.1 })
 infer-view oil src (answer.Refused refusal) h = inr (inl (refusal, refl, h))
 infer-view oil src answer.NoHolds h = inr (inr (refl, h))
-infer-view oil src (answer.Explained lines) h = absurd h
+infer-view oil src (answer.Explained kind lines) h = absurd h
 infer-view oil src (answer.Stopped pc stop) h = absurd h
 infer-view oil src (answer.NotAnImage fault) h = absurd h
 infer-view oil src (answer.NotAnElf fault) h = absurd h

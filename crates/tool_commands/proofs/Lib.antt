@@ -15,3 +15,5 @@ pub mod RunAnswers
 pub mod SourceAnswers
 pub mod WaveAnswers
 mod Tasks
+pub mod UnusedAnswers
+pub mod LabelsAnswers

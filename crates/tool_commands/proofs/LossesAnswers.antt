@@ -73,7 +73,7 @@ module _ (img arr : List ℕ) (n : ℕ) where
   losses-view (answer.BadTrace fault) h = absurd h
   losses-view answer.NoHolds h = absurd h
   losses-view (answer.OpenDeadline lines) h = absurd h
-  losses-view (answer.Explained lines) h = absurd h
+  losses-view (answer.Explained kind lines) h = absurd h
   losses-view answer.NoTask h = absurd h
 
   pub losses-one : (a b : ToolAnswer) → IsLossesAnswer img arr n a → IsLossesAnswer img arr n b → a ≡ b

@@ -27,6 +27,7 @@ use Rattle.tool_commands.proofs.SharesAnswers.{SharesSays, one_shares}
 use Rattle.tool_commands.proofs.PictureAnswers.{Pictures, one_pictures}
 use Rattle.tool_commands.proofs.RunAnswers.{run-image, run-one}
 use Rattle.tool_commands.proofs.SourceAnswers.{one_source}
+use Rattle.tool_commands.proofs.UnusedAnswers.{UnusedSays, one_unused}
 use Rattle.tool_commands.proofs.WaveAnswers.{Waves, one_waves}
 
 pub one_answer : OneAnswer
@@ -58,6 +59,10 @@ one_answer tool.RunResponse counts names inputs a b d p q = absurd (false≢true
 one_answer tool.Symbols counts names inputs a b d p q = absurd (false≢true d)
 one_answer tool.Why counts names inputs a b d p q = absurd (false≢true d)
 one_answer tool.TaskBound counts names inputs a b d p q = absurd (false≢true d)
+one_answer tool.Labels counts names inputs a b d p q = absurd (false≢true d)
+one_answer tool.TraceReason counts names inputs a b d p q = absurd (false≢true d)
+one_answer tool.Unused counts names inputs a b d p q =
+    let oil = input inputs 0 in let src = input inputs 1 in one_source oil src (UnusedSays oil src) (one_unused oil src) a b p q
 
 -- a tool that reads an image file reads a file
 pub reads-one : (t : Tool) → IsTrue (reads_image t) → 1 ≤ file_count t
@@ -81,6 +86,9 @@ reads-one tool.TaskBound h = omega arith
 reads-one tool.TaskResponse h = omega arith
 reads-one tool.RunResponse h = omega arith
 reads-one tool.Symbols h = omega arith
+reads-one tool.Labels h = omega arith
+reads-one tool.TraceReason h = omega arith
+reads-one tool.Unused h = omega arith
 
 -- only a tool that reads an image file says that it is none, by its first fault
 pub no-image : (t : Tool) (counts : Option Counts) (names inputs : List (List ℕ)) (fault : ImageFault)
@@ -106,6 +114,9 @@ no-image tool.TaskBound counts names inputs fault h = absurd h
 no-image tool.TaskResponse counts names inputs fault h = absurd h
 no-image tool.RunResponse counts names inputs fault h = absurd h
 no-image tool.Symbols counts names inputs fault h = absurd h
+no-image tool.Labels counts names inputs fault h = absurd h
+no-image tool.TraceReason counts names inputs fault h = absurd h
+no-image tool.Unused counts names inputs fault h = absurd h
 
 -- these bytes are an image's
 abbrev pub HasImage : List ℕ → Type 0
@@ -142,3 +153,6 @@ image-or-fault tool.TaskBound counts names inputs a reads h = absurd (false≢tr
 image-or-fault tool.TaskResponse counts names inputs a reads h = absurd (false≢true reads)
 image-or-fault tool.RunResponse counts names inputs a reads h = absurd (false≢true reads)
 image-or-fault tool.Symbols counts names inputs a reads h = absurd (false≢true reads)
+image-or-fault tool.Labels counts names inputs a reads h = absurd (false≢true reads)
+image-or-fault tool.TraceReason counts names inputs a reads h = absurd (false≢true reads)
+image-or-fault tool.Unused counts names inputs a reads h = absurd (false≢true reads)

@@ -45,28 +45,28 @@ module _ (oil src load : List ℕ) where
   one_response_answer (answer.NotAnElf fault) other a b = absurd a
   one_response_answer (answer.BadTrace fault) other a b = absurd a
   one_response_answer answer.NoHolds other a b = absurd a
-  one_response_answer (answer.Explained lines) other a b = absurd a
+  one_response_answer (answer.Explained kind lines) other a b = absurd a
   one_response_answer answer.NoTask other a b = absurd a
   one_response_answer (answer.Done o) (answer.Stopped pc stop) a b = absurd b
   one_response_answer (answer.Done o) (answer.NotAnImage fault) a b = absurd b
   one_response_answer (answer.Done o) (answer.NotAnElf fault) a b = absurd b
   one_response_answer (answer.Done o) (answer.BadTrace fault) a b = absurd b
   one_response_answer (answer.Done o) answer.NoHolds a b = absurd b
-  one_response_answer (answer.Done o) (answer.Explained lines) a b = absurd b
+  one_response_answer (answer.Done o) (answer.Explained kind lines) a b = absurd b
   one_response_answer (answer.Done o) answer.NoTask a b = absurd b
   one_response_answer (answer.OpenDeadline l) (answer.Stopped pc stop) a b = absurd b
   one_response_answer (answer.OpenDeadline l) (answer.NotAnImage fault) a b = absurd b
   one_response_answer (answer.OpenDeadline l) (answer.NotAnElf fault) a b = absurd b
   one_response_answer (answer.OpenDeadline l) (answer.BadTrace fault) a b = absurd b
   one_response_answer (answer.OpenDeadline l) answer.NoHolds a b = absurd b
-  one_response_answer (answer.OpenDeadline l) (answer.Explained lines) a b = absurd b
+  one_response_answer (answer.OpenDeadline l) (answer.Explained kind lines) a b = absurd b
   one_response_answer (answer.OpenDeadline l) answer.NoTask a b = absurd b
   one_response_answer (answer.Refused r) (answer.Stopped pc stop) a b = absurd b
   one_response_answer (answer.Refused r) (answer.NotAnImage fault) a b = absurd b
   one_response_answer (answer.Refused r) (answer.NotAnElf fault) a b = absurd b
   one_response_answer (answer.Refused r) (answer.BadTrace fault) a b = absurd b
   one_response_answer (answer.Refused r) answer.NoHolds a b = absurd b
-  one_response_answer (answer.Refused r) (answer.Explained lines) a b = absurd b
+  one_response_answer (answer.Refused r) (answer.Explained kind lines) a b = absurd b
   one_response_answer (answer.Refused r) answer.NoTask a b = absurd b
 
 -- what is told is an answer

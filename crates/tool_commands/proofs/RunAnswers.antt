@@ -86,7 +86,7 @@ module _ (Shows : Image → List Arrival → List ℕ → Type 0) (img arr : Lis
   run-view (answer.BadTrace fault) h = absurd h
   run-view answer.NoHolds h = absurd h
   run-view (answer.OpenDeadline lines) h = absurd h
-  run-view (answer.Explained lines) h = absurd h
+  run-view (answer.Explained kind lines) h = absurd h
   run-view answer.NoTask h = absurd h
 
   pub run-one : (a b : ToolAnswer) → IsRunAnswer Shows img arr n a → IsRunAnswer Shows img arr n b → a ≡ b

@@ -14,6 +14,9 @@ use Rattle.tool_commands.specs.LossesAnswers.{IsLossesAnswer}
 use Rattle.tool_commands.specs.MapAnswers.{IsMapAnswer}
 use Rattle.tool_commands.specs.SharesAnswers.{IsSharesAnswer}
 use Rattle.tool_commands.specs.WhyAnswers.{IsWhyAnswer, IsTaskBoundAnswer}
+use Rattle.tool_commands.specs.LabelsAnswers.{IsLabelsAnswer}
+use Rattle.tool_commands.specs.TraceReasons.{IsTraceReasonAnswer}
+use Rattle.tool_commands.specs.UnusedAnswers.{IsUnusedAnswer}
 use Rattle.tool_commands.specs.ResponseAnswers.{IsResponseAnswer, IsTaskResponseAnswer, IsRunResponseAnswer}
 use Rattle.tool_commands.specs.PictureAnswers.{IsPictureAnswer}
 use Rattle.tool_commands.specs.SymbolsAnswers.{IsSymbolsAnswer}
@@ -48,6 +51,10 @@ IsAnswer tool.TaskResponse counts names inputs answer =
     IsTaskResponseAnswer (input inputs 0) (input inputs 1) (input inputs 2) (input names 3) answer
 IsAnswer tool.RunResponse counts names inputs answer = IsRunResponseAnswer (input inputs 0) (input inputs 1) (input inputs 2) answer
 IsAnswer tool.Symbols counts names inputs answer = IsSymbolsAnswer (input inputs 0) (input inputs 1) (input names 1) answer
+IsAnswer tool.Labels counts names inputs answer = IsLabelsAnswer (input inputs 0) (input inputs 1) answer
+IsAnswer tool.TraceReason counts names inputs answer =
+    IsTraceReasonAnswer (input inputs 0) (input inputs 1) (input inputs 2) (input inputs 3) (number_of counts) answer
+IsAnswer tool.Unused counts names inputs answer = IsUnusedAnswer (input inputs 0) (input inputs 1) answer
 
 -- the first file that it reads is to be an image file
 abbrev pub reads_image : Tool → Bool
@@ -71,6 +78,9 @@ reads_image tool.TaskBound = false
 reads_image tool.TaskResponse = false
 reads_image tool.RunResponse = false
 reads_image tool.Symbols = false
+reads_image tool.Labels = false
+reads_image tool.TraceReason = false
+reads_image tool.Unused = false
 
 -- its answer is determined by what it reads; the file of `symbols` by the image too, and of a response's starts more than one may be the greatest
 abbrev pub is_determined : Tool → Bool
@@ -94,6 +104,9 @@ is_determined tool.TaskBound = false
 is_determined tool.TaskResponse = false
 is_determined tool.RunResponse = false
 is_determined tool.Symbols = false
+is_determined tool.Labels = false
+is_determined tool.TraceReason = false
+is_determined tool.Unused = true
 
 -- files have one answer of such a tool
 abbrev pub OneAnswer : Type 0

@@ -55,5 +55,5 @@ IsAtAllAnswer img arr k (answer.NotAnElf fault) = ⊥
 IsAtAllAnswer img arr k (answer.BadTrace fault) = ⊥
 IsAtAllAnswer img arr k answer.NoHolds = ⊥
 IsAtAllAnswer img arr k (answer.OpenDeadline text) = ⊥
-IsAtAllAnswer img arr k (answer.Explained lines) = ⊥
+IsAtAllAnswer img arr k (answer.Explained kind lines) = ⊥
 IsAtAllAnswer img arr k answer.NoTask = ⊥

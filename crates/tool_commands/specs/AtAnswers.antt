@@ -46,5 +46,5 @@ IsAtAnswer img arr k (answer.NotAnElf fault) = ⊥
 IsAtAnswer img arr k (answer.BadTrace fault) = ⊥
 IsAtAnswer img arr k answer.NoHolds = ⊥
 IsAtAnswer img arr k (answer.OpenDeadline lines) = ⊥
-IsAtAnswer img arr k (answer.Explained lines) = ⊥
+IsAtAnswer img arr k (answer.Explained kind lines) = ⊥
 IsAtAnswer img arr k answer.NoTask = ⊥

@@ -23,7 +23,7 @@ IsElfAnswer file (answer.NotAnElf fault) = ⊥
 IsElfAnswer file (answer.BadTrace fault) = ⊥
 IsElfAnswer file answer.NoHolds = ⊥
 IsElfAnswer file (answer.OpenDeadline lines) = ⊥
-IsElfAnswer file (answer.Explained lines) = ⊥
+IsElfAnswer file (answer.Explained kind lines) = ⊥
 IsElfAnswer file answer.NoTask = ⊥
 
 -- `unelf`: the image file of the ELF file, or the ELF file's first fault
@@ -36,5 +36,5 @@ IsUnelfAnswer file (answer.NotAnImage fault) = ⊥
 IsUnelfAnswer file (answer.BadTrace fault) = ⊥
 IsUnelfAnswer file answer.NoHolds = ⊥
 IsUnelfAnswer file (answer.OpenDeadline lines) = ⊥
-IsUnelfAnswer file (answer.Explained lines) = ⊥
+IsUnelfAnswer file (answer.Explained kind lines) = ⊥
 IsUnelfAnswer file answer.NoTask = ⊥

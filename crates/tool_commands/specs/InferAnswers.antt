@@ -11,7 +11,7 @@ abbrev pub IsInferAnswer : List ℕ → List ℕ → ToolAnswer → Type 0
 IsInferAnswer oil src (answer.Done outcome) = IsFilledSource oil src outcome.file × (outcome.text ≡ written_line (length outcome.file))
 IsInferAnswer oil src (answer.Refused refusal) = EarlyRefusal oil src refusal
 IsInferAnswer oil src answer.NoHolds = HasNoLists oil src
-IsInferAnswer oil src (answer.Explained lines) = ⊥
+IsInferAnswer oil src (answer.Explained kind lines) = ⊥
 IsInferAnswer oil src (answer.Stopped pc stop) = ⊥
 IsInferAnswer oil src (answer.NotAnImage fault) = ⊥
 IsInferAnswer oil src (answer.NotAnElf fault) = ⊥

@@ -17,3 +17,6 @@ pub mod SourceAnswers
 pub mod SymbolsAnswers
 pub mod WaveAnswers
 pub mod StatesText
+pub mod LabelsAnswers
+pub mod TraceReasons
+pub mod UnusedAnswers

@@ -44,5 +44,5 @@ tool_text (answer.NotAnElf fault) = no_elf_line fault
 tool_text (answer.BadTrace fault) = bad_trace_line fault
 tool_text answer.NoHolds = codes "no holds\n"
 tool_text (answer.OpenDeadline lines) = lines
-tool_text (answer.Explained text) = text
+tool_text (answer.Explained kind text) = text
 tool_text answer.NoTask = codes "usage\n"

@@ -31,5 +31,5 @@ IsLossesAnswer img arr n (answer.NotAnElf fault) = ⊥
 IsLossesAnswer img arr n (answer.BadTrace fault) = ⊥
 IsLossesAnswer img arr n answer.NoHolds = ⊥
 IsLossesAnswer img arr n (answer.OpenDeadline lines) = ⊥
-IsLossesAnswer img arr n (answer.Explained lines) = ⊥
+IsLossesAnswer img arr n (answer.Explained kind lines) = ⊥
 IsLossesAnswer img arr n answer.NoTask = ⊥

@@ -19,7 +19,7 @@ IsResponseAnswer oil src load (answer.NotAnImage fault) = ⊥
 IsResponseAnswer oil src load (answer.NotAnElf fault) = ⊥
 IsResponseAnswer oil src load (answer.BadTrace fault) = ⊥
 IsResponseAnswer oil src load answer.NoHolds = ⊥
-IsResponseAnswer oil src load (answer.Explained lines) = ⊥
+IsResponseAnswer oil src load (answer.Explained kind lines) = ⊥
 IsResponseAnswer oil src load answer.NoTask = ⊥
 
 -- `response` of one task: its line and of what it is made, where no deadline is open, or is; the first refusal; or no task has the name
@@ -34,7 +34,7 @@ IsTaskResponseAnswer oil src load name (answer.NotAnImage fault) = ⊥
 IsTaskResponseAnswer oil src load name (answer.NotAnElf fault) = ⊥
 IsTaskResponseAnswer oil src load name (answer.BadTrace fault) = ⊥
 IsTaskResponseAnswer oil src load name answer.NoHolds = ⊥
-IsTaskResponseAnswer oil src load name (answer.Explained lines) = ⊥
+IsTaskResponseAnswer oil src load name (answer.Explained kind lines) = ⊥
 
 -- `responds`: the lines, with no deadline that is open, or with one; or the first refusal
 abbrev pub IsRunResponseAnswer : (oil src load : List ℕ) → ToolAnswer → Type 0
@@ -47,7 +47,7 @@ IsRunResponseAnswer oil src load (answer.NotAnImage fault) = ⊥
 IsRunResponseAnswer oil src load (answer.NotAnElf fault) = ⊥
 IsRunResponseAnswer oil src load (answer.BadTrace fault) = ⊥
 IsRunResponseAnswer oil src load answer.NoHolds = ⊥
-IsRunResponseAnswer oil src load (answer.Explained lines) = ⊥
+IsRunResponseAnswer oil src load (answer.Explained kind lines) = ⊥
 IsRunResponseAnswer oil src load answer.NoTask = ⊥
 
 -- the answer that says what is told

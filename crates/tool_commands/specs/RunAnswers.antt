@@ -69,5 +69,5 @@ IsRunAnswer Shows img arr n (answer.NotAnElf fault) = ⊥
 IsRunAnswer Shows img arr n (answer.BadTrace fault) = ⊥
 IsRunAnswer Shows img arr n answer.NoHolds = ⊥
 IsRunAnswer Shows img arr n (answer.OpenDeadline lines) = ⊥
-IsRunAnswer Shows img arr n (answer.Explained lines) = ⊥
+IsRunAnswer Shows img arr n (answer.Explained kind lines) = ⊥
 IsRunAnswer Shows img arr n answer.NoTask = ⊥

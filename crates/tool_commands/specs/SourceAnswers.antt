@@ -14,5 +14,5 @@ IsSourceAnswer Says oil src (answer.NotAnElf fault) = ⊥
 IsSourceAnswer Says oil src (answer.BadTrace fault) = ⊥
 IsSourceAnswer Says oil src answer.NoHolds = ⊥
 IsSourceAnswer Says oil src (answer.OpenDeadline lines) = ⊥
-IsSourceAnswer Says oil src (answer.Explained lines) = ⊥
+IsSourceAnswer Says oil src (answer.Explained kind lines) = ⊥
 IsSourceAnswer Says oil src answer.NoTask = ⊥

@@ -17,5 +17,5 @@ IsSymbolsAnswer oil src name (answer.NotAnElf fault) = ⊥
 IsSymbolsAnswer oil src name (answer.BadTrace fault) = ⊥
 IsSymbolsAnswer oil src name answer.NoHolds = ⊥
 IsSymbolsAnswer oil src name (answer.OpenDeadline lines) = ⊥
-IsSymbolsAnswer oil src name (answer.Explained lines) = ⊥
+IsSymbolsAnswer oil src name (answer.Explained kind lines) = ⊥
 IsSymbolsAnswer oil src name answer.NoTask = ⊥

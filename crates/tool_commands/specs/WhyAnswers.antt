@@ -8,6 +8,7 @@ use Rattle.why_text.specs.WhyLines.{AreAcceptedTexts, IsWhy}
 use Rattle.why_text.specs.declared.why.Why.TheVariants as why
 use Rattle.tool_answers.specs.declared.answer.ToolAnswer.{ToolAnswer}
 use Rattle.tool_answers.specs.declared.answer.ToolAnswer.TheVariants as answer
+use Rattle.tool_answers.specs.declared.status.Explanation.TheVariants as explanation
 
 -- the line of the first refusal, and the lines behind it
 pub record IsExplained (oil src text : List ℕ) : Type 0 where
@@ -19,7 +20,7 @@ pub record IsExplained (oil src text : List ℕ) : Type 0 where
 -- that the texts are accepted, or their first refusal with what stands behind it
 abbrev pub IsWhyAnswer : List ℕ → List ℕ → ToolAnswer → Type 0
 IsWhyAnswer oil src (answer.Done outcome) = AreAcceptedTexts oil src × (outcome.file ≡ []) × (outcome.text ≡ codes "accepted\n")
-IsWhyAnswer oil src (answer.Explained text) = IsExplained oil src text
+IsWhyAnswer oil src (answer.Explained kind text) = (kind ≡ explanation.Refusal) × IsExplained oil src text
 IsWhyAnswer oil src (answer.Refused refusal) = ⊥
 IsWhyAnswer oil src (answer.Stopped pc stop) = ⊥
 IsWhyAnswer oil src (answer.NotAnImage fault) = ⊥
@@ -40,4 +41,4 @@ IsTaskBoundAnswer oil src name (answer.NotAnElf fault) = ⊥
 IsTaskBoundAnswer oil src name (answer.BadTrace fault) = ⊥
 IsTaskBoundAnswer oil src name answer.NoHolds = ⊥
 IsTaskBoundAnswer oil src name (answer.OpenDeadline lines) = ⊥
-IsTaskBoundAnswer oil src name (answer.Explained lines) = ⊥
+IsTaskBoundAnswer oil src name (answer.Explained kind lines) = ⊥

@@ -10,12 +10,15 @@ use crate::at_command::at;
 use crate::bounds_command::{bounds, latency, lower_counts};
 use crate::elf_commands::{elf, unelf};
 use crate::infer_command::infer;
+use crate::labels_command::labels;
 use crate::losses_command::losses;
 use crate::map_command::map;
 use crate::picture_command::picture;
 use crate::response_command::{response, run_response, task_response};
 use crate::shares_command::shares;
 use crate::symbols_command::symbols;
+use crate::trace_reason_command::trace_reason;
+use crate::unused_command::unused;
 use crate::wave_command::wave;
 use crate::why_command::{task_bound, why};
 use command_line::counts::{Counts, number_of, window_of};
@@ -127,5 +130,15 @@ pub fn judge(
             inputs[1].items(),
             name_of(names, 1),
         ),
+        Tool::Labels => labels(alloc, inputs[0].items(), inputs[1].items()),
+        Tool::TraceReason => trace_reason(
+            alloc,
+            inputs[0].items(),
+            inputs[1].items(),
+            inputs[2].items(),
+            inputs[3].items(),
+            number_of(counts),
+        ),
+        Tool::Unused => unused(alloc, inputs[0].items(), inputs[1].items()),
     }
 }

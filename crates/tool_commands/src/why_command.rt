@@ -12,6 +12,7 @@ use sloth_base::memory::NoMemory;
 use sloth_base::refusal::{BuildError, Refusal};
 use std::alloc::Global;
 use tool_answers::answer::{Outcome, ToolAnswer};
+use tool_answers::status::Explanation;
 use tool_answers::text_answer::told;
 use why_text::why::{Why, explain};
 
@@ -52,7 +53,10 @@ pub fn why(alloc: Global, oil: &[u8], src: &[u8]) -> Result<ToolAnswer, NoMemory
         },
         Why::Refused { refusal, lines } => {
             let text = explained(alloc, oil, src, refusal, lines.items())?;
-            Ok(ToolAnswer::Explained(text))
+            Ok(ToolAnswer::Explained {
+                kind: Explanation::Refusal,
+                text,
+            })
         },
     }
 }

@@ -19,7 +19,7 @@ returns-in_err-rest-clause-none c =
     let t = c.in_ok-tool.tool in
     let told = c.in_ok-tool.ensures.some in
     let begins = begin c.args.words.now c.in_ok-first.field-0.now t c.in_ok-first.ensures.value (sym c.deref.ensures ∙ told.0) told.1
-    (subst (λ a. IsAskedFor t a) c.asks_counts.ensures told.2) in
+    (subst (λ a. IsAskedFor t a) c.asks_second.ensures told.2) in
     let front = words-behind c.args.words.now c.words_behind.result.now t c.input_count-behind.result c.input_count-behind.ensures c.words_behind.ensures in
     if-none c.from_residual-in_err-rest.result (NoTool words)
     (without-further words t begins
@@ -31,7 +31,7 @@ returns-in_err-counted-clause-none c =
     let t = c.in_ok-tool.tool in
     let told = c.in_ok-tool.ensures.some in
     let begins = begin c.args.words.now c.in_ok-first.field-0.now t c.in_ok-first.ensures.value (sym c.deref.ensures ∙ told.0) told.1
-    (subst (λ a. IsAskedFor t a) c.asks_counts.ensures told.2) in
+    (subst (λ a. IsAskedFor t a) c.asks_second.ensures told.2) in
     let front = words-behind c.args.words.now c.words_behind.result.now t c.input_count-behind.result c.input_count-behind.ensures c.words_behind.ensures in
     let behind : List (List ℕ) = words_of c.in_ok-rest.rest.now in
     let further : drop (input_count t + 1) words ≡ option_to_list (further_word t) ++ behind =
@@ -46,7 +46,7 @@ returns-in_err-closed-clause-none c =
     let t = c.in_ok-tool.tool in
     let told = c.in_ok-tool.ensures.some in
     let begins = begin c.args.words.now c.in_ok-first.field-0.now t c.in_ok-first.ensures.value (sym c.deref.ensures ∙ told.0) told.1
-    (subst (λ a. IsAskedFor t a) c.asks_counts.ensures told.2) in
+    (subst (λ a. IsAskedFor t a) c.asks_second.ensures told.2) in
     let front = words-behind c.args.words.now c.words_behind.result.now t c.input_count-behind.result c.input_count-behind.ensures c.words_behind.ensures in
     let behind : List (List ℕ) = words_of c.in_ok-rest.rest.now in
     let further : drop (input_count t + 1) words ≡ option_to_list (further_word t) ++ behind =
@@ -65,7 +65,7 @@ returns-in_err-output-clause-none c =
     let t = c.in_ok-tool.tool in
     let told = c.in_ok-tool.ensures.some in
     let begins = begin c.args.words.now c.in_ok-first.field-0.now t c.in_ok-first.ensures.value (sym c.deref.ensures ∙ told.0) told.1
-    (subst (λ a. IsAskedFor t a) c.asks_counts.ensures told.2) in
+    (subst (λ a. IsAskedFor t a) c.asks_second.ensures told.2) in
     let front = words-behind c.args.words.now c.words_behind.result.now t c.input_count-behind.result c.input_count-behind.ensures c.words_behind.ensures in
     let behind : List (List ℕ) = words_of c.in_ok-rest.rest.now in
     let further : drop (input_count t + 1) words ≡ option_to_list (further_word t) ++ behind =
@@ -87,7 +87,7 @@ returns-clause-some c =
     let t = c.in_ok-tool.tool in
     let told = c.in_ok-tool.ensures.some in
     let begins = begin c.args.words.now c.in_ok-first.field-0.now t c.in_ok-first.ensures.value (sym c.deref.ensures ∙ told.0) told.1
-    (subst (λ a. IsAskedFor t a) c.asks_counts.ensures told.2) in
+    (subst (λ a. IsAskedFor t a) c.asks_second.ensures told.2) in
     let front = words-behind c.args.words.now c.words_behind.result.now t c.input_count-behind.result c.input_count-behind.ensures c.words_behind.ensures in
     let behind : List (List ℕ) = words_of c.in_ok-rest.rest.now in
     let further : drop (input_count t + 1) words ≡ option_to_list (further_word t) ++ behind =

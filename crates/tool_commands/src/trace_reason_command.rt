@@ -1,0 +1,36 @@
+//! The command `why` of a text of events.
+ghost use Rattle.std.specs.Prelude.{◌≤◌, IfOk, length};
+ghost use Rattle.sloth_base.specs.Limits.{file_limit};
+ghost use Rattle.tool_commands.specs.TraceReasons.{IsTraceReasonAnswer};
+
+use sloth_base::memory::NoMemory;
+use std::alloc::Global;
+use tool_answers::answer::ToolAnswer;
+use tool_answers::status::Explanation;
+use tool_answers::text_answer::told;
+use trace_check::{TraceReason, explain_trace};
+
+/// Whether a text of events is that of a run of n instructions, or where it fails to be and what could stand there; or the first refusal of the other texts.
+pub fn trace_reason(
+    alloc: Global,
+    oil: &[u8],
+    src: &[u8],
+    arr: &[u8],
+    text: &[u8],
+    n: u32,
+) -> Result<ToolAnswer, NoMemory>
+    requires oil { length oil.now ≤ file_limit }
+    requires src { length src.now ≤ file_limit }
+    requires arr { length arr.now ≤ file_limit }
+    requires text { length text.now ≤ file_limit }
+    ensures { IfOk result (λ answer. IsTraceReasonAnswer oil.now src.now arr.now text.now n answer) }
+{
+    match explain_trace(alloc, oil, src, arr, text, n)? {
+        TraceReason::Refused(refusal) => Ok(ToolAnswer::Refused(refusal)),
+        TraceReason::Yes => Ok(told(alloc, Vec::from_slice(alloc, b"yes\n")?)),
+        TraceReason::No(text) => Ok(ToolAnswer::Explained {
+            kind: Explanation::BadTrace,
+            text,
+        }),
+    }
+}
