@@ -26,6 +26,7 @@ mod Limited
 mod Summed
 mod Small
 mod Filling
+mod Mapping
 mod OrderSummaries
 mod Summaries
 mod Climbing

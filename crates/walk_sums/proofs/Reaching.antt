@@ -1,8 +1,8 @@
 -- Whether a task reaches what weighs 1 at the end of a walk alone.
-use Rattle.std.proofs.Common.{◌≡◌, ℕ, suc, ◌+◌, ◌<◌, ◌≤◌, ◌⊎◌, inl, inr, Bool, true, false, leb, ltb, List, [], ◌∷◌, ◌++◌, length, None, refl, ap, sym, ◌∙◌, subst, arith}
+use Rattle.std.proofs.Common.{◌≡◌, ℕ, suc, ◌+◌, ◌<◌, ◌≤◌, ◌⊎◌, inl, inr, Bool, true, false, leb, List, [], ◌∷◌, ◌++◌, length, None, refl, ap, sym, ◌∙◌, subst, arith}
 use Rattle.std.specs.Prelude.{MatchBool, Decides}
 use Rattle.std.specs.List.{AllByRecursion}
-use Rattle.std.proofs.lemmas.Bool.{true≢false, ltb-true, lt-ltb}
+use Rattle.std.proofs.lemmas.Bool.{true≢false}
 use Rattle.std.proofs.lemmas.Bool.Decides.{leb_tells}
 use Rattle.sloth_base.specs.declared.config.Config.{Config}
 use Rattle.sloth_base.specs.declared.app.App.{App}
@@ -23,7 +23,6 @@ use Rattle.walk_sums.specs.Rounds.{Anywhere, IsTurn, Reaches}
 use Rattle.walk_sums.specs.Counted.{CountsEnds, is_ending_counted, one_if, counted_weights}
 use Rattle.walk_sums.specs.Parts.{SumsOn}
 use Rattle.walk_sums.specs.Known.{IsExact, IsEndless, AreSums}
-use Rattle.walk_sums.specs.Clears.{ReachesCounted}
 use Rattle.walk_sums.proofs.CountedWeights.{counted_fit, ending_is, ends_weightless}
 use Rattle.walk_sums.proofs.Covering.{any_little}
 use Rattle.walk_sums.proofs.Standing.{walked_to}
@@ -115,33 +114,3 @@ module _ (c : Counted) (ends : CountsEnds c) (config : Config) (app : App) (w : 
               → Decides (leb (summary_of table (body_of app.funcs t)).on 1) ((at : Position) → Reaches app t at → is_ending_counted c (operation_at app at) ≡ false)
           at (inl le) = (λ e. none le.1, λ c. le.0)
           at (inr lt) = (λ e. absurd (true≢false (sym e ∙ lt.0)), λ c. absurd (some lt.1 c))
-
-  pub some_decided : Decides (ltb 1 (summary_of table (body_of app.funcs t)).on) (ReachesCounted app t c)
-  some_decided = by (summary_of table (body_of app.funcs t)).is_endless (are.each (body_of app.funcs t) (has_body config app w t declared).0)
-    where
-      by : (b : Bool) → MatchBool b (IsEndless config app weights kinds.Turns None (body_of app.funcs t)) (IsExact config app weights kinds.Turns None (body_of app.funcs t) (summary_of table (body_of app.funcs t)))
-          → Decides (ltb 1 (summary_of table (body_of app.funcs t)).on) (ReachesCounted app t c)
-      by true e =
-          let large = e (suc size_limit) in
-          let little = any_little config app weights kinds.Turns (ends_weightless c ends app) (counted_fit c app).small None (body_of app.funcs t) large.0 large.1 in
-          let above = large.2 in
-          absurd (let wrong : ⊥ = omega (arith, little, above) in wrong)
-      by false x = (sound, complete)
-        where
-          sound : ltb 1 (summary_of table (body_of app.funcs t)).on ≡ true → ReachesCounted app t c
-          sound e =
-              let lt = ltb-true 1 (summary_of table (body_of app.funcs t)).on e in
-              let a = x.on.attained (omega (arith, lt)) in
-              let walk = parts.walked a.0 a.1 in
-              let is = a.2 in
-              let sum = walk.2 in
-              counted_reached walk.0 walk.1 (omega (arith, lt, is, sum))
-
-          large_enough : (positions : List Position) → IsTurn app t positions → 1 ≤ sum_of weights positions → 1 < (summary_of table (body_of app.funcs t)).on
-          large_enough [] p le = absurd (omega (arith, le))
-          large_enough (at ∷ further) p le = let small = x.on.none_larger (sum_of weights (at ∷ further)) (parts.built at further p) in omega (arith, small, le)
-
-          complete : ReachesCounted app t c → ltb 1 (summary_of table (body_of app.funcs t)).on ≡ true
-          complete (at, r, e) =
-              let p = reached_counts at r e in
-              lt-ltb 1 (summary_of table (body_of app.funcs t)).on (large_enough p.0 p.1 p.2)

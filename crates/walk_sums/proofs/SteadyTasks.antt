@@ -10,13 +10,12 @@ use Rattle.bound_rules.specs.declared.sizes.Summary.{Summary}
 use Rattle.bound_rules.specs.Summaries.{summary_of}
 use Rattle.walk_sums.proofs.Bodily.{facts_of}
 use Rattle.walk_sums.specs.declared.kinds.Kind.TheVariants as kinds
-use Rattle.walk_sums.specs.declared.counted.Counted.{Counted}
 use Rattle.walk_sums.specs.declared.counted.Counted.TheVariants as counts
 use Rattle.walk_sums.specs.Rounds.{IsSteady}
-use Rattle.walk_sums.specs.Counted.{counted_weights, CountsEnds}
+use Rattle.walk_sums.specs.Counted.{counted_weights}
 use Rattle.walk_sums.specs.Known.{AreSums}
-use Rattle.walk_sums.specs.Clears.{AreSteadyMarks, ReachesCounted, AreReachingMarks}
-use Rattle.walk_sums.proofs.Reaching.{none_decided, some_decided}
+use Rattle.walk_sums.specs.Clears.{AreSteadyMarks}
+use Rattle.walk_sums.proofs.Reaching.{none_decided}
 
 pub marks_decide : (config : Config) (app : App) → WellFormed config app → (table : List Summary) → AreSums config app (counted_weights counts.Schedules app) kinds.Turns None table
     → (marks : List Bool) → AreSteadyMarks config.tasks app.funcs (length config.tasks) table marks → (t : ℕ) → t < length config.tasks → Decides (get_or marks t false) (IsSteady config app t)
@@ -27,11 +26,3 @@ marks_decide config app well table are marks m t lt =
           record { non = both.0; none = d.0 both.1 },
       λ s. m.exact t lt ∙ ap (λ b. b && leb (summary_of table (body_of app.funcs t)).on 1) s.non ∙ d.1 s.none,
     )
-
--- and those that count other ends which tasks reach these
-pub reaching_decide : (c : Counted) → CountsEnds c → (config : Config) (app : App) → WellFormed config app → (table : List Summary)
-    → AreSums config app (counted_weights c app) kinds.Turns None table → (marks : List Bool) → AreReachingMarks app.funcs (length config.tasks) table marks
-    → (t : ℕ) → t < length config.tasks → Decides (get_or marks t false) (ReachesCounted app t c)
-reaching_decide c ends config app well table are marks m t lt =
-    let d = some_decided c ends config app (facts_of config app well) table are t lt in
-    (λ e. d.0 (sym (m.exact t lt) ∙ e), λ r. m.exact t lt ∙ d.1 r)

@@ -1,5 +1,5 @@
 -- Which tasks clear an event before they wait for it again.
-use Rattle.std.specs.Prelude.{ℕ, ◌^◌, ◌<◌, ◌≤◌, ◌≡◌, ◌&&◌, leb, ltb, Bool, true, false, List, length, get_or, Decides}
+use Rattle.std.specs.Prelude.{ℕ, ◌^◌, ◌<◌, ◌≤◌, ◌≡◌, ◌&&◌, leb, Bool, true, false, List, length, get_or, Decides}
 use Rattle.sloth_base.specs.declared.app.App.{App}
 use Rattle.sloth_base.specs.declared.app.Func.{Func}
 use Rattle.sloth_base.specs.Named.{body_of}
@@ -49,8 +49,3 @@ pub record AreSteadyMarks (tasks : List TaskDecl) (funcs : List Func) (count : �
 -- a walk of task t reaches what counts at the end of a walk
 abbrev pub ReachesCounted : App → (t : ℕ) → Counted → Type 0
 ReachesCounted app t c = (at : Position) × Reaches app t at × (is_ending_counted c (operation_at app at) ≡ true)
-
--- of each task it is marked whether some turn has a sum above 0
-pub record AreReachingMarks (funcs : List Func) (count : ℕ) (table : List Summary) (marks : List Bool) : Type 0 where
-  pub marked : length marks ≡ count
-  pub exact : (t : ℕ) → t < count → get_or marks t false ≡ ltb 1 (summary_of table (body_of funcs t)).on

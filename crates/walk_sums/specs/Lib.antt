@@ -19,4 +19,3 @@ pub mod Counted
 pub mod Clears
 pub mod Told
 pub mod Sections
-pub mod Costs

@@ -66,7 +66,7 @@ pub fn passed_functions(alloc: Global, whole: &[Summary]) -> Result<Vec<bool>, N
 {
     let mut passed = Vec::new(alloc);
     for summary in whole {
-        passed.push(0 < summary.back).map_err(|_| NoMemory)?;
+        push(&mut passed, 0 < summary.back)?;
     }
     Ok(passed)
 }
@@ -120,6 +120,13 @@ fn if_alive(alive: bool, size: u32) -> u32
     if alive { size } else { 0 }
 }
 
+fn op_at(func: &Func, number: usize) -> Op
+    requires { number < length func.now.items }
+    ensures { result ≡ (item_of func.now number).op }
+{
+    func.items.items()[number].op
+}
+
 /// What each item adds to a part that goes on behind it.
 pub fn going_sizes(
     alloc: Global,
@@ -136,9 +143,8 @@ pub fn going_sizes(
     let mut sizes = Vec::new(alloc);
     for number in 0..func.items.items().len() {
         let weight = number_at(weights, number);
-        sizes
-            .push(going_size(whole, weight, func.items.items()[number].op))
-            .map_err(|_| NoMemory)?;
+        let size = going_size(whole, weight, op_at(func, number));
+        push(&mut sizes, size)?;
     }
     Ok(sizes)
 }
@@ -160,10 +166,8 @@ pub fn ending_sizes(
     let mut sizes = Vec::new(alloc);
     for number in 0..func.items.items().len() {
         let weight = number_at(weights, number);
-        let size = ending_size(whole, weight, func.items.items()[number].op);
-        sizes
-            .push(if_alive(is_marked(alive, number), size))
-            .map_err(|_| NoMemory)?;
+        let size = ending_size(whole, weight, op_at(func, number));
+        push(&mut sizes, if_alive(is_marked(alive, number), size))?;
     }
     Ok(sizes)
 }
@@ -183,10 +187,8 @@ pub fn leaving_sizes(
     let mut sizes = Vec::new(alloc);
     for number in 0..func.items.items().len() {
         let weight = number_at(weights, number);
-        let size = leaving_size(weight, func.items.items()[number].op);
-        sizes
-            .push(if_alive(is_marked(alive, number), size))
-            .map_err(|_| NoMemory)?;
+        let size = leaving_size(weight, op_at(func, number));
+        push(&mut sizes, if_alive(is_marked(alive, number), size))?;
     }
     Ok(sizes)
 }

@@ -5,8 +5,7 @@
 //! none. They are found function by function, by tables of weights (`whole_sums`, `own_sums`): each body is searched in an order of finish, or in passes where
 //! nothing weighs along its loops (`shape`), functions behind those that they call (`callees_first`). What tasks do on their walks is counted by weights of 1
 //! (`counted_weights`), items by `item_weights`. Whether tasks clear what they wait for is told by the sums of walks that do not (`clean_tasks`), and likewise
-//! whether they let others in (`steady_tasks`). What rounds and sections cost and make, with what a load says of their tasks, is arithmetic on these
-//! (`costs`).
+//! whether they let others in (`steady_tasks`).
 //!
 //! Rounds and clean tasks: `specs/Rounds`; what is told: `specs/Told`, `specs/Sections`; parts of walks, built item by item: `specs/Activations`,
 //! `specs/Kinds`, `specs/Parts`; weights, and sums of positions: `specs/Weights`, `specs/Counted`; when the sums of functions are right: `specs/Known`. The
@@ -17,7 +16,6 @@
 pub mod bodies;
 mod ceilings;
 pub mod clean;
-pub mod costs;
 pub mod counted;
 mod graph;
 mod items;
@@ -29,7 +27,6 @@ mod loops;
 pub mod order;
 mod paths;
 mod ranks;
-pub mod reach;
 mod search;
 pub mod sections;
 mod settle;

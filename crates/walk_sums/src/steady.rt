@@ -1,14 +1,18 @@
 //! Which tasks are not preemptable and reach no Schedule (OSEK OS 2.2.3, section 13.2.3.4).
-ghost use Rattle.std.specs.Prelude.{◌≡◌, ◌<◌, ℕ, false, get_or, length, Decides, IfOk};
+ghost use Rattle.std.specs.Prelude.{◌≡◌, ◌<◌, ℕ, None, false, get_or, length, Decides, IfOk};
 ghost use Rattle.code_rules.specs.WellFormed.{WellFormed};
 ghost use Rattle.call_graph.specs.Tables.{HasTaskBody};
 ghost use Rattle.walk_sums.specs.CallOrder.{IsCallOrder};
 ghost use Rattle.walk_sums.specs.KnownBodies.{AreKnownBodies};
+ghost use Rattle.walk_sums.specs.declared.kinds.Kind.TheVariants as kinds;
+ghost use Rattle.walk_sums.specs.Counted.{counted_weights};
+ghost use Rattle.walk_sums.specs.Known.{AreSums};
 ghost use Rattle.walk_sums.specs.Rounds.{IsSteady};
 ghost use Rattle.walk_sums.specs.Clears.{is_steady, AreSteadyMarks};
 
-use crate::counted::Counted;
-use crate::reach::counted_turns;
+use crate::counted::{Counted, counted_weights};
+use crate::kinds::Kind;
+use crate::levels::whole_sums;
 use crate::tasks::summary_at;
 use bound_rules::bodies::Body;
 use bound_rules::sizes::Summary;
@@ -17,6 +21,24 @@ use sloth_base::config::Config;
 use sloth_base::memory::NoMemory;
 use std::alloc::Global;
 use text_pieces::growth::push;
+
+/// The sums of turns, by what counts where a turn ends with it.
+fn counted_turns(
+    alloc: Global,
+    config: &Config,
+    app: &App,
+    bodies: &[Body],
+    order: &[usize],
+    counted: Counted,
+) -> Result<Vec<Summary>, NoMemory>
+    requires well_formed { WellFormed config.now app.now }
+    requires bodies { AreKnownBodies config.now app.now bodies.now }
+    requires order { IsCallOrder app.now order.now }
+    ensures { IfOk result (λ table. AreSums config.now app.now (counted_weights counted app.now) kinds.Turns None table.items) }
+{
+    let weights = counted_weights(alloc, app, counted)?;
+    whole_sums(alloc, config, app, &weights, Kind::Turns, bodies, order)
+}
 
 fn is_steady(config: &Config, app: &App, table: &[Summary], task: usize) -> bool
     requires inside { task < length config.now.tasks }

@@ -3,7 +3,7 @@ use Rattle.bound_rules.specs.declared.weights.BodyWeights.{BodyWeights}
 use Rattle.walk_sums.specs.declared.kinds.Kind.TheVariants as kinds
 use Rattle.walk_sums.specs.Weights.{AreWeights}
 use Rattle.walk_sums.specs.Known.{AreSums}
-use Rattle.walk_sums.proofs.reach.counted_turns.Goals as goal
+use Rattle.walk_sums.proofs.steady.counted_turns.Goals as goal
 
 pub whole_sums-requires-clause-weights : goal.whole_sums-requires-clause-weights
 whole_sums-requires-clause-weights c = subst (AreWeights c.args.app.now) (sym c.deref.ensures.value) c.in_ok-weights.ensures.fit

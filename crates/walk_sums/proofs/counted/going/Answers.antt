@@ -1,0 +1,15 @@
+use Rattle.std.proofs.Common.{ℕ, ap, ◌∙◌}
+use Rattle.sloth_base.specs.declared.app.Item.{Item}
+use Rattle.walk_sums.specs.Counted.{one_if, is_going_counted}
+use Rattle.walk_sums.proofs.Mapping.{mapped_more, mapped_all}
+use Rattle.walk_sums.proofs.counted.going.Goals as goal
+
+pub loop-item-preserved : goal.loop-item-preserved
+loop-item-preserved c =
+    mapped_more Item ℕ (λ (item : Item). one_if (is_going_counted c.args.counted item.op)) c.args.items.now c.loop-item.item-index _ c.loop-item.counts.items c.push.new.list.items
+    c.number_of.result c.loop-item-test.true c.in_ok-push.ensures (c.number_of.ensures ∙ ap one_if c.is_going_counted.ensures ∙ ap (λ (item : Item). one_if (is_going_counted c.args.counted item.op)) c.item-item.is) c.loop-item.invariant
+
+pub returns : goal.returns
+returns c =
+    mapped_all Item ℕ (λ (item : Item). one_if (is_going_counted c.args.counted item.op)) c.args.items.now c.loop-item.item-index c.loop-item.counts.items c.loop-item-test.false
+    c.loop-item.invariant
