@@ -9,6 +9,7 @@
 //! it: `specs/Checked`. The task of a name: `task_named`.
 #![tactic(auto)]
 
+mod bounding;
 mod checked_reading;
 mod configuration;
 mod laws;

@@ -5,12 +5,12 @@ ghost use Rattle.stack_bounds.specs.Bounds.{AreBounds};
 ghost use Rattle.sloth_source.specs.SourceText.{BodiesAreNamed};
 ghost use Rattle.sloth_source.specs.Texts.{AreAccepted, SourcesErrorIs};
 
+use crate::bounding::bounds_of;
 use crate::ranked_texts::{Ranked, read_ranked};
 use sloth_base::app::App;
 use sloth_base::config::Config;
 use sloth_base::places::Bounds;
 use sloth_base::refusal::BuildError;
-use stack_bounds::bounds_of;
 use std::alloc::Global;
 
 /// A configuration and its task code, and the bytes of stack that its tasks may need.

@@ -3,15 +3,13 @@
 //! Of verified task code `bound` gives for each task exactly the greatest sum of bytes over all chains of calls from its body, with one context: no
 //! calls in progress need more; whole words, at most 8,572. The one stack of all basic tasks has exactly the greatest sum over tasks of rising
 //! priorities that may stand on it. By such bounds each of them has a part of it, below the parts of all that may stand below it (`offsets`).
-//! `bounds_of` gives the bounds where no rule of V2 to V12 has a fault, or exactly the least fault. Definitions: `specs/Bounds`; calls, chains and
-//! Schedule: `code_rules` (`Code`); ranks and tables: `call_graph` (`Ranks`, `Tables`).
+//! Definitions: `specs/Bounds`; calls, chains and Schedule: `code_rules` (`Code`); ranks and tables: `call_graph` (`Ranks`, `Tables`).
 #![tactic(auto)]
 
 ghost use Rattle.std.specs.Prelude.{IfOk};
 ghost use Rattle.call_graph.specs.Ranks.{RanksOf};
 ghost use Rattle.stack_bounds.specs.Bounds.{AreBounds};
 
-mod bounding;
 mod calls;
 mod shared_stack;
 mod stacking;
@@ -21,7 +19,6 @@ mod tasks;
 use crate::calls::most_calls;
 use crate::shared_stack::most_stacked;
 use crate::tasks::{bytes_of_tasks, yielding_tasks};
-pub use bounding::bounds_of;
 use call_graph::ranking::Ranks;
 use sloth_base::list::List;
 use sloth_base::memory::NoMemory;

@@ -6,12 +6,12 @@ ghost use Rattle.code_rules.specs.WellFormed.{RuleFault};
 ghost use Rattle.call_graph.specs.Ranks.{RanksOf};
 ghost use Rattle.stack_bounds.specs.Bounds.{AreBounds};
 
-use crate::bound;
 use call_graph::ranking::Ranks;
 use sloth_base::app::App;
 use sloth_base::config::Config;
 use sloth_base::places::Bounds;
 use sloth_base::refusal::BuildError;
+use stack_bounds::bound;
 use std::alloc::Global;
 use task_verify::verified::Verified;
 use task_verify::verify;
