@@ -73,11 +73,11 @@ fn has_label_list(func: &Func, rows: &[KeptList], label: &Label) -> bool
     place < rows.len() && rows[place].kept && is_held(label.holds.items(), rows[place].list.items())
 }
 
-// As many places that are marked.
-fn all_marked(alloc: Global, count: usize) -> Result<Vec<bool>, NoMemory> {
+/// As many places that are marked, or not.
+pub fn all_marked(alloc: Global, count: usize, mark: bool) -> Result<Vec<bool>, NoMemory> {
     let mut marks = Vec::new(alloc);
     for _place in 0..count {
-        push(&mut marks, true)?;
+        push(&mut marks, mark)?;
     }
     Ok(marks)
 }
@@ -115,7 +115,7 @@ fn agreed_places(alloc: Global, func: &Func, rows: &[KeptList]) -> Result<Vec<bo
     requires { AreLists func.now rows.now }
     ensures { IfOk result (λ marks. AreAgreed func.now marks.items) }
 {
-    let mut marks = all_marked(alloc, func.items.items().len())?;
+    let mut marks = all_marked(alloc, func.items.items().len(), true)?;
     judge_labels(func, rows, &mut marks);
     Ok(marks)
 }

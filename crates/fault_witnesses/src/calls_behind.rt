@@ -3,48 +3,27 @@ ghost use Rattle.std.specs.Prelude.{◌≡◌, ◌<◌, length, true, IfOk};
 ghost use Rattle.sloth_base.specs.Named.{function, operation};
 ghost use Rattle.code_rules.specs.AppRange.{AppInRange};
 ghost use Rattle.code_rules.specs.Code.{held_list_at};
-ghost use Rattle.call_graph.specs.Rows.{is_pausing, is_pause};
 ghost use Rattle.sloth_base.specs.declared.app.Op.TheVariants as op;
 ghost use Rattle.fault_witnesses.specs.CallChains.{IsChain, chain_end};
 ghost use Rattle.fault_witnesses.specs.declared.places.Place.TheVariants as place;
 ghost use Rattle.fault_witnesses.specs.Places.{IsPlace};
 ghost use Rattle.fault_witnesses.specs.Witnesses.{is_culprit, AreShownCalls};
 
-use crate::chain_search::{Aim, called, shortest_chain};
+use crate::chain_search::{Aim, called, is_pause, shortest_chain};
 use crate::chains::{Calls, chain_end, function_at, is_chain};
 use crate::clean_steps::is_own_second_take;
 use crate::label_rules::held_at;
 use sloth_base::app::{App, Op};
 use sloth_base::config::Config;
-use sloth_base::list::List;
 use sloth_base::memory::NoMemory;
 use sloth_base::refusal::Code;
-use sloth_base::service::Service;
 use std::alloc::Global;
 
 // What an operation leads to that breaks V9 or V10.
-fn aim_of(alloc: Global, code: Code, held: &[u32]) -> Result<Aim, NoMemory> {
+fn aim_of(code: Code, held: &[u32]) -> Aim {
     match code {
-        Code::V9 => {
-            let copy = held.to_vec(alloc)?;
-            Ok(Aim::Taking(List::from_vec(copy)))
-        },
-        _ => Ok(Aim::Pause),
-    }
-}
-
-fn is_pausing(service: Service) -> bool
-    ensures { result ≡ is_pausing service }
-{
-    matches!(service, Service::WaitEvent | Service::Schedule)
-}
-
-fn is_pause(op: Op) -> bool
-    ensures { result ≡ is_pause op }
-{
-    match op {
-        Op::Serve(call) => is_pausing(call.service),
-        _ => false,
+        Code::V9 => Aim::Taking(held),
+        _ => Aim::Pause,
     }
 }
 
@@ -118,8 +97,7 @@ fn calls_from(
     requires held { held.now ≡ held_list_at (function app.now body) item }
     ensures { IfOk result (λ calls. AreShownCalls app.now code (place.Item body item) calls) }
 {
-    let aim = aim_of(alloc, code, held)?;
-    match shortest_chain(alloc, app, callee, &aim)? {
+    match shortest_chain(alloc, app, callee, aim_of(code, held))? {
         Some(calls) => Ok(calls_if(app, code, body, item, callee, held, calls)),
         None => Ok(None),
     }

@@ -1,8 +1,10 @@
 //! The search for the shortest chain of calls: breadth first, items in their order.
 ghost use Rattle.std.specs.Prelude.{◌≡◌, IfSome};
 ghost use Rattle.sloth_base.specs.declared.app.Op.TheVariants as op_is;
+ghost use Rattle.call_graph.specs.Rows.{is_pausing, is_pause};
 
-use crate::chains::{Calls, Link, function_at};
+use crate::chains::{Calls, Link, function_at, is_call};
+use crate::clean_steps::is_own_second_take;
 use sloth_base::app::{App, Func, Op};
 use sloth_base::list::List;
 use sloth_base::memory::NoMemory;
@@ -11,12 +13,12 @@ use std::alloc::Global;
 use text_pieces::growth::push;
 
 /// What a chain is to lead to.
-#[derive(Drop)]
-pub enum Aim {
+#[derive(Clone, Copy)]
+pub enum Aim<'t> {
     /// A call of this function.
     CallOf(usize),
     /// An item that takes one of these resources.
-    Taking(List<u32>),
+    Taking(&'t [u32]),
     /// An item that waits, or calls Schedule.
     Pause,
     /// This function itself.
@@ -31,19 +33,18 @@ struct Reached {
     before: usize,
 }
 
-fn takes_one(held: &[u32], op: Op) -> bool {
-    match op {
-        Op::Serve(call) => {
-            matches!(call.service, Service::GetResource)
-                && held.iter().any(|resource| *resource == call.object)
-        },
-        _ => false,
-    }
+fn is_pausing(service: Service) -> bool
+    ensures { result ≡ is_pausing service }
+{
+    matches!(service, Service::WaitEvent | Service::Schedule)
 }
 
-fn pauses(op: Op) -> bool {
+/// Whether the operation waits or calls Schedule.
+pub fn is_pause(op: Op) -> bool
+    ensures { result ≡ is_pause op }
+{
     match op {
-        Op::Serve(call) => matches!(call.service, Service::WaitEvent | Service::Schedule),
+        Op::Serve(call) => is_pausing(call.service),
         _ => false,
     }
 }
@@ -58,24 +59,17 @@ pub fn called(op: Op) -> Option<usize>
     }
 }
 
-fn is_call_of(op: Op, func: usize) -> bool {
-    match called(op) {
-        Some(other) => other == func,
-        None => false,
-    }
-}
-
-fn is_aim(aim: &Aim, op: Op) -> bool {
+fn is_aim(aim: Aim, op: Op) -> bool {
     match aim {
-        Aim::CallOf(func) => is_call_of(op, *func),
-        Aim::Taking(held) => takes_one(held.items(), op),
-        Aim::Pause => pauses(op),
+        Aim::CallOf(func) => is_call(op, func),
+        Aim::Taking(held) => is_own_second_take(held, op),
+        Aim::Pause => is_pause(op),
         Aim::Function(_) => false,
     }
 }
 
 // The first item of a function that is looked for.
-fn item_aimed_at(aim: &Aim, func: &Func) -> Option<usize> {
+fn item_aimed_at(aim: Aim, func: &Func) -> Option<usize> {
     for (number, item) in func.items.items().iter().enumerate() {
         if is_aim(aim, item.op) {
             return Some(number);
@@ -84,9 +78,9 @@ fn item_aimed_at(aim: &Aim, func: &Func) -> Option<usize> {
     None
 }
 
-fn hit(aim: &Aim, number: usize, func: &Func) -> Option<usize> {
+fn hit(aim: Aim, number: usize, func: &Func) -> Option<usize> {
     match aim {
-        Aim::Function(wanted) => { if *wanted == number { Some(0) } else { None } },
+        Aim::Function(wanted) => { if wanted == number { Some(0) } else { None } },
         _ => item_aimed_at(aim, func),
     }
 }
@@ -140,12 +134,34 @@ fn in_order(alloc: Global, back: &[Link]) -> Result<List<Link>, NoMemory> {
     Ok(List::from_vec(links))
 }
 
+// Goes on from each function that was reached.
+fn chain_from(
+    alloc: Global,
+    app: &App,
+    reached: &mut Vec<Reached>,
+    aim: Aim,
+) -> Result<Option<Calls>, NoMemory> {
+    for turn in 0..app.funcs.items().len() + 1 {
+        if turn >= reached.len() || reached[turn].func >= app.funcs.items().len() {
+            return Ok(None);
+        }
+        let number = reached[turn].func;
+        let func = function_at(app, number);
+        if let Some(item) = hit(aim, number, func) {
+            let links = links_to(alloc, reached, turn)?;
+            return Ok(Some(Calls { links, item }));
+        }
+        reach_all(reached, turn, func)?;
+    }
+    Ok(None)
+}
+
 /// The shortest chain of calls from a function to what is looked for, if there is one.
 pub fn shortest_chain(
     alloc: Global,
     app: &App,
     start: usize,
-    aim: &Aim,
+    aim: Aim,
 ) -> Result<Option<Calls>, NoMemory> {
     let mut reached = Vec::new(alloc);
     push(
@@ -156,17 +172,5 @@ pub fn shortest_chain(
             before: 0,
         },
     )?;
-    for turn in 0..app.funcs.items().len() + 1 {
-        if turn >= reached.len() || reached[turn].func >= app.funcs.items().len() {
-            return Ok(None);
-        }
-        let number = reached[turn].func;
-        let func = function_at(app, number);
-        if let Some(item) = hit(aim, number, func) {
-            let links = links_to(alloc, &reached, turn)?;
-            return Ok(Some(Calls { links, item }));
-        }
-        reach_all(&mut reached, turn, func)?;
-    }
-    Ok(None)
+    chain_from(alloc, app, &mut reached, aim)
 }

@@ -31,7 +31,8 @@ pub fn function_at(app: &App, number: usize) -> &Func
     &app.funcs.items()[number]
 }
 
-fn is_call(op: Op, func: usize) -> bool
+/// Whether the operation calls the function.
+pub fn is_call(op: Op, func: usize) -> bool
     ensures { result ≡ is_call func op }
 {
     match op {

@@ -57,15 +57,25 @@ fn cycle_if(app: &App, body: usize, links: List<Link>) -> Option<List<Link>>
     }
 }
 
+// The calls to a body that calls the function, and that call.
+fn cycle_by(
+    alloc: Global,
+    app: &App,
+    body: usize,
+    calls: &Calls,
+) -> Result<Option<List<Link>>, NoMemory>
+    ensures { IfOk result (λ found. IfSome found (λ links. IsCycle app.now body links)) }
+{
+    let links = links_with(alloc, app, body, calls.links.items(), calls.item)?;
+    Ok(cycle_if(app, body, links))
+}
+
 /// The shortest chain of calls by which a function calls itself, if there is one: its last call is of the function.
 pub fn cycle_calls(alloc: Global, app: &App, body: usize) -> Result<Option<List<Link>>, NoMemory>
     ensures { IfOk result (λ found. IfSome found (λ links. IsCycle app.now body links)) }
 {
-    match shortest_chain(alloc, app, body, &Aim::CallOf(body))? {
-        Some(Calls { links, item }) => {
-            let links = links_with(alloc, app, body, links.items(), item)?;
-            Ok(cycle_if(app, body, links))
-        },
+    match shortest_chain(alloc, app, body, Aim::CallOf(body))? {
+        Some(calls) => cycle_by(alloc, app, body, &calls),
         None => Ok(None),
     }
 }

@@ -5,21 +5,21 @@
 //!
 //! `way_to` gives a way of clean steps to an item, from the begin of its body or from a label: each item goes on or jumps to the next, and what is held behind it is the list of the next
 //! and of each label there (`specs/CleanWays`); what the items of a way take and release is the list that is held before the last of them (`way_holds`). `is_chain` says whether each
-//! call of a chain is an item of the body before, on its line (`specs/CallChains`); `shortest_chain` looks for one. Lists and steps: `code_rules` (`Code`).
+//! call of a chain is an item of the body before, on its line (`specs/CallChains`). Lists and steps: `code_rules` (`Code`).
 #![tactic(auto)]
 
 pub mod body_lists;
 pub mod breaches;
 mod calls_behind;
-pub mod chain_search;
+mod chain_search;
 pub mod chains;
 pub mod clean_steps;
 pub mod cycles;
 pub mod label_rules;
 pub mod laws;
 pub mod places;
-pub mod straight_ways;
+mod straight_ways;
 pub mod users;
-pub mod way_search;
+mod way_search;
 pub mod ways;
 pub mod witnesses;

@@ -177,7 +177,7 @@ fn user_through(
     requires begins { IsBodyOf app.now task start }
     ensures { IfOk result (λ user. IfSome user (IsUser config.now app.now body item)) }
 {
-    match shortest_chain(alloc, app, start, &Aim::Function(body))? {
+    match shortest_chain(alloc, app, start, Aim::Function(body))? {
         Some(Calls { links, item: _ }) => {
             Ok(user_from(config, app, body, item, task, events, start, links))
         },

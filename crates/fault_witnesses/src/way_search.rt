@@ -4,7 +4,7 @@ ghost use Rattle.sloth_base.specs.Named.{item_of};
 ghost use Rattle.task_verify.specs.Ways.{HasBodyLabel};
 ghost use Rattle.fault_witnesses.specs.BodyLists.{AreBodyLists};
 
-use crate::body_lists::BodyLists;
+use crate::body_lists::{BodyLists, all_marked};
 use crate::clean_steps::is_clean_step;
 use sloth_base::app::Func;
 use sloth_base::memory::NoMemory;
@@ -27,14 +27,6 @@ fn mark(marks: &mut [bool], at: usize) {
     if at < marks.len() {
         marks[at] = true;
     }
-}
-
-fn no_marks(alloc: Global, count: usize) -> Result<Vec<bool>, NoMemory> {
-    let mut marks = Vec::new(alloc);
-    for _place in 0..count {
-        push(&mut marks, false)?;
-    }
-    Ok(marks)
 }
 
 // Reaches an item from another one, where that is a clean step and it was not reached.
@@ -134,6 +126,25 @@ fn search(
     Ok(None)
 }
 
+// The way from the first item, where none but that is marked.
+fn way_by_marks(
+    alloc: Global,
+    func: &Func,
+    tables: &BodyLists,
+    marks: &mut [bool],
+    goal: usize,
+) -> Result<Vec<usize>, NoMemory>
+    requires labels { (i : ℕ) → i < length func.now.items → HasBodyLabel func.now (item_of func.now i).op }
+    requires tables { AreBodyLists func.now tables.now }
+{
+    let mut visits = Vec::new(alloc);
+    push(&mut visits, Visited { item: 0, before: 0 })?;
+    match search(alloc, func, tables, marks, &mut visits, goal)? {
+        Some(turn) => way_back(alloc, &visits, turn),
+        None => Ok(Vec::new(alloc)),
+    }
+}
+
 /// The shortest way of clean steps from the first item of a body to another one, of several the one of the lower items; no items, where none is found.
 pub fn shortest_way(
     alloc: Global,
@@ -144,12 +155,7 @@ pub fn shortest_way(
     requires labels { (i : ℕ) → i < length func.now.items → HasBodyLabel func.now (item_of func.now i).op }
     requires tables { AreBodyLists func.now tables.now }
 {
-    let mut marks = no_marks(alloc, func.items.items().len())?;
-    let mut visits = Vec::new(alloc);
+    let mut marks = all_marked(alloc, func.items.items().len(), false)?;
     mark(&mut marks, 0);
-    push(&mut visits, Visited { item: 0, before: 0 })?;
-    match search(alloc, func, tables, &mut marks, &mut visits, goal)? {
-        Some(turn) => way_back(alloc, &visits, turn),
-        None => Ok(Vec::new(alloc)),
-    }
+    way_by_marks(alloc, func, tables, &mut marks, goal)
 }

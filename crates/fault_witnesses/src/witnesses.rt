@@ -204,6 +204,7 @@ fn item_witness(
     requires place { IsPlaceOfFault config.now app.now refusal (place.Item body item) }
     ensures { IfOk result (IsWitness config.now app.now refusal) }
 {
+    let ItemWay { way, behind } = item_way(alloc, config, app, refusal.code, body, item)?;
     let ItemCalls { calls, user } = item_calls(
         alloc,
         config,
@@ -213,7 +214,6 @@ fn item_witness(
         item,
         events,
     )?;
-    let ItemWay { way, behind } = item_way(alloc, config, app, refusal.code, body, item)?;
     Ok(Witness {
         place: Place::Item { body, item },
         way,
