@@ -58,7 +58,6 @@ stays t e admits = by e.event admits
   where
     by : (w : Event) → is_some (admitted_line w) ≡ true → is_left t w ≡ false
     by (event.Left u served) admits = absurd (false≢true admits)
-    by event.Boot admits = refl
     by w admits = refl
 
 -- the events up to the first that is no admission

@@ -1,6 +1,6 @@
 -- What events leave of one alarm.
 use Rattle.std.proofs.Common.{◌≡◌, ℕ, zero, suc, ◌+◌, ◌-◌, ◌<◌, ◌≤◌, ◌⊎◌, ◌==◌, ◌&&◌, ◌||◌, not, List, [], ◌∷◌, Bool, true, false, cond, length, get_or, refl, sym, ap, ◌∙◌, subst, arith, inl, inr, Some, bit_and, bit_or}
-use Rattle.std.proofs.lemmas.Bool.{cases_eq, cases_lt, cond_both, false≢true, true≢false, eqb-true, eqb-false, ne_eqb, eq-eqb, not-true}
+use Rattle.std.proofs.lemmas.Bool.{cases_eq, cases_lt, cond_both, false≢true, eqb-true, eqb-false, ne_eqb, eq-eqb, not-true}
 use Rattle.std.proofs.lemmas.List.{get_or-set_same, get_or_past, set_past}
 use Rattle.sloth_base.specs.Options.{is_number}
 use Rattle.sloth_base.specs.declared.config.Action.{Action}
@@ -23,7 +23,7 @@ use Rattle.osek_scheduler.specs.declared.state.TaskState.{TaskState}
 use Rattle.osek_scheduler.specs.declared.state.TaskState.TheVariants as mode
 use Rattle.osek_scheduler.specs.State.{System, task, no_alarm, alarm, with_alarm}
 use Rattle.osek_scheduler.specs.Changes.{with_change}
-use Rattle.osek_scheduler.specs.Services.{activated_state, woken_state, with_events, set_events, with_left, acted_state, alarm_ticked_state, alarms_ticked_state, counted_on_state, ServiceOutcome, GoesOn, Leaves}
+use Rattle.osek_scheduler.specs.Services.{activated_state, woken_state, with_events, set_events, with_left, acted_state, alarm_ticked_state, alarms_ticked_state, counted_on_state, ticked_state, ServiceOutcome}
 use Rattle.sloth_base.specs.Status.{E_OK, E_OS_NOFUNC}
 use Rattle.osek_scheduler.specs.Outcomes.{plan, decision, outcome, with_other, planned_system, shown_outcome}
 use Rattle.osek_scheduler.specs.Steps.{OsekStep, IsServiceStep}
@@ -31,6 +31,7 @@ use Rattle.osek_scheduler.proofs.AllPlans.{all_plans}
 use Rattle.osek_scheduler.proofs.Going.{at_set}
 use Rattle.osek_scheduler.proofs.Outcomes.{by_suspended, on_outcome, on_tested, shown_after}
 use Rattle.osek_scheduler.proofs.ServiceStates.{IsAfter}
+use Rattle.run_counts.proofs.StepCases.{clock_behind}
 use Rattle.response_laws.specs.Turns.{ticking_counter}
 use Rattle.response_laws.specs.Expiries.{sets_alarm}
 
@@ -191,32 +192,29 @@ module _ (config : Config) (app : App) (a : ℕ) (inside : a < length config.ala
       (is_number (alarm_declaration config a).counter (ticking_counter e) ≡ true → alarm next a ≡ alarm_behind true (alarm s a))
       × (is_number (alarm_declaration config a).counter (ticking_counter e) ≡ false → Calm s next)
 
-  calm_one : (e : Event) (s next : System) → is_number (alarm_declaration config a).counter (ticking_counter e) ≡ false → Calm s next → Leaves_it e s next
-  calm_one e s next off calm = ((λ is. absurd (true≢false (sym is ∙ off))), (λ _. calm))
+  -- a tick of its counter counts, and one of another leaves it
+  ticked_alarm : (d : ℕ) (s : System) → alarm (ticked_state config d s) a ≡ alarm_behind ((alarm_declaration config a).counter == d) (alarm s a)
+  ticked_alarm d s = among a d 0 a config.alarms (counted_on_state d (counter_declaration config d).max s) (omega arith) inside
+
+  counts_tick : (e : Event) (s next : System) → OsekStep config app e s next → is_number (alarm_declaration config a).counter (ticking_counter e) ≡ true
+      → alarm next a ≡ alarm_behind true (alarm s a)
+  counts_tick (event.Tick d) s next h is =
+      ap (λ (x : System). alarm x a) h.2 ∙ ticked_alarm d s
+      ∙ ap (λ b. alarm_behind b (alarm s a)) (eq-eqb (alarm_declaration config a).counter d (sym (eqb-true d (alarm_declaration config a).counter is)))
+  counts_tick e s next h is = absurd (false≢true is)
 
   pub leaves_alarm : (e : Event) (s next : System) → OsekStep config app e s next → Leaves_it e s next
-  leaves_alarm (event.Tick d) s next h = (
-    λ is. tick ∙ ap (λ b. alarm_behind b (alarm s a)) (eq-eqb (alarm_declaration config a).counter d (sym (eqb-true d (alarm_declaration config a).counter is))),
-    λ off.
-        inl (tick ∙ ap (λ b. alarm_behind b (alarm s a)) (ne_eqb (alarm_declaration config a).counter d (λ e. eqb-false d (alarm_declaration config a).counter off (sym e)))),
+  leaves_alarm e s next step = (
+    counts_tick e s next step,
+    clock_behind config app (λ what. is_number (alarm_declaration config a).counter (ticking_counter what) ≡ false) (Calm s) s
+        (record {
+          apart = λ x tasks symbols fresh calm. calm;
+          same = λ started _. inl refl;
+          serves = λ t served answer h _. called_calm t served s answer h;
+          dues = λ c _ _. inl refl;
+          ticks = λ d off _.
+              inl (ticked_alarm d s
+              ∙ ap (λ b. alarm_behind b (alarm s a)) (ne_eqb (alarm_declaration config a).counter d (λ e. eqb-false d (alarm_declaration config a).counter off (sym e))));
+        })
+        e next step,
   )
-    where
-      tick : alarm next a ≡ alarm_behind ((alarm_declaration config a).counter == d) (alarm s a)
-      tick =
-          ap (λ (x : System). alarm x a) h.2
-          ∙ among a d 0 a config.alarms (counted_on_state d (counter_declaration config d).max s) (omega arith) inside
-  leaves_alarm event.Boot s next h = calm_one event.Boot s next refl (inl (ap (λ (x : System). alarm x a) h.1))
-  leaves_alarm (event.Admit t) s next h =
-      calm_one (event.Admit t) s next refl
-      (inl (ap (λ (x : System). alarm x a) h.2
-      ∙ by_suspended (task s t).state (record (activated_state s t) { fresh = t ∷ s.fresh }) s (λ (x : System). alarm x a ≡ alarm s a) (λ _. refl) (λ _. refl)))
-  leaves_alarm (event.Enter t) s next h = calm_one (event.Enter t) s next refl (inl (ap (λ (x : System). alarm x a) h.4))
-  leaves_alarm (event.Run t func item result) s next h = calm_one (event.Run t func item result) s next refl (inl (ap (λ (x : System). alarm x a) h.1.is))
-  leaves_alarm (event.Call t served status) s next h =
-      calm_one (event.Call t served status) s next refl (subst (Calm s) (sym h.1.2) (called_calm t served s (GoesOn status h.1.0) h.1.1))
-  leaves_alarm (event.Left t served) s next h =
-      calm_one (event.Left t served) s next refl (subst (Calm s) (sym h.1.2) (called_calm t served s (Leaves h.1.0) h.1.1))
-  leaves_alarm (event.Back t) s next h = calm_one (event.Back t) s next refl (inl (ap (λ (x : System). alarm x a) h.4))
-  leaves_alarm event.Idle s next h = calm_one event.Idle s next refl (inl (ap (λ (x : System). alarm x a) h.3))
-  leaves_alarm event.Stray s next h = absurd h
-  leaves_alarm (event.Due c) s next h = calm_one (event.Due c) s next refl (inl (ap (λ (x : System). alarm x a) h.2))

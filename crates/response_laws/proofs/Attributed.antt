@@ -28,11 +28,7 @@ IsDeclared config (event.Call t served status) = t < length config.tasks
 IsDeclared config (event.Left t served) = t < length config.tasks
 IsDeclared config (event.Back t) = t < length config.tasks
 IsDeclared config (event.Tick c) = c < length config.counters
-IsDeclared config (event.Admit t) = Unit {0}
-IsDeclared config (event.Due c) = Unit {0}
-IsDeclared config event.Boot = Unit {0}
-IsDeclared config event.Idle = Unit {0}
-IsDeclared config event.Stray = Unit {0}
+IsDeclared config _ = Unit {0}
 
 pub declared_by_step : (config : Config) (app : App) (e : Event) (s next : System) → OsekStep config app e s next → IsDeclared config e
 declared_by_step config app (event.Enter t) s next h = h.1.declared
@@ -41,11 +37,7 @@ declared_by_step config app (event.Call t served status) s next h = h.1.1.top.de
 declared_by_step config app (event.Left t served) s next h = h.1.1.top.declared
 declared_by_step config app (event.Back t) s next h = h.1.declared
 declared_by_step config app (event.Tick c) s next h = h.1.declared
-declared_by_step config app (event.Admit t) s next h = tt
-declared_by_step config app (event.Due c) s next h = tt
-declared_by_step config app event.Boot s next h = tt
-declared_by_step config app event.Idle s next h = tt
-declared_by_step config app event.Stray s next h = tt
+declared_by_step config app e s next h = tt
 
 module _ (config : Config) (h : ℕ) where
   -- what a number of an event is at most, by what the event is
@@ -70,11 +62,6 @@ module _ (config : Config) (h : ℕ) where
   turned t v more = let here = ap {B = ℕ} (λ b. cond b v 0) (eq-eqb t t refl) in omega (arith, here)
 
   pub attributed : (e : Event) (v : ℕ) → IsDeclared config e → v ≤ parts e v
-  attributed event.Boot v d = omega arith
-  attributed event.Idle v d = omega arith
-  attributed event.Stray v d = omega arith
-  attributed (event.Admit t) v d = omega arith
-  attributed (event.Due c) v d = omega arith
   attributed (event.Tick c) v d =
       let term = sum_below-term (length config.counters) (λ k. cond (c == k) v 0) c d in
       let here = ap {B = ℕ} (λ b. cond b v 0) (eq-eqb c c refl) in
@@ -89,6 +76,7 @@ module _ (config : Config) (h : ℕ) where
       let le = shared t v (0 + sum_counters config (λ c. 0)) (λ k. 0 + cond (t == k) v 0) d (turned t v 0) in omega (arith, le)
   attributed (event.Back t) v d =
       let le = shared t v (0 + sum_counters config (λ c. 0)) (λ k. 0 + cond (t == k) v 0) d (turned t v 0) in omega (arith, le)
+  attributed e v d = omega arith
 
   -- the same of the stages of a list
   abbrev all_parts : (Stage → ℕ) → List Stage → ℕ

@@ -7,7 +7,7 @@ use Rattle.sloth_base.specs.declared.config.Config.{Config}
 use Rattle.sloth_base.specs.declared.app.App.{App}
 use Rattle.sloth_base.specs.declared.event.Event.{Event}
 use Rattle.sloth_base.specs.declared.event.Event.TheVariants as event
-use Rattle.sloth_base.specs.Events.{served_task}
+use Rattle.sloth_base.specs.Events.{admitted_line, served_task}
 use Rattle.osek_scheduler.specs.State.{System, task}
 use Rattle.osek_scheduler.specs.InTime.{is_admit}
 use Rattle.osek_scheduler.specs.Steps.{OsekStep}
@@ -25,6 +25,8 @@ use Rattle.response_laws.specs.Busy.{is_quiet}
 use Rattle.osek_scheduler.specs.Priority.{is_active}
 use Rattle.osek_scheduler.proofs.Tests.{Decides-is_active}
 use Rattle.run_counts.specs.Stages.{is_turn}
+use Rattle.run_counts.proofs.StepCases.{Outside, boot_event, idle_event, arrival_event, tick_event, outside_of}
+use Rattle.run_counts.proofs.TaskCases.{TaskCase, entry_case, work_case, service_case, rest_case, task_case}
 use Rattle.response_laws.specs.Sums.{count}
 use Rattle.response_laws.specs.Starts.{IsRaisedTurn, InSection}
 use Rattle.response_laws.proofs.Attributed.{IsDeclared, declared_by_step}
@@ -44,8 +46,13 @@ pub record IsLowService (config : Config) (h : ℕ) (x : Stage) : Type 0 where
 caller_is : (t : ℕ) (e : Event) → is_number t (turn_task e) ≡ true → is_some (served_task e) ≡ true → served_task e ≡ Some t
 caller_is t (event.Call u served status) is serves = ap Some (eqb-true u t is)
 caller_is t (event.Left u served) is serves = ap Some (eqb-true u t is)
-caller_is t event.Boot is serves = absurd (false≢true serves)
 caller_is t e is serves = absurd (false≢true serves)
+
+-- an admission is no other event
+pub admitted_no_other : (config : Config) (h : ℕ) (e : Event) → is_some (admitted_line e) ≡ true → is_other_event config h e ≡ false
+admitted_no_other config h (event.Admit t) is = refl
+admitted_no_other config h (event.Due c) is = refl
+admitted_no_other config h e is = absurd (false≢true is)
 
 module _ (config : Config) (app : App) (h : ℕ) where
   -- ---- other events
@@ -71,14 +78,15 @@ module _ (config : Config) (app : App) (h : ℕ) where
   opening_of e s next t others lower moves turn active how =
       record { mover = t; lower = lower; others = others; moves = moves; turn = turn; active = active; how = how }
 
+  -- an event of no task is no other one behind the start, where not all is quiet
+  none_outside : (e : Event) (s next : System) → is_quiet config h s ≡ false → HasStarted s → is_other_event config h e ≡ true → Outside config s next e → ⊥
+  none_outside e s next busy on other (boot_event is off gives) = true≢false (sym on ∙ off)
+  none_outside e s next busy on other (idle_event none ticks gives) = true≢false (sym (quiet_if config app h s (λ u lt over due. none u lt due) ticks) ∙ busy)
+  none_outside e s next busy on other (arrival_event line is) = false≢true (sym (admitted_no_other config h e (ap is_some is)) ∙ other)
+  none_outside e s next busy on other (tick_event c is) = false≢true (sym (ap (is_other_event config h) is) ∙ other)
+
   opens : (e : Event) (s next : System) → OsekStep config app e s next → Effect config s next e → is_quiet config h s ≡ false → HasStarted s
       → is_other_event config h e ≡ true → Opens e s next
-  opens event.Boot s next step f busy on other = absurd (true≢false (sym on ∙ step.0))
-  opens event.Idle s next step f busy on other = absurd (true≢false (sym (quiet_if config app h s (λ u lt over due. step.1 u lt due) step.2) ∙ busy))
-  opens event.Stray s next step f busy on other = absurd step
-  opens (event.Admit t) s next step f busy on other = absurd (false≢true other)
-  opens (event.Due c) s next step f busy on other = absurd (false≢true other)
-  opens (event.Tick c) s next step f busy on other = absurd (false≢true other)
   opens (event.Enter t) s next step f busy on other = absurd (no_lower_entry config app h s t f.moves.top f.was busy (lower_of t other))
   opens (event.Run t func item result) s next step f busy on other =
       opening_of (event.Run t func item result) s next t [] (lower_of t other) f.moves (same_number t) f.was (inl (top_raised config app h s t f.moves.top f.was busy))
@@ -88,24 +96,18 @@ module _ (config : Config) (app : App) (h : ℕ) where
       opening_of (event.Call t served status) s next t s.fresh (lower_of t other) f.moves (same_number t) f.was (inr refl)
   opens (event.Left t served) s next step f busy on other =
       opening_of (event.Left t served) s next t s.fresh (lower_of t other) f.moves (same_number t) f.was (inr refl)
+  opens e s next step f busy on other = absurd (none_outside e s next busy on other (outside_of config app e s next step refl refl))
 
   -- in a settled state it is raised
   raised_of : (e : Event) (s next : System) → Effect config s next e → is_quiet config h s ≡ false → (IsUnsettled config app h s → ⊥) → (t : ℕ) → Lower config app h t
       → is_number t (turn_task e) ≡ true → IsRaisedTo config s t h
-  raised_of (event.Run u func item result) s next f busy settled t lower is =
-      let e = eqb-true u t is in
-      subst (λ v. IsRaisedTo config s v h) e (top_raised config app h s u f.moves.top f.was busy)
-  raised_of (event.Back u) s next f busy settled t lower is =
-      let e = eqb-true u t is in
-      subst (λ v. IsRaisedTo config s v h) e (top_raised config app h s u f.moves.top f.was busy)
-  raised_of (event.Call u served status) s next f busy settled t lower is =
-      let e = eqb-true u t is in
-      subst (λ v. IsRaisedTo config s v h) e (call_raised config app h s u f.moves.top f.was settled)
-  raised_of (event.Left u served) s next f busy settled t lower is =
-      let e = eqb-true u t is in
-      subst (λ v. IsRaisedTo config s v h) e (call_raised config app h s u f.moves.top f.was settled)
-  raised_of event.Boot s next f busy settled t lower is = absurd (false≢true is)
-  raised_of e s next f busy settled t lower is = absurd (false≢true is)
+  raised_of e s next f busy settled t lower is = by (task_case config s next t e f)
+    where
+      by : TaskCase config s next t e → IsRaisedTo config s t h
+      by (work_case turn out calls f) = top_raised config app h s t f.moves.top f.was busy
+      by (service_case turn out calls f) = call_raised config app h s t f.moves.top f.was settled
+      by (entry_case entry away f) = absurd (true≢false (sym is ∙ away))
+      by (rest_case away out same ready) = absurd (true≢false (sym is ∙ away))
 
   -- ---- the stages of a period
 
@@ -200,7 +202,6 @@ module _ (config : Config) (app : App) (h : ℕ) where
   turn_declared t (event.Call u served status) d is = subst (λ v. v < length config.tasks) (eqb-true u t is) d
   turn_declared t (event.Left u served) d is = subst (λ v. v < length config.tasks) (eqb-true u t is) d
   turn_declared t (event.Back u) d is = subst (λ v. v < length config.tasks) (eqb-true u t is) d
-  turn_declared t event.Boot d is = absurd (false≢true is)
   turn_declared t e d is = absurd (false≢true is)
 
   -- a section of a task that is not there has no event

@@ -29,7 +29,6 @@ module _ (config : Config) (app : App) (w : Facts config app) (h : ℕ) where
 
   entry_idle : (e : Event) (s next : System) → OsekStep config app e s next → is_entry h e ≡ true → is_active (task s h).state ≡ false
   entry_idle (event.Enter u) s next step is = ap is_active (subst (λ v. (task s v).state ≡ mode.Ready) (eqb-true u h is) step.2)
-  entry_idle event.Boot s next step is = absurd (false≢true is)
   entry_idle e s next step is = absurd (false≢true is)
 
   balance : (x : Stage) → Known config app x → cond (at_entry h x) 1 0 + active_count x.found ≤ cond (at_left x) 1 0 + active_count x.next

@@ -34,18 +34,15 @@ module _ (weights : List BodyWeights) where
           let same = going_is (task x.found u).frames ∙ ap (λ v. going_at weights (standing (task x.found v).frames)) (eqb-true u t is) in omega (arith, same)
       by_going (event.Call u served status) is =
           let same = going_is (task x.found u).frames ∙ ap (λ v. going_at weights (standing (task x.found v).frames)) (eqb-true u t is) in omega (arith, same)
-      by_going event.Boot is = absurd (false≢true is)
       by_going e is = absurd (false≢true is)
 
       by_leaving : (e : Event) → is_left t e ≡ true → executed_weight weights x.found e ≤ ending_at weights (standing (task x.found t).frames)
       by_leaving (event.Left u served) is =
           let same = ending_is (task x.found u).frames ∙ ap (λ v. ending_at weights (standing (task x.found v).frames)) (eqb-true u t is) in omega (arith, same)
-      by_leaving event.Boot is = absurd (false≢true is)
       by_leaving e is = absurd (false≢true is)
 
       by_returning : (e : Event) → is_back t e ≡ true → executed_weight weights x.found e ≤ 0
       by_returning (event.Back u) is = omega arith
-      by_returning event.Boot is = absurd (false≢true is)
       by_returning e is = absurd (false≢true is)
 
   pub all_weigh : (t : ℕ) (xs : List Stage) → AllByRecursion (FitsItem t executed_by (going_at weights) (ending_at weights)) xs

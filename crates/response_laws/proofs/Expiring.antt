@@ -383,7 +383,6 @@ ticks_make_as_alarms_expire config app events is_set s wf osek marks has = recor
       where
         by : (e : Event) → OsekStep config app e x.found x.next → is_number c (ticking_counter e) ≡ true → OsekStep config app (event.Tick c) x.found x.next
         by (event.Tick d) step is = subst (λ v. OsekStep config app (event.Tick v) x.found x.next) (eqb-true d c is) step
-        by event.Boot step is = absurd (false≢true is)
         by e step is = absurd (false≢true is)
 
     acts_due : (c j : ℕ) (x : Stage) → Known config app x → at_tick c x ≡ true → due c (activates j) 0 config.alarms x.found ≤ 0 → activated j x ≤ 0

@@ -66,7 +66,6 @@ module _ (config : Config) (app : App) (w : Facts config app) (h : ℕ) (cuts : 
 
   left_turn : (e : Event) → is_left h e ≡ true → is_turn h e ≡ true
   left_turn (event.Left u served) is = is
-  left_turn event.Boot is = absurd (false≢true is)
   left_turn e is = absurd (false≢true is)
 
   -- it holds nothing then, and so has its own priority
@@ -104,7 +103,6 @@ module _ (config : Config) (app : App) (w : Facts config app) (h : ℕ) (cuts : 
               sym (subst P e f.held)
               ∙ rest_holds (task x.next h).state (task x.next h)
               ((step_valid config app (event.Left u served) x.found x.next w step k.valid).each h declared).in_state (subst Q e f.gone)
-          by event.Boot step is = absurd (false≢true is)
           by e step is = absurd (false≢true is)
 
   left_unsettled : (x : Stage) → Known config app x → is_left h x.stamped.event ≡ true → IsUnsettledBut x.found
@@ -127,7 +125,6 @@ module _ (config : Config) (app : App) (w : Facts config app) (h : ℕ) (cuts : 
               let priority = own_priority x k is in
               let above = leb-true (static_priority config h) (static_priority config t) over in
               other (once.alone t lt (omega (arith, le, more, own, priority, above))))
-      by event.Boot step same = absurd (false≢true same)
       by e step same = absurd (false≢true same)
 
   unsettled_before : (s next : System) (e : Event) → OsekStep config app e s next → Effect config s next e → Ordered config next
@@ -170,7 +167,6 @@ module _ (config : Config) (app : App) (w : Facts config app) (h : ℕ) (cuts : 
   no_entry : (e : Event) → is_some (admitted_line e) ≡ true → is_entry h e ≡ false
   no_entry (event.Admit t) admits = refl
   no_entry (event.Due c) admits = refl
-  no_entry event.Boot admits = absurd (false≢true admits)
   no_entry e admits = absurd (false≢true admits)
 
   pub leaves_active : (at : ℕ) (s : System) (xs : List Stage) → Linked at s xs → AllByRecursion (Known config app) xs → LeavesFirst h xs → IsActive s h
@@ -206,7 +202,6 @@ module _ (config : Config) (app : App) (w : Facts config app) (h : ℕ) (cuts : 
     where
       by : (e : Event) → is_left h e ≡ true → is_other_event config h e ≡ false
       by (event.Left u served) same = ap (λ v. not (is_over config h v)) (eqb-true u h same) ∙ ap not (over_itself config h)
-      by event.Boot same = absurd (false≢true same)
       by e same = absurd (false≢true same)
 
   left_no_admit : (e : Event) → is_left h e ≡ true → is_some (admitted_line e) ≡ false
@@ -229,7 +224,6 @@ module _ (config : Config) (app : App) (w : Facts config app) (h : ℕ) (cuts : 
               let less = b.lower in
               let priority = ap (static_priority config) (e ∙ eqb-true t h same) in
               omega (arith, less, priority)
-      by event.Boot step f same = false≢true same
       by e step f same = absurd (false≢true same)
 
   pub none_lower : (x : Stage) (ys : List Stage) → Known config app x → Linked (end_of x) x.next ys → AllByRecursion (Known config app) ys

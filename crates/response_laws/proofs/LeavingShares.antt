@@ -70,7 +70,6 @@ module _ (config : Config) (app : App) (w : Facts config app) (h : ℕ) where
       no_turn : (e : Event) → is_some (admitted_line e) ≡ true → is_turn h e ≡ false
       no_turn (event.Admit t) admits = refl
       no_turn (event.Due c) admits = refl
-      no_turn event.Boot admits = absurd (false≢true admits)
       no_turn e admits = absurd (false≢true admits)
 
       by : (e : Bool) → in_turn h x ≡ false
@@ -86,7 +85,6 @@ module _ (config : Config) (app : App) (w : Facts config app) (h : ℕ) where
     where
       no_line : (e : Event) → is_left h e ≡ true → takes_line e ≡ false
       no_line (event.Left u s) is = refl
-      no_line event.Boot is = absurd (false≢true is)
       no_line e is = absurd (false≢true is)
 
       here : own config h x ≤ charged x

@@ -164,7 +164,6 @@ module _ (config : Config) (app : App) (load : List Entry) (n late more heaviest
             let same = eqb-true u h is in
             let ready = subst (λ v. (task first.found v).state ≡ mode.Ready) same step.2 in
             true≢false (sym quiet ∙ due_busy config h first.found (subst (λ v. v < length config.tasks) same step.1.declared) (inl ready))
-        by event.Boot step is = false≢true is
         by e step is = absurd (false≢true is)
 
         which : (at_entry h first ≡ true) ⊎ (at_entry h first ≡ false) → at_entry h first ≡ false

@@ -6,7 +6,6 @@ use Rattle.sloth_base.specs.declared.config.Config.{Config}
 use Rattle.sloth_base.specs.declared.app.App.{App}
 use Rattle.sloth_base.specs.declared.event.Event.{Event}
 use Rattle.sloth_base.specs.declared.event.Event.TheVariants as event
-use Rattle.sloth_base.specs.Events.{admitted_line}
 use Rattle.sloth_base.specs.declared.service.Service.{Service}
 use Rattle.sloth_base.specs.declared.service.Service.TheVariants as service
 use Rattle.sloth_base.specs.ServiceCodes.{is_service}
@@ -38,10 +37,11 @@ use Rattle.response_laws.specs.Starts.{IsRaisedTurn, InSection, may_raise, Opens
 use Rattle.response_laws.proofs.Linked.{last_state, last_end, linked_front, linked_behind, each_append, stages_linked, stages_known}
 use Rattle.response_laws.proofs.Linked.{Known, Linked}
 use Rattle.run_counts.proofs.States.{not_suspended}
+use Rattle.run_counts.proofs.StepCases.{Outside, boot_event, idle_event, arrival_event, tick_event, outside_of}
 use Rattle.response_laws.proofs.Raising.{called_no_higher}
 use Rattle.response_laws.proofs.Starting.{IsBusy}
 use Rattle.response_laws.proofs.Settled.{Lower, from_same, only_mover}
-use Rattle.response_laws.proofs.Blocking.{lower_of, effect_of, ordered_next, started_next, pressed_next, behind_one}
+use Rattle.response_laws.proofs.Blocking.{admitted_no_other, lower_of, effect_of, ordered_next, started_next, pressed_next, behind_one}
 
 module _ (config : Config) (app : App) (h : ℕ) where
   -- the other event behind which task b blocks comes in a turn of it, in which it was raised, or may raise it
@@ -63,56 +63,45 @@ module _ (config : Config) (app : App) (h : ℕ) where
       let raised = ap (λ c. max (static_priority config t) (max 0 (cond c (highest_priority config) 0))) off in
       omega (arith, held, raised, is, up, low)
 
+  -- a lower task that is raised behind its entry or its way back, and holds nothing, is not preemptable
+  raises_whole : (next : System) (t b : ℕ) (new : Task) → b ≡ t → Lower config app h t → task next t ≡ new → new.held ≡ []
+      → new.raised ≡ (declaration config t).non → Blocks config h next b → ((t == b) && (declaration config b).non) ≡ true
+  raises_whole next t b new same lower is held raised blocks =
+      subst (λ u. ((t == u) && (declaration config u).non) ≡ true) (sym same)
+      (ap (λ c. c && (declaration config t).non) (eq-eqb t t refl)
+      ∙ true_from_ne_false (declaration config t).non
+      (λ off.
+      let P : ℕ → Type 0 = λ u. IsRaisedTo config next u h in
+      raised_alone t new held (raised ∙ off) (ap (priority_of config t) (sym is)) (subst P same blocks.raised) lower))
+
+  -- an event of no task raises none
+  none_outside : (e : Event) (s next : System) → IsValid config app s → is_other_event config h e ≡ true → (b : ℕ) → Blocks config h s b
+      → Outside config s next e → ⊥
+  none_outside e s next v other b before (boot_event is off gives) = not_suspended (task s b).state before.active (v.asleep off b)
+  none_outside e s next v other b before (idle_event none ticks gives) = none b before.declared (inr before.active)
+  none_outside e s next v other b before (arrival_event line is) = false≢true (sym (admitted_no_other config h e (ap is_some is)) ∙ other)
+  none_outside e s next v other b before (tick_event c is) = false≢true (sym (ap (is_other_event config h) is) ∙ other)
+
   raised_by : (e : Event) (s next : System) → OsekStep config app e s next → Effect config s next e → IsValid config app s → is_other_event config h e ≡ true
       → (b : ℕ) → Blocks config h next b → RaisedBy e s b
   raised_by (event.Enter t) s next step f v other b blocks =
-      inr (subst (λ u. ((t == u) && (declaration config u).non) ≡ true) (sym same) (ap (λ c. c && (declaration config t).non) (eq-eqb t t refl) ∙ non))
+      inr (raises_whole next t b new (only_mover config app h s next [] t f.moves (lower_of config app h t other) b blocks) (lower_of config app h t other)
+      (ap (λ (x : System). task x t) step.4 ∙ get_or-set_same s.tasks t new sleeping_task (subst (λ n. t < n) (sym v.count) step.1.declared))
+      (started_held (task s t).frames (task s t) ∙ (subst (InState config t (task s t)) step.2 (v.each t step.1.declared).in_state).0.holds) refl blocks)
     where
-      same : b ≡ t
-      same = only_mover config app h s next [] t f.moves (lower_of config app h t other) b blocks
-
       new : Task
       new = record (started_task app t (task s t).frames (task s t)) { state = mode.Active; raised = (declaration config t).non }
 
       started_held : (fs : List Frame) (own : Task) → (started_task app t fs own).held ≡ own.held
       started_held [] own = refl
       started_held (frame ∷ outer) own = refl
-
-      held_none : new.held ≡ []
-      held_none =
-          started_held (task s t).frames (task s t)
-          ∙ (subst (InState config t (task s t)) step.2 (v.each t step.1.declared).in_state).0.holds
-
-      next_is : task next t ≡ new
-      next_is = ap (λ (x : System). task x t) step.4 ∙ get_or-set_same s.tasks t new sleeping_task (subst (λ n. t < n) (sym v.count) step.1.declared)
-
-      non : (declaration config t).non ≡ true
-      non =
-          true_from_ne_false (declaration config t).non
-          (λ off.
-          let P : ℕ → Type 0 = λ u. IsRaisedTo config next u h in
-          raised_alone t new held_none off (ap (priority_of config t) (sym next_is)) (subst P same blocks.raised) (lower_of config app h t other))
   raised_by (event.Back t) s next step f v other b blocks =
-      inr (subst (λ u. ((t == u) && (declaration config u).non) ≡ true) (sym same) (ap (λ c. c && (declaration config t).non) (eq-eqb t t refl) ∙ non))
+      inr (raises_whole next t b new (only_mover config app h s next [] t f.moves (lower_of config app h t other) b blocks) (lower_of config app h t other)
+      (ap (λ (x : System). task x t) step.4 ∙ get_or-set_same s.tasks t new sleeping_task (subst (λ n. t < n) (sym v.count) step.1.declared))
+      ((subst (InState config t (task s t)) step.2 (v.each t step.1.declared).in_state).2 step.3) refl blocks)
     where
-      same : b ≡ t
-      same = only_mover config app h s next [] t f.moves (lower_of config app h t other) b blocks
-
       new : Task
       new = record (task s t) { owed = false; raised = (declaration config t).non }
-
-      held_none : new.held ≡ []
-      held_none = (subst (InState config t (task s t)) step.2 (v.each t step.1.declared).in_state).2 step.3
-
-      next_is : task next t ≡ new
-      next_is = ap (λ (x : System). task x t) step.4 ∙ get_or-set_same s.tasks t new sleeping_task (subst (λ n. t < n) (sym v.count) step.1.declared)
-
-      non : (declaration config t).non ≡ true
-      non =
-          true_from_ne_false (declaration config t).non
-          (λ off.
-          let P : ℕ → Type 0 = λ u. IsRaisedTo config next u h in
-          raised_alone t new held_none off (ap (priority_of config t) (sym next_is)) (subst P same blocks.raised) (lower_of config app h t other))
   raised_by (event.Run t func item result) s next step f v other b blocks =
       let same : t ≡ b = sym (only_mover config app h s next [] t f.moves (lower_of config app h t other) b blocks) in
       let new = record (task s t) { registers = step.1.meant.registers; frames = step.1.meant.frames } in
@@ -148,15 +137,8 @@ module _ (config : Config) (app : App) (h : ℕ) where
           let le = subst (λ (x : System). priority_of config t (task x t) ≤ priority_of config t (task s t)) (sym step.1.2)
           (called_no_higher config t s app served (Leaves step.1.0) step.1.1 is) in
           inl (eq-eqb t b same, raised_before t b s next same le blocks.raised)
-  raised_by event.Boot s next step f v other b blocks =
-      absurd (not_suspended (task s b).state (from_same config app h s next b (f.same b) blocks).active (v.asleep step.0 b))
-  raised_by event.Idle s next step f v other b blocks =
-      let before = from_same config app h s next b (f.same b) blocks in
-      absurd (step.1 b before.declared (inr before.active))
-  raised_by event.Stray s next step f v other b blocks = absurd step
-  raised_by (event.Admit t) s next step f v other b blocks = absurd (false≢true other)
-  raised_by (event.Due c) s next step f v other b blocks = absurd (false≢true other)
-  raised_by (event.Tick c) s next step f v other b blocks = absurd (false≢true other)
+  raised_by e s next step f v other b blocks =
+      absurd (none_outside e s next v other b (from_same config app h s next b (f.same b) blocks) (outside_of config app e s next step refl refl))
 
   opens_section : (x : Stage) → Known config app x → (b : ℕ) → Blocks config h x.next b → is_other config h x ≡ true
       → IsRaisedTurn config h b x ⊎ (may_raise config b x.stamped.event ≡ true)
@@ -168,13 +150,7 @@ module _ (config : Config) (app : App) (h : ℕ) where
 
   -- an admission is no other event
   pub admit_is_none : (x : Stage) → is_admit x.stamped ≡ true → is_other config h x ≡ false
-  admit_is_none x is = by x.stamped.event is
-    where
-      by : (e : Event) → is_some (admitted_line e) ≡ true → is_other_event config h e ≡ false
-      by (event.Admit t) is = refl
-      by (event.Due c) is = refl
-      by event.Boot is = absurd (false≢true is)
-      by e is = absurd (false≢true is)
+  admit_is_none x is = admitted_no_other config h x.stamped.event is
 
   -- a stage that is no admission, and those behind it
   opened : (x : Stage) (xs : List Stage) → is_admit x.stamped ≡ false → Known config app x → Linked (end_of x) x.next xs → AllByRecursion (Known config app) xs

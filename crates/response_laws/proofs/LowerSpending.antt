@@ -17,7 +17,7 @@ use Rattle.osek_scheduler.proofs.Apart.{Same, at_least_static, rank_active}
 use Rattle.osek_scheduler.proofs.Facts.{facts}
 use Rattle.osek_scheduler.proofs.Leading.{follows_leads}
 use Rattle.osek_scheduler.proofs.Steps.{opening_valid}
-use Rattle.osek_blocking.proofs.Effects.{Ordered, Effect}
+use Rattle.osek_blocking.proofs.Effects.{Ordered}
 use Rattle.osek_blocking.proofs.Once.{Blocks, blocker}
 use Rattle.osek_blocking.proofs.Ordering.{effect, opening_ordered}
 use Rattle.event_weights.specs.Pace.{ItemSizes, AreAtMost, next_size}
@@ -29,6 +29,7 @@ use Rattle.run_counts.proofs.Awake.{stays_active}
 use Rattle.run_counts.proofs.Owned.{run_owned}
 use Rattle.run_counts.proofs.Running.{Decides-is_running}
 use Rattle.run_counts.proofs.SpentStages.{AreSpent, spent_stages, goes_on}
+use Rattle.run_counts.proofs.TaskCases.{TaskCase, entry_case, work_case, service_case, rest_case, task_case}
 use Rattle.response_laws.specs.Sums.{sum_below, count, is_over}
 use Rattle.response_laws.specs.Turns.{is_other_event, is_other}
 use Rattle.response_laws.specs.Shares.{lower_own, lower_counts, LowerTasksSpendOneItem}
@@ -113,20 +114,6 @@ module _ (config : Config) (app : App) (h : ℕ) where
       let priority = ap (static_priority config) same in
       omega (arith, over, lower, priority)
 
-  -- it leaves lower tasks as they are
-  same_of : (e : Event) (s next : System) (t : ℕ) → Lower t → Effect config s next e → is_other_event config h e ≡ false → Same config t (task s t) (task next t)
-  same_of (event.Admit u) s next t lower f other = f.same t
-  same_of (event.Due c) s next t lower f other = f.same t
-  same_of (event.Tick c) s next t lower f other = f.same t
-  same_of (event.Enter u) s next t lower f other = f.moves.acts.calm t (apart u t lower other)
-  same_of (event.Run u func item result) s next t lower f other = f.moves.acts.calm t (apart u t lower other)
-  same_of (event.Call u served status) s next t lower f other = f.moves.acts.calm t (apart u t lower other)
-  same_of (event.Left u served) s next t lower f other = f.moves.acts.calm t (apart u t lower other)
-  same_of (event.Back u) s next t lower f other = f.moves.acts.calm t (apart u t lower other)
-  same_of event.Boot s next t lower f other = absurd (true≢false other)
-  same_of event.Idle s next t lower f other = absurd (true≢false other)
-  same_of event.Stray s next t lower f other = absurd (true≢false other)
-
   off_of : (u t : ℕ) → (t ≡ u → ⊥) → (u == t) ≡ false
   off_of u t n = ne_eqb u t (λ e. n (sym e))
 
@@ -135,25 +122,27 @@ module _ (config : Config) (app : App) (h : ℕ) where
   no_turn (event.Call u served status) t lower other = off_of u t (apart u t lower other)
   no_turn (event.Left u served) t lower other = off_of u t (apart u t lower other)
   no_turn (event.Back u) t lower other = off_of u t (apart u t lower other)
-  no_turn event.Boot t lower other = absurd (true≢false other)
   no_turn e t lower other = refl
 
   pub no_entry : (e : Event) (t : ℕ) → Lower t → is_other_event config h e ≡ false → is_entry t e ≡ false
   no_entry (event.Enter u) t lower other = off_of u t (apart u t lower other)
-  no_entry event.Boot t lower other = absurd (true≢false other)
   no_entry e t lower other = refl
 
   no_left : (e : Event) (t : ℕ) → Lower t → is_other_event config h e ≡ false → is_left t e ≡ false
   no_left (event.Left u served) t lower other = off_of u t (apart u t lower other)
-  no_left event.Boot t lower other = absurd (true≢false other)
   no_left e t lower other = refl
 
   -- ---- a stage whose event is no lower task's
 
   module _ (x : Stage) (k : Known config app x) (other : is_other config h x ≡ false) where
     pub same_at : (t : ℕ) → Lower t → Same config t (task x.found t) (task x.next t)
-    same_at t lower =
-        same_of x.stamped.event x.found x.next t lower (effect config app x.found x.next k.ordered x.stamped.event k.step) other
+    same_at t lower = by (task_case config x.found x.next t x.stamped.event (effect config app x.found x.next k.ordered x.stamped.event k.step))
+      where
+        by : TaskCase config x.found x.next t x.stamped.event → Same config t (task x.found t) (task x.next t)
+        by (rest_case away out same ready) = same
+        by (entry_case entry away f) = absurd (true≢false (sym entry ∙ no_entry x.stamped.event t lower other))
+        by (work_case turn out calls f) = absurd (true≢false (sym turn ∙ no_turn x.stamped.event t lower other))
+        by (service_case turn out calls f) = absurd (true≢false (sym turn ∙ no_turn x.stamped.event t lower other))
 
     stays_at : (t : ℕ) → Lower t → IsActive x.found t → IsActive x.next t
     stays_at t lower = stays_active config app t x.stamped.event x.found x.next k.step k.valid (no_left x.stamped.event t lower other)

@@ -32,6 +32,7 @@ use Rattle.osek_scheduler.proofs.ServiceStates.{IsAfter}
 use Rattle.osek_scheduler.proofs.Steps.{autostarted_at}
 use Rattle.osek_scheduler.proofs.Ticking.{ticked_keeps}
 use Rattle.run_counts.specs.Stages.{is_turn}
+use Rattle.run_counts.proofs.StepCases.{outcome_event, by_outcome, record_behind}
 use Rattle.response_laws.specs.Turns.{has_grown}
 
 -- ---- masks
@@ -164,46 +165,33 @@ module _ (t : ℕ) (s : System) where
 module _ (config : Config) (app : App) (t : ℕ) where
   -- an event of no turn of the task takes nothing from its mask
   pub others_grow : (e : Event) (s next : System) → OsekStep config app e s next → is_turn t e ≡ false → bit_or (task s t).events (task next t).events ≡ (task next t).events
-  others_grow event.Boot s next step away =
-      subst (λ (x : System). Kept t (task s t).events x) (sym step.1)
-      (autostarted_at (Has t (task s t).events) config.tasks s.tasks t (or_same (task s t).events) (or_same (task s t).events))
-  others_grow (event.Admit u) s next step away =
-      subst (λ (x : System). Kept t (task s t).events x) (sym step.2)
-      (by_suspended (task s u).state (record (activated_state s u) { fresh = u ∷ s.fresh }) s (λ (x : System). Kept t (task s t).events x)
-      (λ _. activated_kept t (task s t).events u s (or_same (task s t).events)) (λ _. or_same (task s t).events))
-  others_grow (event.Enter u) s next step away =
-      subst (λ (x : System). Kept t (task s t).events x) (sym step.4)
-      (at_task s u t (record (started_task app u (task s u).frames (task s u)) { state = mode.Active; raised = (declaration config u).non })
-      (Has t (task s t).events) (or_same (task s t).events)
-      (λ e. started (task s u).frames (task s u) (let P : ℕ → Type 0 = λ w. Has t (task s t).events (task s w) in subst P e (or_same (task s t).events))))
+  others_grow e s next step away =
+      record_behind config app t (λ what. is_turn t what ≡ false) (Has t (task s t).events) s
+      (record {
+        same = own;
+        boots = λ _ _. autostarted_at (Has t (task s t).events) config.tasks s.tasks t own own;
+        activates = λ _ _. own;
+        enters = λ _. started (task s t).frames;
+        works = λ new _ same. subst (λ v. bit_or (task s t).events v ≡ v) (sym same) own;
+        serves = λ u served answer h other.
+            subst (IsAfter (Kept t (task s t).events)) h.is
+            (other_service t (task s t).events u s (eqb-false u t (sym (turn_of u served answer) ∙ other)) own config served h.call.object h.call.mask);
+        ticks = λ c tick.
+            ticked_keeps (Kept t (task s t).events) config
+            (record { counts = λ x d lt h. h; leaves = λ x a left h. h; acts = λ x a lt h. acted_kept t (task s t).events (alarm_declaration config a).action x h }) s c
+            tick.declared own;
+      })
+      e next step away
     where
-      started : (fs : List Frame) (own : Task) → Has t (task s t).events own → Has t (task s t).events (started_task app u fs own)
-      started [] own h = h
-      started (frame ∷ outer) own h = h
-  others_grow (event.Run u func item result) s next step away =
-      subst (λ (x : System). Kept t (task s t).events x) (sym step.1.is)
-      (at_task s u t (record (task s u) { registers = step.1.meant.registers; frames = step.1.meant.frames }) (Has t (task s t).events)
-      (or_same (task s t).events) (λ e. absurd (eqb-false u t away (sym e))))
-  others_grow (event.Back u) s next step away =
-      subst (λ (x : System). Kept t (task s t).events x) (sym step.4)
-      (at_task s u t (record (task s u) { owed = false; raised = (declaration config u).non }) (Has t (task s t).events)
-      (or_same (task s t).events) (λ e. absurd (eqb-false u t away (sym e))))
-  others_grow (event.Call u served status) s next step away =
-      subst (λ (x : System). Kept t (task s t).events x) (sym step.1.2)
-      (subst (IsAfter (Kept t (task s t).events)) step.1.1.is
-      (other_service t (task s t).events u s (λ e. eqb-false u t away e) (or_same (task s t).events) config served step.1.1.call.object step.1.1.call.mask))
-  others_grow (event.Left u served) s next step away =
-      subst (λ (x : System). Kept t (task s t).events x) (sym step.1.2)
-      (subst (IsAfter (Kept t (task s t).events)) step.1.1.is
-      (other_service t (task s t).events u s (λ e. eqb-false u t away e) (or_same (task s t).events) config served step.1.1.call.object step.1.1.call.mask))
-  others_grow event.Idle s next step away = subst (λ (x : System). Kept t (task s t).events x) (sym step.3) (or_same (task s t).events)
-  others_grow event.Stray s next step away = absurd step
-  others_grow (event.Due c) s next step away = subst (λ (x : System). Kept t (task s t).events x) (sym step.2) (or_same (task s t).events)
-  others_grow (event.Tick c) s next step away =
-      subst (λ (x : System). Kept t (task s t).events x) (sym step.2)
-      (ticked_keeps (Kept t (task s t).events) config
-      (record { counts = λ x d lt h. h; leaves = λ x a left h. h; acts = λ x a lt h. acted_kept t (task s t).events (alarm_declaration config a).action x h }) s c
-      step.1.declared (or_same (task s t).events))
+      own : bit_or (task s t).events (task s t).events ≡ (task s t).events
+      own = or_same (task s t).events
+
+      started : (fs : List Frame) → Has t (task s t).events (started_task app t fs (task s t))
+      started [] = own
+      started (frame ∷ outer) = own
+
+      turn_of : (u : ℕ) (served : Service) (answer : ServiceOutcome) → is_turn t (outcome_event u served answer) ≡ (u == t)
+      turn_of u served answer = by_outcome (λ what. is_turn t what ≡ (u == t)) u served (λ _. refl) refl answer
 
   -- nor does a service of it but ClearEvent, behind which it goes on
   pub own_grows : (served : Service) (status : ℕ) (s next : System) → OsekStep config app (event.Call t served status) s next → (served ≡ service.ClearEvent → ⊥)

@@ -1,7 +1,7 @@
 -- A round of a task makes another one that cannot be entered meanwhile Ready once at most.
 use Rattle.std.proofs.Common.{◌≡◌, ℕ, ◌+◌, ◌<◌, ◌≤◌, ◌⊎◌, ◌&&◌, ◌||◌, not, List, [], ◌∷◌, ◌++◌, Bool, true, false, cond, length, refl, sym, ap, ◌∙◌, subst, arith, inl, inr}
 use Rattle.std.specs.List.{AllByRecursion}
-use Rattle.std.proofs.lemmas.Bool.{cases_Bool, cases_eq, true≢false, false≢true, eqb-true, and_parts}
+use Rattle.std.proofs.lemmas.Bool.{cases_Bool, true≢false, false≢true, eqb-true, and_parts}
 use Rattle.sloth_base.specs.declared.config.Config.{Config}
 use Rattle.sloth_base.specs.declared.app.App.{App}
 use Rattle.sloth_base.specs.declared.event.Event.{Event}
@@ -27,12 +27,13 @@ use Rattle.raised_sections.proofs.Reached.{IsReached}
 use Rattle.raised_sections.proofs.Stepping.{position_of}
 use Rattle.walk_sums.specs.Rounds.{Reaches, IsSteady}
 use Rattle.event_weights.specs.Events.{has_frames}
-use Rattle.run_counts.specs.Stages.{Stage, end_of, is_entry, run_stages}
+use Rattle.run_counts.specs.Stages.{Stage, end_of, is_turn, is_entry, run_stages}
 use Rattle.run_counts.specs.Rounds.{goes_on_waiting, is_left, round_of, total}
 use Rattle.response_laws.specs.Turns.{in_turn, at_entry, begins_next, round_behind, is_ready_for, activated, if_turn, if_entry}
 use Rattle.response_laws.specs.Once.{StaysOut, RoundsMakeOnce}
 use Rattle.run_counts.proofs.Owing.{entered_owes, ran_owes, came_back_owes, called_owes}
 use Rattle.run_counts.proofs.Awake.{stays_active, entry_active}
+use Rattle.run_counts.proofs.TaskCases.{frames_kept}
 use Rattle.response_laws.proofs.Highest.{over_all}
 use Rattle.response_laws.proofs.Linked.{Known, Linked, linked_behind, each_append, stages_linked, stages_known}
 use Rattle.response_laws.proofs.RoundEnds.{within_round, no_acts}
@@ -52,7 +53,6 @@ module _ (config : Config) (app : App) (w : Facts config app) (k j : ℕ) (decla
       let equal = ap (static_priority config) same in
       let no_higher = apart s v out active (subst (λ n. n < length config.tasks) same step.1.declared) in
       omega (arith, le, own, ready, equal, no_higher)
-  not_entered event.Boot s next step v out active is = false≢true is
   not_entered e s next step v out active is = absurd (false≢true is)
 
   -- a stage in a turn of k
@@ -135,50 +135,39 @@ module _ (config : Config) (app : App) (w : Facts config app) (k : ℕ) (declare
   rest_free mode.Active own state n = absurd (n refl)
   rest_free (mode.Waiting mask) own state n = state.0.not_owed
 
+  -- behind an event in a turn of it
+  its_own : (e : Event) (s next : System) → OsekStep config app e s next → IsValid config app s → Placed app s → is_turn k e ≡ true → IsFree next
+  its_own (event.Run u func item result) s next step v placed is =
+      subst (λ t. (task next t).owed ≡ false) (eqb-true u k is) (ran_owes config app u func item result s next step)
+  its_own (event.Back u) s next step v placed is = subst (λ t. (task next t).owed ≡ false) (eqb-true u k is) (came_back_owes config app u s next v step)
+  its_own (event.Left u served) s next step v placed is =
+      rest_free (task next k).state (task next k) ((step_valid config app (event.Left u served) s next w step v).each k declared).in_state
+      (subst (λ t. (task next t).state ≡ mode.Active → ⊥) (eqb-true u k is) (frame_effect config app w s next v (event.Left u served) step).gone)
+  its_own (event.Call u served status) s next step v placed is =
+      subst (λ t. (task next t).owed ≡ false) (eqb-true u k is) (called_owes config app u served status s next step no_schedule)
+    where
+      at : IsServiceStep config app k served s (GoesOn status step.1.0)
+      at = subst (λ t. IsServiceStep config app t served s (GoesOn status step.1.0)) (eqb-true u k is) step.1.1
+
+      reached : ((task s k).frames ≡ []) ⊎ IsReached app k (position_of (task s k).frames) → Reaches app k (position_of (task s k).frames)
+      reached (inl none) = absurd ((subst (InState config k (task s k)) at.at.active (v.each k declared).in_state).0 none)
+      reached (inr r) = (r.before, r.walk)
+
+      no_schedule : served ≡ service.Schedule → ⊥
+      no_schedule same =
+          let off = steady.none (position_of (task s k).frames) (reached (placed k)) in
+          let on = ap (λ fs. is_schedule (operation_at app (position_of fs))) at.at.frames ∙ ap is_schedule at.at.next
+          ∙ ap (λ x. is_service x service.Schedule) (at.same ∙ same) in
+          true≢false (sym on ∙ off)
+  its_own e s next step v placed is = absurd (false≢true is)
+
   free_on : (e : Event) (s next : System) → OsekStep config app e s next → IsValid config app s → Placed app s → IsFree s → IsFree next
   free_on (event.Enter u) s next step v placed free = entered_owes config app k u s next step ∙ free
-  free_on (event.Run u func item result) s next step v placed free = by (cases_eq k u)
+  free_on e s next step v placed free = by (cases_Bool (is_turn k e))
     where
-      by : (k ≡ u) ⊎ (k ≡ u → ⊥) → IsFree next
-      by (inl e) = subst (λ t. (task next t).owed ≡ false) (sym e) (ran_owes config app u func item result s next step)
-      by (inr n) = ((frame_effect config app w s next v (event.Run u func item result) step).others k n).owed ∙ free
-  free_on (event.Back u) s next step v placed free = by (cases_eq k u)
-    where
-      by : (k ≡ u) ⊎ (k ≡ u → ⊥) → IsFree next
-      by (inl e) = subst (λ t. (task next t).owed ≡ false) (sym e) (came_back_owes config app u s next v step)
-      by (inr n) = ((frame_effect config app w s next v (event.Back u) step).others k n).owed ∙ free
-  free_on (event.Left u served) s next step v placed free = by (cases_eq k u)
-    where
-      by : (k ≡ u) ⊎ (k ≡ u → ⊥) → IsFree next
-      by (inr n) = ((frame_effect config app w s next v (event.Left u served) step).others k n).owed ∙ free
-      by (inl e) =
-          rest_free (task next k).state (task next k) ((step_valid config app (event.Left u served) s next w step v).each k declared).in_state
-          (subst (λ t. (task next t).state ≡ mode.Active → ⊥) (sym e) (frame_effect config app w s next v (event.Left u served) step).gone)
-  free_on (event.Call u served status) s next step v placed free = by (cases_eq k u)
-    where
-      by : (k ≡ u) ⊎ (k ≡ u → ⊥) → IsFree next
-      by (inr n) = ((frame_effect config app w s next v (event.Call u served status) step).others k n).owed ∙ free
-      by (inl e) = subst (λ t. (task next t).owed ≡ false) (sym e) (called_owes config app u served status s next step no_schedule)
-        where
-          at : IsServiceStep config app k served s (GoesOn status step.1.0)
-          at = subst (λ t. IsServiceStep config app t served s (GoesOn status step.1.0)) (sym e) step.1.1
-
-          reached : ((task s k).frames ≡ []) ⊎ IsReached app k (position_of (task s k).frames) → Reaches app k (position_of (task s k).frames)
-          reached (inl none) = absurd ((subst (InState config k (task s k)) at.at.active (v.each k declared).in_state).0 none)
-          reached (inr r) = (r.before, r.walk)
-
-          no_schedule : served ≡ service.Schedule → ⊥
-          no_schedule is =
-              let off = steady.none (position_of (task s k).frames) (reached (placed k)) in
-              let on = ap (λ fs. is_schedule (operation_at app (position_of fs))) at.at.frames ∙ ap is_schedule at.at.next
-              ∙ ap (λ x. is_service x service.Schedule) (at.same ∙ is) in
-              true≢false (sym on ∙ off)
-  free_on event.Boot s next step v placed free = (frame_effect config app w s next v event.Boot step k).owed ∙ free
-  free_on (event.Admit u) s next step v placed free = (frame_effect config app w s next v (event.Admit u) step k).owed ∙ free
-  free_on (event.Due c) s next step v placed free = (frame_effect config app w s next v (event.Due c) step k).owed ∙ free
-  free_on (event.Tick c) s next step v placed free = (frame_effect config app w s next v (event.Tick c) step k).owed ∙ free
-  free_on event.Idle s next step v placed free = (frame_effect config app w s next v event.Idle step k).owed ∙ free
-  free_on event.Stray s next step v placed free = absurd step
+      by : (is_turn k e ≡ true) ⊎ (is_turn k e ≡ false) → IsFree next
+      by (inl is) = its_own e s next step v placed is
+      by (inr away) = (frames_kept app s next k e (frame_effect config app w s next v e step) away refl).owed ∙ free
 
   all_free : (at : ℕ) (s : System) (xs : List Stage) → Linked at s xs → AllByRecursion (Known config app) xs → Placed app s → IsFree s
       → AllByRecursion (λ x. IsFree x.found) xs
@@ -229,7 +218,6 @@ rounds_make_once config app events k j cuts wf osek declared out = (
       where
         stays : (e : Event) → goes_on_waiting k e ≡ true → is_left k e ≡ false
         stays (event.Call u served status) waits = refl
-        stays event.Boot waits = absurd (false≢true waits)
         stays e waits = absurd (false≢true waits)
 
     whole : (before behind : List Stage) (opens : Stage) → run_stages config app events ≡ before ++ opens ∷ behind → IsActive opens.next k

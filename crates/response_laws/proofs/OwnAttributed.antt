@@ -36,7 +36,7 @@ module _ (config : Config) (app : App) (h : ℕ) where
   own_or_entry k x = if_entry k spanned x + share_of config k x
 
   -- what is no task's: of an entry of such a task, or of a tick
-  lines : (e : Event) (v w : ℕ) → IsDeclared config e → is_other_event config h e ≡ false → (is_some (admitted_line e) ≡ true → w ≡ 0)
+  lines : (e : Event) (v w : ℕ) → IsDeclared config e → is_other_event config h e ≡ false → cond (is_some (admitted_line e)) w 0 ≤ 0
       → cond (takes_line e) v (cond (is_none (turn_task e)) w 0)
       ≤ sum_counters config (λ c. cond (is_number c (ticking_counter e)) v 0) + sum_over config h (λ k. cond (is_entry k e) v 0)
   lines (event.Tick c) v w d other none =
@@ -47,15 +47,7 @@ module _ (config : Config) (app : App) (h : ℕ) where
       let term = sum_over-term config h (λ k. cond (t == k) v 0) t d (over_of (is_over config h t) other) in
       let here = ap {B = ℕ} (λ b. cond b v 0) (eq-eqb t t refl) in
       omega (arith, term, here)
-  lines (event.Run t func item result) v w d other none = omega arith
-  lines (event.Call t served status) v w d other none = omega arith
-  lines (event.Left t served) v w d other none = omega arith
-  lines (event.Back t) v w d other none = omega arith
-  lines (event.Admit t) v w d other none = let zero = none refl in omega (arith, zero)
-  lines (event.Due c) v w d other none = let zero = none refl in omega (arith, zero)
-  lines event.Boot v w d other none = absurd (true≢false other)
-  lines event.Idle v w d other none = absurd (true≢false other)
-  lines event.Stray v w d other none = absurd (true≢false other)
+  lines e v w d other none = let no_other = ap {B = ℕ} (λ b. cond b 1 0) other in omega (arith, no_other, none)
 
   module _ (x : Stage) (k : Known config app x) where
     -- an entry finds its task not Active, so it has no counts of its own there
@@ -70,7 +62,6 @@ module _ (config : Config) (app : App) (h : ℕ) where
 
             none : (e : Event) → OsekStep config app e x.found x.next → is_entry t e ≡ true → ⊥
             none (event.Enter u) step entry = differ (sym (subst (λ v. (task x.found v).state ≡ mode.Ready) (eqb-true u t entry) step.2) ∙ active)
-            none event.Boot step entry = false≢true entry
             none e step entry = absurd (false≢true entry)
 
         by : (b : Bool) → at_entry t x ≡ b → own config t x ≤ cond b 0 (own config t x)
@@ -90,8 +81,12 @@ module _ (config : Config) (app : App) (h : ℕ) where
             let term = sum_below-term (length config.tasks) (λ u. cond (is_over config h u) 0 (own config u x)) t lt in
             omega (arith, here, term)
 
-    admits_nothing : is_admit x.stamped ≡ true → charged x ≡ 0
-    admits_nothing is = ap {B = ℕ} (λ b. cond b 0 (x.stamped.stamp.at + 1 - x.start)) is
+    admits_nothing : cond (is_admit x.stamped) (charged x) 0 ≤ 0
+    admits_nothing = by (is_admit x.stamped)
+      where
+        by : (b : Bool) → cond b (cond b 0 (x.stamped.stamp.at + 1 - x.start)) 0 ≤ 0
+        by true = omega arith
+        by false = omega arith
 
     abbrev parts : ℕ
     parts = lower_counts config h x + sum_counters config (λ c. cond (at_tick c x) (spanned x) 0) + sum_over config h (λ u. own_or_entry u x)

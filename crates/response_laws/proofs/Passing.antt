@@ -105,13 +105,11 @@ module _ (config : Config) (app : App) where
       (by_suspended (task s t).state (record (activated_state s t) { fresh = t ∷ s.fresh }) s (λ (x : System). IsReady x u)
       (λ _. at_task s t u (record (task s t) { state = mode.Ready }) (λ (k : Task). k.state ≡ mode.Ready) ready (λ _. refl)) (λ _. ready))
   admit_ready (event.Due c) s next step admits u ready = subst (λ (x : System). IsReady x u) (sym step.2) ready
-  admit_ready event.Boot s next step admits u ready = absurd (false≢true admits)
   admit_ready e s next step admits u ready = absurd (false≢true admits)
 
   active_on : (h : ℕ) (e : Event) (s next : System) → OsekStep config app e s next → is_some (admitted_line e) ≡ true → IsActive s h → IsActive next h
   active_on h (event.Admit t) s next step admits active = subst (λ (x : System). IsActive x h) (sym step.2) (admit_active config app h s t h active)
   active_on h (event.Due c) s next step admits active = subst (λ (x : System). IsActive x h) (sym step.2) active
-  active_on h event.Boot s next step admits active = absurd (false≢true admits)
   active_on h e s next step admits active = absurd (false≢true admits)
 
   all_ready : (es : List Stamped) → AreAdmits es → (s end : System) → AreStepsTo config app es s end → (u : ℕ) → IsReady s u → IsReady end u

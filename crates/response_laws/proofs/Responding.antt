@@ -86,7 +86,6 @@ module _ (config : Config) (app : App) (late : ℕ) where
       first_boots : (w : Event) → OsekStep config app w (opening config app) leads.0 → is_some (admitted_line w) ≡ false
       first_boots (event.Admit t) step = absurd (false≢true step.0)
       first_boots (event.Due c) step = absurd (false≢true step.0)
-      first_boots event.Boot step = refl
       first_boots w step = refl
 
   -- ---- up to where the task leaves

@@ -59,7 +59,6 @@ module _ (config : Config) (app : App) (j : ℕ) (x : Stage) (k : Known config a
       kept_events : (fs : List Frame) (own : Task) → (started_task app u fs own).events ≡ own.events
       kept_events [] own = refl
       kept_events (frame ∷ outer) own = refl
-  entered_none number same alike event.Boot step t is = absurd (false≢true is)
   entered_none number same alike e step t is = absurd (false≢true is)
 
   pub no_acts : (t : ℕ) → if_entry t (activated j) x ≡ 0

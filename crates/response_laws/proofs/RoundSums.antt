@@ -21,7 +21,6 @@ use Rattle.response_laws.proofs.Steps.{turn_active}
 -- a WaitEvent that goes on is in a turn
 pub waiting_turn : (t : ℕ) (e : Event) → goes_on_waiting t e ≡ true → is_turn t e ≡ true
 waiting_turn t (event.Call u served status) is = (and_parts _ _ is).0
-waiting_turn t event.Boot is = absurd (false≢true is)
 waiting_turn t e is = absurd (false≢true is)
 
 module _ (cuts : Bool) (t : ℕ) (f : Stage → ℕ) where

@@ -45,7 +45,6 @@ module _ (config : Config) (app : App) (w : Facts config app) (h b : ℕ) (lower
           let equal = ap (static_priority config) same in
           let no_higher = above (subst (λ n. n < length config.tasks) same step.1.declared) out in
           omega (arith, le, own, ready, equal, no_higher)
-      by event.Boot step is = false≢true is
       by e step is = absurd (false≢true is)
 
       which : (at_entry j x ≡ true) ⊎ (at_entry j x ≡ false) → at_entry j x ≡ false

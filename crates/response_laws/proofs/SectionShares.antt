@@ -64,7 +64,6 @@ module _ (config : Config) (app : App) (w : Facts config app) (size : ItemSizes)
         let le = paced refl refl in
         let fits = event_fits config app size longest weights weighs (event.Call u served status) s next u step refl in
         subst (λ v. counts ≤ going_at weights (standing (task s v).frames)) (eqb-true u t is) (omega (arith, le, fits))
-    executed_fits event.Boot t step paced is = absurd (false≢true is)
     executed_fits e t step paced is = absurd (false≢true is)
 
     ending_is : (fs : List Frame) → next_ending weights fs ≡ ending_at weights (standing fs)
@@ -77,7 +76,6 @@ module _ (config : Config) (app : App) (w : Facts config app) (size : ItemSizes)
         let le = left_fits config app size longest weights weighs ends w counts u served s next step paced in
         let same = ending_is (task s u).frames in
         subst (λ v. counts ≤ ending_at weights (standing (task s v).frames)) (eqb-true u t is) (omega (arith, le, same))
-    leaving_fits event.Boot t step paced is = absurd (false≢true is)
     leaving_fits e t step paced is = absurd (false≢true is)
 
   -- ---- a section of task b

@@ -117,7 +117,6 @@ module _ (config : Config) (app : App) (w : Facts config app) (size : ItemSizes)
             let le = executed_fits config app w size longest weights weighs ends (charged x) x.found x.next x.stamped.event b s.known.step s.within (ap (is_executed b) is ∙ both.0) in
             let most = takes (position x b) (stands_reached config app size longest x s b (ap (is_turn b) is ∙ both.0)) (takes_there x s t served status step both.0 both.1) in
             omega (arith, le, most)
-        by event.Boot is step raised = absurd (false≢true raised)
         by e is step raised = absurd (false≢true raised)
 
     module _ (number : Stage → ℕ) (on_entry : (x : Stage) → Seen config app size longest x → at_entry b x ≡ true → number x ≤ 0)
@@ -134,7 +133,6 @@ module _ (config : Config) (app : App) (w : Facts config app) (size : ItemSizes)
               let le = (item x s).goes (ap (is_executed b) is ∙ both.0) in
               let none = no_take (position x b) (takes_there x s t served status step both.0 both.1) in
               omega (arith, le, none)
-          by event.Boot is step raised = absurd (false≢true raised)
           by e is step raised = absurd (false≢true raised)
 
     -- a sum over the other events of a section, with what raises its task in front

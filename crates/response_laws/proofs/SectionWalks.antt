@@ -1,8 +1,8 @@
 -- The items that the events of a section execute are those of a part of a walk, at each position of which its task is raised.
-use Rattle.std.proofs.Common.{◌≡◌, ℕ, ◌+◌, ◌≤◌, ◌⊎◌, not, List, [], ◌∷◌, ◌++◌, Bool, true, false, cond, refl, sym, ap, ◌∙◌, subst, arith, inl, inr}
+use Rattle.std.proofs.Common.{◌≡◌, ℕ, ◌+◌, ◌≤◌, ◌⊎◌, List, [], ◌∷◌, ◌++◌, Bool, true, false, cond, refl, sym, ap, ◌∙◌, subst, arith, inl, inr}
 use Rattle.std.specs.Prelude.{◌≢◌}
 use Rattle.std.specs.List.{AllByRecursion}
-use Rattle.std.proofs.lemmas.Bool.{cases_Bool, true≢false, false≢true, ne_eqb, eqb-true, leb-true}
+use Rattle.std.proofs.lemmas.Bool.{cases_Bool, true≢false, false≢true, eqb-true}
 use Rattle.sloth_base.specs.declared.config.Config.{Config}
 use Rattle.sloth_base.specs.declared.app.App.{App}
 use Rattle.sloth_base.specs.declared.event.Event.{Event}
@@ -22,47 +22,25 @@ use Rattle.raised_sections.proofs.Reached.{IsReached, walk_on}
 use Rattle.raised_sections.proofs.Stepping.{StepsOn}
 use Rattle.run_counts.specs.Stages.{Stage, end_of, is_turn, is_entry}
 use Rattle.run_counts.specs.Rounds.{is_left}
-use Rattle.response_laws.specs.Sums.{total_where, is_over}
+use Rattle.run_counts.proofs.TaskCases.{frames_kept}
+use Rattle.response_laws.specs.Sums.{total_where}
 use Rattle.response_laws.specs.Turns.{is_other_event, is_other}
 use Rattle.response_laws.specs.Walked.{standing, weigh, is_executed}
 use Rattle.response_laws.specs.Starts.{IsRaisedTurn, InSection}
 use Rattle.response_laws.proofs.Linked.{Known, Linked}
 use Rattle.response_laws.proofs.Steps.{turn_active, stays_inactive, active_declared}
 use Rattle.response_laws.proofs.RoundEnds.{left_inactive}
+use Rattle.response_laws.proofs.LowerSpending.{no_turn, no_entry}
 
 module _ (config : Config) (app : App) (w : Facts config app) (h b : ℕ) (lower : IsLower config h b) where
   -- ---- events that are no other ones
 
-  over_of : (over : Bool) → not over ≡ false → over ≡ true
-  over_of true e = refl
-  over_of false e = absurd (true≢false e)
-
-  -- a task of at least the static priority of h is another one
-  apart : (u : ℕ) → not (is_over config h u) ≡ false → b ≡ u → ⊥
-  apart u other same =
-      let over = leb-true (static_priority config h) (static_priority config u) (over_of (is_over config h u) other) in
-      let less = lower.1 in
-      let priority = ap (static_priority config) same in
-      omega (arith, over, less, priority)
-
   not_entered : (e : Event) → is_other_event config h e ≡ false → is_entry b e ≡ false
-  not_entered (event.Enter u) other = ne_eqb u b (λ e. apart u other (sym e))
-  not_entered event.Boot other = absurd (true≢false other)
-  not_entered e other = refl
+  not_entered e other = no_entry config app h e b lower.1 other
 
   -- they leave the task where it stands
   pub rests : (e : Event) (s next : System) → FrameEffect app s next e → is_other_event config h e ≡ false → SameFrames (task s b) (task next b)
-  rests (event.Enter u) s next f other = f.others b (apart u other)
-  rests (event.Run u func item result) s next f other = f.others b (apart u other)
-  rests (event.Call u served status) s next f other = f.others b (apart u other)
-  rests (event.Left u served) s next f other = f.others b (apart u other)
-  rests (event.Back u) s next f other = f.others b (apart u other)
-  rests (event.Admit u) s next f other = f b
-  rests (event.Due c) s next f other = f b
-  rests (event.Tick c) s next f other = f b
-  rests event.Boot s next f other = absurd (true≢false other)
-  rests event.Idle s next f other = absurd (true≢false other)
-  rests event.Stray s next f other = absurd (true≢false other)
+  rests e s next f other = frames_kept app s next b e f (no_turn config app h e b lower.1 other) (not_entered e other)
 
   -- ---- events of a section
 
@@ -81,7 +59,6 @@ module _ (config : Config) (app : App) (w : Facts config app) (h b : ℕ) (lower
       executes is (subst P (eqb-true u b is) (frame_effect config app w s next v (event.Call u served status) step).steps)
   turn (event.Left u served) s next step v is = leaves is
   turn (event.Back u) s next step v is = returns (let P : ℕ → Type 0 = λ t. (task s t).owed ≡ true in subst P (eqb-true u b is) step.3)
-  turn event.Boot s next step v is = absurd (false≢true is)
   turn e s next step v is = absurd (false≢true is)
 
   -- where it is raised

@@ -213,7 +213,6 @@ left_empty config app t x k is ready = by x.stamped.event k.step is
         let all = subst (IfLeft t x.found there) h.is (left_service t x.found there config served h.call.object h.call.mask) in
         let same : task x.next t ≡ task own.1.0 t = ap (λ (y : System). task y t) own.1.2 in
         ap (λ (o : Task). o.events) same ∙ all (sym (ap (λ (o : Task). is_ready o.state) same) ∙ ap is_ready ready)
-    by event.Boot step is = absurd (false≢true is)
     by e step is = absurd (false≢true is)
 
 -- ---- what holds of a task in a run
@@ -289,7 +288,6 @@ module _ (config : Config) (app : App) (w : Facts config app) (t : ℕ) (clean :
     where
       entered : (e : Event) → OsekStep config app e x.found x.next → is_entry t e ≡ true → (task x.found t).state ≡ mode.Ready
       entered (event.Enter u) step entry = subst (λ v. (task x.found v).state ≡ mode.Ready) (eqb-true u t entry) step.2
-      entered event.Boot step entry = absurd (false≢true entry)
       entered e step entry = absurd (false≢true entry)
 
       waited : (e : Event) → OsekStep config app e x.found x.next → goes_on_waiting t e ≡ true → n < m
@@ -298,7 +296,6 @@ module _ (config : Config) (app : App) (w : Facts config app) (t : ℕ) (clean :
           wait_spends n m x.found x.next status
           (subst (λ v. OsekStep config app (event.Call t v status) x.found x.next) (same_service served service.WaitEvent both.1)
           (subst (λ v. OsekStep config app (event.Call v served status) x.found x.next) (eqb-true u t both.0) step)) inv
-      waited event.Boot step waits = absurd (false≢true waits)
       waited e step waits = absurd (false≢true waits)
 
       which : ((at_entry t x && has_frames (task x.found t).frames) ≡ true) ⊎ ((at_entry t x && has_frames (task x.found t).frames) ≡ false) → n < m
@@ -522,7 +519,6 @@ module _ (config : Config) (app : App) (w : Facts config app) (t : ℕ) (clean :
                 moved (task x.found t).events mask walks no_wait (λ z. z) (λ c apart. apart)
                 (ap (bit_and (task x.found t).events) (cleared_is ∙ ap (λ b. cond b h.call.mask 0) other) ∙ and_zero_r (task x.found t).events) round
         own_turn (event.Left u served) is step turn stays quiet round = absurd (true≢false (sym turn ∙ stays))
-        own_turn event.Boot is step turn stays quiet round = absurd (false≢true turn)
         own_turn e is step turn stays quiet round = absurd (false≢true turn)
 
         active_next : IsActive x.next t → (n < m) ⊎ (((task x.next t).events ≡ 0) ⊎ Later (task x.next t).events (standing (task x.next t).frames))
@@ -537,7 +533,6 @@ module _ (config : Config) (app : App) (w : Facts config app) (t : ℕ) (clean :
 
             entry_ready : (e : Event) → OsekStep config app e x.found x.next → is_entry t e ≡ true → ((task x.found t).state ≡ mode.Ready) × (is_turn t e ≡ false)
             entry_ready (event.Enter u) step entry = (subst (λ v. (task x.found v).state ≡ mode.Ready) (eqb-true u t entry) step.2, refl)
-            entry_ready event.Boot step entry = absurd (false≢true entry)
             entry_ready e step entry = absurd (false≢true entry)
 
             which : (at_entry t x ≡ true) ⊎ (at_entry t x ≡ false) → (in_turn t x ≡ true) ⊎ (in_turn t x ≡ false)

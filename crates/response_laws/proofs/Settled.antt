@@ -25,6 +25,7 @@ use Rattle.osek_blocking.proofs.Once.{Blocks, BlocksAlone}
 use Rattle.response_laws.specs.Sums.{is_over}
 use Rattle.response_laws.specs.Busy.{is_quiet}
 use Rattle.run_counts.proofs.States.{not_suspended, not_ready}
+use Rattle.run_counts.proofs.TaskCases.{TaskCase, entry_case, work_case, service_case, rest_case, task_case}
 
 pub all_so : (n : ℕ) (test : ℕ → Bool) → ((j : ℕ) → j < n → test j ≡ true) → all_below n test ≡ true
 all_so zero test each = refl
@@ -116,37 +117,16 @@ module _ (config : Config) (app : App) (h : ℕ) where
         raised = subst (λ x. static_priority config h ≤ x) old.1 b.raised;
       }
 
-  split : (s next : System) (others : List ℕ) (t : ℕ) → Moves config others t s next → (Lower t → t < length config.tasks → Blocks config h s t)
-      → (u : ℕ) → Blocks config h next u → Blocks config h s u
-  split s next others t m own u b = by (cases_eq u t)
-    where
-      by : (u ≡ t) ⊎ (u ≡ t → ⊥) → Blocks config h s u
-      by (inl e) = subst (Blocks config h s) (sym e) (own (subst Lower e b.lower) m.top.declared)
-      by (inr n) = from_same s next u (m.acts.calm u n) b
-
   -- no task begins to block where the state is settled and not quiet
   pub no_new : (s next : System) → is_quiet config h s ≡ false → (IsUnsettled s → ⊥) → (e : Event) → Effect config s next e
       → (u : ℕ) → Blocks config h next u → Blocks config h s u
-  no_new s next busy settled event.Boot f u b = from_same s next u (f.same u) b
-  no_new s next busy settled (event.Admit t) f u b = from_same s next u (f.same u) b
-  no_new s next busy settled (event.Due c) f u b = from_same s next u (f.same u) b
-  no_new s next busy settled (event.Tick c) f u b = from_same s next u (f.same u) b
-  no_new s next busy settled event.Idle f u b = from_same s next u (f.same u) b
-  no_new s next busy settled event.Stray f u b = from_same s next u (f.same u) b
-  no_new s next busy settled (event.Enter t) f u b =
-      split s next [] t f.moves (λ lower there. absurd (no_lower_entry s t f.moves.top f.was busy lower)) u b
-  no_new s next busy settled (event.Run t func item result) f u b =
-      split s next [] t f.moves
-      (λ lower there. record { declared = there; active = f.was; lower = lower; raised = top_raised s t f.moves.top f.was busy }) u b
-  no_new s next busy settled (event.Back t) f u b =
-      split s next [] t f.moves
-      (λ lower there. record { declared = there; active = f.was; lower = lower; raised = top_raised s t f.moves.top f.was busy }) u b
-  no_new s next busy settled (event.Call t served status) f u b =
-      split s next s.fresh t f.moves
-      (λ lower there. record { declared = there; active = f.was; lower = lower; raised = call_raised s t f.moves.top f.was settled }) u b
-  no_new s next busy settled (event.Left t served) f u b =
-      split s next s.fresh t f.moves
-      (λ lower there. record { declared = there; active = f.was; lower = lower; raised = call_raised s t f.moves.top f.was settled }) u b
+  no_new s next busy settled e f u b = by (task_case config s next u e f)
+    where
+      by : TaskCase config s next u e → Blocks config h s u
+      by (entry_case entry away f) = absurd (no_lower_entry s u f.moves.top f.was busy b.lower)
+      by (work_case turn out calls f) = record { declared = b.declared; active = f.was; lower = b.lower; raised = top_raised s u f.moves.top f.was busy }
+      by (service_case turn out calls f) = record { declared = b.declared; active = f.was; lower = b.lower; raised = call_raised s u f.moves.top f.was settled }
+      by (rest_case away out same ready) = from_same s next u same b
 
   -- behind the event of a lower task it alone may block
   pub only_mover : (s next : System) (others : List ℕ) (t : ℕ) → Moves config others t s next → Lower t → BlocksAlone config h next t
@@ -163,17 +143,14 @@ module _ (config : Config) (app : App) (h : ℕ) where
   -- ---- settled states
 
   pub settles : (s next : System) (e : Event) → Effect config s next e → is_some (admitted_line e) ≡ false → next.fresh ≡ []
-  settles s next event.Boot f other = f.settles
   settles s next (event.Admit t) f other = absurd (true≢false other)
   settles s next (event.Due c) f other = absurd (true≢false other)
-  settles s next (event.Tick c) f other = f.settles
-  settles s next event.Idle f other = f.settles
-  settles s next event.Stray f other = f.settles
   settles s next (event.Enter t) f other = f.moves.acts.settles
   settles s next (event.Run t func item result) f other = f.moves.acts.settles
   settles s next (event.Back t) f other = f.moves.acts.settles
   settles s next (event.Call t served status) f other = f.moves.acts.settles
   settles s next (event.Left t served) f other = f.moves.acts.settles
+  settles s next e f other = f.settles
 
   -- an admit leaves an Active task Active, and a due counter due
   pub admit_active : (s : System) (t u : ℕ) → IsActive s u → IsActive (admitted_state t s) u
@@ -209,5 +186,4 @@ module _ (config : Config) (app : App) (h : ℕ) where
         at_set s.clock.counters c d (record (counter s c) { due = true }) no_counter (λ (k : Counter). k.due ≡ false → (counter s d).due ≡ false)
         (λ e. e) (λ _ e. absurd (true≢false e)) (subst (λ (x : System). (counter x d).due ≡ false) step.2 (unsettled.no_ticks d lt));
   }
-  unsettled_before s next event.Boot step f o admits unsettled = absurd (false≢true admits)
   unsettled_before s next e step f o admits unsettled = absurd (false≢true admits)

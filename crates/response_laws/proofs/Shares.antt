@@ -24,7 +24,6 @@ use Rattle.response_laws.proofs.Steps.{stays_inactive}
 -- an entry is in no turn, and no WaitEvent that goes on
 pub entry_alone : (t : ℕ) (e : Event) → is_entry t e ≡ true → (is_turn t e ≡ false) × (goes_on_waiting t e ≡ false)
 entry_alone t (event.Enter u) is = (refl, refl)
-entry_alone t event.Boot is = absurd (false≢true is)
 entry_alone t e is = absurd (false≢true is)
 
 -- a task that leaves is not Active behind it
@@ -34,7 +33,6 @@ left_inactive config app w t x k is = by x.stamped.event k.step is
     by : (e : Event) → OsekStep config app e x.found x.next → is_left t e ≡ true → IsActive x.next t → ⊥
     by (event.Left u served) step is active =
         (frame_effect config app w x.found x.next k.valid (event.Left u served) step).gone (subst (IsActive x.next) (sym (eqb-true u t is)) active)
-    by event.Boot step is active = false≢true is
     by e step is active = absurd (false≢true is)
 
 module _ (cuts : Bool) (t : ℕ) (e share : Stage → ℕ) where

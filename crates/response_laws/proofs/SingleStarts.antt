@@ -34,7 +34,9 @@ use Rattle.response_laws.specs.Walked.{standing, is_executed, is_back}
 use Rattle.response_laws.specs.Makers.{activation_weights, setting_weights}
 use Rattle.response_laws.specs.Starts.{IsWithinStart, SomeIsWithin, begun_item}
 use Rattle.response_laws.specs.CodeStarts.{SomeHasRoom, HaveServiceRoom, none, autostarted, is_call, FitsStarts}
+use Rattle.run_counts.proofs.StepCases.{Outside, boot_event, idle_event, arrival_event, tick_event, outside_of}
 use Rattle.response_laws.proofs.Attributed.{declared_by_step}
+use Rattle.response_laws.proofs.Blocking.{admitted_no_other}
 use Rattle.response_laws.proofs.Counting.{counted_going, counted_lighter}
 use Rattle.response_laws.proofs.SectionShares.{executed_fits, leaving_fits}
 use Rattle.response_laws.proofs.Steps.{activated_between, set_between, not_activated, not_set, starting_sets_none}
@@ -185,11 +187,47 @@ module _ (config : Config) (app : App) (w : Facts config app) (size : ItemSizes)
         let v = left_with x s t served is step in
         let few = v.charge in
         served_in t (ending_at weights (position x t)) 0 v (omega (arith, few)) (room_of t (lower_left t served is step other) v).1
-    served_by event.Boot is step other serves = absurd (false≢true serves)
     served_by e is step other serves = absurd (false≢true serves)
 
     pub within_served : is_other config h x ≡ true → is_some (served_task x.stamped.event) ≡ true → SomeIsWithin config h starts start (charged x + longest) 0 x
     within_served = served_by x.stamped.event refl s.known.step
+
+    -- an event of no task
+    by_outside : (e : Event) → x.stamped.event ≡ e → is_other config h x ≡ true → Outside config x.found x.next e → Opens
+    by_outside e is other (boot_event boots off gives) = with_room (autostarted config) none acts sets true (λ _. ap is_boot (is ∙ boots)) fits.boots
+      where
+        acts : (j : ℕ) → activated j x ≤ autostarted config j
+        acts j =
+            let le = booted_acts (task x.found j) config.tasks x.found.tasks j refl in
+            let same = ap (λ (y : System). activated_between (task x.found j) (task y j)) gives in
+            omega (arith, le, same)
+
+        sets : (j : ℕ) → was_set j x ≤ 0
+        sets j =
+            let asleep = s.known.valid.asleep off j in
+            let zero = subst (λ (y : System). set_between (task x.found j) (task y j) ≡ 0) (sym gives)
+            (autostarted_at (λ k. set_between (task x.found j) k ≡ 0) config.tasks x.found.tasks j (not_set (task x.found j))
+            (starting_sets_none (task x.found j) (bare j asleep (cases_lt j (length config.tasks))))) in
+            omega (arith, zero)
+          where
+            bare : (j : ℕ) → (task x.found j).state ≡ mode.Suspended → (j < length config.tasks) ⊎ (length config.tasks ≤ j) → (task x.found j).frames ≡ []
+            bare j asleep (inl lt) = (subst (InState config j (task x.found j)) asleep (s.known.valid.each j lt).in_state).1
+            bare j asleep (inr past) =
+                ap (λ (k : Task). k.frames) (get_or_past x.found.tasks j sleeping_task (subst (λ n. n ≤ j) (sym s.known.valid.count) past))
+    by_outside e is other (idle_event none ticks gives) = within_any acts sets
+      where
+        acts : (j : ℕ) → activated j x ≤ 0
+        acts j =
+            let zero = subst (λ (y : System). activated_between (task x.found j) (task y j) ≡ 0) (sym gives) (not_activated (task x.found j)) in
+            omega (arith, zero)
+
+        sets : (j : ℕ) → was_set j x ≤ 0
+        sets j =
+            let zero = subst (λ (y : System). set_between (task x.found j) (task y j) ≡ 0) (sym gives) (not_set (task x.found j)) in
+            omega (arith, zero)
+    by_outside e is other (arrival_event line admits) =
+        absurd (false≢true (sym (ap (is_other_event config h) is ∙ admitted_no_other config h e (ap is_some admits)) ∙ other))
+    by_outside e is other (tick_event c ticks) = absurd (false≢true (sym (ap (is_other_event config h) (is ∙ ticks)) ∙ other))
 
     by_event : (e : Event) → x.stamped.event ≡ e → OsekStep config app e x.found x.next → is_other config h x ≡ true → Opens
     by_event (event.Run t func item result) is step other =
@@ -220,41 +258,7 @@ module _ (config : Config) (app : App) (w : Facts config app) (size : ItemSizes)
     by_event (event.Enter t) is step other =
         let entry : at_entry t x ≡ true = ap (is_entry t) is ∙ itself t in
         within_any (λ j. entry_acts config app size longest x s t j entry) (λ j. entry_sets config app size longest x s t j entry)
-    by_event event.Boot is step other = with_room (autostarted config) none acts sets true (λ _. ap is_boot is) fits.boots
-      where
-        acts : (j : ℕ) → activated j x ≤ autostarted config j
-        acts j =
-            let le = booted_acts (task x.found j) config.tasks x.found.tasks j refl in
-            let same = ap (λ (y : System). activated_between (task x.found j) (task y j)) step.1 in
-            omega (arith, le, same)
-
-        sets : (j : ℕ) → was_set j x ≤ 0
-        sets j =
-            let asleep = s.known.valid.asleep step.0 j in
-            let zero = subst (λ (y : System). set_between (task x.found j) (task y j) ≡ 0) (sym step.1)
-            (autostarted_at (λ k. set_between (task x.found j) k ≡ 0) config.tasks x.found.tasks j (not_set (task x.found j))
-            (starting_sets_none (task x.found j) (bare j asleep (cases_lt j (length config.tasks))))) in
-            omega (arith, zero)
-          where
-            bare : (j : ℕ) → (task x.found j).state ≡ mode.Suspended → (j < length config.tasks) ⊎ (length config.tasks ≤ j) → (task x.found j).frames ≡ []
-            bare j asleep (inl lt) = (subst (InState config j (task x.found j)) asleep (s.known.valid.each j lt).in_state).1
-            bare j asleep (inr past) =
-                ap (λ (k : Task). k.frames) (get_or_past x.found.tasks j sleeping_task (subst (λ n. n ≤ j) (sym s.known.valid.count) past))
-    by_event event.Idle is step other = within_any acts sets
-      where
-        acts : (j : ℕ) → activated j x ≤ 0
-        acts j =
-            let zero = subst (λ (y : System). activated_between (task x.found j) (task y j) ≡ 0) (sym step.3) (not_activated (task x.found j)) in
-            omega (arith, zero)
-
-        sets : (j : ℕ) → was_set j x ≤ 0
-        sets j =
-            let zero = subst (λ (y : System). set_between (task x.found j) (task y j) ≡ 0) (sym step.3) (not_set (task x.found j)) in
-            omega (arith, zero)
-    by_event event.Stray is step other = absurd step
-    by_event (event.Admit t) is step other = absurd (false≢true (sym (ap (is_other_event config h) is) ∙ other))
-    by_event (event.Due c) is step other = absurd (false≢true (sym (ap (is_other_event config h) is) ∙ other))
-    by_event (event.Tick c) is step other = absurd (false≢true (sym (ap (is_other_event config h) is) ∙ other))
+    by_event e is step other = by_outside e is other (outside_of config app e x.found x.next step refl refl)
 
     -- where h leaves
     pub within_leaving : once ≡ true → is_left h x.stamped.event ≡ true
@@ -274,7 +278,6 @@ module _ (config : Config) (app : App) (w : Facts config app) (size : ItemSizes)
         by (event.Left u served) e step same =
             let own_event = ap (λ v. event.Left v served) (eqb-true u h same) in
             of (left_with x s h served (e ∙ own_event) (subst (λ v. OsekStep config app (event.Left v served) x.found x.next) (eqb-true u h same) step))
-        by event.Boot e step same = absurd (false≢true same)
         by v e step same = absurd (false≢true same)
 
     pub within_one : is_other config h x ≡ true → Opens

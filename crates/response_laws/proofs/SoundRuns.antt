@@ -57,12 +57,7 @@ module _ (config : Config) (app : App) (size : ItemSizes) (longest : ℕ) (most 
   few_front found (event.Call t served status) = few_next (task found t)
   few_front found (event.Left t served) = few_next (task found t)
   few_front found (event.Back t) = few_next (task found t)
-  few_front found (event.Enter t) = omega arith
-  few_front found (event.Tick c) = omega arith
-  few_front found event.Boot = omega arith
-  few_front found (event.Admit t) = omega arith
-  few_front found (event.Due c) = omega arith
-  few_front found event.Stray = omega arith
+  few_front found e = omega arith
 
   pub all_charged : (late : ℕ) → NoStretchIsAbove config app late → (xs : List Stage) → AllByRecursion (Known config app) xs
       → AllByRecursion (IsWithinWeights config app size longest) xs → AreCharged (longest + late) xs
@@ -167,7 +162,6 @@ module _ (config : Config) (app : App) (size : ItemSizes) (longest n : ℕ) (wei
             where
               apart : (e : Event) → is_entry t e ≡ true → goes_on_waiting t e ≡ true → ⊥
               apart (event.Enter u) entry waits = false≢true waits
-              apart event.Boot entry waits = false≢true entry
               apart e entry waits = absurd (false≢true entry)
 
           by : (b c g : Bool) → goes_on_waiting t x.stamped.event ≡ g → (b || (c && g)) ≡ true → b ≡ true

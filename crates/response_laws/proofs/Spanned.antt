@@ -64,7 +64,6 @@ module _ (config : Config) (app : App) where
           (let some = entry_some (declaration config u).extended true (function app (body_of app.funcs u)).frame_words in
           let more = at_least_one (enter_counts config app (has_frames (task x.found u).frames) u) (omega (arith, some)) in
           omega (arith, le, more))
-      by event.Boot is le = absurd (false≢true is)
       by e is le = absurd (false≢true is)
 
   -- a tick
@@ -75,5 +74,4 @@ module _ (config : Config) (app : App) where
       by (event.Tick d) is le =
           subst (λ v. spanned x ≤ tick_path config v) (eqb-true d c is)
           (let more = at_least_one (tick_path config d) (omega arith) in omega (arith, le, more))
-      by event.Boot is le = absurd (false≢true is)
       by e is le = absurd (false≢true is)

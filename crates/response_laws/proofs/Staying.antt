@@ -1,13 +1,12 @@
 -- A task that is due stays so until it leaves.
-use Rattle.std.proofs.Common.{◌≡◌, ℕ, ◌⊎◌, ◌==◌, ◌||◌, ◌∷◌, Bool, true, false, is_none, Option, Some, None, refl, sym, ◌∙◌, subst, inl, inr}
+use Rattle.std.proofs.Common.{◌≡◌, ℕ, ◌⊎◌, ◌==◌, ◌||◌, Bool, true, false, is_none, Option, Some, None, refl, sym, ◌∙◌, subst, inl, inr}
 use Rattle.std.proofs.lemmas.Bool.{cases_eq, false≢true, true≢false, eq-eqb, ne_eqb}
 use Rattle.sloth_base.specs.declared.config.Config.{Config}
 use Rattle.sloth_base.specs.declared.app.App.{App}
 use Rattle.sloth_base.specs.declared.event.Event.{Event}
-use Rattle.sloth_base.specs.declared.event.Event.TheVariants as event
 use Rattle.sloth_base.specs.declared.service.Service.{Service}
 use Rattle.sloth_base.specs.declared.service.Service.TheVariants as service
-use Rattle.sloth_base.specs.Named.{declaration, counter_declaration}
+use Rattle.sloth_base.specs.Named.{counter_declaration}
 use Rattle.osek_scheduler.specs.declared.change.TaskChange.{TaskChange}
 use Rattle.osek_scheduler.specs.declared.change.TaskChange.TheVariants as change
 use Rattle.osek_scheduler.specs.declared.plan.Plan.{Plan}
@@ -15,15 +14,16 @@ use Rattle.osek_scheduler.specs.declared.state.TaskState.TheVariants as mode
 use Rattle.osek_scheduler.specs.State.{Task, System, task, with_task}
 use Rattle.osek_scheduler.specs.Priority.{IsDue}
 use Rattle.osek_scheduler.specs.Changes.{changed_task, with_change}
-use Rattle.osek_scheduler.specs.Services.{activated_state, started_task, counted_on_state, ServiceOutcome, GoesOn, Leaves}
+use Rattle.osek_scheduler.specs.Services.{counted_on_state, ServiceOutcome, GoesOn, Leaves}
 use Rattle.osek_scheduler.proofs.ServiceStates.{IsAfter}
 use Rattle.osek_scheduler.specs.Outcomes.{decision, planned_system, shown_outcome}
 use Rattle.osek_scheduler.proofs.AllPlans.{all_plans}
 use Rattle.osek_scheduler.specs.Steps.{OsekStep, IsServiceStep}
-use Rattle.osek_scheduler.proofs.Outcomes.{by_suspended, KeptByOthers, others_keep, outcome_keeps_all, on_outcome, on_tested}
+use Rattle.osek_scheduler.proofs.Outcomes.{KeptByOthers, others_keep, outcome_keeps_all, on_outcome, on_tested}
 use Rattle.osek_scheduler.proofs.Apart.{at_task}
 use Rattle.osek_scheduler.proofs.Steps.{autostarted_at}
 use Rattle.run_counts.specs.Rounds.{is_left}
+use Rattle.run_counts.proofs.StepCases.{outcome_event, record_behind}
 use Rattle.response_laws.proofs.Steps.{alarms_keep}
 
 -- the task is Ready or Active
@@ -70,10 +70,6 @@ module _ (config : Config) (app : App) (h : ℕ) where
   of_other : (s : System) (t : ℕ) (new : Task) → (t == h) ≡ false → IsDue s h → IsDue (with_task s t new) h
   of_other s t new other d = at_task s t h new Due d (λ e. absurd (true≢false (sym (eq-eqb t h (sym e)) ∙ other)))
 
-  -- a record is written that keeps its state
-  of_same : (s : System) (t : ℕ) (new : Task) → new.state ≡ (task s t).state → IsDue s h → IsDue (with_task s t new) h
-  of_same s t new same d = at_task s t h new Due d (λ e. subst (λ m. (m ≡ mode.Ready) ⊎ (m ≡ mode.Active)) (sym same) (subst (λ v. IsDue s v) e d))
-
   answered_other : (t : ℕ) (served : Service) (s : System) (answer : ServiceOutcome) → (t == h) ≡ false → IsServiceStep config app t served s answer → IsDue s h
       → IsAfter StaysDue answer
   answered_other t served s answer other c d =
@@ -99,33 +95,25 @@ module _ (config : Config) (app : App) (h : ℕ) where
           others_keep StaysDue besides p.other (with_change h p.change s)
           (at_task s h h (changed_task p.change (task s h)) Due d (λ _. changed_due p.change (task s h) is d))
 
-  answered : (t status : ℕ) (served : Service) (s after : System) → IsServiceStep config app t served s (GoesOn status after) → IsDue s h → IsDue after h
-  answered t status served s after c d = by (cases_eq t h)
+  answered : (t : ℕ) (served : Service) (s : System) (answer : ServiceOutcome) → IsServiceStep config app t served s answer → is_left h (outcome_event t served answer) ≡ false
+      → IsDue s h → IsAfter StaysDue answer
+  answered t served s (GoesOn status after) c away d = by (cases_eq t h)
     where
       by : (t ≡ h) ⊎ (t ≡ h → ⊥) → IsDue after h
       by (inl e) = answered_itself served s (GoesOn status after) (subst (λ v. IsServiceStep config app v served s (GoesOn status after)) e c) d
       by (inr n) = answered_other t served s (GoesOn status after) (ne_eqb t h n) c d
+  answered t served s (Leaves after) c away d = answered_other t served s (Leaves after) away c d
 
   pub stays_due : (e : Event) (s next : System) → OsekStep config app e s next → is_left h e ≡ false → IsDue s h → IsDue next h
-  stays_due event.Boot s next step away d =
-      subst StaysDue (sym step.1) (autostarted_at Due config.tasks s.tasks h d (inl refl))
-  stays_due (event.Admit t) s next step away d =
-      subst StaysDue (sym step.2)
-      (by_suspended (task s t).state (record (activated_state s t) { fresh = t ∷ s.fresh }) s StaysDue (λ _. besides.activates s t d) (λ _. d))
-  stays_due (event.Enter t) s next step away d =
-      subst StaysDue (sym step.4)
-      (at_task s t h (record (started_task app t (task s t).frames (task s t)) { state = mode.Active; raised = (declaration config t).non }) Due d (λ _. inr refl))
-  stays_due (event.Run t func item result) s next step away d =
-      subst StaysDue (sym step.1.is) (of_same s t (record (task s t) { registers = step.1.meant.registers; frames = step.1.meant.frames }) refl d)
-  stays_due (event.Call t served status) s next step away d =
-      subst StaysDue (sym step.1.2) (answered t status served s step.1.0 step.1.1 d)
-  stays_due (event.Left t served) s next step away d =
-      subst StaysDue (sym step.1.2) (answered_other t served s (Leaves step.1.0) away step.1.1 d)
-  stays_due (event.Back t) s next step away d =
-      subst StaysDue (sym step.4) (of_same s t (record (task s t) { owed = false; raised = (declaration config t).non }) refl d)
-  stays_due event.Idle s next step away d = subst StaysDue (sym step.3) d
-  stays_due event.Stray s next step away d = absurd step
-  stays_due (event.Due c) s next step away d = subst StaysDue (sym step.2) d
-  stays_due (event.Tick c) s next step away d =
-      subst StaysDue (sym step.2)
-      (alarms_keep StaysDue besides c 0 config.alarms (counted_on_state c (counter_declaration config c).max s) d)
+  stays_due e s next step away d =
+      record_behind config app h (λ what. is_left h what ≡ false) Due s
+      (record {
+        same = d;
+        boots = λ _ _. autostarted_at Due config.tasks s.tasks h d (inl refl);
+        activates = λ _ _. inl refl;
+        enters = λ _. inr refl;
+        works = λ new same _. subst (λ m. (m ≡ mode.Ready) ⊎ (m ≡ mode.Active)) (sym same) d;
+        serves = λ t served answer c stays. answered t served s answer c stays d;
+        ticks = λ c _. alarms_keep StaysDue besides c 0 config.alarms (counted_on_state c (counter_declaration config c).max s) d;
+      })
+      e next step away

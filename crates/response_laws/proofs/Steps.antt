@@ -1,7 +1,7 @@
 -- What one stage does to a task's state, and to a counter.
 use Rattle.std.proofs.Common.{◌≡◌, ℕ, ◌+◌, ◌<◌, ◌≤◌, ◌⊎◌, ◌&&◌, ◌||◌, ◌==◌, not, List, [], ◌∷◌, Bool, true, false, cond, length, get_or, refl, sym, ap, ◌∙◌, subst, arith, inl, inr, bit_or}
 use Rattle.std.specs.Prelude.{is_some, ◌-◌}
-use Rattle.std.proofs.lemmas.Bool.{cases_Bool, cases_eq, cases_lt, cond_both, false≢true, eqb-true, eqb-false, eq-eqb, and_right, and_left, and_parts}
+use Rattle.std.proofs.lemmas.Bool.{cases_Bool, cases_lt, cond_both, false≢true, true≢false, eqb-true, eqb-false, eq-eqb, ne_eqb, and_right, and_left, and_parts}
 use Rattle.std.proofs.lemmas.List.{get_or-set_same, set_past, get_or_past}
 use Rattle.sloth_base.specs.Options.{is_number}
 use Rattle.sloth_base.specs.declared.service.Service.{Service}
@@ -18,7 +18,7 @@ use Rattle.osek_scheduler.specs.declared.state.Counter.{Counter}
 use Rattle.osek_scheduler.specs.declared.state.TaskState.TheVariants as mode
 use Rattle.osek_scheduler.specs.State.{Task, System, sleeping_task, task, with_task, no_counter, counter, with_counter, alarm}
 use Rattle.osek_scheduler.specs.Next.{is_ready}
-use Rattle.osek_scheduler.specs.Services.{activated_state, acted_state, alarm_ticked_state, alarms_ticked_state, counted_on_state, ticked_state, with_left, ServiceOutcome, GoesOn, Leaves}
+use Rattle.osek_scheduler.specs.Services.{activated_state, acted_state, alarm_ticked_state, alarms_ticked_state, counted_on_state, ticked_state, with_left, ServiceOutcome}
 use Rattle.osek_scheduler.specs.Outcomes.{decision}
 use Rattle.osek_scheduler.specs.Steps.{OsekStep, IsServiceStep, admitted_state}
 use Rattle.osek_scheduler.specs.Valid.{InState}
@@ -28,9 +28,10 @@ use Rattle.osek_scheduler.proofs.Outcomes.{by_suspended, KeptByOthers, sets_keep
 use Rattle.osek_scheduler.proofs.Ticking.{acted_keeps}
 use Rattle.osek_scheduler.proofs.Apart.{at_task}
 use Rattle.osek_scheduler.proofs.Going.{at_set}
-use Rattle.osek_blocking.proofs.Effects.{Moves, Effect}
 use Rattle.osek_blocking.proofs.Ordering.{effect}
-use Rattle.run_counts.specs.Stages.{Stage, turn_task, is_entry}
+use Rattle.run_counts.specs.Stages.{Stage, is_entry}
+use Rattle.run_counts.proofs.StepCases.{clock_behind}
+use Rattle.run_counts.proofs.TaskCases.{TaskCase, entry_case, work_case, service_case, rest_case, task_case}
 use Rattle.event_weights.specs.Events.{has_frames}
 use Rattle.response_laws.specs.Turns.{ticking_counter, in_turn, at_entry, at_entry_for, at_tick, at_admission, as_said, is_ready_for, is_made, activated, has_grown, was_set}
 use Rattle.response_laws.proofs.Linked.{Known}
@@ -40,48 +41,29 @@ use Rattle.response_laws.proofs.Linked.{Known}
 same_of : (t u : ℕ) (P : ℕ → Type 0) → (u == t) ≡ true → P u → P t
 same_of t u P is h = subst P (eqb-true u t is) h
 
--- a task is Active in its turn
-turn_is : (config : Config) (app : App) (t : ℕ) (e : Event) (s next : System) → OsekStep config app e s next → is_number t (turn_task e) ≡ true → IsActive s t
-turn_is config app t (event.Run u func item result) s next h is = same_of t u (IsActive s) is h.1.at.active
-turn_is config app t (event.Call u served status) s next h is = same_of t u (IsActive s) is h.1.1.at.active
-turn_is config app t (event.Left u served) s next h is = same_of t u (IsActive s) is h.1.1.at.active
-turn_is config app t (event.Back u) s next h is = same_of t u (IsActive s) is h.2
-turn_is config app t event.Boot s next h is = absurd (false≢true is)
-turn_is config app t (event.Admit u) s next h is = absurd (false≢true is)
-turn_is config app t (event.Enter u) s next h is = absurd (false≢true is)
-turn_is config app t event.Idle s next h is = absurd (false≢true is)
-turn_is config app t event.Stray s next h is = absurd (false≢true is)
-turn_is config app t (event.Due c) s next h is = absurd (false≢true is)
-turn_is config app t (event.Tick c) s next h is = absurd (false≢true is)
+module _ (config : Config) (app : App) (t : ℕ) (x : Stage) (k : Known config app x) where
+  case_of : TaskCase config x.found x.next t x.stamped.event
+  case_of = task_case config x.found x.next t x.stamped.event (effect config app x.found x.next k.ordered x.stamped.event k.step)
 
-pub turn_active : (config : Config) (app : App) (t : ℕ) (x : Stage) → Known config app x → in_turn t x ≡ true → IsActive x.found t
-turn_active config app t x k is = turn_is config app t x.stamped.event x.found x.next k.step is
-
-module _ (config : Config) (t : ℕ) (s next : System) where
-  moved : (others : List ℕ) (u : ℕ) → Moves config others u s next → (u ≡ t → IsActive s t) → IsActive next t → IsActive s t
-  moved others u m own active = by (cases_eq t u)
+  -- a task is Active in its turn
+  pub turn_active : in_turn t x ≡ true → IsActive x.found t
+  turn_active is = by case_of
     where
-      by : (t ≡ u) ⊎ (t ≡ u → ⊥) → IsActive s t
-      by (inl e) = own (sym e)
-      by (inr n) = (m.acts.calm t n active).0
+      by : TaskCase config x.found x.next t x.stamped.event → IsActive x.found t
+      by (work_case turn out calls f) = f.was
+      by (service_case turn out calls f) = f.was
+      by (entry_case entry away f) = absurd (true≢false (sym is ∙ away))
+      by (rest_case away out same ready) = absurd (true≢false (sym is ∙ away))
 
-  was_active : (e : Event) → Effect config s next e → is_entry t e ≡ false → IsActive next t → IsActive s t
-  was_active event.Boot f away active = (f.same t active).0
-  was_active (event.Admit u) f away active = (f.same t active).0
-  was_active (event.Enter u) f away active = moved [] u f.moves (λ e. absurd (eqb-false u t away e)) active
-  was_active (event.Run u func item result) f away active = moved [] u f.moves (λ e. subst (IsActive s) e f.was) active
-  was_active (event.Call u served status) f away active = moved s.fresh u f.moves (λ e. subst (IsActive s) e f.was) active
-  was_active (event.Left u served) f away active = moved s.fresh u f.moves (λ e. subst (IsActive s) e f.was) active
-  was_active (event.Back u) f away active = moved [] u f.moves (λ e. subst (IsActive s) e f.was) active
-  was_active event.Idle f away active = (f.same t active).0
-  was_active event.Stray f away active = (f.same t active).0
-  was_active (event.Due c) f away active = (f.same t active).0
-  was_active (event.Tick c) f away active = (f.same t active).0
-
--- a task that is Active was so before, unless it was entered
-pub stays_inactive : (config : Config) (app : App) (t : ℕ) (x : Stage) → Known config app x → at_entry t x ≡ false → IsActive x.next t → IsActive x.found t
-stays_inactive config app t x k away active =
-    was_active config t x.found x.next x.stamped.event (effect config app x.found x.next k.ordered x.stamped.event k.step) away active
+  -- a task that is Active was so before, unless it was entered
+  pub stays_inactive : at_entry t x ≡ false → IsActive x.next t → IsActive x.found t
+  stays_inactive away active = by case_of
+    where
+      by : TaskCase config x.found x.next t x.stamped.event → IsActive x.found t
+      by (work_case turn out calls f) = f.was
+      by (service_case turn out calls f) = f.was
+      by (entry_case entry idle f) = absurd (true≢false (sym entry ∙ away))
+      by (rest_case idle out same ready) = (same active).0
 
 -- an Active task is one of the configuration
 pub active_declared : (config : Config) (s : System) (t : ℕ) → length s.tasks ≡ length config.tasks → IsActive s t → t < length config.tasks
@@ -111,7 +93,6 @@ module _ (config : Config) (app : App) (again : Bool) (t : ℕ) where
   -- an entry finds its task Ready
   entry_ready : (e : Event) (s next : System) → OsekStep config app e s next → is_entry t e ≡ true → is_ready (task s t).state ≡ true
   entry_ready (event.Enter u) s next h is = same_of t u (λ v. is_ready (task s v).state ≡ true) is (ap is_ready h.2)
-  entry_ready event.Boot s next h is = absurd (false≢true is)
   entry_ready e s next h is = absurd (false≢true is)
 
   -- and leaves it Active
@@ -128,7 +109,6 @@ module _ (config : Config) (app : App) (again : Bool) (t : ℕ) where
       let e = eqb-true u t is in
       let there : OsekStep config app (event.Enter t) s next = subst (λ v. OsekStep config app (event.Enter v) s next) e h in
       subst (λ (y : System). is_ready (task y t).state ≡ false) (sym there.4) (sleeps s _ refl)
-  entry_leaves event.Boot s next h is = absurd (false≢true is)
   entry_leaves e s next h is = absurd (false≢true is)
 
   module _ (x : Stage) (k : Known config app x) where
@@ -233,15 +213,7 @@ module _ (config : Config) (app : App) (j : ℕ) where
           let nothing : activated_between (task x.found j) (task x.next j) ≡ 0 =
           subst (λ (y : System). activated_between (task x.found j) (task y j) ≡ 0) (sym h.2) (not_activated (task x.found j)) in
           omega (arith, nothing)
-      by event.Boot h = omega arith
-      by (event.Enter u) h = omega arith
-      by (event.Run u func item result) h = omega arith
-      by (event.Call u served status) h = omega arith
-      by (event.Left u served) h = omega arith
-      by (event.Back u) h = omega arith
-      by event.Idle h = omega arith
-      by event.Stray h = omega arith
-      by (event.Tick c) h = omega arith
+      by e h = omega arith
 
   -- and sets no event
   pub sets_by_admission : (x : Stage) → Known config app x → cond (is_some (admitted_line x.stamped.event)) (was_set j x) 0 ≤ 0
@@ -263,15 +235,7 @@ module _ (config : Config) (app : App) (j : ℕ) where
           let nothing : set_between (task x.found j) (task x.next j) ≡ 0 =
           subst (λ (y : System). set_between (task x.found j) (task y j) ≡ 0) (sym h.2) (not_set (task x.found j)) in
           omega (arith, nothing)
-      by event.Boot h = omega arith
-      by (event.Enter u) h = omega arith
-      by (event.Run u func item result) h = omega arith
-      by (event.Call u served status) h = omega arith
-      by (event.Left u served) h = omega arith
-      by (event.Back u) h = omega arith
-      by event.Idle h = omega arith
-      by event.Stray h = omega arith
-      by (event.Tick c) h = omega arith
+      by e h = omega arith
 
 -- ---- counters
 
@@ -346,49 +310,47 @@ module _ (config : Config) (app : App) (c : ℕ) where
       (cond (is_number c (ticking_counter e)) 1 0 ≤ due_count c s)
       × (cond (is_number c (ticking_counter e)) 1 0 + due_count c next ≤ cond (is_number (counter_line c) (admitted_line e)) 1 0 + due_count c s)
 
-  kept : (e : Event) (s next : System) → is_number c (ticking_counter e) ≡ false → (counter next c).due ≡ (counter s c).due → Balance e s next
-  kept e s next none same =
-      let t = ap {B = ℕ} (λ b. cond b 1 0) none in
-      let d = ap {B = ℕ} (λ b. cond b 1 0) same in
-      (omega (arith, t), omega (arith, t, d))
+  -- its tick
+  ends : (e : Event) (s next : System) → OsekStep config app e s next → is_number c (ticking_counter e) ≡ true → Balance e s next
+  ends (event.Tick d) s next h is =
+      let e = eqb-true d c is in
+      let t = ap {B = ℕ} (λ b. cond b 1 0) is in
+      let was = ap {B = ℕ} (λ b. cond b 1 0) (subst (λ v. (counter s v).due ≡ true) e h.1.due) in
+      let over = ap {B = ℕ} (λ b. cond b 1 0)
+      (ap (λ (y : System). (counter y c).due) h.2
+      ∙ subst (λ v. (counter (ticked_state config v s) c).due ≡ false) (sym e) (tick_ends s)) in
+      (omega (arith, t, was), omega (arith, t, was, over))
+  ends e s next h is = absurd (false≢true is)
+
+  -- all but its tick and its arrival leave it
+  kept : (e : Event) (s next : System) → OsekStep config app e s next
+      → (is_number c (ticking_counter e) ≡ false) × (is_number (counter_line c) (admitted_line e) ≡ false) → DueAsBefore config app c s next
+  kept e s next =
+      clock_behind config app (λ what. (is_number c (ticking_counter what) ≡ false) × (is_number (counter_line c) (admitted_line what) ≡ false)) (DueAsBefore config app c s) s
+      (record {
+        apart = λ x tasks symbols fresh same. same;
+        same = λ started _. refl;
+        serves = λ t served answer h _. answered config app c s t served answer h;
+        dues = λ d off _. written_other s d _ (ne_eqb d c (λ e. eqb-false (counter_line d) (counter_line c) off.1 (ap counter_line e)));
+        ticks = λ d off _. tick_of_other s d off.0;
+      })
+      e next
 
   balance : (e : Event) (s next : System) → OsekStep config app e s next → Balance e s next
-  balance event.Boot s next h = kept event.Boot s next refl (ap (λ (y : System). (counter y c).due) h.1)
-  balance (event.Admit t) s next h =
-      kept (event.Admit t) s next refl
-      (subst (DueAsBefore config app c s) (sym h.2)
-      (by_suspended (task s t).state (record (activated_state s t) { fresh = t ∷ s.fresh }) s (DueAsBefore config app c s) (λ _. refl) (λ _. refl)))
-  balance (event.Enter t) s next h = kept (event.Enter t) s next refl (ap (λ (y : System). (counter y c).due) h.4)
-  balance (event.Run t func item result) s next h = kept (event.Run t func item result) s next refl (ap (λ (y : System). (counter y c).due) h.1.is)
-  balance (event.Call t served status) s next h =
-      kept (event.Call t served status) s next refl
-      (ap (λ (y : System). (counter y c).due) h.1.2 ∙ answered config app c s t served (GoesOn status h.1.0) h.1.1)
-  balance (event.Left t served) s next h =
-      kept (event.Left t served) s next refl
-      (ap (λ (y : System). (counter y c).due) h.1.2 ∙ answered config app c s t served (Leaves h.1.0) h.1.1)
-  balance (event.Back t) s next h = kept (event.Back t) s next refl (ap (λ (y : System). (counter y c).due) h.4)
-  balance event.Idle s next h = kept event.Idle s next refl (ap (λ (y : System). (counter y c).due) h.3)
-  balance event.Stray s next h = absurd h
-  balance (event.Due d) s next h = by (cases_Bool (d == c))
+  balance e s next h = by (cases_Bool (is_number c (ticking_counter e))) (cases_Bool (is_number (counter_line c) (admitted_line e)))
     where
-      by : ((d == c) ≡ true) ⊎ ((d == c) ≡ false) → Balance (event.Due d) s next
-      by (inl is) =
-          let line = ap {B = ℕ} (λ b. cond b 1 0) (eq-eqb (counter_line d) (counter_line c) (ap counter_line (eqb-true d c is))) in
+      by : (is_number c (ticking_counter e) ≡ true) ⊎ (is_number c (ticking_counter e) ≡ false)
+          → (is_number (counter_line c) (admitted_line e) ≡ true) ⊎ (is_number (counter_line c) (admitted_line e) ≡ false) → Balance e s next
+      by (inl is) line = ends e s next h is
+      by (inr off) (inl is) =
+          let t = ap {B = ℕ} (λ b. cond b 1 0) off in
+          let line = ap {B = ℕ} (λ b. cond b 1 0) is in
           let one = at_most_one (counter next c).due in
-          (omega arith, omega (arith, line, one))
-      by (inr other) = kept (event.Due d) s next refl (ap (λ (y : System). (counter y c).due) h.2 ∙ written_other s d _ other)
-  balance (event.Tick d) s next h = by (cases_Bool (d == c))
-    where
-      by : ((d == c) ≡ true) ⊎ ((d == c) ≡ false) → Balance (event.Tick d) s next
-      by (inl is) =
-          let e = eqb-true d c is in
-          let t = ap {B = ℕ} (λ b. cond b 1 0) is in
-          let was = ap {B = ℕ} (λ b. cond b 1 0) (subst (λ v. (counter s v).due ≡ true) e h.1.due) in
-          let over = ap {B = ℕ} (λ b. cond b 1 0)
-          (ap (λ (y : System). (counter y c).due) h.2
-          ∙ subst (λ v. (counter (ticked_state config v s) c).due ≡ false) (sym e) (tick_ends s)) in
-          (omega (arith, t, was), omega (arith, t, was, over))
-      by (inr other) = kept (event.Tick d) s next other (ap (λ (y : System). (counter y c).due) h.2 ∙ tick_of_other s d other)
+          (omega (arith, t), omega (arith, t, line, one))
+      by (inr off) (inr none) =
+          let t = ap {B = ℕ} (λ b. cond b 1 0) off in
+          let d = ap {B = ℕ} (λ b. cond b 1 0) (kept e s next h (off, none)) in
+          (omega (arith, t), omega (arith, t, d))
 
   pub tick_balance : (x : Stage) → Known config app x
       → (cond (at_tick c x) 1 0 ≤ due_count c x.found)

@@ -78,7 +78,6 @@ module _ (config : Config) (app : App) (h : ℕ) where
   same_turn b c (event.Enter t) may turn = absurd (false≢true turn)
   same_turn b c (event.Back t) may turn = sym (eqb-true t c turn) ∙ eqb-true t b (and_parts (t == b) (declaration config b).non may).0
   same_turn b c (event.Call t served status) may turn = sym (eqb-true t c turn) ∙ eqb-true t b (and_parts (t == b) (is_service served service.GetResource) may).0
-  same_turn b c event.Boot may turn = absurd (false≢true may)
   same_turn b c e may turn = absurd (false≢true may)
 
   pub section_tail : (b at : ℕ) (s : System) (xs : List Stage) → Linked at s xs → AllByRecursion (Known config app) xs → AllByRecursion (IsBusy config h) xs → HasStarted s

@@ -198,7 +198,6 @@ module _ (config : Config) (app : App) (c j : ℕ) where
           → (has_alarm c (activates j) config.alarms ≡ false → activated j x ≡ 0) × (has_alarm c (sets_events j) config.alarms ≡ false → was_set j x ≡ 0)
       by (event.Tick d) step is =
           ticked_none config app j x.found k.valid c x.next (subst (λ w. OsekStep config app (event.Tick w) x.found x.next) (eqb-true d c is) step)
-      by event.Boot step is = absurd (false≢true is)
       by e step is = absurd (false≢true is)
 
   ticks_few : (f : Stage → ℕ) (some : Bool) (most : ℕ) → ((x : Stage) → f x ≤ 1) → ((x : Stage) → Known config app x → at_tick c x ≡ true → some ≡ false → f x ≡ 0)

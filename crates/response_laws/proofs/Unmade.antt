@@ -25,7 +25,7 @@ use Rattle.osek_scheduler.specs.declared.state.TaskState.TheVariants as mode
 use Rattle.osek_scheduler.specs.State.{Task, System, sleeping_task, task}
 use Rattle.osek_scheduler.specs.Apart.{IsActive}
 use Rattle.osek_scheduler.specs.Changes.{changed_task, with_change}
-use Rattle.osek_scheduler.specs.Services.{activated_state, woken_state, with_events, set_events, started_task, acted_state, counted_on_state, ServiceOutcome, GoesOn, Leaves}
+use Rattle.osek_scheduler.specs.Services.{activated_state, woken_state, with_events, set_events, acted_state, counted_on_state, ServiceOutcome, GoesOn, Leaves}
 use Rattle.osek_scheduler.specs.Outcomes.{plan, decision, outcome, with_other, planned_system, shown_outcome}
 use Rattle.osek_scheduler.specs.Steps.{OsekStep, IsServiceStep, autostarted_tasks}
 use Rattle.osek_scheduler.specs.Valid.{InState, IsValid}
@@ -35,6 +35,7 @@ use Rattle.osek_scheduler.proofs.Outcomes.{by_suspended, on_outcome, on_tested, 
 use Rattle.osek_scheduler.proofs.ServiceStates.{IsAfter}
 use Rattle.run_counts.specs.Rounds.{is_left}
 use Rattle.run_counts.proofs.States.{not_suspended}
+use Rattle.run_counts.proofs.StepCases.{record_behind}
 use Rattle.response_laws.specs.Ticks.{activates, has_alarm}
 use Rattle.response_laws.specs.Made.{is_making, makes, has_maker, is_named, is_activating, is_plain, is_made_by_arrivals}
 use Rattle.response_laws.proofs.Ticks.{other_activated, alarms_kept}
@@ -183,33 +184,20 @@ module _ (config : Config) (app : App) (t : ℕ) (is : is_made_by_arrivals confi
   active_other u s active asleep e = not_suspended (task s u).state active (subst (λ v. IsSuspended (task s v)) (sym e) asleep)
 
   pub stays_asleep : (e : Event) (s next : System) → OsekStep config app e s next → (e ≡ event.Admit t → ⊥) → Asleep s → Asleep next
-  stays_asleep event.Boot s next step other asleep = subst Asleep (sym step.1) (not_started config.tasks s.tasks t unstarted asleep)
-  stays_asleep (event.Admit u) s next step other asleep =
-      subst Asleep (sym step.2)
-      (by_suspended (task s u).state (record (activated_state s u) { fresh = u ∷ s.fresh }) s Asleep
-      (λ _. at_task s u t (record (task s u) { state = mode.Ready }) IsSuspended asleep (λ e. absurd (other (ap (λ v. event.Admit v) (sym e))))) (λ _. asleep))
-  stays_asleep (event.Enter u) s next step other asleep =
-      subst Asleep (sym step.4)
-      (at_task s u t (record (started_task app u (task s u).frames (task s u)) { state = mode.Active; raised = (declaration config u).non }) IsSuspended asleep
-      (λ e. absurd (awake (task s u).state step.2 (subst (λ v. IsSuspended (task s v)) e asleep))))
-  stays_asleep (event.Run u func item result) s next step other asleep =
-      subst Asleep (sym step.1.is)
-      (at_task s u t (record (task s u) { registers = step.1.meant.registers; frames = step.1.meant.frames }) IsSuspended asleep
-      (λ e. subst (λ v. IsSuspended (task s v)) e asleep))
-  stays_asleep (event.Call u served status) s next step other asleep =
-      subst Asleep (sym step.1.2) (called_asleep u served s (GoesOn status step.1.0) step.1.1 (active_other u s step.1.1.at.active asleep) asleep)
-  stays_asleep (event.Left u served) s next step other asleep =
-      subst Asleep (sym step.1.2) (called_asleep u served s (Leaves step.1.0) step.1.1 (active_other u s step.1.1.at.active asleep) asleep)
-  stays_asleep (event.Back u) s next step other asleep =
-      subst Asleep (sym step.4)
-      (at_task s u t (record (task s u) { owed = false; raised = (declaration config u).non }) IsSuspended asleep (λ e. subst (λ v. IsSuspended (task s v)) e asleep))
-  stays_asleep event.Idle s next step other asleep = subst Asleep (sym step.3) asleep
-  stays_asleep event.Stray s next step other asleep = absurd step
-  stays_asleep (event.Due c) s next step other asleep = subst Asleep (sym step.2) asleep
-  stays_asleep (event.Tick c) s next step other asleep =
-      subst Asleep (sym step.2)
-      (alarms_kept t IsSuspended (activates t) acted_asleep c 0 config.alarms (counted_on_state c (counter_declaration config c).max s)
-      (no_alarm c config.alarms (not-true (list_any (is_activating t) config.alarms) makers.1)) asleep)
+  stays_asleep e s next step other asleep =
+      record_behind config app t (λ what. what ≡ event.Admit t → ⊥) IsSuspended s
+      (record {
+        same = asleep;
+        boots = λ _ _. not_started config.tasks s.tasks t unstarted asleep;
+        activates = λ _ away. absurd (away refl);
+        enters = λ ready. absurd (awake (task s t).state ready asleep);
+        works = λ new same _. same ∙ asleep;
+        serves = λ u served answer h _. called_asleep u served s answer h (active_other u s h.at.active asleep) asleep;
+        ticks = λ c _.
+            alarms_kept t IsSuspended (activates t) acted_asleep c 0 config.alarms (counted_on_state c (counter_declaration config c).max s)
+            (no_alarm c config.alarms (not-true (list_any (is_activating t) config.alarms) makers.1)) asleep;
+      })
+      e next step other
 
   -- ---- where it has left it is Suspended
 
@@ -288,5 +276,4 @@ module _ (config : Config) (app : App) (t : ℕ) (is : is_made_by_arrivals confi
     where
       own : IsServiceStep config app t served s (Leaves step.1.0)
       own = subst (λ x. IsServiceStep config app x served s (Leaves step.1.0)) (eqb-true u t left) step.1.1
-  left_asleep event.Boot s next step left v w = absurd (false≢true left)
   left_asleep e s next step left v w = absurd (false≢true left)

@@ -2,7 +2,7 @@
 use Rattle.std.proofs.Common.{◌≡◌, ℕ, ◌+◌, ◌<◌, ◌≤◌, ◌⊎◌, ◌==◌, ◌&&◌, ◌||◌, not, List, [], ◌∷◌, ◌++◌, Bool, true, false, cond, length, refl, sym, ap, ◌∙◌, subst, arith, inl, inr, append_assoc, append-nil, Some}
 use Rattle.std.specs.Prelude.{◌≢◌}
 use Rattle.std.specs.List.{AllByRecursion}
-use Rattle.std.proofs.lemmas.Bool.{cases_Bool, cases_eq, true≢false, false≢true, eq-eqb, ne_eqb, eqb-true, eqb-false, and_parts, and_right, and_left, not-true}
+use Rattle.std.proofs.lemmas.Bool.{cases_Bool, cases_eq, true≢false, false≢true, eq-eqb, ne_eqb, eqb-true, and_parts, and_right, and_left, not-true}
 use Rattle.sloth_base.specs.declared.config.Config.{Config}
 use Rattle.sloth_base.specs.declared.app.App.{App}
 use Rattle.sloth_base.specs.declared.app.Op.{Op}
@@ -52,6 +52,7 @@ use Rattle.raised_sections.proofs.Frames.{Served, served_frames}
 use Rattle.response_laws.specs.Turns.{in_turn}
 use Rattle.run_counts.proofs.Awake.{stays_active, entry_active}
 use Rattle.response_laws.proofs.RoundSums.{waiting_turn}
+use Rattle.run_counts.proofs.TaskCases.{frames_kept}
 use Rattle.response_laws.proofs.Steps.{turn_active, active_declared}
 use Rattle.response_laws.proofs.Linked.{Known, Linked, linked_behind, each_append, stages_linked, stages_known}
 
@@ -184,12 +185,7 @@ module _ (config : Config) (app : App) (w : Facts config app) (t : ℕ) where
       by : (u ≡ t) ⊎ (u ≡ t → ⊥) → View (event.Enter u) s next
       by (inl e) = rests refl refl refl (entered e)
       by (inr n) = rests refl refl refl (eff.others t (λ e. n (sym e))).frames
-  view event.Boot s next step v stands = rests refl refl refl (frame_effect config app w s next v event.Boot step t).frames
-  view (event.Admit u) s next step v stands = rests refl refl refl (frame_effect config app w s next v (event.Admit u) step t).frames
-  view (event.Due c) s next step v stands = rests refl refl refl (frame_effect config app w s next v (event.Due c) step t).frames
-  view (event.Tick c) s next step v stands = rests refl refl refl (frame_effect config app w s next v (event.Tick c) step t).frames
-  view event.Idle s next step v stands = rests refl refl refl (frame_effect config app w s next v event.Idle step t).frames
-  view event.Stray s next step v stands = absurd step
+  view e s next step v stands = rests refl refl refl (frame_effect config app w s next v e step t).frames
 
   -- ---- a round
 
@@ -413,22 +409,7 @@ module _ (config : Config) (app : App) (w : Facts config app) (t : ℕ) where
 
   pub frames_same : (e : Event) (s next : System) → OsekStep config app e s next → IsValid config app s → is_turn t e ≡ false → is_entry t e ≡ false
       → (task next t).frames ≡ (task s t).frames
-  frames_same (event.Run u func item result) s next step v away out =
-      ((frame_effect config app w s next v (event.Run u func item result) step).others t (λ e. eqb-false u t away (sym e))).frames
-  frames_same (event.Call u served status) s next step v away out =
-      ((frame_effect config app w s next v (event.Call u served status) step).others t (λ e. eqb-false u t away (sym e))).frames
-  frames_same (event.Left u served) s next step v away out =
-      ((frame_effect config app w s next v (event.Left u served) step).others t (λ e. eqb-false u t away (sym e))).frames
-  frames_same (event.Back u) s next step v away out =
-      ((frame_effect config app w s next v (event.Back u) step).others t (λ e. eqb-false u t away (sym e))).frames
-  frames_same (event.Enter u) s next step v away out =
-      ((frame_effect config app w s next v (event.Enter u) step).others t (λ e. eqb-false u t out (sym e))).frames
-  frames_same event.Boot s next step v away out = (frame_effect config app w s next v event.Boot step t).frames
-  frames_same (event.Admit u) s next step v away out = (frame_effect config app w s next v (event.Admit u) step t).frames
-  frames_same (event.Due c) s next step v away out = (frame_effect config app w s next v (event.Due c) step t).frames
-  frames_same (event.Tick c) s next step v away out = (frame_effect config app w s next v (event.Tick c) step t).frames
-  frames_same event.Idle s next step v away out = (frame_effect config app w s next v event.Idle step t).frames
-  frames_same event.Stray s next step v away out = absurd step
+  frames_same e s next step v away out = (frames_kept app s next t e (frame_effect config app w s next v e step) away out).frames
 
   -- an Active task has frames, and stands where a walk leads
   active_reached : (s : System) → IsValid config app s → Placed app s → IsActive s t → IsReached app t (standing (task s t).frames)
@@ -482,7 +463,6 @@ module _ (config : Config) (app : App) (w : Facts config app) (t : ℕ) where
       left : (e : Event) → OsekStep config app e x.found x.next → is_left t e ≡ true → Stands x.next
       left (event.Left u served) step is =
           inr (left_stands served x.found x.next (subst (λ v. OsekStep config app (event.Left v served) x.found x.next) (eqb-true u t is) step) k.valid p)
-      left event.Boot step is = absurd (false≢true is)
       left e step is = absurd (false≢true is)
 
       resting : ((task x.found t).frames ≡ []) ⊎ BehindWait app t (standing (task x.found t).frames)
@@ -524,7 +504,6 @@ module _ (config : Config) (app : App) (w : Facts config app) (t : ℕ) where
           by (leaves is turn) = absurd (false≢true is)
           by (returns is turn stays quiet same) = same
           by (rests away stays quiet same) = same
-      same_at_entry event.Boot step entry begun = absurd (false≢true entry)
       same_at_entry e step entry begun = absurd (false≢true entry)
 
       not_active : (e : Event) → OsekStep config app e x.found x.next → is_entry t e ≡ true → IsActive x.found t → ⊥
@@ -533,7 +512,6 @@ module _ (config : Config) (app : App) (w : Facts config app) (t : ℕ) where
         where
           differ : mode.Ready ≡ mode.Active → ⊥
           differ e = cc
-      not_active event.Boot step entry active = false≢true entry
       not_active e step entry active = absurd (false≢true entry)
 
       entered : at_entry t x ≡ true → has_frames (task x.found t).frames ≡ true → Stands x.found → BehindWait app t (standing (task x.next t).frames)
@@ -549,7 +527,6 @@ module _ (config : Config) (app : App) (w : Facts config app) (t : ℕ) where
           subst (λ v. OsekStep config app (event.Call v served status) x.found x.next) (eqb-true u t both.0) step in
           behind_own served x.found (GoesOn status own.1.0) x.next own.1.1 k.valid p (same_service served service.WaitEvent both.1)
           (frame_effect config app w x.found x.next k.valid (event.Call t served status) own).steps.walks
-      waited event.Boot step waits = absurd (false≢true waits)
       waited e step waits = absurd (false≢true waits)
 
       which : ((at_entry t x && has_frames (task x.found t).frames) ≡ true) ⊎ ((at_entry t x && has_frames (task x.found t).frames) ≡ false)
@@ -588,7 +565,6 @@ module _ (config : Config) (app : App) (w : Facts config app) where
         where
           empty : entry_frame app (body_of app.funcs t) ∷ [] ≡ [] → ⊥
           empty e = cc
-      by event.Boot step entry fresh = absurd (false≢true entry)
       by e step entry fresh = absurd (false≢true entry)
 
   -- behind a wait it has frames
@@ -604,7 +580,6 @@ module _ (config : Config) (app : App) (w : Facts config app) where
           by (leaves is turn) = false≢true is
           by (returns is turn stays quiet same) = false≢true is
           by (rests away stays quiet same) = begun_stands (task x.found t).frames begun (sym same ∙ none)
-      entered begun event.Boot step entry none = false≢true entry
       entered begun e step entry none = absurd (false≢true entry)
 
       waited : goes_on_waiting t x.stamped.event ≡ true → (task x.next t).frames ≢ []
@@ -626,7 +601,6 @@ module _ (config : Config) (app : App) (w : Facts config app) where
             where
               left_apart : (e : Event) → is_left t e ≡ true → goes_on_waiting t e ≡ true → ⊥
               left_apart (event.Left u served) is waits = false≢true waits
-              left_apart event.Boot is waits = false≢true is
               left_apart e is waits = absurd (false≢true is)
           by (returns is turn stays quiet same) = true≢false (sym waits ∙ quiet)
           by (rests away stays quiet same) = true≢false (sym waits ∙ quiet)

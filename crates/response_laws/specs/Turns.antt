@@ -4,7 +4,7 @@ use Rattle.sloth_base.specs.Options.{is_number}
 use Rattle.sloth_base.specs.declared.config.Config.{Config}
 use Rattle.sloth_base.specs.declared.event.Event.{Event}
 use Rattle.sloth_base.specs.declared.event.Event.TheVariants as event
-use Rattle.sloth_base.specs.Events.{admitted_line}
+use Rattle.sloth_base.specs.Events.{admitted_line, named_task}
 use Rattle.osek_scheduler.specs.State.{Task, task}
 use Rattle.osek_scheduler.specs.Next.{is_ready}
 use Rattle.event_weights.specs.Events.{has_frames}
@@ -35,19 +35,17 @@ at_tick c x = is_number c (ticking_counter x.stamped.event)
 abbrev pub at_admission : (line : ℕ) → Stage → Bool
 at_admission line x = is_number line (admitted_line x.stamped.event)
 
+-- it is no task of at least the static priority of h
+abbrev pub is_none_over : Config → (h : ℕ) → Option ℕ → Bool
+is_none_over config h None = true
+is_none_over config h (Some t) = not (is_over config h t)
+
 -- the event is neither an admission nor a tick, nor the entry or in a turn of a task of at least the static priority of h
 abbrev pub is_other_event : Config → (h : ℕ) → Event → Bool
 is_other_event config h (event.Admit t) = false
 is_other_event config h (event.Due c) = false
 is_other_event config h (event.Tick c) = false
-is_other_event config h (event.Enter t) = not (is_over config h t)
-is_other_event config h (event.Run t func item result) = not (is_over config h t)
-is_other_event config h (event.Call t served status) = not (is_over config h t)
-is_other_event config h (event.Left t served) = not (is_over config h t)
-is_other_event config h (event.Back t) = not (is_over config h t)
-is_other_event config h event.Boot = true
-is_other_event config h event.Idle = true
-is_other_event config h event.Stray = true
+is_other_event config h e = is_none_over config h (named_task e)
 
 abbrev pub is_other : Config → (h : ℕ) → Stage → Bool
 is_other config h x = is_other_event config h x.stamped.event

@@ -1,5 +1,5 @@
 -- A task is Active from its entry until it leaves.
-use Rattle.std.proofs.Common.{◌≡◌, ℕ, ◌==◌, ◌&&◌, ◌||◌, Bool, true, false, cond, is_none, ◌∷◌, refl, sym, ap, ◌∙◌, ◌<◌, subst, Option, Some, None, bit_and, bit_or}
+use Rattle.std.proofs.Common.{◌≡◌, ℕ, ◌==◌, ◌&&◌, ◌||◌, Bool, true, false, cond, is_none, refl, sym, ap, ◌∙◌, ◌<◌, subst, Option, Some, None, bit_and, bit_or}
 use Rattle.std.proofs.lemmas.Bool.{false≢true, true≢false, eq-eqb, eqb-true, and_parts}
 use Rattle.std.proofs.lemmas.List.{get_or-set_same}
 use Rattle.sloth_base.specs.declared.config.Action.{Action}
@@ -28,10 +28,12 @@ use Rattle.osek_scheduler.specs.Valid.{IsValid}
 use Rattle.osek_scheduler.specs.Apart.{IsActive}
 use Rattle.osek_scheduler.proofs.Apart.{at_task}
 use Rattle.osek_scheduler.proofs.Outcomes.{by_suspended, on_outcome, on_tested}
+use Rattle.osek_scheduler.proofs.ServiceStates.{IsAfter}
 use Rattle.osek_scheduler.proofs.Ticking.{ticked_keeps}
 use Rattle.run_counts.specs.Rounds.{is_left}
 use Rattle.run_counts.specs.Stages.{is_entry}
 use Rattle.run_counts.proofs.States.{not_suspended, not_waiting}
+use Rattle.run_counts.proofs.StepCases.{outcome_event, record_behind}
 
 -- a change that leaves its task Active
 abbrev is_awake : TaskChange → Bool
@@ -154,35 +156,25 @@ module _ (config : Config) (app : App) (t : ℕ) where
   called u served s answer h active = subst (StaysSo t u s active) h.is (service_awake t u s active config served h.call.object h.call.mask)
 
   pub stays_active : (e : Event) (s next : System) → OsekStep config app e s next → IsValid config app s → is_left t e ≡ false → IsActive s t → IsActive next t
-  stays_active event.Boot s next step v away active = absurd (not_suspended (task s t).state active (v.asleep step.0 t))
-  stays_active (event.Admit u) s next step v away active =
-      subst (λ (x : System). IsActive x t) (sym step.2)
-      (by_suspended (task s u).state (record (activated_state s u) { fresh = u ∷ s.fresh }) s (λ (x : System). IsActive x t)
-      (λ asleep. activated_awake t u s asleep active) (λ _. active))
-  stays_active (event.Enter u) s next step v away active =
-      subst (λ (x : System). IsActive x t) (sym step.4)
-      (at_task s u t (record (started_task app u (task s u).frames (task s u)) { state = mode.Active; raised = (declaration config u).non })
-      (λ k. k.state ≡ mode.Active) active (λ _. refl))
-  stays_active (event.Run u func item result) s next step v away active =
-      subst (λ (x : System). IsActive x t) (sym step.1.is)
-      (at_task s u t (record (task s u) { registers = step.1.meant.registers; frames = step.1.meant.frames }) (λ k. k.state ≡ mode.Active) active
-      (λ e. let P : ℕ → Type 0 = λ w. (task s w).state ≡ mode.Active in subst P e active))
-  stays_active (event.Call u served status) s next step v away active =
-      subst (λ (x : System). IsActive x t) (sym step.1.2) (called u served s (GoesOn status step.1.0) step.1.1 active)
-  stays_active (event.Left u served) s next step v away active =
-      subst (λ (x : System). IsActive x t) (sym step.1.2)
-      (called u served s (Leaves step.1.0) step.1.1 active (λ e. true≢false (sym (eq-eqb u t e) ∙ away)))
-  stays_active (event.Back u) s next step v away active =
-      subst (λ (x : System). IsActive x t) (sym step.4)
-      (at_task s u t (record (task s u) { owed = false; raised = (declaration config u).non }) (λ k. k.state ≡ mode.Active) active
-      (λ e. let P : ℕ → Type 0 = λ w. (task s w).state ≡ mode.Active in subst P e active))
-  stays_active event.Idle s next step v away active = subst (λ (x : System). IsActive x t) (sym step.3) active
-  stays_active event.Stray s next step v away active = absurd step
-  stays_active (event.Due c) s next step v away active = subst (λ (x : System). IsActive x t) (sym step.2) active
-  stays_active (event.Tick c) s next step v away active =
-      subst (λ (x : System). IsActive x t) (sym step.2)
-      (ticked_keeps (λ (x : System). IsActive x t) config
-      (record { counts = λ x d lt h. h; leaves = λ x a left h. h; acts = λ x a lt h. acted_awake t (alarm_declaration config a).action x h }) s c step.1.declared active)
+  stays_active e s next step v away active =
+      record_behind config app t (λ what. is_left t what ≡ false) (λ k. k.state ≡ mode.Active) s
+      (record {
+        same = active;
+        boots = λ off _. absurd (not_suspended (task s t).state active (v.asleep off t));
+        activates = λ asleep _. absurd (not_suspended (task s t).state active asleep);
+        enters = λ _. refl;
+        works = λ new same _. same ∙ active;
+        serves = λ u served answer h. behind u served answer (called u served s answer h active);
+        ticks = λ c tick.
+            ticked_keeps (λ (x : System). IsActive x t) config
+            (record { counts = λ x d lt h. h; leaves = λ x a left h. h; acts = λ x a lt h. acted_awake t (alarm_declaration config a).action x h }) s c tick.declared active;
+      })
+      e next step away
+    where
+      behind : (u : ℕ) (served : Service) (answer : ServiceOutcome) → StaysSo t u s active answer → is_left t (outcome_event u served answer) ≡ false
+          → IsAfter (λ (x : System). IsActive x t) answer
+      behind u served (GoesOn status after) h stays = h
+      behind u served (Leaves after) h stays = h (λ e. true≢false (sym (eq-eqb u t e) ∙ stays))
 
   -- an entry leaves it Active
   pub entry_active : (e : Event) (s next : System) → OsekStep config app e s next → IsValid config app s → is_entry t e ≡ true → IsActive next t
@@ -192,5 +184,4 @@ module _ (config : Config) (app : App) (t : ℕ) where
       let placed_new : task next t ≡ new =
       ap (λ (y : System). task y t) there.4 ∙ get_or-set_same s.tasks t new sleeping_task (subst (λ n. t < n) (sym v.count) there.1.declared) in
       ap (λ (k : Task). k.state) placed_new
-  entry_active event.Boot s next step v is = absurd (false≢true is)
   entry_active e s next step v is = absurd (false≢true is)

@@ -7,6 +7,8 @@ pub mod Spending
 pub mod Owing
 pub mod Rounded
 pub mod States
+pub mod StepCases
+pub mod TaskCases
 pub mod Awake
 pub mod Running
 pub mod Owned

@@ -1,7 +1,7 @@
 -- A task's own counts in each stage of a run are those that its events are charged with, and those of the item that it has begun as it is preempted.
 use Rattle.std.proofs.Common.{◌≡◌, ◌∙◌, ℕ, suc, ◌+◌, ◌-◌, ◌==◌, ◌&&◌, ◌<◌, ◌≤◌, ◌⊎◌, List, [], ◌∷◌, Bool, true, false, cond, length, is_some, refl, sym, ap, subst, arith, inl, inr, AllPairs}
 use Rattle.std.specs.List.{AllByRecursion}
-use Rattle.std.proofs.lemmas.Bool.{cases_Bool, cases_eq, eq-eqb, ne_eqb}
+use Rattle.std.proofs.lemmas.Bool.{cases_Bool, cases_eq, eq-eqb, ne_eqb, false≢true}
 use Rattle.std.proofs.lemmas.List.Elements.{recursion_from_All}
 use Rattle.sloth_base.specs.declared.config.Config.{Config}
 use Rattle.sloth_base.specs.declared.app.App.{App}
@@ -10,8 +10,7 @@ use Rattle.sloth_base.specs.declared.event.Event.{Event}
 use Rattle.sloth_base.specs.declared.event.Event.TheVariants as event
 use Rattle.sloth_base.specs.declared.event.Stamped.{Stamped}
 use Rattle.sloth_base.specs.Events.{admitted_line}
-use Rattle.osek_scheduler.specs.declared.state.TaskState.TheVariants as mode
-use Rattle.osek_scheduler.specs.State.{System, opening}
+use Rattle.osek_scheduler.specs.State.{System, task, opening}
 use Rattle.osek_scheduler.specs.InTime.{IsStamped, StandsBefore, IsOrdered, InTime, is_admit}
 use Rattle.osek_scheduler.specs.Steps.{OsekStep}
 use Rattle.osek_scheduler.specs.Runs.{AreStepsTo}
@@ -28,6 +27,8 @@ use Rattle.run_counts.specs.Stages.{Stage, is_running, is_turn, unseen, spanned,
 use Rattle.run_counts.specs.OwnCounts.{IsOwn, RunsOwnWhatIsCharged}
 use Rattle.run_counts.proofs.Running.{others_rest, active_declared, above_runs, none_beside}
 use Rattle.run_counts.proofs.Staged.{behind_is}
+use Rattle.run_counts.proofs.States.{not_suspended}
+use Rattle.run_counts.proofs.StepCases.{Outside, boot_event, idle_event, arrival_event, tick_event, outside_of}
 
 nothing : (b : Bool) (u : ℕ) → u ≡ 0 → cond b u 0 ≡ 0
 nothing true u e = e
@@ -40,6 +41,10 @@ module _ (config : Config) (app : App) where
   abbrev Owns : (t u p c : ℕ) → Event → System → Type 0
   Owns t u p c what s =
       cond (is_running config s t) u 0 + cond (is_turn t what) p 0 ≡ cond (is_turn t what) c 0 + cond (takes_line what && is_running config s t) u 0
+
+  -- a task at rest
+  rest_owns : (t u : ℕ) (s : System) → (IsActive s t → ⊥) → cond (is_running config s t) u 0 ≡ 0
+  rest_owns t u s n = ap (λ b. cond b u 0) (others_rest config s t n)
 
   -- an event of task v, which runs
   turn_owns : (t v u p c : ℕ) (s : System) → Ordered config s → Above config v s → IsActive s v → v < length config.tasks → c ≡ u + p
@@ -62,13 +67,13 @@ module _ (config : Config) (app : App) where
           let f = ap (λ b. cond b c 0) no in
           omega (arith, a, d, f)
 
-  -- an event that finds the task at rest
-  rest_owns : (t u : ℕ) (s : System) → (IsActive s t → ⊥) → cond (is_running config s t) u 0 + 0 ≡ 0 + 0
-  rest_owns t u s n = let a = ap (λ b. cond b u 0) (others_rest config s t n) in omega (arith, a)
-
-  -- an admission
-  admit_owns : (t u : ℕ) (s : System) → u ≡ 0 → cond (is_running config s t) u 0 + 0 ≡ 0 + 0
-  admit_owns t u s e = let a = nothing (is_running config s t) u e in omega (arith, a)
+  -- an event that is no task's, and takes no line
+  outside_owns : (t u : ℕ) (what : Event) (s next : System) → IsValid config app s → Ordered config s → takes_line what ≡ false
+      → (is_some (admitted_line what) ≡ true → u ≡ 0) → Outside config s next what → cond (is_running config s t) u 0 ≡ 0
+  outside_owns t u what s next valid o away none (boot_event is off gives) = rest_owns t u s (λ active. not_suspended (task s t).state active (valid.asleep off t))
+  outside_owns t u what s next valid o away none (idle_event idle ticks gives) = rest_owns t u s (λ active. idle t (active_declared config s t o.count active) (inr active))
+  outside_owns t u what s next valid o away none (arrival_event line is) = nothing (is_running config s t) u (none (ap is_some is))
+  outside_owns t u what s next valid o away none (tick_event c is) = absurd (false≢true (sym away ∙ ap takes_line is))
 
   owns : (what : Event) (t u p c : ℕ) (s next : System) → IsValid config app s → Ordered config s → OsekStep config app what s next → c ≡ u + p
       → (is_some (admitted_line what) ≡ true → u ≡ 0) → Owns t u p c what s
@@ -82,14 +87,8 @@ module _ (config : Config) (app : App) where
       let f = effect config app s next o (event.Back v) step in turn_owns t v u p c s o f.moves.acts.above f.was f.moves.top.declared parts
   owns (event.Enter v) t u p c s next valid o step parts none = omega arith
   owns (event.Tick d) t u p c s next valid o step parts none = omega arith
-  owns event.Boot t u p c s next valid o step parts none = rest_owns t u s (λ active. differ (sym (valid.asleep step.0 t) ∙ active))
-    where
-      differ : mode.Suspended ≡ mode.Active → ⊥
-      differ k = cc
-  owns event.Idle t u p c s next valid o step parts none = rest_owns t u s (λ active. step.1 t (active_declared config s t o.count active) (inr active))
-  owns (event.Admit v) t u p c s next valid o step parts none = admit_owns t u s (none refl)
-  owns (event.Due d) t u p c s next valid o step parts none = admit_owns t u s (none refl)
-  owns event.Stray t u p c s next valid o step parts none = absurd step
+  owns what t u p c s next valid o step parts none =
+      let own = outside_owns t u what s next valid o refl none (outside_of config app what s next step refl refl) in omega (arith, own)
 
 -- ---- a stage
 

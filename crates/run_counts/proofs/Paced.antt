@@ -52,7 +52,7 @@ module _ (config : Config) (view : View) (arrivals : List Arrival) (few_counters
   }
   shown_by kind.Idle mark step at before near few = record {
     to = step.count;
-    goes = one_event config at step.count step.count event.Idle refl (λ _. omega (arith, near, few)) (omega arith) (no_tick config _ refl);
+    goes = one_event config at step.count step.count _ refl (λ _. omega (arith, near, few)) (omega arith) (no_tick config _ refl);
     near = omega arith;
   }
   shown_by kind.Jump mark step at before near few = record { to = at; goes = nothing config at; near = omega (arith, near) }

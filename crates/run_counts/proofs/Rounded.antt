@@ -166,12 +166,7 @@ module _ (config : Config) (app : App) (size : ItemSizes) (longest : ℕ) (weigh
       others_fit counts (next_ending weights (task s u).frames) t u s next (λ e. true≢false (sym (eq-eqb u t e) ∙ stays))
       (frame_effect config app w s next v (event.Left u served) step).others
   fits (event.Enter u) counts t s next v step within stays = kept_fits t s next (entered_owes config app t u s next step)
-  fits event.Boot counts t s next v step within stays = kept_fits t s next (frame_effect config app w s next v event.Boot step t).owed
-  fits (event.Admit u) counts t s next v step within stays = kept_fits t s next (frame_effect config app w s next v (event.Admit u) step t).owed
-  fits (event.Due c) counts t s next v step within stays = kept_fits t s next (frame_effect config app w s next v (event.Due c) step t).owed
-  fits (event.Tick c) counts t s next v step within stays = kept_fits t s next (frame_effect config app w s next v (event.Tick c) step t).owed
-  fits event.Idle counts t s next v step within stays = kept_fits t s next (frame_effect config app w s next v event.Idle step t).owed
-  fits event.Stray counts t s next v step within stays = absurd step
+  fits what counts t s next v step within stays = kept_fits t s next (frame_effect config app w s next v what step t).owed
 
   -- without what stands behind it
   abbrev pub FitsAlone : (counts t : ℕ) → Event → System → Type 0

@@ -53,11 +53,7 @@ module _ (config : Config) (app : App) (size : ItemSizes) (weights : List BodyWe
       omega (arith, fits, le)
   within (event.Back t) found next step later = omega (arith, some)
   within (event.Tick c) found next step later = ticks c step.1.declared
-  within (event.Run t func item result) found next step later = omega arith
-  within (event.Admit t) found next step later = omega arith
-  within (event.Due c) found next step later = omega arith
-  within event.Idle found next step later = omega arith
-  within event.Stray found next step later = omega arith
+  within e found next step later = omega arith
 
   pub stretches_within : AreStretchesWithin config app limit
   stretches_within = record { some = omega (arith, some); each = within }
