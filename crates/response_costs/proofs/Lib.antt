@@ -18,5 +18,5 @@ mod Naming
 mod CleanRounds
 mod OneSums
 mod OneWeights
-mod SameCosts
+pub mod SameCosts
 pub mod OneCosts

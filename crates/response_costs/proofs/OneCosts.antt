@@ -40,7 +40,7 @@ use Rattle.response_costs.proofs.OneWeights.{same_weights}
 -- ---- lists
 
 module _ {X : Type 0} (n : ℕ) (d : X) (Is : ℕ → X → Type 0) where
-  same_each : ((i : ℕ) (x y : X) → i < n → Is i x → Is i y → x ≡ y) → (one other : List X) → AreEach n d Is one → AreEach n d Is other → one ≡ other
+  pub same_each : ((i : ℕ) (x y : X) → i < n → Is i x → Is i y → x ≡ y) → (one other : List X) → AreEach n d Is one → AreEach n d Is other → one ≡ other
   same_each same one other a b =
       ext_get_or d one other (a.count ∙ sym b.count)
       (λ i h.
@@ -61,20 +61,20 @@ module _ (config : Config) (app : App) (load : List Entry) where
           let is = some.2 in
           omega (arith, le, is)
 
-  one_greatest : (t : ℕ) (path : Service → ℕ) (n m : ℕ) → IsGreatest app t path n → IsGreatest app t path m → n ≡ m
+  pub one_greatest : (t : ℕ) (path : Service → ℕ) (n m : ℕ) → IsGreatest app t path n → IsGreatest app t path m → n ≡ m
   one_greatest t path n m a b =
       let le = within t path n m a b in
       let ge = within t path m n b a in
       omega (arith, le, ge)
 
-  one_services : (j k : ℕ) (x y : Services) → AreServices app j k x → AreServices app j k y → x ≡ y
+  pub one_services : (j k : ℕ) (x y : Services) → AreServices app j k x → AreServices app j k y → x ≡ y
   one_services j k x y a b =
       same_services x y (same_from_decides x.activates y.activates a.activates b.activates) (same_from_decides x.chains y.chains a.chains b.chains)
       (same_from_decides x.sets_events y.sets_events a.sets_events b.sets_events)
 
   -- ---- rounds
 
-  one_rounds : (clean extended : Bool) (t : ℕ) (weights : List BodyWeights) (x y : RoundSums) → AreRounds app clean extended t weights x → AreRounds app clean extended t weights y → x ≡ y
+  pub one_rounds : (clean extended : Bool) (t : ℕ) (weights : List BodyWeights) (x y : RoundSums) → AreRounds app clean extended t weights x → AreRounds app clean extended t weights y → x ≡ y
   one_rounds true true t weights x y a b = same_rounds weights (IsFirstRound app t) (IsLaterRound app t) x y a b
   one_rounds true false t weights x y a b =
       let first : x.first ≡ y.first =
@@ -86,7 +86,7 @@ module _ (config : Config) (app : App) (load : List Entry) where
       same_both x y first (a.1 ∙ (first ∙ sym b.1))
 
   -- of one that is clean just where the other is
-  rounds_at : (v w extended : Bool) (t : ℕ) (weights : List BodyWeights) (x : RoundSums) → v ≡ w → AreRounds app v extended t weights x → AreRounds app w extended t weights x
+  pub rounds_at : (v w extended : Bool) (t : ℕ) (weights : List BodyWeights) (x : RoundSums) → v ≡ w → AreRounds app v extended t weights x → AreRounds app w extended t weights x
   rounds_at v w extended t weights x e h = subst (λ u. AreRounds app u extended t weights x) e h
 
   -- ---- tasks
@@ -105,7 +105,7 @@ module _ (config : Config) (app : App) (load : List Entry) where
 
   -- ---- makings
 
-  one_made : (clean : Bool) (k : ℕ) (c : Counted) (once : Bool) (f n g m : Option ℕ) → AreMade config app load clean k c once f n → AreMade config app load clean k c once g m
+  pub one_made : (clean : Bool) (k : ℕ) (c : Counted) (once : Bool) (f n g m : Option ℕ) → AreMade config app load clean k c once f n → AreMade config app load clean k c once g m
       → (f ≡ g) × (n ≡ m)
   one_made clean k c once f n g m a b =
       let told = one_rounds clean (declaration config k).extended k (counted_weights c app) a.0 b.0 a.1 b.1 in
@@ -134,7 +134,7 @@ module _ (config : Config) (app : App) (load : List Entry) where
 
   -- ---- sections
 
-  one_section : (weights : List BodyWeights) (h k : ℕ) (x y : SectionCosts) → k < length config.tasks → IsTaskSection config app load weights h k x → IsTaskSection config app load weights h k y → x ≡ y
+  pub one_section : (weights : List BodyWeights) (h k : ℕ) (x y : SectionCosts) → k < length config.tasks → IsTaskSection config app load weights h k x → IsTaskSection config app load weights h k y → x ≡ y
   one_section weights h k x y there a b = by (cases_lt (static_priority config k) (static_priority config h))
     where
       lower : IsSectionCosts config app load weights h k x → IsSectionCosts config app load weights h k y → x ≡ y
@@ -148,7 +148,7 @@ module _ (config : Config) (app : App) (load : List Entry) where
           let not_lower : ¬ (IsLower config h k) = λ l. let lt = l.1 in omega (arith, lt, le) in
           a.1 not_lower ∙ sym (b.1 not_lower)
 
-  one_section_made : (h k : ℕ) (once : Bool) (c : Counted) (m n : Option ℕ) → IsSectionMade config app load h k once c m → IsSectionMade config app load h k once c n → m ≡ n
+  pub one_section_made : (h k : ℕ) (once : Bool) (c : Counted) (m n : Option ℕ) → IsSectionMade config app load h k once c m → IsSectionMade config app load h k once c n → m ≡ n
   one_section_made h k true c m n a b = a.2 ∙ (ap (λ d. Some (one_if d)) (same_from_decides a.0 b.0 a.1 b.1) ∙ sym b.2)
   one_section_made h k false c m n a b =
       a.2 ∙ (ap (λ s. many (work load k) s) (one_told (IsSection config app h k) (counted_weights c app) a.0 b.0 a.1 b.1) ∙ sym b.2)
@@ -177,7 +177,7 @@ module _ (config : Config) (app : App) (load : List Entry) where
 
   -- ---- alarms
 
-  one_alarm : (i : ℕ) (x y : AlarmCosts) → IsAlarm config app i x → IsAlarm config app i y → x ≡ y
+  pub one_alarm : (i : ℕ) (x y : AlarmCosts) → IsAlarm config app i x → IsAlarm config app i y → x ≡ y
   one_alarm i x y a b =
       same_alarm x y (a.counter ∙ sym b.counter) (a.task ∙ sym b.task) (a.sets_events ∙ sym b.sets_events) (a.time ∙ sym b.time) (a.cycle ∙ sym b.cycle)
       (same_from_decides x.is_set y.is_set a.is_set b.is_set) (same_from_decides x.is_cancelled y.is_cancelled a.is_cancelled b.is_cancelled)

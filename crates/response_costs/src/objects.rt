@@ -12,14 +12,12 @@ use load_text::{Entry, distance_of};
 use response_bounds::costs::{AlarmCosts, CounterCosts};
 use sloth_base::app::{App, Func};
 use sloth_base::config::{Action, Config};
+use sloth_base::lines::FIRST_COUNTER_LINE;
 use sloth_base::memory::NoMemory;
 use sloth_base::service::Service;
 use std::alloc::Global;
 use text_pieces::growth::push;
 use walk_sums::bodies::function_at;
-
-/// The line of the first counter.
-const FIRST_COUNTER_LINE: u8 = 30;
 
 fn counter(config: &Config, load: &[Entry], number: usize) -> CounterCosts
     requires few { length config.now.counters ≤ counter_limit }

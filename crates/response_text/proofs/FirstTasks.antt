@@ -42,6 +42,14 @@ same_lines config app load one other (suc n) e =
     ap (λ l. l ++ response_line config app load n (response_at one n)) (same_lines config app load one other n (λ t lt. e t (omega (arith, lt))))
     ∙ ap (λ l. response_lines config app load other n ++ l) (ap (response_line config app load n) (e n (omega arith)))
 
+pub same_run_lines : (config : Config) (app : App) (load : List Entry) (one other : List (Option ℕ)) (n : ℕ)
+    → ((t : ℕ) → t < n → response_at one t ≡ response_at other t) → run_lines config app load one n ≡ run_lines config app load other n
+unfolding run_lines
+same_run_lines config app load one other zero e = refl
+same_run_lines config app load one other (suc n) e =
+    ap (λ l. l ++ run_line config app load n (response_at one n)) (same_run_lines config app load one other n (λ t lt. e t (omega (arith, lt))))
+    ∙ ap (λ l. run_lines config app load other n ++ l) (ap (run_line config app load n) (e n (omega arith)))
+
 pub same_open : (load : List Entry) (one other : List (Option ℕ)) (n : ℕ) → ((t : ℕ) → t < n → response_at one t ≡ response_at other t)
     → has_open load one n ≡ has_open load other n
 same_open load one other zero e = refl

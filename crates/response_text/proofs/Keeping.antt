@@ -1,5 +1,5 @@
 -- Runs keep what is told.
-use Rattle.std.proofs.Common.{◌≡◌, ◌∙◌, ℕ, ◌+◌, true, List, length, Option, Some, ap, subst}
+use Rattle.std.proofs.Common.{◌≡◌, ◌∙◌, ℕ, ◌+◌, true, List, length, Option, Some, sym, ap, subst}
 use Rattle.std.proofs.lemmas.Bool.{and_parts, leb-true}
 use Rattle.std.proofs.lemmas.List.{length-map}
 use Rattle.sloth_base.specs.declared.config.Config.{Config}
@@ -17,11 +17,13 @@ use Rattle.trace_text.specs.ArrivalsText.{owners_read}
 use Rattle.sim_induction.specs.Sound.{events_of}
 use Rattle.run_windows.specs.RunWindows.{IsRunResponse}
 use Rattle.response_laws.specs.Made.{is_made_by_arrivals}
+use Rattle.response_laws.specs.SoundRuns.{IsLongestItem, NoStretchIsAbove}
 use Rattle.response_laws.proofs.Admissions.{admissions_find_suspended}
 use Rattle.run_responses.proofs.Meeting.{some_said, images_meet_bounds}
 use Rattle.run_costs.specs.declared.record.RunCosts.{RunCosts}
 use Rattle.run_costs.specs.RunRecord.{IsRunRecord}
-use Rattle.response_text.specs.Lines.{is_within_limit, keeps_arrivals, response_at}
+use Rattle.run_costs.proofs.Sizes.{longest_is, late_is}
+use Rattle.response_text.specs.Lines.{is_within_limit, keeps_arrivals}
 use Rattle.response_text.specs.RunResponseText.{AreRunResponses, RunsKeepResponses, RunsLoseNone}
 
 -- the owners of lines are those whose names are read
@@ -37,8 +39,10 @@ pub runs_keep : (config : Config) (app : App) (load : List Entry) → WellFormed
     → RunsKeepResponses config app load costs.longest costs.late responses
 runs_keep config app load code in_load costs are responses all image arrivals n h r cuts sound weighed pace come few keeps cut works there told =
     let is : IsRunResponse costs.longest costs.late costs.costs h (Some r) = subst (IsRunResponse costs.longest costs.late costs.costs h) told (all.each h there) in
-    images_meet_bounds config app image load arrivals n costs.late costs.longest h r cuts costs.costs code (config, code.in_range) sound weighed pace are.longest are.late come few in_load keeps cut works
-    are.costs there is.0 is.1
+    let item : IsLongestItem app costs.longest = subst (IsLongestItem app) (sym are.longest.2) (longest_is app are.longest.0 are.longest.1) in
+    let stretch : NoStretchIsAbove config app costs.late = subst (NoStretchIsAbove config app) (sym are.late.2) (late_is config app are.late.0 code are.late.1) in
+    images_meet_bounds config app image load arrivals n costs.late costs.longest h r cuts costs.costs code (config, code.in_range) sound weighed pace item stretch come few in_load keeps cut works
+    are.costs there is.0.told is.0.within
 
 -- and so no arrival is lost of a task that keeps its arrivals
 pub lose_none : (config : Config) (app : App) (load : List Entry) → WellFormed config app → IsLoad (owners_in config) load → (longest late : ℕ) (responses : List (Option ℕ))

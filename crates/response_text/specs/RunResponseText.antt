@@ -27,7 +27,7 @@ use Rattle.response_text.specs.Inputs.{IsLoadOf}
 use Rattle.response_text.specs.Lines.{keeps_arrivals, response_at, has_open}
 use Rattle.response_text.specs.RunLines.{run_lines}
 
--- these are told of all tasks
+-- Of each of so many tasks is told the least number within which the bounds of its starts are, by these costs; none where there is none.
 pub record AreRunResponses (longest late : ℕ) (costs : Costs) (count : ℕ) (responses : List (Option ℕ)) : Type 0 where
   pub count_is : length responses ≡ count
   pub each : (t : ℕ) → t < count → IsRunResponse longest late costs t (response_at responses t)
@@ -56,7 +56,7 @@ RunsLoseNone config app load longest late responses =
     → distance load t ≡ Some d → keeps_arrivals config app load t (response_at responses t) ≡ true
     → FindSuspended config app n (longest + late) t r d (events_of image arrivals n)
 
--- This is told of the responses of all tasks under the load, and runs keep it.
+-- This is told of the responses of all tasks, by the costs of the task code under the load, its longest item and its longest stretch; and runs keep it.
 pub record HasRunResponses (config : Config) (app : App) (load : List Entry) (told : Told) : Type 0 where
   pub costs : RunCosts
   pub are_costs : IsRunRecord config app load costs
@@ -78,3 +78,7 @@ pub record IsRunResponseText (oil src load : List ℕ) (told : Told) : Type 0 wh
   pub app : App
   pub accepted : AreAccepted oil src config app
   pub has : HasLoadRunResponses config app load told
+
+-- texts have one such answer at most
+abbrev pub OneRunText : Type 0
+OneRunText = (oil src load : List ℕ) (one other : Told) → IsRunResponseText oil src load one → IsRunResponseText oil src load other → one ≡ other

@@ -6,10 +6,10 @@
 //! `specs/Lines`, `Parts`; which tasks nothing but their arrivals makes Ready: `response_laws` (`specs/Made`). Responses and the demand: `response_bounds`
 //! (`Responses`), of costs: `response_costs`; loads: `load_text`.
 //!
-//! `run_response_text` gives a line for each task with a number, where one is told, that runs keep: in every run of an image of the task code whose arrivals
-//! keep the load, and which keeps its `work` lines, the task responds within it, if the run has so many instructions more (`RunsKeepResponses` of
-//! `specs/RunResponseText`); of a task that keeps its arrivals none is lost (`RunsLoseNone` there). Lines: `specs/RunLines`. Numbers: `run_windows`, of costs:
-//! `run_costs`; why runs keep them: `run_responses`, `response_laws`.
+//! `run_response_text` gives a line for each task with the least number of a definition, where it has one (`IsRunResponse` of `run_windows`), and runs keep it:
+//! in every run of an image of the task code whose arrivals keep the load, and which keeps its `work` lines, the task responds within it, if the run has so many
+//! instructions more (`RunsKeepResponses` of `specs/RunResponseText`); of a task that keeps its arrivals none is lost (`RunsLoseNone` there). Texts have one such
+//! answer (`one_run_text`). Lines: `specs/RunLines`. Numbers: `run_windows`, of costs: `run_costs`; why runs keep them: `run_responses`, `response_laws`.
 #![tactic(auto)]
 
 mod inputs;

@@ -33,22 +33,21 @@ use std::alloc::Global;
 use task_verify::verified::Verified;
 use text_pieces::growth::push;
 
-// The responses of all tasks, so many of them.
+// The responses of all tasks.
 fn responses(
     alloc: Global,
     longest: u32,
     late: u32,
     costs: &Costs,
-    count: u32,
 ) -> Result<Vec<Option<u32>>, NoMemory>
     requires { TakeCounts costs.now }
-    ensures { IfOk result (λ responses. AreRunResponses longest late costs.now count responses.items) }
+    ensures { IfOk result (λ responses. AreRunResponses longest late costs.now (length costs.now.tasks) responses.items) }
 {
     let mut responses = Vec::new(alloc);
-    for task in 0..count {
+    for task in 0..costs.tasks.items().len() {
         push(
             &mut responses,
-            run_response(alloc, longest, late, costs, task as usize)?,
+            run_response(alloc, longest, late, costs, task)?,
         )?;
     }
     Ok(responses)
@@ -85,13 +84,7 @@ fn told_by(
     requires costs { IsRunRecord config.now app.now load.now found.now }
     ensures { IfOk result (λ told. HasRunResponses config.now app.now load.now told) }
 {
-    let responses = responses(
-        alloc,
-        found.longest,
-        found.late,
-        &found.costs,
-        config.tasks.items().len() as u32,
-    )?;
+    let responses = responses(alloc, found.longest, found.late, &found.costs)?;
     run_told_of(alloc, config, app, load, &responses)
 }
 
@@ -142,7 +135,8 @@ fn text_for(
 }
 
 /// The lines of the responses of all tasks in runs that keep a load, and whether a deadline is open, of texts of at most 4,294,967,294 bytes; or the first
-/// refusal (O1 to O15, A1 to A7, V1 to V12, then L1 to L4). A deadline of a task of which no number is told is open.
+/// refusal (O1 to O15, A1 to A7, V1 to V12, then L1 to L4). Each number is the least that its windows allow; a task is untold exactly where there is none, and
+/// its deadline is open then.
 pub fn run_response_text(
     alloc: Global,
     oil: &[u8],

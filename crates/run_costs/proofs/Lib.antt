@@ -1,4 +1,5 @@
-mod Sizes
+pub mod Sizes
 mod RunTaking
 mod RunMaking
 mod Times
+pub mod OneRunCosts

@@ -1,5 +1,5 @@
 -- Each entry with a round takes counts.
-use Rattle.std.proofs.Common.{ℕ, ◌<◌, ◌≤◌, Bool, get_or, sym, subst, arith}
+use Rattle.std.proofs.Common.{ℕ, ◌≤◌, Bool, sym, subst, arith}
 use Rattle.sloth_base.specs.declared.config.Config.{Config}
 use Rattle.sloth_base.specs.declared.app.App.{App}
 use Rattle.sloth_base.specs.Named.{declaration, function, body_of}
@@ -7,7 +7,7 @@ use Rattle.load_text.specs.declared.entry.Entry.{Entry}
 use Rattle.load_text.specs.Loads.{work}
 use Rattle.std.specs.Prelude.{List, true, false}
 use Rattle.response_bounds.specs.declared.costs.Costs.{Costs}
-use Rattle.response_bounds.specs.Costs.{reckoned, no_task}
+use Rattle.response_bounds.specs.Costs.{reckoned}
 use Rattle.response_bounds.specs.Settling.{TakeCounts}
 use Rattle.response_costs.proofs.Taking.{entry_some, cost_some}
 use Rattle.run_responses.specs.RunCosts.{round_entry, AreRunCosts}

@@ -4,6 +4,7 @@ use Rattle.sloth_base.specs.declared.config.Config.{Config}
 use Rattle.sloth_base.specs.declared.app.App.{App}
 use Rattle.load_text.specs.declared.entry.Entry.{Entry}
 use Rattle.code_lengths.specs.LongestPaths.{boot_path}
+use Rattle.event_weights.specs.Items.{AreLengths}
 use Rattle.raised_sections.specs.Sections.{IsLower}
 use Rattle.bound_rules.specs.declared.weights.BodyWeights.{BodyWeights}
 use Rattle.walk_sums.specs.declared.sum.Sum.{Sum}
@@ -13,14 +14,12 @@ use Rattle.bounds_text.specs.Stretches.{running_counts}
 use Rattle.bounds_text.specs.Latency.{heaviest_ending, longest_item}
 use Rattle.response_bounds.specs.declared.costs.AlarmCosts.{AlarmCosts}
 use Rattle.response_bounds.specs.declared.costs.Makings.{Makings}
-use Rattle.response_bounds.specs.declared.costs.SectionCosts.{SectionCosts}
-use Rattle.response_bounds.specs.declared.costs.SectionMakings.{SectionMakings}
 use Rattle.response_bounds.specs.Settling.{TakeCounts}
 use Rattle.response_costs.specs.Rounds.{made, many}
-use Rattle.response_costs.specs.CostsOf.{IsSectionCosts, IsSectionMade}
+use Rattle.response_costs.specs.CostsOf.{IsSectionMade}
 use Rattle.response_costs.specs.SectionSums.{is_lower, is_once, does}
-use Rattle.response_laws.specs.SoundRuns.{IsLongestItem, NoStretchIsAbove}
-use Rattle.run_responses.specs.RunCosts.{AreRunSectionMakings, AreRunCosts}
+use Rattle.run_counts.specs.Counts.{AreCounts}
+use Rattle.run_responses.specs.RunCosts.{AreRunCosts}
 use Rattle.run_costs.specs.declared.record.RunCosts.{RunCosts}
 
 -- ---- limits
@@ -32,6 +31,14 @@ longest_of lengths = max (longest_item lengths) 1
 -- the counts of the longest stretch, boot among them
 abbrev pub late_of : Config → App → List BodyWeights → ℕ
 late_of config app weights = max (running_counts config app (heaviest_ending weights)) (boot_path config)
+
+-- the longest item of the task code has so many instructions
+abbrev pub HasLongestItem : App → (longest : ℕ) → Type 0
+HasLongestItem app longest = (lengths : List (List ℕ)) × AreLengths app lengths × (longest ≡ longest_of lengths)
+
+-- the longest stretch that may come takes so many counts
+abbrev pub HasLongestStretch : Config → App → (late : ℕ) → Type 0
+HasLongestStretch config app late = (weights : List BodyWeights) × AreCounts app weights × (late ≡ late_of config app weights)
 
 -- ---- makings
 
@@ -50,10 +57,6 @@ run_alarm told = record told { is_cancelled = told.is_set }
 
 -- ---- sections
 
--- of a lower task
-abbrev pub IsLowerSection : Config → App → List BodyWeights → (h k : ℕ) → SectionCosts → Type 0
-IsLowerSection config app weights h k s = IsLower config h k → IsSectionCosts config app [] weights h k s
-
 -- sections of task k for h are asked how often they make j Ready, by their top
 abbrev pub is_asked : Config → (h j k top : ℕ) → Bool
 is_asked config h j k top = not (is_lower config h j) && (is_lower config h k && does config h k top)
@@ -68,17 +71,16 @@ times asked once s = cond asked (cond once (Some 1) (many None s)) (Some 0)
 
 -- how often sections of task k for h do what counts, of those that make j Ready
 abbrev pub AreTimes : Config → App → (h j : ℕ) → (activates : Bool) → Counted → (k : ℕ) → Option ℕ → Type 0
-AreTimes config app h j activates c k m = IsLower config h k → ¬ (IsLower config h j) → IsSectionMade config app [] h k (is_limited config activates h j k) c m
-
-abbrev pub AreMakers : Config → App → (h j k : ℕ) → SectionMakings → Type 0
-AreMakers config app h j k m = IsLower config h k → ¬ (IsLower config h j) → AreRunSectionMakings config app h j k m
+AreTimes config app h j activates c k m =
+    (IsLower config h k → ¬ (IsLower config h j) → IsSectionMade config app [] h k (is_limited config activates h j k) c m)
+    × (¬ (IsLower config h k × ¬ (IsLower config h j)) → m ≡ Some 0)
 
 -- ---- all
 
--- Runs keep these costs; no item has more instructions than the longest, and no stretch takes more counts.
+-- the costs of the task code under the load, its longest item and its longest stretch
 pub record IsRunRecord (config : Config) (app : App) (load : List Entry) (r : RunCosts) : Type 0 where
-  pub longest : IsLongestItem app r.longest
-  pub late : NoStretchIsAbove config app r.late
+  pub longest : HasLongestItem app r.longest
+  pub late : HasLongestStretch config app r.late
   pub costs : AreRunCosts config app load r.costs
   pub take_counts : TakeCounts r.costs
   pub count : length r.costs.tasks ≡ length config.tasks

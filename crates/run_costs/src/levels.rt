@@ -7,11 +7,10 @@ ghost use Rattle.walk_sums.specs.declared.kinds.Kind.TheVariants as kinds;
 ghost use Rattle.walk_sums.specs.Known.{AreSums};
 ghost use Rattle.walk_sums.specs.Weights.{AreWeights};
 ghost use Rattle.response_bounds.specs.Costs.{no_level, no_section, no_section_makings};
-ghost use Rattle.response_costs.specs.CostsOf.{AreEach};
+ghost use Rattle.response_costs.specs.CostsOf.{AreEach, IsTaskSection};
 ghost use Rattle.response_costs.specs.Sections.{AllWeigh};
 ghost use Rattle.response_costs.specs.Services.{AreAllNamingTops};
-ghost use Rattle.run_responses.specs.RunCosts.{IsRunLevel};
-ghost use Rattle.run_costs.specs.RunRecord.{IsLowerSection, AreMakers};
+ghost use Rattle.run_responses.specs.RunCosts.{IsRunSectionMaking, IsRunLevel};
 
 use crate::section_makings::section_makers;
 use bound_rules::bodies::Body;
@@ -49,7 +48,7 @@ fn lower_sections(
     requires bodies { AreKnownBodies config.now app.now bodies.now }
     requires order { IsCallOrder app.now order.now }
     requires above { above < length config.now.tasks }
-    ensures { IfOk result (λ list. AreEach (length config.now.tasks) no_section (IsLowerSection config.now app.now weights.now above) list.items) }
+    ensures { IfOk result (λ list. AreEach (length config.now.tasks) no_section (IsTaskSection config.now app.now [] weights.now above) list.items) }
 {
     sections(
         alloc, config, app, none, weights, whole, bodies, order, above,
@@ -71,7 +70,7 @@ fn makings_for(
     requires tops { AreAllNamingTops config.now app.now tops.now }
     requires above { above < length config.now.tasks }
     ensures { IfOk result (λ table. AreEach (length config.now.tasks) []
-        (λ j. AreEach (length config.now.tasks) no_section_makings (AreMakers config.now app.now above j)) table.items) }
+        (λ j. AreEach (length config.now.tasks) no_section_makings (IsRunSectionMaking config.now app.now above j)) table.items) }
 {
     let mut table = Vec::new(alloc);
     for named in 0..config.tasks.items().len() {

@@ -3,9 +3,6 @@ ghost use Rattle.std.specs.Prelude.{◌≡◌, ◌≤◌, ◌<◌, ℕ, All, len
 ghost use Rattle.sloth_base.specs.Limits.{task_limit, alarm_limit, counter_limit, frame_limit};
 ghost use Rattle.call_graph.specs.Tables.{HasTaskBody};
 ghost use Rattle.code_rules.specs.WellFormed.{WellFormed};
-ghost use Rattle.event_weights.specs.Items.{AreLengths};
-ghost use Rattle.run_counts.specs.Counts.{AreCounts};
-ghost use Rattle.response_laws.specs.SoundRuns.{IsLongestItem, NoStretchIsAbove};
 ghost use Rattle.run_costs.specs.RunRecord.{longest_of, late_of};
 
 use bound_rules::weights::BodyWeights;
@@ -16,18 +13,11 @@ use event_weights::ItemLengths;
 use sloth_base::app::App;
 use sloth_base::config::Config;
 
-fn longest_by(lengths: &ItemLengths) -> u32
+/// The instructions of the longest item, 1 where there is none.
+pub fn longest_of(lengths: &ItemLengths) -> u32
     ensures { result ≡ longest_of lengths.now.bodies }
 {
     longest_item(lengths).max(1)
-}
-
-/// The instructions of the longest item, 1 where there is none.
-pub fn longest_of(app: &App, lengths: &ItemLengths) -> u32
-    requires lengths { AreLengths app.now lengths.now.bodies }
-    ensures { IsLongestItem app.now result }
-{
-    longest_by(lengths)
 }
 
 // The counts of the longest stretch, boot among them.
@@ -44,9 +34,8 @@ fn late_by(config: &Config, app: &App, weights: &[BodyWeights]) -> u32
 
 /// The counts of the longest stretch that may come.
 pub fn late_of(config: &Config, app: &App, weights: &[BodyWeights]) -> u32
-    requires well_formed { WellFormed config.now app.now }
-    requires counts { AreCounts app.now weights.now }
-    ensures { NoStretchIsAbove config.now app.now result }
+    requires { WellFormed config.now app.now }
+    ensures { result ≡ late_of config.now app.now weights.now }
 {
     late_by(config, app, weights)
 }

@@ -10,12 +10,10 @@ use load_text::{Entry, distance_of};
 use response_bounds::costs::{AlarmCosts, CounterCosts};
 use sloth_base::app::App;
 use sloth_base::config::Config;
+use sloth_base::lines::FIRST_COUNTER_LINE;
 use sloth_base::memory::NoMemory;
 use std::alloc::Global;
 use text_pieces::growth::push;
-
-/// The line of the first counter.
-const FIRST_COUNTER_LINE: u8 = 30;
 
 /// Behind the last one.
 const NO_ALARM: AlarmCosts = AlarmCosts {

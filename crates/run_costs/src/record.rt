@@ -155,7 +155,7 @@ fn record_of(
     requires order { IsCallOrder app.now order.now }
     ensures { IfOk result (IsRunRecord config.now app.now load.now) }
 {
-    let longest = longest_of(app, lengths);
+    let longest = longest_of(lengths);
     let late = late_of(config, app, weights);
     let costs = costs_of(alloc, config, app, load, weights, bodies, order)?;
     Ok(RunCosts {

@@ -11,7 +11,8 @@ ghost use Rattle.response_costs.specs.CostsOf.{AreEach};
 ghost use Rattle.response_costs.specs.Rounds.{many};
 ghost use Rattle.response_costs.specs.Services.{AreNamingTops};
 ghost use Rattle.response_costs.specs.Tops.{AreTaskTops};
-ghost use Rattle.run_costs.specs.RunRecord.{is_asked, is_limited, times, AreTimes, AreMakers};
+ghost use Rattle.run_responses.specs.RunCosts.{IsRunSectionMaking};
+ghost use Rattle.run_costs.specs.RunRecord.{is_asked, is_limited, times, AreTimes};
 
 use bound_rules::bodies::Body;
 use bound_rules::marks::is_marked;
@@ -138,7 +139,7 @@ fn joined_rows(
 ) -> Result<Vec<SectionMakings>, NoMemory>
     requires activations { AreEach (length config.now.tasks) None (AreTimes config.now app.now above named true (counts.Activations named)) activations.now }
     requires settings { AreEach (length config.now.tasks) None (AreTimes config.now app.now above named false (counts.Settings named)) settings.now }
-    ensures { IfOk result (λ row. AreEach (length config.now.tasks) no_section_makings (AreMakers config.now app.now above named) row.items) }
+    ensures { IfOk result (λ row. AreEach (length config.now.tasks) no_section_makings (IsRunSectionMaking config.now app.now above named) row.items) }
 {
     let mut row = Vec::new(alloc);
     for task in 0..config.tasks.items().len() {
@@ -164,7 +165,7 @@ pub fn section_makers(
     requires tops { AreNamingTops config.now app.now named tops.now }
     requires above { above < length config.now.tasks }
     requires named { named < length config.now.tasks }
-    ensures { IfOk result (λ row. AreEach (length config.now.tasks) no_section_makings (AreMakers config.now app.now above named) row.items) }
+    ensures { IfOk result (λ row. AreEach (length config.now.tasks) no_section_makings (IsRunSectionMaking config.now app.now above named) row.items) }
 {
     let calls = Counted::Activations(named as u32);
     let either = tops.either.items();

@@ -1,6 +1,6 @@
 -- What lower tasks bring in by their code has a start of the record.
 use Rattle.std.specs.Prelude.{if◌then◌else◌}
-use Rattle.std.proofs.Common.{◌≡◌, ℕ, zero, ◌+◌, ◌<◌, ◌≤◌, ◌⊎◌, ◌==◌, ◌&&◌, ◌||◌, Bool, true, false, cond, max, List, [], ◌∷◌, ◌++◌, length, get_or, refl, sym, ap, ◌∙◌, subst, arith, inl, inr, None, Option, append_assoc, ◌-◌, ltb}
+use Rattle.std.proofs.Common.{◌≡◌, ℕ, ◌+◌, ◌<◌, ◌≤◌, ◌⊎◌, ◌==◌, ◌&&◌, ◌||◌, Bool, true, false, cond, max, List, [], ◌∷◌, ◌++◌, length, get_or, refl, sym, ap, ◌∙◌, subst, arith, inl, inr, None, Option, append_assoc, ◌-◌, ltb}
 use Rattle.std.specs.List.{AllByRecursion}
 use Rattle.std.proofs.lemmas.Bool.{false≢true, true≢false, leb-true, lt-ltb, cases_lt, eqb-true, eq-eqb, le-ltb}
 use Rattle.std.proofs.lemmas.Bool.Decides.{not_from_Decides}
@@ -485,10 +485,10 @@ module _ (config : Config) (app : App) (w : Facts config app) (load : List Entry
         by o is e = absurd (false≢true e)
 
     costs_of : IsSectionCosts config app [] weights h b (section costs h b)
-    costs_of = (are.levels.each h there).sections.each b low.0 low
+    costs_of = ((are.levels.each h there).sections.each b low.0).0 low
 
     makings_of_section : (j : ℕ) → IsOfLevel config h j → AreRunSectionMakings config app h j b (section_making costs h b j)
-    makings_of_section j over = ((are.levels.each h there).makings.each j over.0).each b low.0 low (not_lower j over.1)
+    makings_of_section j over = (((are.levels.each h there).makings.each j over.0).each b low.0).0 low (not_lower j over.1)
 
     -- the sum of a section that is told
     sum_told : (s : Sum) → IsToldSum (IsSection config app h b) weights s → (section costs h b).counts ≡ section_counts None s

@@ -1,10 +1,8 @@
 -- Which starts a record has.
-use Rattle.std.proofs.Common.{◌≡◌, ℕ, zero, suc, ◌+◌, ◌<◌, ◌≤◌, ◌⊎◌, ◌==◌, ◌&&◌, ◌||◌, ◌++◌, not, Bool, true, false, List, [], ◌∷◌, length, max, cond, get_or, refl, sym, ap, ◌∙◌, subst, arith, inl, inr}
+use Rattle.std.proofs.Common.{◌≡◌, ℕ, zero, suc, ◌+◌, ◌<◌, ◌≤◌, ◌⊎◌, ◌==◌, ◌&&◌, ◌||◌, ◌++◌, not, Bool, true, false, List, [], ◌∷◌, length, cond, get_or, refl, sym, ap, ◌∙◌, subst, arith, inl, inr}
 use Rattle.std.specs.List.{AllByRecursion}
 use Rattle.std.proofs.lemmas.Bool.{cases_lt, eqb-true}
 use Rattle.std.proofs.lemmas.List.{get_or_past}
-use Rattle.sloth_base.specs.declared.service.Service.TheVariants as service
-use Rattle.code_lengths.specs.LongestPaths.{served_path}
 use Rattle.response_bounds.specs.declared.costs.TaskCosts.{TaskCosts}
 use Rattle.response_bounds.specs.declared.costs.Services.{Services}
 use Rattle.response_bounds.specs.declared.costs.Costs.{Costs}

@@ -27,7 +27,7 @@ use Rattle.response_bounds.specs.declared.costs.Costs.{Costs}
 use Rattle.response_bounds.specs.Costs.{no_task, no_makings, no_services, no_level, no_section, no_section_makings}
 use Rattle.run_windows.specs.RunWindows.{call_path}
 use Rattle.response_costs.specs.Rounds.{AreRounds, round_cost, activations_of}
-use Rattle.response_costs.specs.CostsOf.{AreEach, IsGreatest, AreMade, AreServices, IsSectionCosts, IsSectionMade, no_counter, no_alarm, IsAlarm}
+use Rattle.response_costs.specs.CostsOf.{AreEach, IsGreatest, AreMade, AreServices, IsTaskSection, IsSectionMade, no_counter, no_alarm, IsAlarm}
 
 -- ---- tasks
 
@@ -43,6 +43,7 @@ raising_counts config t = cond (declaration config t).non 0 (call_path service.G
 abbrev pub counts_once : Config → (clean : Bool) → (t : ℕ) → Bool
 counts_once config clean t = not (declaration config t).non && not (clean && (declaration config t).extended)
 
+-- what task t costs; no window of runs asks whether it waits, or how it leaves
 pub record AreRunTaskCosts (config : Config) (app : App) (load : List Entry) (weights : List BodyWeights) (t : ℕ) (c : TaskCosts) : Type 0 where
   pub priority : c.priority ≡ static_priority config t
   pub clean : Bool
@@ -50,6 +51,7 @@ pub record AreRunTaskCosts (config : Config) (app : App) (load : List Entry) (we
   pub is_preemptable : c.is_preemptable ≡ counts_once config clean t
   pub is_autostarted : c.is_autostarted ≡ (declaration config t).autostart
   pub is_clean : c.is_clean ≡ false
+  pub waits : c.waits ≡ false
   pub distance : c.distance ≡ distance load t
   pub told : RoundSums
   pub rounds : AreRounds app clean (declaration config t).extended t weights told
@@ -57,6 +59,7 @@ pub record AreRunTaskCosts (config : Config) (app : App) (load : List Entry) (we
   pub next : c.next ≡ round_cost (round_entry config app clean true t) (work load t) told.later
   pub entry : c.entry ≡ raising_counts config t
   pub service : IsGreatest app t call_path c.service
+  pub leaving : c.leaving ≡ 0
 
 -- ---- makings
 
@@ -74,11 +77,16 @@ pub record AreRunSectionMakings (config : Config) (app : App) (h j k : ℕ) (m :
   pub activations : IsSectionMade config app [] h k ((declaration config k).non || (h == j)) (counts.Activations j) m.activations
   pub settings : IsSectionMade config app [] h k false (counts.Settings j) m.settings
 
--- those of lower tasks for task h
+-- those of a lower task k for h, where j is not lower; else nothing counts
+abbrev pub IsRunSectionMaking : Config → App → (h j k : ℕ) → SectionMakings → Type 0
+IsRunSectionMaking config app h j k m =
+    (IsLower config h k → ¬ (IsLower config h j) → AreRunSectionMakings config app h j k m)
+    × (¬ (IsLower config h k × ¬ (IsLower config h j)) → m ≡ no_section_makings)
+
+-- those of all tasks for task h
 pub record IsRunLevel (config : Config) (app : App) (weights : List BodyWeights) (h : ℕ) (l : Level) : Type 0 where
-  pub sections : AreEach (length config.tasks) no_section (λ k s. IsLower config h k → IsSectionCosts config app [] weights h k s) l.sections
-  pub makings : AreEach (length config.tasks) []
-      (λ j. AreEach (length config.tasks) no_section_makings (λ k m. IsLower config h k → ¬ (IsLower config h j) → AreRunSectionMakings config app h j k m)) l.makings
+  pub sections : AreEach (length config.tasks) no_section (IsTaskSection config app [] weights h) l.sections
+  pub makings : AreEach (length config.tasks) [] (λ j. AreEach (length config.tasks) no_section_makings (IsRunSectionMaking config app h j)) l.makings
 
 -- ---- counters and alarms
 
@@ -91,7 +99,7 @@ IsRunAlarm config app a costs = (told : AlarmCosts) × IsAlarm config app a told
 
 -- ---- all
 
--- Runs keep each of these numbers.
+-- Each number is the one that the configuration, the task code and the load say, and runs keep it. What boot takes is a stretch.
 pub record AreRunCosts (config : Config) (app : App) (load : List Entry) (costs : Costs) : Type 0 where
   pub weights : List BodyWeights
   pub are_counts : AreCounts app weights
@@ -101,3 +109,4 @@ pub record AreRunCosts (config : Config) (app : App) (load : List Entry) (costs 
   pub makings : AreEach (length config.tasks) [] (λ j. AreEach (length config.tasks) no_makings (AreRunMakings config app j)) costs.makings
   pub services : AreEach (length config.tasks) [] (λ j. AreEach (length config.tasks) no_services (AreServices app j)) costs.services
   pub levels : AreEach (length config.tasks) no_level (IsRunLevel config app weights) costs.levels
+  pub boot : costs.boot ≡ 0

@@ -1,1 +1,2 @@
+pub mod OneLeast
 mod Within

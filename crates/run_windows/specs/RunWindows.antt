@@ -126,9 +126,13 @@ pub record IsStartWithin (longest late : ℕ) (costs : Costs) (h r : ℕ) (s : S
   pub opens : IsBoundWithin longest late costs h (opening_front costs h s) (r + (longest + late)) s
   pub serves : IsBoundWithin longest late costs h (served_front costs h s) (r + margin longest late) s
 
--- so are those of all starts
+-- so are those of the first of these starts, so many of them
+abbrev pub AreWithin : (longest late : ℕ) → Costs → (h : ℕ) → List Start → (count r : ℕ) → Type 0
+AreWithin longest late costs h ss count r = (i : ℕ) → i < count → IsStartWithin longest late costs h r (start_at ss i)
+
+-- and those of all starts
 abbrev pub AreRunBounds : (longest late : ℕ) → Costs → (h r : ℕ) → Type 0
-AreRunBounds longest late costs h r = (i : ℕ) → i < length (run_starts costs h) → IsStartWithin longest late costs h r (start_at (run_starts costs h) i)
+AreRunBounds longest late costs h r = AreWithin longest late costs h (run_starts costs h) (length (run_starts costs h)) r
 
 -- ---- numbers that are told
 
@@ -161,7 +165,16 @@ pub record AreTold (costs : Costs) (h : ℕ) : Type 0 where
 
 -- ---- response times
 
--- what is told of h: a number within which its bounds are, where all has one
+-- the least number of a kind; none where there is no number of that kind
+abbrev pub IsLeastOf : (ℕ → Type 0) → Option ℕ → Type 0
+IsLeastOf Kind (Some n) = Kind n × ((m : ℕ) → Kind m → n ≤ m)
+IsLeastOf Kind None = (m : ℕ) → Kind m → ⊥
+
+-- The bounds of all starts of h are within r, and all that they are computed from has a number.
+pub record IsRunBound (longest late : ℕ) (costs : Costs) (h r : ℕ) : Type 0 where
+  pub told : AreTold costs h
+  pub within : AreRunBounds longest late costs h r
+
+-- what is told of h: the least such r; none where there is none
 abbrev pub IsRunResponse : (longest late : ℕ) → Costs → (h : ℕ) → Option ℕ → Type 0
-IsRunResponse longest late costs h None = Unit {0}
-IsRunResponse longest late costs h (Some r) = AreTold costs h × AreRunBounds longest late costs h r
+IsRunResponse longest late costs h told = IsLeastOf (IsRunBound longest late costs h) told

@@ -1,10 +1,9 @@
 //! Response times by windows of runs.
-ghost use Rattle.std.specs.Prelude.{◌≡◌, ◌≤◌, ◌<◌, ◌+◌, ℕ, Some, length, IfOk, IfSome};
+ghost use Rattle.std.specs.Prelude.{◌≡◌, ◌≤◌, ◌<◌, ◌+◌, ◌-◌, length, IfOk};
 ghost use Rattle.sloth_base.specs.Limits.{count_limit};
 ghost use Rattle.response_bounds.specs.Settling.{TakeCounts};
 ghost use Rattle.response_bounds.specs.Windows.{IsBound};
-ghost use Rattle.response_bounds.specs.Responses.{start_at};
-ghost use Rattle.run_windows.specs.RunWindows.{margin, begun_item, run_window, run_starts, IsStartWithin, IsRunResponse};
+ghost use Rattle.run_windows.specs.RunWindows.{margin, begun_item, run_window, run_starts, AreWithin, IsStartWithin, IsLeastOf, IsRunResponse};
 
 use crate::fronts::{opening_front, served_front};
 use crate::starts::run_starts;
@@ -53,7 +52,7 @@ fn start_bound(
 ) -> Option<u32>
     requires costs { TakeCounts costs.now }
     requires count { length numbers.old ≡ length costs.now.tasks }
-    ensures { IfSome result (λ l. IsBound count_limit costs.now (run_window longest late costs.now h front start) (Some l)) }
+    ensures { IsBound count_limit costs.now (run_window longest late costs.now h front start) result }
 {
     if front > u64::from(COUNT_LIMIT) {
         return None;
@@ -74,14 +73,14 @@ fn start_bound(
 
 // Less the longest item and a stretch.
 fn less(longest: u32, late: u32, most: u32) -> u32
-    ensures { most ≤ result + (longest + late) }
+    ensures { result ≡ most - (longest + late) }
 {
     most.saturating_sub(longest).saturating_sub(late)
 }
 
 // Less the margin.
 fn less_margin(longest: u32, late: u32, most: u32) -> u32
-    ensures { most ≤ result + margin longest late }
+    ensures { result ≡ most - margin longest late }
 {
     less(longest, late, most).saturating_sub(late)
 }
@@ -97,7 +96,7 @@ fn start_response(
 ) -> Option<u32>
     requires costs { TakeCounts costs.now }
     requires count { length numbers.old ≡ length costs.now.tasks }
-    ensures { IfSome result (λ r. IsStartWithin longest late costs.now h r start) }
+    ensures { h < length costs.now.tasks → IsLeastOf (λ r. IsStartWithin longest late costs.now h r start) result }
 {
     let opening = u64::from(opening_front(costs, h, start));
     let served = served_front(costs, h, start);
@@ -123,7 +122,7 @@ fn greatest(
 ) -> Option<u32>
     requires costs { TakeCounts costs.now }
     requires count { length numbers.old ≡ length costs.now.tasks }
-    ensures { IfSome result (λ most. (i : ℕ) → i < length starts.now → IsStartWithin longest late costs.now h most (start_at starts.now i)) }
+    ensures { h < length costs.now.tasks → IsLeastOf (AreWithin longest late costs.now h starts.now (length starts.now)) result }
 {
     let mut most: u32 = 0;
     for start in starts {
@@ -162,7 +161,7 @@ fn told_response(
     requires costs { TakeCounts costs.now }
     requires count { length numbers.old ≡ length costs.now.tasks }
     requires starts { starts.now ≡ run_starts costs.now h }
-    ensures { IsRunResponse longest late costs.now h result }
+    ensures { h < length costs.now.tasks → IsRunResponse longest late costs.now h result }
 {
     if !are_told(costs, h) {
         return None;
@@ -174,8 +173,8 @@ fn told_response(
 }
 
 /// Within how many counts a task, less than their number, leaves the processor behind what makes it Ready, in runs that keep these costs, where no item has more
-/// instructions than the longest, and no stretch takes more counts than `late`; none where something that it is computed from has no number, or it would be
-/// about 1,000,000 or more.
+/// instructions than the longest, and no stretch takes more counts than `late`: the least number that its windows allow. None where something that it is computed
+/// from has no number, or a window has more than 1,000,000 counts.
 pub fn run_response(
     alloc: Global,
     longest: u32,
@@ -184,7 +183,7 @@ pub fn run_response(
     h: usize,
 ) -> Result<Option<u32>, NoMemory>
     requires { TakeCounts costs.now }
-    ensures { IfOk result (λ r. IsRunResponse longest late costs.now h r) }
+    ensures { IfOk result (λ r. h < length costs.now.tasks → IsRunResponse longest late costs.now h r) }
 {
     let starts = run_starts(alloc, costs, h)?;
     let mut numbers = room(alloc, costs.tasks.items().len())?;

@@ -1,5 +1,5 @@
 //! Whether all that a response time is computed from has a number.
-ghost use Rattle.std.specs.Prelude.{◌≡◌, ◌<◌, ℕ, true, false, length};
+ghost use Rattle.std.specs.Prelude.{◌≡◌, ◌<◌, ℕ, true, false, length, Decides};
 ghost use Rattle.response_bounds.specs.Costs.{task, making, section, section_making};
 ghost use Rattle.response_bounds.specs.Windows.{is_lower};
 ghost use Rattle.run_windows.specs.RunWindows.{IsTold, AreRoundsTold, AreMakingsTold, AreSectionMakingsTold, AreTold};
@@ -10,7 +10,7 @@ use response_bounds::level::{is_lower, making, section_making, task};
 use response_bounds::numbers::{ENDLESS, reckoned};
 
 fn is_told(number: Option<u32>) -> bool
-    ensures { result ≡ true → IsTold number }
+    ensures { Decides result (IsTold number) }
 {
     reckoned(number) < ENDLESS
 }
@@ -18,19 +18,19 @@ fn is_told(number: Option<u32>) -> bool
 // ---- rounds
 
 fn are_rounds_told(costs: &TaskCosts) -> bool
-    ensures { result ≡ true → AreRoundsTold costs.now }
+    ensures { Decides result (AreRoundsTold costs.now) }
 {
     is_told(costs.first) && is_told(costs.next)
 }
 
 fn is_task_told(costs: &Costs, h: usize, t: usize) -> bool
-    ensures { result ≡ true → is_lower costs.now h t ≡ false → AreRoundsTold (task costs.now t) }
+    ensures { Decides result (is_lower costs.now h t ≡ false → AreRoundsTold (task costs.now t)) }
 {
     is_lower(costs, h, t) || are_rounds_told(&task(costs, t))
 }
 
 fn are_tasks_told(costs: &Costs, h: usize) -> bool
-    ensures { result ≡ true → (t : ℕ) → t < length costs.now.tasks → is_lower costs.now h t ≡ false → AreRoundsTold (task costs.now t) }
+    ensures { Decides result ((t : ℕ) → t < length costs.now.tasks → is_lower costs.now h t ≡ false → AreRoundsTold (task costs.now t)) }
 {
     for t in 0..costs.tasks.items().len() {
         if !is_task_told(costs, h, t) {
@@ -43,7 +43,7 @@ fn are_tasks_told(costs: &Costs, h: usize) -> bool
 // ---- makings
 
 fn are_makings_told(makings: &Makings) -> bool
-    ensures { result ≡ true → AreMakingsTold makings.now }
+    ensures { Decides result (AreMakingsTold makings.now) }
 {
     is_told(makings.first_activations)
         && (is_told(makings.first_settings)
@@ -51,14 +51,14 @@ fn are_makings_told(makings: &Makings) -> bool
 }
 
 fn is_making_told(costs: &Costs, h: usize, j: usize, k: usize) -> bool
-    ensures { result ≡ true → is_lower costs.now h j ≡ false → is_lower costs.now h k ≡ false → AreMakingsTold (making costs.now k j) }
+    ensures { Decides result (is_lower costs.now h j ≡ false → is_lower costs.now h k ≡ false → AreMakingsTold (making costs.now k j)) }
 {
     is_lower(costs, h, j) || (is_lower(costs, h, k) || are_makings_told(&making(costs, k, j)))
 }
 
 fn are_makers_told(costs: &Costs, h: usize, j: usize) -> bool
-    ensures { result ≡ true → (k : ℕ) → k < length costs.now.tasks → is_lower costs.now h j ≡ false → is_lower costs.now h k ≡ false
-        → AreMakingsTold (making costs.now k j) }
+    ensures { Decides result ((k : ℕ) → k < length costs.now.tasks → is_lower costs.now h j ≡ false → is_lower costs.now h k ≡ false
+        → AreMakingsTold (making costs.now k j)) }
 {
     for k in 0..costs.tasks.items().len() {
         if !is_making_told(costs, h, j, k) {
@@ -69,8 +69,8 @@ fn are_makers_told(costs: &Costs, h: usize, j: usize) -> bool
 }
 
 fn are_all_makings_told(costs: &Costs, h: usize) -> bool
-    ensures { result ≡ true → (j : ℕ) → j < length costs.now.tasks → (k : ℕ) → k < length costs.now.tasks → is_lower costs.now h j ≡ false
-        → is_lower costs.now h k ≡ false → AreMakingsTold (making costs.now k j) }
+    ensures { Decides result ((j : ℕ) → j < length costs.now.tasks → (k : ℕ) → k < length costs.now.tasks → is_lower costs.now h j ≡ false
+        → is_lower costs.now h k ≡ false → AreMakingsTold (making costs.now k j)) }
 {
     for j in 0..costs.tasks.items().len() {
         if !are_makers_told(costs, h, j) {
@@ -83,13 +83,13 @@ fn are_all_makings_told(costs: &Costs, h: usize) -> bool
 // ---- sections
 
 fn is_section_told(costs: &Costs, h: usize, k: usize) -> bool
-    ensures { result ≡ true → is_lower costs.now h k ≡ true → IsTold (section costs.now h k).counts }
+    ensures { Decides result (is_lower costs.now h k ≡ true → IsTold (section costs.now h k).counts) }
 {
     !is_lower(costs, h, k) || is_told(section(costs, h, k).counts)
 }
 
 fn are_sections_told(costs: &Costs, h: usize) -> bool
-    ensures { result ≡ true → (k : ℕ) → k < length costs.now.tasks → is_lower costs.now h k ≡ true → IsTold (section costs.now h k).counts }
+    ensures { Decides result ((k : ℕ) → k < length costs.now.tasks → is_lower costs.now h k ≡ true → IsTold (section costs.now h k).counts) }
 {
     for k in 0..costs.tasks.items().len() {
         if !is_section_told(costs, h, k) {
@@ -100,21 +100,21 @@ fn are_sections_told(costs: &Costs, h: usize) -> bool
 }
 
 fn are_section_makings_told(makings: &SectionMakings) -> bool
-    ensures { result ≡ true → AreSectionMakingsTold makings.now }
+    ensures { Decides result (AreSectionMakingsTold makings.now) }
 {
     is_told(makings.activations) && is_told(makings.settings)
 }
 
 fn is_section_making_told(costs: &Costs, h: usize, j: usize, k: usize) -> bool
-    ensures { result ≡ true → is_lower costs.now h j ≡ false → is_lower costs.now h k ≡ true → AreSectionMakingsTold (section_making costs.now h k j) }
+    ensures { Decides result (is_lower costs.now h j ≡ false → is_lower costs.now h k ≡ true → AreSectionMakingsTold (section_making costs.now h k j)) }
 {
     is_lower(costs, h, j)
         || (!is_lower(costs, h, k) || are_section_makings_told(&section_making(costs, h, k, j)))
 }
 
 fn are_section_makers_told(costs: &Costs, h: usize, j: usize) -> bool
-    ensures { result ≡ true → (k : ℕ) → k < length costs.now.tasks → is_lower costs.now h j ≡ false → is_lower costs.now h k ≡ true
-        → AreSectionMakingsTold (section_making costs.now h k j) }
+    ensures { Decides result ((k : ℕ) → k < length costs.now.tasks → is_lower costs.now h j ≡ false → is_lower costs.now h k ≡ true
+        → AreSectionMakingsTold (section_making costs.now h k j)) }
 {
     for k in 0..costs.tasks.items().len() {
         if !is_section_making_told(costs, h, j, k) {
@@ -125,8 +125,8 @@ fn are_section_makers_told(costs: &Costs, h: usize, j: usize) -> bool
 }
 
 fn are_all_section_makings_told(costs: &Costs, h: usize) -> bool
-    ensures { result ≡ true → (j : ℕ) → j < length costs.now.tasks → (k : ℕ) → k < length costs.now.tasks → is_lower costs.now h j ≡ false
-        → is_lower costs.now h k ≡ true → AreSectionMakingsTold (section_making costs.now h k j) }
+    ensures { Decides result ((j : ℕ) → j < length costs.now.tasks → (k : ℕ) → k < length costs.now.tasks → is_lower costs.now h j ≡ false
+        → is_lower costs.now h k ≡ true → AreSectionMakingsTold (section_making costs.now h k j)) }
 {
     for j in 0..costs.tasks.items().len() {
         if !are_section_makers_told(costs, h, j) {
@@ -138,7 +138,7 @@ fn are_all_section_makings_told(costs: &Costs, h: usize) -> bool
 
 /// Whether all has, for a task.
 pub fn are_told(costs: &Costs, h: usize) -> bool
-    ensures { result ≡ true → AreTold costs.now h }
+    ensures { Decides result (AreTold costs.now h) }
 {
     are_tasks_told(costs, h)
         && (are_all_makings_told(costs, h)

@@ -1,6 +1,5 @@
 use Rattle.std.proofs.Common.{◌≡◌, List, Option, ℕ, length, subst, sym}
 use Rattle.std.proofs.lemmas.Result.{IfOk-weaker}
-use Rattle.sloth_base.specs.declared.config.TaskDecl.{TaskDecl}
 use Rattle.response_text.specs.declared.told.Told.{Told}
 use Rattle.response_text.specs.RunResponseText.{AreRunResponses, RunsKeepResponses, run_told_of, HasRunResponses}
 use Rattle.response_text.proofs.Keeping.{runs_keep, lose_none}
@@ -14,7 +13,7 @@ returns c =
     let costs = c.args.found.now in
     let responses = c.deref.result.now in
     let held : AreRunResponses costs.longest costs.late costs.costs (length config.tasks) c.in_ok-responses.responses.items =
-    subst (λ (ts : List TaskDecl). AreRunResponses costs.longest costs.late costs.costs (length ts) c.in_ok-responses.responses.items) c.items.ensures c.in_ok-responses.ensures in
+    subst (λ n. AreRunResponses costs.longest costs.late costs.costs n c.in_ok-responses.responses.items) c.requires.costs.count c.in_ok-responses.ensures in
     let all : AreRunResponses costs.longest costs.late costs.costs (length config.tasks) responses =
     subst (λ (l : List (Option ℕ)). AreRunResponses costs.longest costs.late costs.costs (length config.tasks) l) (sym c.deref.ensures.value) held in
     let kept : RunsKeepResponses config app load costs.longest costs.late responses =

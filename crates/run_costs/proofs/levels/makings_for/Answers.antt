@@ -3,17 +3,17 @@ use Rattle.std.proofs.Common.{List, [], arith, length, subst, sym, ◌≤◌}
 use Rattle.response_bounds.specs.declared.costs.SectionMakings.{SectionMakings}
 use Rattle.response_bounds.specs.Costs.{no_section_makings}
 use Rattle.response_costs.specs.CostsOf.{AreEach}
-use Rattle.run_costs.specs.RunRecord.{AreMakers}
+use Rattle.run_responses.specs.RunCosts.{IsRunSectionMaking}
 use Rattle.response_costs.proofs.Growing.{each_more, each_of}
 use Rattle.run_costs.proofs.levels.makings_for.Goals as goal
 
 pub loop-named-preserved : goal.loop-named-preserved
 loop-named-preserved c =
-    each_more (List SectionMakings) (λ j. AreEach (length c.args.config.now.tasks) no_section_makings (AreMakers c.args.config.now c.args.app.now c.args.above j)) c.loop-named.table.items c.push.new.list.items c.from_vec.result ([]) c.loop-named.named c.loop-named.invariant c.in_ok-push.ensures
-    (subst (AreEach (length c.args.config.now.tasks) no_section_makings (AreMakers c.args.config.now c.args.app.now c.args.above c.loop-named.named)) (sym c.from_vec.ensures) c.in_ok-row.ensures)
+    each_more (List SectionMakings) (λ j. AreEach (length c.args.config.now.tasks) no_section_makings (IsRunSectionMaking c.args.config.now c.args.app.now c.args.above j)) c.loop-named.table.items c.push.new.list.items c.from_vec.result ([]) c.loop-named.named c.loop-named.invariant c.in_ok-push.ensures
+    (subst (AreEach (length c.args.config.now.tasks) no_section_makings (IsRunSectionMaking c.args.config.now c.args.app.now c.args.above c.loop-named.named)) (sym c.from_vec.ensures) c.in_ok-row.ensures)
 
 pub returns : goal.returns
 returns c =
     let over = subst (λ (x : List TaskDecl). length x ≤ c.loop-named.named) c.items-named-end.ensures c.loop-named-test.false in
     let most = subst (λ (x : List TaskDecl). c.loop-named.named ≤ length x) c.items-named-end.ensures c.loop-named.auto.named-end in
-    each_of (List SectionMakings) (λ j. AreEach (length c.args.config.now.tasks) no_section_makings (AreMakers c.args.config.now c.args.app.now c.args.above j)) c.loop-named.table.items ([]) c.loop-named.named (length c.args.config.now.tasks) (omega (arith, over, most)) c.loop-named.invariant
+    each_of (List SectionMakings) (λ j. AreEach (length c.args.config.now.tasks) no_section_makings (IsRunSectionMaking c.args.config.now c.args.app.now c.args.above j)) c.loop-named.table.items ([]) c.loop-named.named (length c.args.config.now.tasks) (omega (arith, over, most)) c.loop-named.invariant

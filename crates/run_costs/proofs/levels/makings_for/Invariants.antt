@@ -1,8 +1,8 @@
 use Rattle.std.proofs.Common.{[], length}
 use Rattle.response_bounds.specs.Costs.{no_section_makings}
-use Rattle.run_costs.specs.RunRecord.{AreMakers}
+use Rattle.run_responses.specs.RunCosts.{IsRunSectionMaking}
 use Rattle.response_costs.specs.CostsOf.{AreEach}
 use Rattle.run_costs.proofs.levels.makings_for.Given as goal
 
 abbrev pub invariant-loop-named : goal.invariant-loop-named
-invariant-loop-named l = AreEach l.named ([]) (λ j. AreEach (length l.config.tasks) no_section_makings (AreMakers l.config l.app l.above j)) l.table.items
+invariant-loop-named l = AreEach l.named ([]) (λ j. AreEach (length l.config.tasks) no_section_makings (IsRunSectionMaking l.config l.app l.above j)) l.table.items

@@ -1,4 +1,4 @@
-use Rattle.std.proofs.Common.{ℕ, ◌<◌, Bool, List, false, length, get_or, sym, subst, ◌∙◌}
+use Rattle.std.proofs.Common.{ℕ, ◌<◌, Bool, List, false, length, get_or, sym, subst}
 use Rattle.std.specs.Prelude.{Decides}
 use Rattle.walk_sums.specs.Rounds.{IsClean}
 use Rattle.run_costs.proofs.record.costs_of.Goals as goal

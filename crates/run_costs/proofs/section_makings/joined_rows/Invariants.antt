@@ -1,7 +1,7 @@
 use Rattle.response_bounds.specs.Costs.{no_section_makings}
-use Rattle.run_costs.specs.RunRecord.{AreMakers}
+use Rattle.run_responses.specs.RunCosts.{IsRunSectionMaking}
 use Rattle.response_costs.specs.CostsOf.{AreEach}
 use Rattle.run_costs.proofs.section_makings.joined_rows.Given as goal
 
 abbrev pub invariant-loop-task : goal.invariant-loop-task
-invariant-loop-task l = AreEach l.task (no_section_makings) (AreMakers l.config l.app l.above l.named) l.row.items
+invariant-loop-task l = AreEach l.task (no_section_makings) (IsRunSectionMaking l.config l.app l.above l.named) l.row.items

@@ -1,4 +1,4 @@
-use Rattle.std.proofs.Common.{◌≡◌, ℕ, List, Option, None, Bool, true, false, length, get_or, ap, sym, ◌∙◌, subst}
+use Rattle.std.proofs.Common.{◌≡◌, ℕ, List, Option, None, Bool, false, length, get_or, ap, sym, ◌∙◌, subst}
 use Rattle.std.proofs.lemmas.Result.{IfOk-weaker}
 use Rattle.raised_sections.specs.Sections.{IsSection}
 use Rattle.walk_sums.proofs.Bodily.{facts_of}

@@ -1,5 +1,5 @@
 use Rattle.sloth_base.specs.declared.config.TaskDecl.{TaskDecl}
-use Rattle.std.proofs.Common.{ℕ, Option, None, Bool, List, ap, arith, false, get_or, length, subst, ◌∙◌, ◌≡◌, ◌≤◌}
+use Rattle.std.proofs.Common.{ℕ, Option, None, List, ap, arith, false, get_or, length, subst, ◌∙◌, ◌≡◌, ◌≤◌}
 use Rattle.walk_sums.specs.declared.sum.Sum.TheVariants as told
 use Rattle.run_costs.specs.RunRecord.{is_limited, times}
 use Rattle.response_costs.proofs.Growing.{each_more, each_of}

@@ -22,6 +22,7 @@ returns c =
       is_preemptable = c.counts_once.ensures;
       is_autostarted = c.is_autostarted.ensures;
       is_clean = refl;
+      waits = refl;
       distance = search;
       told = c.sums_of-sums.result;
       rounds = subst (λ (b : Bool). AreRounds c.args.app.now b (declaration c.args.config.now c.args.task).extended c.args.task c.args.weights.now c.sums_of-sums.result) (sym clean) c.sums_of-sums.ensures;
@@ -29,4 +30,5 @@ returns c =
       next = c.cost_of-next.ensures;
       entry = search;
       service = search;
+      leaving = refl;
     }

@@ -1,7 +1,6 @@
-use Rattle.std.proofs.Common.{ℕ, ◌<◌}
-use Rattle.response_bounds.specs.Responses.{start_at}
-use Rattle.run_windows.specs.RunWindows.{IsStartWithin}
+use Rattle.std.proofs.Common.{◌<◌, Some, length}
+use Rattle.run_windows.specs.RunWindows.{AreWithin, IsLeastOf}
 use Rattle.run_windows.proofs.responses.greatest.Given as goal
 
 abbrev pub invariant-loop-start : goal.invariant-loop-start
-invariant-loop-start l = (i : ℕ) → i < l.start-index → IsStartWithin l.longest l.late l.costs l.h l.most (start_at l.starts i)
+invariant-loop-start l = l.h < length l.costs.tasks → IsLeastOf (AreWithin l.longest l.late l.costs l.h l.starts l.start-index) (Some l.most)

@@ -1,4 +1,4 @@
-use Rattle.std.proofs.Common.{◌≡◌, ℕ, ◌<◌, true, false, length}
+use Rattle.std.proofs.Common.{◌≡◌, ℕ, ◌<◌, false}
 use Rattle.response_bounds.specs.Costs.{task}
 use Rattle.response_bounds.specs.Windows.{is_lower}
 use Rattle.run_windows.specs.RunWindows.{AreRoundsTold}
