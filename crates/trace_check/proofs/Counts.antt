@@ -8,10 +8,10 @@ use Rattle.std.proofs.lemmas.List.Sums.{sum_by-cons}
 use Rattle.std.proofs.lemmas.List.Sorted.{sum_by-IsPermutation}
 use Rattle.trace_check.specs.Counts.{times, SameCounts}
 
-times_here : (x : ℕ) (xs : List ℕ) → times x (x ∷ xs) ≡ 1 + times x xs
+pub times_here : (x : ℕ) (xs : List ℕ) → times x (x ∷ xs) ≡ 1 + times x xs
 times_here x xs = ap (λ b. cond b 1 0 + times x xs) (eq-eqb x x refl)
 
-times_other : (x y : ℕ) (xs : List ℕ) → (y ≡ x → ⊥) → times x (y ∷ xs) ≡ times x xs
+pub times_other : (x y : ℕ) (xs : List ℕ) → (y ≡ x → ⊥) → times x (y ∷ xs) ≡ times x xs
 times_other x y xs n = ap (λ b. cond b 1 0 + times x xs) (ne_eqb y x n) ∙ omega arith
 
 pub times-append : (x : ℕ) (xs ys : List ℕ) → times x (xs ++ ys) ≡ times x xs + times x ys
@@ -67,7 +67,7 @@ abbrev pub Rises : List ℕ → Type 0
 Rises [] = Unit {0}
 Rises (x ∷ xs) = AreFrom x xs × Rises xs
 
-times_below : (x y : ℕ) (ys : List ℕ) → x < y → AreFrom y ys → times x ys ≡ 0
+pub times_below : (x y : ℕ) (ys : List ℕ) → x < y → AreFrom y ys → times x ys ≡ 0
 times_below x y [] less h = refl
 times_below x y (z ∷ ys) less h =
     let le = h.0 in

@@ -35,7 +35,7 @@ decides_counts admits arrivals xs ys p q sorted others b decides = (
 
 -- ---- the pass and the comparison
 
-starting : (arrivals : List Arrival) (events : List Stamped) → All (MayFollow (scan_start arrivals)) events
+pub starting : (arrivals : List Arrival) (events : List Stamped) → All (MayFollow (scan_start arrivals)) events
 starting arrivals events k d lt = by (admitted_line (get_or events k d).event)
   where
     by : (o : Option ℕ) → IsBehindScan (scan_start arrivals) o (get_or events k d).stamp.from (get_or events k d).stamp.at

@@ -20,7 +20,7 @@ use Rattle.trace_check.specs.Verdicts.{IsFirstStray}
 use Rattle.trace_check.specs.Front.{IsFront, IsLineEnd}
 
 module _ (config : Config) (app : App) (names : DeclaredNames) (named : AreNamesOf config app names) (text : List ℕ) where
-  shows_by : (events : List Stamped) → IsEventText (task_names config) (function_names app) (counter_names config) events text
+  pub shows_by : (events : List Stamped) → IsEventText (task_names config) (function_names app) (counter_names config) events text
       → IsEventText names.tasks names.funcs names.counters events text
   shows_by events shows =
       let P : List (List ℕ) → List (List ℕ) → List (List ℕ) → Type 0 = λ ts fs cs. IsEventText ts fs cs events text in

@@ -45,7 +45,7 @@ few_names config few = let long = length-map config.counters (λ (c : CounterDec
 -- ---- names that were made, in the place of those of the configuration and its task code
 
 -- text is left
-is_left : (rest : List ℕ) → (length rest == 0) ≡ false → rest ≢ []
+pub is_left : (rest : List ℕ) → (length rest == 0) ≡ false → rest ≢ []
 is_left [] h e = true≢false h
 is_left (x ∷ rest) h e = cc
 

@@ -18,3 +18,7 @@ pub mod Items
 pub mod Below
 pub mod ExactEvents
 pub mod Fronts
+pub mod FirstDifferences
+pub mod InPlace
+pub mod ReadBack
+pub mod Explained

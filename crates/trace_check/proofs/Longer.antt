@@ -14,7 +14,7 @@ use Rattle.trace_check.specs.Scan.{Scan, scan_start, scan_after_event, scan_afte
 use Rattle.trace_check.specs.Counts.{admit_numbers, with_admit, last_moment}
 use Rattle.trace_check.specs.Timed.{KeptPass, is_late, NeverInTime, IsTimely, TimedBy}
 
-scanned_more : (n : ℕ) (s : Option Scan) (events : List Stamped) (e : Stamped) → scan_after_events n s (events ++ e ∷ []) ≡ on_some (scan_after_events n s events) (λ x. scan_after_event n x e)
+pub scanned_more : (n : ℕ) (s : Option Scan) (events : List Stamped) (e : Stamped) → scan_after_events n s (events ++ e ∷ []) ≡ on_some (scan_after_events n s events) (λ x. scan_after_event n x e)
 scanned_more n s [] e = refl
 scanned_more n s (x ∷ events) e = scanned_more n (on_some s (λ y. scan_after_event n y x)) events e
 
@@ -22,7 +22,7 @@ with_admit-append : (o : Option ℕ) (k : ℕ) (numbers more : List ℕ) → wit
 with_admit-append (Some t) k numbers more = refl
 with_admit-append None k numbers more = refl
 
-numbers_more : (events : List Stamped) (e : Stamped) → admit_numbers (events ++ e ∷ []) ≡ admit_numbers events ++ with_admit (admitted_line e.event) e.stamp.at []
+pub numbers_more : (events : List Stamped) (e : Stamped) → admit_numbers (events ++ e ∷ []) ≡ admit_numbers events ++ with_admit (admitted_line e.event) e.stamp.at []
 numbers_more [] e = refl
 numbers_more (x ∷ events) e =
     ap (with_admit (admitted_line x.event) x.stamp.at) (numbers_more events e)

@@ -10,5 +10,7 @@ pub mod NextEvents
 pub mod MachineEvents
 pub mod Rows
 pub mod ReasonLines
+pub mod Lateness
+pub mod LatenessLines
 pub mod Front
 pub mod Reasons

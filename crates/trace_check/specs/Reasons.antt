@@ -3,15 +3,21 @@ use Rattle.std.specs.Prelude.{ℕ, ◌≡◌, ◌≢◌, List, [], ◌++◌, len
 use Rattle.sloth_base.specs.declared.declared_names.DeclaredNames.{DeclaredNames}
 use Rattle.sloth_base.specs.declared.config.Config.{Config}
 use Rattle.sloth_base.specs.declared.app.App.{App}
+use Rattle.sloth_base.specs.declared.event.Arrival.{Arrival}
 use Rattle.sloth_base.specs.declared.event.Stamped.{Stamped}
+use Rattle.sloth_base.specs.DeclaredNames.{AreNamesOf, counter_names, function_names, task_names}
 use Rattle.osek_scheduler.specs.State.{System, opening}
 use Rattle.osek_scheduler.specs.Runs.{AreStepsTo}
+use Rattle.walked_events.specs.TraceText.{IsEventText}
 use Rattle.trace_check.specs.Inputs.{IsRefusal}
 use Rattle.trace_check.specs.TraceAnswers.{IsJudged}
 use Rattle.trace_check.specs.declared.verdict.Verdict.{Verdict}
 use Rattle.trace_check.specs.declared.verdict.Verdict.TheVariants as verdict
 use Rattle.trace_check.specs.Front.{AreEventsBefore}
 use Rattle.trace_check.specs.NextEvents.{AreNextEvents}
+use Rattle.trace_check.specs.Lateness.{IsLateness}
+use Rattle.trace_check.specs.LatenessLines.{lateness_lines}
+use Rattle.trace_check.specs.declared.lateness.Lateness.{Lateness}
 use Rattle.trace_check.specs.ReasonLines.{row_lines, state_lines, verdict_line}
 use Rattle.trace_check.specs.declared.next_event.NextEvent.{NextEvent}
 use Rattle.trace_check.specs.declared.reason.TraceReason.{TraceReason}
@@ -28,12 +34,26 @@ pub record IsStepReason (config : Config) (app : App) (trace : List ℕ) (k : �
   pub next : AreNextEvents config app past rows
   pub is : lines ≡ state_lines names.tasks state (length config.tasks) ++ row_lines names rows
 
+-- the lines of why these events are not in time
+pub record AreLatenessLines (names : DeclaredNames) (n : ℕ) (arrivals : List Arrival) (events : List Stamped) (lines : List ℕ) : Type 0 where
+  pub reason : Lateness
+  pub explains : IsLateness n arrivals events reason
+  pub is : lines ≡ lateness_lines names reason
+
+-- behind events that are not in time: why they are not
+pub record IsTimeReason (config : Config) (app : App) (arrivals : List Arrival) (trace : List ℕ) (n : ℕ) (lines : List ℕ) : Type 0 where
+  pub names : DeclaredNames
+  pub named : AreNamesOf config app names
+  pub events : List Stamped
+  pub shows : IsEventText (task_names config) (function_names app) (counter_names config) events trace
+  pub told : AreLatenessLines names n arrivals events lines
+
 -- the lines behind a verdict
-abbrev pub AreReasons : Config → App → (trace : List ℕ) → Verdict → List ℕ → Type 0
-AreReasons config app trace verdict.Yes lines = lines ≡ []
-AreReasons config app trace (verdict.Line k) lines = lines ≡ []
-AreReasons config app trace (verdict.Step k) lines = IsStepReason config app trace k lines
-AreReasons config app trace verdict.Time lines = lines ≡ []
+abbrev pub AreReasons : Config → App → List Arrival → (trace : List ℕ) → ℕ → Verdict → List ℕ → Type 0
+AreReasons config app arrivals trace n verdict.Yes lines = lines ≡ []
+AreReasons config app arrivals trace n (verdict.Line k) lines = lines ≡ []
+AreReasons config app arrivals trace n (verdict.Step k) lines = IsStepReason config app trace k lines
+AreReasons config app arrivals trace n verdict.Time lines = IsTimeReason config app arrivals trace n lines
 
 -- a verdict other than yes, and the lines behind it
 pub record IsNo (oil src arr trace : List ℕ) (n : ℕ) (text : List ℕ) : Type 0 where
@@ -41,7 +61,7 @@ pub record IsNo (oil src arr trace : List ℕ) (n : ℕ) (text : List ℕ) : Typ
   pub judged : IsJudged oil src arr trace n answer
   pub other : answer ≢ verdict.Yes
   pub lines : List ℕ
-  pub reasons : AreReasons judged.config judged.app trace answer lines
+  pub reasons : AreReasons judged.config judged.app judged.arrivals trace n answer lines
   pub is : text ≡ verdict_line answer ++ lines
 
 -- the inputs are refused so, or the text has this verdict, and behind one other than yes stands this

@@ -15,14 +15,18 @@
 //!
 //! `explain_trace` gives the verdict of `check`, or the refusal of the other texts. Behind a line with which the events are no run any more it tells
 //! the states of the tasks in front of it, and each event that may stand there: exactly those with which there is a run still, each with the count before
-//! which it must begin, if there is one (`next_events`; `specs/NextEvents`, `specs/Reasons`). Lines: `specs/ReasonLines`. How they are found: `specs/Rows`,
+//! which it must begin, if there is one (`next_events`; `specs/NextEvents`, `specs/Reasons`). Behind events that are not in time it tells the line with which they
+//! are not, and the first arrival that lacks its admit (`lateness`; `specs/Lateness`). Lines: `specs/ReasonLines`, `specs/LatenessLines`. How they are found: `specs/Rows`,
 //! `specs/MachineEvents`. Runs: `osek_scheduler` (`Runs`); walks: `walked_events` (`Walk`).
 #![tactic(auto)]
 
 pub mod answer;
 pub mod answer_laws;
+mod differences;
 mod front;
 mod inputs;
+mod late;
+pub mod lateness;
 pub mod laws;
 mod limits;
 mod lines;

@@ -31,8 +31,8 @@ pub fn push_number(numbers: &mut Vec<u64>, event: &Stamped) -> Result<(), NoMemo
     }
 }
 
-// The numbers of arrivals.
-fn arrival_numbers(alloc: Global, arrivals: &[Arrival]) -> Result<Vec<u64>, NoMemory>
+/// The numbers of arrivals.
+pub fn arrival_numbers(alloc: Global, arrivals: &[Arrival]) -> Result<Vec<u64>, NoMemory>
     ensures { IfOk result (λ numbers. numbers.items ≡ map arrival_number arrivals.now) }
 {
     let mut numbers = Vec::new(alloc);
@@ -45,8 +45,8 @@ fn arrival_numbers(alloc: Global, arrivals: &[Arrival]) -> Result<Vec<u64>, NoMe
     Ok(numbers)
 }
 
-// Sorts numbers.
-fn sort(numbers: &mut Vec<u64>) -> Result<(), NoMemory>
+/// Sorts numbers.
+pub fn sort(numbers: &mut Vec<u64>) -> Result<(), NoMemory>
     ensures permutation { OnOk result (IsPermutation numbers.old.items numbers.new.items) }
     ensures sorted { OnOk result (IsSorted nat_cmp numbers.new.items) }
 {

@@ -7,16 +7,18 @@ ghost use Rattle.sloth_base.specs.Owners.{owners_in};
 ghost use Rattle.code_rules.specs.WellFormed.{WellFormed};
 ghost use Rattle.sloth_source.specs.Texts.{AreAccepted};
 ghost use Rattle.trace_check.specs.Inputs.{AreArrivalsOf};
-ghost use Rattle.trace_check.specs.Verdicts.{IsFirstStray};
+ghost use Rattle.trace_check.specs.Verdicts.{IsFirstStray, IsLate};
 ghost use Rattle.trace_check.specs.declared.verdict.Verdict.TheVariants as verdict_is;
 ghost use Rattle.trace_check.specs.Reasons.{AreReasons, IsTraceReason};
 
 use crate::front::step_lines;
 use crate::inputs::{Inputs, read_inputs};
+use crate::late::time_lines;
 use crate::lines::verdict_text;
 use crate::{Verdict, check};
 use sloth_base::app::App;
 use sloth_base::config::Config;
+use sloth_base::event::Arrival;
 use sloth_base::list::List;
 use sloth_base::memory::NoMemory;
 use sloth_base::refusal::{BuildError, Refusal};
@@ -51,18 +53,23 @@ fn lines_behind(
     alloc: Global,
     config: &Config,
     app: &App,
+    arrivals: &[Arrival],
     trace: &[u8],
+    n: u32,
     verdict: Verdict,
 ) -> Result<Vec<u8>, NoMemory>
     requires well_formed { WellFormed config.now app.now }
+    requires in_range { AreArrivals (owners_in config.now) arrivals.now }
+    requires short { length trace.now < 4294967295 }
     requires strays { (k : ℕ) → verdict ≡ verdict_is.Step k → IsFirstStray config.now app.now trace.now k }
-    ensures { IfOk result (λ lines. AreReasons config.now app.now trace.now verdict lines.items) }
+    requires late { verdict ≡ verdict_is.Time → IsLate config.now app.now arrivals.now trace.now n }
+    ensures { IfOk result (λ lines. AreReasons config.now app.now arrivals.now trace.now n verdict lines.items) }
 {
     match verdict {
         Verdict::Step(line) => step_lines(alloc, config, app, trace, line),
         Verdict::Yes => Ok(Vec::new(alloc)),
         Verdict::Line(_) => Ok(Vec::new(alloc)),
-        Verdict::Time => Ok(Vec::new(alloc)),
+        Verdict::Time => time_lines(alloc, config, app, arrivals, trace, n),
     }
 }
 
@@ -80,7 +87,15 @@ fn judged(alloc: Global, inputs: &Inputs, trace: &[u8], n: u32) -> Result<TraceR
     if is_yes(verdict) {
         return Ok(TraceReason::Yes);
     }
-    let lines = lines_behind(alloc, &inputs.config, &inputs.app, trace, verdict)?;
+    let lines = lines_behind(
+        alloc,
+        &inputs.config,
+        &inputs.app,
+        arrivals,
+        trace,
+        n,
+        verdict,
+    )?;
     let text = verdict_text(alloc, verdict, lines)?;
     Ok(TraceReason::No(text))
 }

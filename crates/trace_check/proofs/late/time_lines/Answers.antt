@@ -1,0 +1,81 @@
+use Rattle.std.proofs.Common.{◌∙◌, ℕ, List, inl, length, sym, ap, subst, arith}
+use Rattle.std.proofs.lemmas.Result.{IfOk-weaker}
+use Rattle.sloth_base.specs.ImageRange.{AreNames, AreNamesApart}
+use Rattle.sloth_base.specs.DeclaredNames.{counter_names}
+use Rattle.sloth_base.specs.declared.event.Stamped.{Stamped}
+use Rattle.osek_scheduler.specs.InTime.{AreAllAdmitted}
+use Rattle.trace_check.specs.Counts.{AreLinesInRange}
+use Rattle.trace_check.specs.Lateness.{AreInPlace}
+use Rattle.trace_check.specs.Reasons.{AreLatenessLines, IsTimeReason}
+use Rattle.trace_check.proofs.Fronts.{shows_by}
+use Rattle.trace_check.proofs.Judging.{few_names, line_words, lines_small}
+use Rattle.trace_check.proofs.late.time_lines.Goals as goal
+
+pub read_events-requires-clause-tasks : goal.read_events-requires-clause-tasks
+read_events-requires-clause-tasks c = subst AreNames (sym c.in_ok-names.ensures.tasks) c.requires.well_formed.in_range.configuration.task_names
+
+pub read_events-requires-clause-funcs : goal.read_events-requires-clause-funcs
+read_events-requires-clause-funcs c = subst AreNames (sym c.in_ok-names.ensures.funcs) c.requires.well_formed.in_range.func_names
+
+pub read_events-requires-clause-counters : goal.read_events-requires-clause-counters
+read_events-requires-clause-counters c = subst AreNames (sym c.in_ok-names.ensures.counters) c.requires.well_formed.in_range.configuration.counter_names
+
+pub read_events-requires-clause-apart : goal.read_events-requires-clause-apart
+read_events-requires-clause-apart c =
+    let P : List (List ℕ) → List (List ℕ) → Type 0 = λ cs ts. AreNamesApart cs ts in
+    subst (λ (cs : List (List ℕ)). P cs c.in_ok-names.names.tasks) (sym c.in_ok-names.ensures.counters)
+    (subst (λ (ts : List (List ℕ)). P (counter_names c.args.config.now) ts) (sym c.in_ok-names.ensures.tasks)
+    c.requires.well_formed.in_range.configuration.counters_apart)
+
+pub late_lines-requires-clause-tasks : goal.late_lines-requires-clause-tasks
+late_lines-requires-clause-tasks c = subst AreNames (sym c.in_ok-names.ensures.tasks) c.requires.well_formed.in_range.configuration.task_names
+
+pub late_lines-requires-clause-funcs : goal.late_lines-requires-clause-funcs
+late_lines-requires-clause-funcs c = subst AreNames (sym c.in_ok-names.ensures.funcs) c.requires.well_formed.in_range.func_names
+
+pub late_lines-requires-clause-counters : goal.late_lines-requires-clause-counters
+late_lines-requires-clause-counters c = subst AreNames (sym c.in_ok-names.ensures.counters) c.requires.well_formed.in_range.configuration.counter_names
+
+pub late_lines-requires-clause-short : goal.late_lines-requires-clause-short
+late_lines-requires-clause-short c =
+    let few = c.in_ok-events.ensures.few in
+    let long = ap (λ (l : List Stamped). length l) c.as_slice.ensures.value in
+    let short = c.requires.short in
+    omega (arith, few, long, short)
+
+pub late_lines-requires-clause-admits : goal.late_lines-requires-clause-admits
+late_lines-requires-clause-admits c =
+    let late = c.requires.late in
+    let shown = c.in_ok-events.ensures.shows late.events (shows_by c.args.config.now c.args.app.now c.in_ok-names.names c.in_ok-names.ensures c.args.text.now late.events late.shows) in
+    subst AreLinesInRange (sym (c.as_slice.ensures.value ∙ shown))
+    (lines_small _ _ _ (few_names c.args.config.now c.requires.well_formed.in_range.configuration.few_counters) late.events late.shows.lines)
+
+pub late_lines-requires-clause-lines : goal.late_lines-requires-clause-lines
+late_lines-requires-clause-lines c = line_words c.args.config.now c.args.arrivals.now c.requires.well_formed.in_range.configuration c.requires.in_range
+
+pub late_lines-requires-clause-late : goal.late_lines-requires-clause-late
+late_lines-requires-clause-late c in_place admitted =
+    let late = c.requires.late in
+    let shown = c.in_ok-events.ensures.shows late.events (shows_by c.args.config.now c.args.app.now c.in_ok-names.names c.in_ok-names.ensures c.args.text.now late.events late.shows) in
+    let same = c.as_slice.ensures.value ∙ shown in
+    let P : List Stamped → Type 0 = λ l. AreInPlace c.args.n c.args.arrivals.now l in
+    let Q : List Stamped → Type 0 = λ l. AreAllAdmitted c.args.n c.args.arrivals.now l in
+    let placed = subst P same in_place in
+    late.late (record { stamped = placed.stamped; placed = placed.placed; in_order = placed.in_order; admitted = inl (subst Q same admitted) })
+
+pub returns : goal.returns
+returns c =
+    let late = c.requires.late in
+    let names = c.in_ok-names.names in
+    let shown = c.in_ok-events.ensures.shows late.events (shows_by c.args.config.now c.args.app.now names c.in_ok-names.ensures c.args.text.now late.events late.shows) in
+    let P : List ℕ → List Stamped → Type 0 = λ lines l. AreLatenessLines names c.args.n c.args.arrivals.now l lines in
+    let made : (lines : List ℕ) → AreLatenessLines names c.args.n c.args.arrivals.now c.as_slice.result.now lines
+    → IsTimeReason c.args.config.now c.args.app.now c.args.arrivals.now c.args.text.now c.args.n lines =
+    λ lines told. record {
+      names = names;
+      named = c.in_ok-names.ensures;
+      events = late.events;
+      shows = late.shows;
+      told = subst (λ (l : List Stamped). P lines l) (c.as_slice.ensures.value ∙ shown) told;
+    } in
+    IfOk-weaker c.late_lines.result _ _ (λ v told. made _ told) c.late_lines.ensures

@@ -1,0 +1,179 @@
+//! The lines behind the verdict that events are not in time.
+ghost use Rattle.std.specs.Prelude.{◌≡◌, ◌<◌, ◌≤◌, ◌++◌, IfOk, OnOk, All, length};
+ghost use Rattle.std.specs.Prelude.{List as Items};
+ghost use Rattle.code_rules.specs.WellFormed.{WellFormed};
+ghost use Rattle.sloth_base.specs.Arrivals.{AreArrivals};
+ghost use Rattle.sloth_base.specs.ImageRange.{AreNames, AreNamesApart};
+ghost use Rattle.sloth_base.specs.Owners.{owners_in};
+ghost use Rattle.sloth_base.specs.declared.event.Stamped.{Stamped as AnyEvent};
+ghost use Rattle.osek_scheduler.specs.InTime.{AreAllAdmitted};
+ghost use Rattle.trace_check.specs.Counts.{AreLinesInRange};
+ghost use Rattle.trace_check.specs.Lateness.{AreInPlace, IsLateness};
+ghost use Rattle.trace_check.specs.LatenessLines.{admission_at, lateness_lines, missing_line, place_line};
+ghost use Rattle.trace_check.specs.Reasons.{AreLatenessLines, IsTimeReason};
+ghost use Rattle.trace_check.specs.Verdicts.{IsLate};
+ghost use Rattle.walked_events.specs.TraceText.{IsEventText};
+
+use crate::lateness::{Lateness, reason_of};
+use crate::verdict::next_event;
+use sloth_base::app::App;
+use sloth_base::config::Config;
+use sloth_base::declared_names::{DeclaredNames, declared_names};
+use sloth_base::event::{Arrival, Event, Stamp, Stamped};
+use sloth_base::lines::FIRST_COUNTER_LINE;
+use sloth_base::memory::NoMemory;
+use std::alloc::Global;
+use text_pieces::bytes::behind;
+use text_pieces::growth::push;
+use trace_text::events::push_event;
+use trace_text::line_words::LineText;
+use trace_text::printing::push_counts;
+
+// The line of the first counter.
+const FIRST_COUNTER: u32 = FIRST_COUNTER_LINE as u32;
+
+// The events of a text.
+fn read_events(alloc: Global, names: &DeclaredNames, text: &[u8]) -> Result<Vec<Stamped>, NoMemory>
+    requires tasks { AreNames names.now.tasks }
+    requires funcs { AreNames names.now.funcs }
+    requires counters { AreNames names.now.counters }
+    requires apart { AreNamesApart names.now.counters names.now.tasks }
+    ensures shows { IfOk result (λ events. (shown : Items AnyEvent) → IsEventText names.now.tasks names.now.funcs names.now.counters shown text.now
+        → events.items ≡ shown) }
+    ensures few { IfOk result (λ events. length events.items ≤ length text.now) }
+{
+    let mut events = Vec::new(alloc);
+    let mut rest = text;
+    while !rest.is_empty() {
+        let Some(event) = next_event(names, rest) else {
+            return Ok(events);
+        };
+        push(&mut events, event)?;
+        rest = behind(rest, b'\n');
+    }
+    Ok(events)
+}
+
+// The event that admits an arrival of a moment and a line.
+fn admission_at(moment: u32, line: u32) -> Stamped
+    ensures { result ≡ admission_at moment line }
+{
+    let event = if line < FIRST_COUNTER {
+        Event::Admit(line)
+    } else {
+        Event::Due(line - FIRST_COUNTER)
+    };
+    Stamped {
+        stamp: Stamp {
+            from: moment,
+            at: moment,
+        },
+        event,
+    }
+}
+
+// The event's line that a text lacks.
+#[tactic(auto, unfolding(crate::specs::LatenessLines::missing_line))]
+fn missing_line(names: &DeclaredNames, moment: u32, line: u32) -> LineText
+    requires tasks { AreNames names.now.tasks }
+    requires funcs { AreNames names.now.funcs }
+    requires counters { AreNames names.now.counters }
+    ensures { result ≡ missing_line names.now moment line }
+{
+    let admission = admission_at(moment, line);
+    let mut text = LineText::new();
+    text.push(b"missing ");
+    push_counts(&mut text, &admission);
+    push_event(
+        &mut text,
+        &admission.event,
+        names.tasks.items(),
+        names.funcs.items(),
+        names.counters.items(),
+    );
+    text.push(b"\n");
+    text
+}
+
+// The line of a place.
+#[tactic(auto, unfolding(crate::specs::LatenessLines::place_line))]
+fn place_line(place: u32) -> LineText
+    ensures { result ≡ place_line place }
+{
+    let mut line = LineText::new();
+    line.push(b"line ");
+    line.push_number(place);
+    line.push(b"\n");
+    line
+}
+
+// The lines of why events are not in time.
+fn lateness_lines(
+    alloc: Global,
+    names: &DeclaredNames,
+    reason: Lateness,
+) -> Result<Vec<u8>, NoMemory>
+    requires tasks { AreNames names.now.tasks }
+    requires funcs { AreNames names.now.funcs }
+    requires counters { AreNames names.now.counters }
+    ensures { IfOk result (λ lines. lines.items ≡ lateness_lines names.now reason) }
+{
+    let mut lines = Vec::new(alloc);
+    match reason {
+        Lateness::Misplaced(place) => lines.extend_from_slice(place_line(place).bytes())?,
+        Lateness::Extra(place) => lines.extend_from_slice(place_line(place).bytes())?,
+        Lateness::Passed {
+            place,
+            moment,
+            line,
+        } => {
+            lines.extend_from_slice(place_line(place).bytes())?;
+            lines.extend_from_slice(missing_line(names, moment, line).bytes())?;
+        }
+        Lateness::Missing { moment, line } => {
+            lines.extend_from_slice(missing_line(names, moment, line).bytes())?;
+        }
+    }
+    Ok(lines)
+}
+
+// The same of these events.
+fn late_lines(
+    alloc: Global,
+    names: &DeclaredNames,
+    arrivals: &[Arrival],
+    events: &[Stamped],
+    n: u32,
+) -> Result<Vec<u8>, NoMemory>
+    requires tasks { AreNames names.now.tasks }
+    requires funcs { AreNames names.now.funcs }
+    requires counters { AreNames names.now.counters }
+    requires short { length events.now < 4294967295 }
+    requires admits { AreLinesInRange events.now }
+    requires lines { All (λ a. a.line < 4294967296) arrivals.now }
+    requires late { AreInPlace n arrivals.now events.now → AreAllAdmitted n arrivals.now events.now → ⊥ }
+    ensures { IfOk result (λ lines. AreLatenessLines names.now n arrivals.now events.now lines.items) }
+{
+    let reason = reason_of(alloc, n, arrivals, events)?;
+    lateness_lines(alloc, names, reason)
+}
+
+/// What stands behind the verdict that events are not in time.
+pub fn time_lines(
+    alloc: Global,
+    config: &Config,
+    app: &App,
+    arrivals: &[Arrival],
+    text: &[u8],
+    n: u32,
+) -> Result<Vec<u8>, NoMemory>
+    requires well_formed { WellFormed config.now app.now }
+    requires in_range { AreArrivals (owners_in config.now) arrivals.now }
+    requires short { length text.now < 4294967295 }
+    requires late { IsLate config.now app.now arrivals.now text.now n }
+    ensures { IfOk result (λ lines. IsTimeReason config.now app.now arrivals.now text.now n lines.items) }
+{
+    let names = declared_names(alloc, config, app)?;
+    let events = read_events(alloc, &names, text)?;
+    late_lines(alloc, &names, arrivals, events.as_slice(), n)
+}
