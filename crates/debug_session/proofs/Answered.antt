@@ -4,8 +4,8 @@ use Rattle.std.specs.Prelude.{Option}
 use Rattle.sloth_io.specs.Sink.{Output, output_with}
 use Rattle.sloth_io.proofs.Gains.{gains-gains, gains-nil, part-behind}
 use Rattle.sloth_io.specs.Input.{Coming}
-use Rattle.gdb_packets.specs.Reading.{Reading, fresh}
-use Rattle.gdb_packets.specs.declared.reading.Event.{Event}
+use Rattle.debug_session.specs.Reading.{Reading, fresh}
+use Rattle.debug_session.specs.declared.reading.Event.{Event}
 use Rattle.debug_ways.specs.Runs.{Run}
 use Rattle.debug_session.specs.declared.serving.SessionFault.{SessionFault}
 use Rattle.debug_session.specs.declared.serving.SessionFault.TheVariants as faults

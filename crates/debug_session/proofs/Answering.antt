@@ -3,12 +3,12 @@ use Rattle.std.proofs.Common.{◌≡◌, ◌≤◌, ◌+◌, inl, inr, ◌==◌,
 use Rattle.sloth_io.specs.Sink.{Output, output_with}
 use Rattle.sloth_io.proofs.Gains.{gains-gains, gains-nil, part-behind}
 use Rattle.sloth_io.specs.Input.{Coming, Gives, Ends}
-use Rattle.gdb_packets.specs.Messages.{Message, Packet, Wrong, Again, Interrupt, messages, message_of}
-use Rattle.gdb_packets.specs.Reading.{Reading, fresh, reading_after, reading_at, event_after, event_at}
-use Rattle.gdb_packets.specs.declared.reading.Place.{Place}
-use Rattle.gdb_packets.specs.declared.reading.Place.TheVariants as places
-use Rattle.gdb_packets.specs.declared.reading.Event.{Event}
-use Rattle.gdb_packets.specs.declared.reading.Event.TheVariants as events
+use Rattle.debug_session.specs.Messages.{Message, Packet, Wrong, Again, Interrupt, messages, message_of}
+use Rattle.debug_session.specs.Reading.{Reading, fresh, reading_after, reading_at, event_after, event_at}
+use Rattle.debug_session.specs.declared.reading.Place.{Place}
+use Rattle.debug_session.specs.declared.reading.Place.TheVariants as places
+use Rattle.debug_session.specs.declared.reading.Event.{Event}
+use Rattle.debug_session.specs.declared.reading.Event.TheVariants as events
 use Rattle.debug_ways.specs.Runs.{Run}
 use Rattle.debug_session.specs.declared.serving.SessionFault.{SessionFault}
 use Rattle.debug_session.specs.declared.serving.SessionFault.TheVariants as faults

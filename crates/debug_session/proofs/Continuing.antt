@@ -3,11 +3,11 @@ use Rattle.std.proofs.Common.{◌≡◌, ◌≤◌, ◌-◌, ℕ, List, ◌++◌
 use Rattle.debug_ways.specs.Runs.{Run}
 use Rattle.debug_ways.specs.Ways.{IsLeast, IsGreatest, ends_ahead, ends_back, guards_before, least_behind, greatest_below}
 use Rattle.debug_ways.proofs.Searching.{found_least, found_greatest}
-use Rattle.gdb_packets.specs.Acknowledging.{acknowledged}
-use Rattle.gdb_packets.specs.Messages.{Packet}
-use Rattle.gdb_packets.specs.Requests.{request_of}
-use Rattle.gdb_packets.specs.declared.request.Point.{Point}
-use Rattle.gdb_packets.specs.declared.request.Request.{Request}
+use Rattle.debug_session.specs.Acknowledging.{acknowledged}
+use Rattle.debug_session.specs.Messages.{Packet}
+use Rattle.debug_session.specs.Requests.{request_of}
+use Rattle.debug_session.specs.declared.request.Point.{Point}
+use Rattle.debug_session.specs.declared.request.Request.{Request}
 use Rattle.debug_session.specs.declared.standing.Standing.{Standing}
 use Rattle.debug_session.specs.Causes.{Wish, is_guard, tests_of, passage}
 use Rattle.debug_session.specs.Replies.{has_reply, reply_text}

@@ -1,13 +1,13 @@
 -- The replies to packets are read back.
 use Rattle.std.proofs.Common.{◌≡◌, ℕ, List, [], ◌∷◌, ◌++◌, length, Option, Some, None, Bool, true, false, if◌then◌else◌, refl, ◌∙◌, ap}
-use Rattle.gdb_packets.specs.Acknowledging.{Sending, acknowledged}
-use Rattle.gdb_packets.specs.Framing.{framed, all_framed}
-use Rattle.gdb_packets.specs.Messages.{AllFit, Packet, messages, packets_of}
-use Rattle.gdb_packets.specs.Reading.{fresh}
-use Rattle.gdb_packets.specs.Requests.{request_of}
-use Rattle.gdb_packets.specs.declared.request.Request.{Request}
-use Rattle.gdb_packets.specs.declared.request.Request.TheVariants as asks
-use Rattle.gdb_packets.proofs.RoundTrip.{read_back}
+use Rattle.debug_session.specs.Acknowledging.{Sending, acknowledged}
+use Rattle.debug_session.specs.Framing.{framed, all_framed}
+use Rattle.debug_session.specs.Messages.{AllFit, Packet, messages, packets_of}
+use Rattle.debug_session.specs.Reading.{fresh}
+use Rattle.debug_session.specs.Requests.{request_of}
+use Rattle.debug_session.specs.declared.request.Request.{Request}
+use Rattle.debug_session.specs.declared.request.Request.TheVariants as asks
+use Rattle.debug_session.proofs.RoundTrip.{read_back}
 use Rattle.debug_ways.specs.Runs.{Run}
 use Rattle.debug_session.specs.Exchanges.{packets_with, with_reply, replies_to}
 use Rattle.debug_session.specs.Sessions.{Session, answers, behind_message, reply_to, reply_packet, sending_behind, sent_reply}

@@ -3,5 +3,10 @@ pub mod Answering
 pub mod Continuing
 pub mod Exchanging
 pub mod Growing
-pub mod Reading
+pub mod MemoryBytes
 pub mod Sides
+pub mod Digits
+pub mod Escaping
+pub mod Parting
+pub mod RoundTrip
+pub mod PacketStanding

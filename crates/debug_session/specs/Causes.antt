@@ -4,7 +4,7 @@ use Rattle.std.specs.Option.{unwrap_or}
 use Rattle.debug_ways.specs.declared.look.Look.{Look}
 use Rattle.debug_ways.specs.Runs.{Run}
 use Rattle.debug_ways.specs.Ways.{Tests, ahead, back}
-use Rattle.gdb_packets.specs.declared.request.Point.{Point}
+use Rattle.debug_session.specs.declared.request.Point.{Point}
 use Rattle.debug_session.specs.declared.points.Watch.{Watch}
 use Rattle.debug_session.specs.declared.wanted.Target.{Target}
 use Rattle.debug_session.specs.declared.wanted.Target.TheVariants as targets

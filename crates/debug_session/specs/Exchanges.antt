@@ -1,7 +1,7 @@
 -- Packets and the replies to them.
 use Rattle.std.specs.Prelude.{ℕ, List, [], ◌∷◌, length, Option, None, Some, if◌then◌else◌}
-use Rattle.gdb_packets.specs.Messages.{Message, Packet}
-use Rattle.gdb_packets.specs.Requests.{request_of}
+use Rattle.debug_session.specs.Messages.{Message, Packet}
+use Rattle.debug_session.specs.Requests.{request_of}
 use Rattle.debug_ways.specs.Runs.{Run}
 use Rattle.debug_session.specs.Sessions.{Session, behind_message, reply_to}
 

@@ -9,3 +9,12 @@ pub mod Standing
 pub mod Texts
 pub mod Wishes
 pub mod Around
+pub mod Acknowledging
+pub mod Actions
+pub mod Escapes
+pub mod Framing
+pub mod Hex
+pub mod Messages
+pub mod Reading
+pub mod Requests
+pub mod Words

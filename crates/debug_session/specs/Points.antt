@@ -1,7 +1,7 @@
 -- Breakpoints and watchpoints.
 use Rattle.std.specs.Prelude.{ℕ, ◌+◌, ◌==◌, ◌&&◌, ◌||◌, nat_lt, List, filter, [], ◌∷◌, ◌++◌, Option, None, Some, Bool, false, not, length, if◌then◌else◌}
 use Rattle.debug_ways.specs.declared.look.Access.{Access}
-use Rattle.gdb_packets.specs.declared.request.Point.{Point}
+use Rattle.debug_session.specs.declared.request.Point.{Point}
 use Rattle.debug_session.specs.declared.points.Watch.{Watch}
 
 -- two points are one

@@ -6,7 +6,7 @@ use Rattle.osek_scheduler.specs.declared.state.TaskState.TheVariants as mode
 use Rattle.rv32_instr.specs.declared.stop.Stop.{Stop}
 use Rattle.rv32_instr.specs.declared.stop.Stop.TheVariants as stops
 use Rattle.trace_text.specs.StopLine.{stopped_line}
-use Rattle.gdb_packets.specs.Hex.{hex_of}
+use Rattle.debug_session.specs.Hex.{hex_of}
 use Rattle.sloth_base.specs.Limits.{count_limit}
 use Rattle.debug_session.specs.Around.{around}
 use Rattle.debug_ways.specs.Runs.{Run}
@@ -14,10 +14,10 @@ use Rattle.debug_session.specs.Causes.{thread_of}
 use Rattle.debug_session.specs.Description.{description}
 use Rattle.debug_session.specs.Points.{is_among}
 use Rattle.debug_session.specs.Texts.{up_to, hex_number, register_digits, window_text, least_of, state_text, thread_state_text}
-use Rattle.gdb_packets.specs.declared.request.Point.{Point}
-use Rattle.gdb_packets.specs.declared.request.Request.{Request}
-use Rattle.gdb_packets.specs.declared.request.Request.TheVariants as asks
-use Rattle.gdb_packets.specs.declared.request.Window.{Window}
+use Rattle.debug_session.specs.declared.request.Point.{Point}
+use Rattle.debug_session.specs.declared.request.Request.{Request}
+use Rattle.debug_session.specs.declared.request.Request.TheVariants as asks
+use Rattle.debug_session.specs.declared.request.Window.{Window}
 use Rattle.debug_session.specs.declared.threads.Seen.{Seen}
 use Rattle.debug_session.specs.declared.threads.View.{View}
 use Rattle.debug_session.specs.declared.standing.Standing.{Standing}

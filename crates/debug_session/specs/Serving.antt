@@ -2,10 +2,10 @@
 use Rattle.std.specs.Prelude.{◌≡◌, ◌≤◌, ◌+◌, ◌⊎◌, ℕ, List, [], ◌++◌, length, Option, None, Some, true}
 use Rattle.sloth_io.specs.Sink.{Output, output_with, GainsPart}
 use Rattle.sloth_io.specs.Input.{Coming}
-use Rattle.gdb_packets.specs.Messages.{Packet, Wrong, Again, Interrupt, messages}
-use Rattle.gdb_packets.specs.Reading.{Reading, fresh}
-use Rattle.gdb_packets.specs.declared.reading.Event.{Event}
-use Rattle.gdb_packets.specs.declared.reading.Event.TheVariants as events
+use Rattle.debug_session.specs.Messages.{Packet, Wrong, Again, Interrupt, messages}
+use Rattle.debug_session.specs.Reading.{Reading, fresh}
+use Rattle.debug_session.specs.declared.reading.Event.{Event}
+use Rattle.debug_session.specs.declared.reading.Event.TheVariants as events
 use Rattle.debug_ways.specs.Runs.{Run}
 use Rattle.debug_session.specs.declared.serving.SessionFault.{SessionFault}
 use Rattle.debug_session.specs.declared.serving.SessionFault.TheVariants as faults

@@ -1,16 +1,16 @@
 -- A session: what is written for the messages that come.
 use Rattle.std.specs.Prelude.{◌≡◌, ℕ, List, [], ◌∷◌, ◌++◌, length, Option, None, Some, Bool, true, false, if◌then◌else◌}
-use Rattle.gdb_packets.specs.Acknowledging.{Sending, first_sending, sent, without_acks, acknowledged, refused, repeated}
-use Rattle.gdb_packets.specs.Framing.{framed}
-use Rattle.gdb_packets.specs.Messages.{Message, Packet, Wrong, Again, Interrupt}
+use Rattle.debug_session.specs.Acknowledging.{Sending, first_sending, sent, without_acks, acknowledged, refused, repeated}
+use Rattle.debug_session.specs.Framing.{framed}
+use Rattle.debug_session.specs.Messages.{Message, Packet, Wrong, Again, Interrupt}
 use Rattle.debug_ways.specs.Runs.{Run}
 use Rattle.debug_session.specs.Points.{with_point, without_point}
 use Rattle.debug_session.specs.Replies.{reply}
-use Rattle.gdb_packets.specs.Requests.{request_of}
+use Rattle.debug_session.specs.Requests.{request_of}
 use Rattle.debug_session.specs.Standing.{begun, selected, stepped, continued, moved, shown, stepping, with_interrupt, ended, plain_step}
-use Rattle.gdb_packets.specs.declared.request.Point.{Point}
-use Rattle.gdb_packets.specs.declared.request.Request.{Request}
-use Rattle.gdb_packets.specs.declared.request.Request.TheVariants as asks
+use Rattle.debug_session.specs.declared.request.Point.{Point}
+use Rattle.debug_session.specs.declared.request.Request.{Request}
+use Rattle.debug_session.specs.declared.request.Request.TheVariants as asks
 use Rattle.debug_session.specs.declared.standing.Standing.{Standing}
 
 -- where a session stands: the count and what is selected, its points, and what was sent

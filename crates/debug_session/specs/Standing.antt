@@ -3,10 +3,10 @@ use Rattle.std.specs.Prelude.{ℕ, ◌==◌, ◌&&◌, ◌||◌, nat_le, nat_lt,
 use Rattle.debug_ways.specs.declared.look.Look.{Look}
 use Rattle.debug_ways.specs.Runs.{Run}
 use Rattle.debug_ways.specs.Ways.{ahead}
-use Rattle.gdb_packets.specs.declared.request.Point.{Point}
+use Rattle.debug_session.specs.declared.request.Point.{Point}
 use Rattle.debug_session.specs.declared.standing.Told.{Told}
 use Rattle.debug_session.specs.declared.standing.Standing.{Standing}
-use Rattle.gdb_packets.specs.declared.request.Step.{Step}
+use Rattle.debug_session.specs.declared.request.Step.{Step}
 use Rattle.debug_session.specs.declared.wanted.Target.{Target}
 use Rattle.debug_session.specs.declared.wanted.Target.TheVariants as targets
 use Rattle.debug_session.specs.declared.wanted.Cause.{Cause}

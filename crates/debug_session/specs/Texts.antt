@@ -2,8 +2,8 @@
 use Rattle.std.specs.Prelude.{ℕ, zero, suc, ◌+◌, ◌/◌, ◌%◌, ◌==◌, ◌||◌, nat_le, nat_lt, List, [], ◌∷◌, ◌++◌, length, take, drop, Option, None, Some, Bool, if◌then◌else◌, codes, decimal}
 use Rattle.osek_scheduler.specs.declared.state.TaskState.{TaskState}
 use Rattle.osek_scheduler.specs.declared.state.TaskState.TheVariants as mode
-use Rattle.gdb_packets.specs.Hex.{hex_digit, hex_of}
-use Rattle.gdb_packets.specs.declared.request.Window.{Window}
+use Rattle.debug_session.specs.Hex.{hex_digit, hex_of}
+use Rattle.debug_session.specs.declared.request.Window.{Window}
 
 -- the texts of the numbers below one, in their order
 abbrev pub up_to : (ℕ → List ℕ) → ℕ → List ℕ

@@ -2,10 +2,10 @@
 ghost use Rattle.std.specs.Prelude.{◌≡◌, ◌≤◌, ℕ, List, length, true, false};
 ghost use Rattle.debug_ways.specs.Runs.{Run};
 ghost use Rattle.debug_ways.specs.Ways.{IsLeast, IsGreatest, ends_ahead, ends_back, guards_before};
-ghost use Rattle.gdb_packets.specs.Messages.{Packet, AllFit, messages, packets_of};
-ghost use Rattle.gdb_packets.specs.Reading.{fresh};
-ghost use Rattle.gdb_packets.specs.Requests.{request_of};
-ghost use Rattle.gdb_packets.specs.declared.request.Point.{Point};
+ghost use Rattle.debug_session.specs.Messages.{Packet, AllFit, messages, packets_of};
+ghost use Rattle.debug_session.specs.Reading.{fresh};
+ghost use Rattle.debug_session.specs.Requests.{request_of};
+ghost use Rattle.debug_session.specs.declared.request.Point.{Point};
 ghost use Rattle.debug_session.specs.declared.standing.Standing.{Standing};
 ghost use Rattle.debug_session.specs.Causes.{Wish, is_guard, tests_of, passage};
 ghost use Rattle.debug_session.specs.Exchanges.{packets_with, replies_to};

@@ -2,8 +2,8 @@
 ghost use Rattle.std.specs.Prelude.{◌≡◌, OnOk};
 ghost use Rattle.debug_session.specs.Points.{is_point, is_among, break_at, is_for, meets, later_of, watch_at, watched, with_point, without_point};
 
+use crate::request::Point;
 use debug_ways::Access;
-use gdb_packets::request::Point;
 use sloth_base::memory::NoMemory;
 
 /// The most points that there may be.

@@ -1,7 +1,7 @@
 //! Replies to requests.
 ghost use Rattle.std.specs.Prelude.{◌≡◌, ◌≤◌, ◌++◌, OnOk, length, codes};
 ghost use Rattle.sloth_base.specs.Limits.{task_limit};
-ghost use Rattle.gdb_packets.specs.Hex.{hex_of};
+ghost use Rattle.debug_session.specs.Hex.{hex_of};
 ghost use Rattle.debug_session.specs.Causes.{thread_of};
 ghost use Rattle.debug_session.specs.Texts.{hex_number, window_text};
 ghost use Rattle.debug_ways.specs.Cursor.{cursor_run};
@@ -9,15 +9,15 @@ ghost use Rattle.debug_session.specs.Replies.{reply_text, has_reply, fault_text,
 
 use crate::description::description;
 use crate::events::push_events;
+use crate::hex::push_hex;
 use crate::points::is_among;
+use crate::request::{Point, Request, Window};
 use crate::standing::{Standing, thread_of};
 use crate::stops::push_stop;
 use crate::texts::{push, push_number, push_window};
 use crate::threads::{push_thread_list, push_threads, push_words, seen_of, view_of};
 use crate::views::{push_count, push_memory, push_registers, push_shown_register, push_states};
 use debug_ways::{Cursor, Machine};
-use gdb_packets::hex::push_hex;
-use gdb_packets::request::{Point, Request, Window};
 use sloth_base::memory::NoMemory;
 use sloth_base::name::Name;
 use std::alloc::Global;

@@ -2,13 +2,13 @@
 ghost use Rattle.std.specs.Prelude.{◌≡◌, ◌≤◌, ◌++◌, OnOk, IfErr, length};
 ghost use Rattle.sloth_base.specs.Limits.{task_limit};
 ghost use Rattle.sloth_io.specs.Sink.{output_with};
-ghost use Rattle.gdb_packets.specs.Reading.{fresh};
+ghost use Rattle.debug_session.specs.Reading.{fresh};
 ghost use Rattle.debug_ways.specs.Cursor.{cursor_run};
 ghost use Rattle.debug_session.specs.Serving.{behind_event, event_answer, IsWhole, BrokeOff, IsAnswered, IsAnsweredInPart, HasNoAnswer};
 
+use crate::reading::{Event, PacketReader};
 use crate::session::Session;
 use debug_ways::{Cursor, Machine};
-use gdb_packets::reading::{Event, PacketReader};
 use sloth_base::memory::NoMemory;
 use sloth_base::name::Name;
 use sloth_io::input::Input;

@@ -1,20 +1,20 @@
 //! A session: its messages, one by one, and what is written for them.
 ghost use Rattle.std.specs.Prelude.{◌≡◌, ◌≤◌, ◌++◌, OnOk, Some, None, length, if◌then◌else◌};
 ghost use Rattle.sloth_base.specs.Limits.{task_limit};
-ghost use Rattle.gdb_packets.specs.Messages.{Packet};
-ghost use Rattle.gdb_packets.specs.Acknowledging.{repeated, refused};
+ghost use Rattle.debug_session.specs.Messages.{Packet};
+ghost use Rattle.debug_session.specs.Acknowledging.{repeated, refused};
 ghost use Rattle.debug_ways.specs.Cursor.{cursor_run};
 ghost use Rattle.debug_session.specs.Standing.{with_interrupt, shown, stepping, ended, stepped, continued, plain_step};
 ghost use Rattle.debug_session.specs.Sessions.{first_session, selected_in, standing_behind, points_behind, sending_behind, reply_to, reply_packet, sent_reply, behind_request, behind_message, answer};
 
+use crate::link::Link;
 use crate::points::{set_point, take_point};
 use crate::replies::{has_reply, push_text};
+use crate::request::{Point, Request, Step};
+use crate::requests::request_of;
 use crate::standing::{Standing, begun, plain_step, selected};
 use crate::stepping::{continued, moved, stepped};
 use debug_ways::{Cursor, Machine};
-use gdb_packets::link::Link;
-use gdb_packets::request::{Point, Request, Step};
-use gdb_packets::requests::request_of;
 use sloth_base::memory::NoMemory;
 use sloth_base::name::Name;
 use std::alloc::Global;

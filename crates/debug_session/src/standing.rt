@@ -3,9 +3,9 @@ ghost use Rattle.std.specs.Prelude.{◌≡◌};
 ghost use Rattle.debug_session.specs.Causes.{thread_of};
 ghost use Rattle.debug_session.specs.Standing.{begun, selected, interrupted, stays, step_target, is_told_anywhere, is_step, is_end, told_by, plain_step};
 
+use crate::request::Step;
 use crate::wanted::{Cause, Target, is_own};
 use debug_ways::Look;
-use gdb_packets::request::Step;
 
 /// What a stop reply tells: the cause, the thread, or 0 for the one that runs, and whether a step ended on another thread.
 #[derive(Clone, Copy)]

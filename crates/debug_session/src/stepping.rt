@@ -6,13 +6,13 @@ ghost use Rattle.debug_session.specs.Standing.{wish_of_step, has_met, told_cause
 
 use crate::passages::passage;
 use crate::points::break_at;
+use crate::request::{Point, Step};
 use crate::standing::{
     Standing, Told, interrupted, is_end, is_step, stays, step_target, thread_of, told_by,
 };
 use crate::wanted::{Cause, Passage, Target, Wanted, is_own};
 use debug_ways::ways::go_ahead;
 use debug_ways::{Cursor, Look, Machine};
-use gdb_packets::request::{Point, Step};
 
 // The points and the target of a step.
 fn wanted_by<'a>(points: &'a [Point], step: &Step, look: &Look) -> Wanted<'a>

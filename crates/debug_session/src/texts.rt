@@ -2,8 +2,8 @@
 ghost use Rattle.std.specs.Prelude.{◌≡◌, ◌<◌, ◌+◌, ◌++◌, OnOk, decimal};
 ghost use Rattle.debug_session.specs.Texts.{digit_at, hex_number, register_digits, least_of, part_text, window_text, state_text, active_text, thread_state_text};
 
-use gdb_packets::hex::{digit_of, push_hex};
-use gdb_packets::request::Window;
+use crate::hex::{digit_of, push_hex};
+use crate::request::Window;
 use itoa::Buffer;
 use osek_scheduler::state::TaskState;
 use sloth_base::memory::NoMemory;

@@ -5,12 +5,12 @@ ghost use Rattle.debug_ways.specs.Cursor.{cursor_run};
 ghost use Rattle.debug_session.specs.Texts.{up_to};
 ghost use Rattle.debug_session.specs.Replies.{shown_thread, register_text, registers_text, byte_in, bytes_from, digits_or_fault, memory_text, met_text, meeting_text, count_text, task_line, states_text};
 
+use crate::hex::push_hex;
+use crate::request::Window;
 use crate::standing::{Standing, thread_of};
 use crate::texts::{least_of, push, push_decimal, push_register, push_state};
 use crate::threads::Seen;
 use debug_ways::{Cursor, Machine};
-use gdb_packets::hex::push_hex;
-use gdb_packets::request::Window;
 use osek_scheduler::state::TaskState;
 use rv32_instr::Stop;
 use sloth_base::limits::TASK_LIMIT;

@@ -4,9 +4,9 @@ ghost use Rattle.debug_session.specs.Causes.{is_own, is_target, is_reached, test
 ghost use Rattle.debug_session.specs.Wishes.{wish_of};
 
 use crate::points::{break_at, watched};
+use crate::request::Point;
 use debug_ways::Look;
 use debug_ways::ways::Hits;
-use gdb_packets::request::Point;
 
 /// A count that a way goes to.
 #[derive(Clone, Copy)]

@@ -4,3 +4,15 @@ pub mod OneVerdict
 pub mod SharedSymbols
 pub mod Telling
 pub mod Words
+pub mod AllMembers
+pub mod Gathering
+pub mod Joining
+pub mod Judging
+pub mod Keeping
+pub mod Kept
+pub mod Listing
+pub mod Members
+pub mod Orders
+pub mod Pairing
+pub mod Spreading
+pub mod Using

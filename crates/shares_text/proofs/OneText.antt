@@ -7,9 +7,9 @@ use Rattle.sloth_base.specs.declared.app.App.{App}
 use Rattle.sloth_base.specs.declared.app.Symbol.{Symbol}
 use Rattle.sloth_base.specs.Named.{no_symbol}
 use Rattle.sloth_source.proofs.Unique.{one_meaning}
-use Rattle.shared_data.specs.declared.verdict.Verdict.{Verdict}
-use Rattle.shared_data.specs.declared.verdict.Verdict.TheVariants as verdict
-use Rattle.shared_data.specs.Verdicts.{AreVerdicts}
+use Rattle.shares_text.specs.declared.verdict.Verdict.{Verdict}
+use Rattle.shares_text.specs.declared.verdict.Verdict.TheVariants as verdict
+use Rattle.shares_text.specs.Verdicts.{AreVerdicts}
 use Rattle.shares_text.specs.SharesText.{verdict_words, share_line, share_lines, OneText}
 use Rattle.shares_text.proofs.OneVerdict.{words_same}
 

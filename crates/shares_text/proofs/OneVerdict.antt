@@ -10,13 +10,13 @@ use Rattle.sloth_base.specs.Limits.{ceiling_count}
 use Rattle.sloth_base.specs.Named.{declaration}
 use Rattle.osek_scheduler.specs.Apart.{static_priority}
 use Rattle.call_graph.specs.Bits.{is_member}
-use Rattle.shared_data.specs.declared.keepers.Keeper.{Keeper}
-use Rattle.shared_data.specs.declared.open_pairs.OpenPair.{OpenPair}
-use Rattle.shared_data.specs.declared.verdict.Verdict.{Verdict}
-use Rattle.shared_data.specs.declared.verdict.Verdict.TheVariants as verdict
-use Rattle.shared_data.specs.Accesses.{Uses}
-use Rattle.shared_data.specs.Verdicts.{IsUsedByOne, IsShared, IsOnlyRead, IsWritten, KeepsOut, IsKeeper, AreKeepersBelow, AreKeepers, no_keeper, IsFirstOpenPair, IsVerdict}
-use Rattle.shared_data.proofs.Orders.{IsNoLater, no_later}
+use Rattle.shares_text.specs.declared.keepers.Keeper.{Keeper}
+use Rattle.shares_text.specs.declared.open_pairs.OpenPair.{OpenPair}
+use Rattle.shares_text.specs.declared.verdict.Verdict.{Verdict}
+use Rattle.shares_text.specs.declared.verdict.Verdict.TheVariants as verdict
+use Rattle.shares_text.specs.Accesses.{Uses}
+use Rattle.shares_text.specs.Verdicts.{IsUsedByOne, IsShared, IsOnlyRead, IsWritten, KeepsOut, IsKeeper, AreKeepersBelow, AreKeepers, no_keeper, IsFirstOpenPair, IsVerdict}
+use Rattle.shares_text.proofs.Orders.{IsNoLater, no_later}
 use Rattle.shares_text.specs.SharesText.{task_word, resource_word, words_below, has_below, under_words, keeper_words, further_keepers, keepers_words, pair_words, verdict_words}
 
 -- ---- sets

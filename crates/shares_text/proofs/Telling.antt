@@ -4,12 +4,12 @@ use Rattle.sloth_base.specs.declared.config.Config.{Config}
 use Rattle.sloth_base.specs.declared.app.App.{App}
 use Rattle.code_rules.specs.WellFormed.{WellFormed}
 use Rattle.osek_scheduler.specs.Apart.{static_priority}
-use Rattle.shared_data.specs.declared.keepers.Keeper.{Keeper}
-use Rattle.shared_data.specs.declared.verdict.Verdict.{Verdict}
-use Rattle.shared_data.specs.declared.verdict.Verdict.TheVariants as verdict
-use Rattle.shared_data.specs.Accesses.{Uses}
-use Rattle.shared_data.specs.Verdicts.{AreKeepersBelow, no_keeper, IsVerdict, AreVerdicts}
-use Rattle.shared_data.proofs.Using.{called_declared}
+use Rattle.shares_text.specs.declared.keepers.Keeper.{Keeper}
+use Rattle.shares_text.specs.declared.verdict.Verdict.{Verdict}
+use Rattle.shares_text.specs.declared.verdict.Verdict.TheVariants as verdict
+use Rattle.shares_text.specs.Accesses.{Uses}
+use Rattle.shares_text.specs.Verdicts.{AreKeepersBelow, no_keeper, IsVerdict, AreVerdicts}
+use Rattle.shares_text.proofs.Using.{called_declared}
 use Rattle.shares_text.specs.SharesText.{IsTellable}
 
 module _ (config : Config) (app : App) (w : WellFormed config app) where

@@ -2,3 +2,11 @@ pub mod SharesText
 pub mod UnusedText
 pub mod Uses
 pub mod UsesBy
+pub mod Accesses
+pub mod Sites
+pub mod Contexts
+pub mod Tables
+pub mod Verdicts
+pub mod Computed
+pub mod VerdictsBy
+pub mod RunLaws

@@ -7,12 +7,12 @@ use Rattle.sloth_base.specs.Limits.{ceiling_count}
 use Rattle.call_graph.specs.Bits.{is_member}
 use Rattle.sloth_base.specs.ConfigRange.{scheduler_number}
 use Rattle.sloth_source.specs.Texts.{AreAccepted}
-use Rattle.shared_data.specs.declared.keepers.Keeper.{Keeper}
-use Rattle.shared_data.specs.declared.open_pairs.OpenPair.{OpenPair}
-use Rattle.shared_data.specs.declared.verdict.Verdict.{Verdict}
-use Rattle.shared_data.specs.declared.verdict.Verdict.TheVariants as verdict
-use Rattle.shared_data.specs.Verdicts.{no_keeper, AreVerdicts}
-use Rattle.shared_data.specs.RunLaws.{RunsKeepApart}
+use Rattle.shares_text.specs.declared.keepers.Keeper.{Keeper}
+use Rattle.shares_text.specs.declared.open_pairs.OpenPair.{OpenPair}
+use Rattle.shares_text.specs.declared.verdict.Verdict.{Verdict}
+use Rattle.shares_text.specs.declared.verdict.Verdict.TheVariants as verdict
+use Rattle.shares_text.specs.Verdicts.{no_keeper, AreVerdicts}
+use Rattle.shares_text.specs.RunLaws.{RunsKeepApart}
 
 -- ---- names
 

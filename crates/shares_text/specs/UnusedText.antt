@@ -5,7 +5,7 @@ use Rattle.sloth_base.specs.declared.app.App.{App}
 use Rattle.sloth_base.specs.ConfigRange.{no_event}
 use Rattle.sloth_base.specs.Named.{declaration, alarm_declaration, function, no_symbol}
 use Rattle.sloth_source.specs.Texts.{AreAccepted}
-use Rattle.shared_data.specs.Accesses.{Uses}
+use Rattle.shares_text.specs.Accesses.{Uses}
 use Rattle.shares_text.specs.declared.kinds.Kind.{Kind}
 use Rattle.shares_text.specs.declared.kinds.Kind.TheVariants as kind
 use Rattle.shares_text.specs.Uses.{IsUsed}

@@ -15,7 +15,7 @@ use Rattle.sloth_base.specs.Options.{is_number}
 use Rattle.sloth_base.specs.ServiceCodes.{has_mask}
 use Rattle.code_rules.specs.Code.{TaskReaches}
 use Rattle.call_graph.specs.Rows.{is_call, is_taking}
-use Rattle.shared_data.specs.Accesses.{symbol_of}
+use Rattle.shares_text.specs.Accesses.{symbol_of}
 use Rattle.shares_text.specs.declared.kinds.Kind.{Kind}
 use Rattle.shares_text.specs.declared.kinds.Kind.TheVariants as kind
 

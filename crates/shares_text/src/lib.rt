@@ -1,7 +1,7 @@
 //! The lines of the commands `shares` and `unused`: which data tasks share, and what keeps their accesses apart; what nothing uses.
 //!
 //! `shares_text` gives a line for each symbol of accepted texts, in their order, or the first refusal. Texts have one list of lines (`one_text`).
-//! Lines: `specs/SharesText`; verdicts: `shared_data` (`Verdicts`), with what they promise of runs (`RunLaws`).
+//! Lines: `specs/SharesText`; verdicts: `symbol_verdicts` (`specs/Verdicts`), with what they promise of runs (`specs/RunLaws`).
 //!
 //! `unused_text` gives a line for each resource, event, alarm, symbol and function that nothing uses, and for each task that nothing but arrivals
 //! activates, or the first refusal. Texts have one list of these lines (`one_unused_text`), and its symbols are those
@@ -9,12 +9,24 @@
 //! computed: `specs/UsesBy`.
 #![tactic(auto)]
 
+pub mod accesses;
+pub mod call_order;
+pub mod contexts;
+pub mod data_uses;
+pub mod held;
+pub mod keepers;
 pub mod kinds;
 pub mod laws;
 mod lines;
+pub mod open_pairs;
+pub mod sets;
+pub mod sites;
+pub mod symbol_verdicts;
 mod text;
 mod unused;
 mod uses;
+pub mod verdict;
+pub mod verdict_laws;
 
 pub use text::shares_text;
 pub use unused::unused_text;

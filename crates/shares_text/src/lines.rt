@@ -3,14 +3,14 @@ ghost use Rattle.std.specs.Prelude.{◌≡◌, ◌==◌, ◌<◌, ◌≤◌, ◌
 ghost use Rattle.sloth_base.specs.ConfigRange.{scheduler_number};
 ghost use Rattle.sloth_base.specs.Limits.{task_limit, ceiling_count};
 ghost use Rattle.call_graph.specs.Bits.{is_member};
-ghost use Rattle.shared_data.specs.Verdicts.{no_keeper};
+ghost use Rattle.shares_text.specs.Verdicts.{no_keeper};
 ghost use Rattle.shares_text.specs.SharesText.{IsTellable, task_word, resource_word, task_words, resource_words, has_below, under_words, keeper_words, further_keepers, keepers_words, pair_words, verdict_words};
 
+use crate::keepers::Keeper;
+use crate::open_pairs::OpenPair;
+use crate::verdict::Verdict;
 use call_graph::word_bits::has;
 use itoa::Buffer;
-use shared_data::keepers::Keeper;
-use shared_data::open_pairs::OpenPair;
-use shared_data::verdict::Verdict;
 use sloth_base::config::Config;
 use sloth_base::memory::NoMemory;
 use sloth_base::numbers::RES_SCHEDULER;

@@ -7,9 +7,9 @@ ghost use Rattle.sloth_source.specs.Texts.{SourcesErrorIs};
 ghost use Rattle.shares_text.specs.SharesText.{HasShares, IsSharesText, IsTellable, verdict_words, share_lines};
 
 use crate::lines::push_verdict;
+use crate::symbol_verdicts::data_verdicts;
+use crate::verdict::Verdict;
 use call_graph::ranking::Ranks;
-use shared_data::data_verdicts;
-use shared_data::verdict::Verdict;
 use sloth_base::app::{App, Symbol};
 use sloth_base::config::Config;
 use sloth_base::memory::NoMemory;

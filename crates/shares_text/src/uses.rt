@@ -7,9 +7,9 @@ ghost use Rattle.call_graph.specs.Rows.{is_call, is_get, is_taking};
 ghost use Rattle.shares_text.specs.Uses.{is_activating, is_starting, has_bits, is_activation, has_event, is_start, is_access, is_use, activates, sets, is_declared_use};
 ghost use Rattle.shares_text.specs.UsesBy.{has_task, is_function_use, is_code_use, is_used_by};
 
+use crate::accesses::symbol_of;
 use crate::kinds::{Kind, event_mask};
 use call_graph::word_bits::has;
-use shared_data::accesses::symbol_of;
 use sloth_base::app::{App, Func, Item, Op};
 use sloth_base::config::{Action, Config};
 use sloth_base::service::Service;

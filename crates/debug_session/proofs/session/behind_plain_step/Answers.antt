@@ -1,7 +1,7 @@
 use Rattle.std.proofs.Common.{◌∙◌, ap}
 use Rattle.debug_ways.specs.Cursor.{cursor_run}
 use Rattle.debug_ways.specs.Runs.{Run}
-use Rattle.gdb_packets.specs.declared.request.Step.{Step}
+use Rattle.debug_session.specs.declared.request.Step.{Step}
 use Rattle.debug_session.specs.Standing.{stepped}
 use Rattle.debug_session.specs.Sessions.{selected_in}
 use Rattle.debug_session.proofs.session.behind_plain_step.Goals as goal

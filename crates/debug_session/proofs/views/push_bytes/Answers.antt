@@ -2,7 +2,7 @@ use Rattle.std.proofs.Common.{◌+◌, ◌∙◌, ap, arith}
 use Rattle.debug_ways.specs.Cursor.{cursor_run}
 use Rattle.debug_ways.specs.Runs.{Run}
 use Rattle.debug_session.specs.Replies.{byte_in}
-use Rattle.debug_session.proofs.Reading.{one_byte, no_byte, no_more}
+use Rattle.debug_session.proofs.MemoryBytes.{one_byte, no_byte, no_more}
 use Rattle.debug_session.proofs.views.push_bytes.Goals as goal
 
 pub returns-in-None-clause-bytes : goal.returns-in-None-clause-bytes

@@ -2,8 +2,8 @@ use Rattle.std.proofs.Common.{ℕ, ◌<◌, ◌≤◌, List, length, get_or, sym
 use Rattle.sloth_base.specs.declared.config.Config.{Config}
 use Rattle.sloth_base.specs.Limits.{task_limit}
 use Rattle.osek_scheduler.proofs.Facts.{facts}
-use Rattle.shared_data.specs.declared.verdict.Verdict.{Verdict}
-use Rattle.shared_data.specs.declared.verdict.Verdict.TheVariants as verdict
+use Rattle.shares_text.specs.declared.verdict.Verdict.{Verdict}
+use Rattle.shares_text.specs.declared.verdict.Verdict.TheVariants as verdict
 use Rattle.shares_text.specs.SharesText.{IsTellable}
 use Rattle.shares_text.proofs.Telling.{all_tellable}
 use Rattle.shares_text.proofs.text.checked_text.Goals as goal

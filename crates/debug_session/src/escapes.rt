@@ -1,0 +1,65 @@
+//! Bytes that cannot stand in a packet for themselves.
+ghost use Rattle.std.specs.Prelude.{◌≡◌, ◌++◌, OnOk, IfOk};
+ghost use Rattle.debug_session.specs.Escapes.{is_reserved, turned, escape_of, escaped, unescaped};
+
+use sloth_base::memory::NoMemory;
+use std::alloc::Global;
+
+// Whether a byte is reserved.
+fn is_reserved(byte: u8) -> bool
+    ensures { result ≡ is_reserved byte }
+{
+    byte == b'#' || byte == b'$' || byte == b'*' || byte == b'}'
+}
+
+// A byte with its bit 5 the other way.
+fn turned(byte: u8) -> u8
+    ensures { result ≡ turned byte }
+{
+    if byte / 32 % 2 == 1 {
+        byte - 32
+    } else {
+        byte + 32
+    }
+}
+
+// Puts what stands for a byte.
+fn push_byte(out: &mut Vec<u8>, byte: u8) -> Result<(), NoMemory>
+    ensures { OnOk result (out.new.items ≡ out.old.items ++ escape_of byte) }
+{
+    if is_reserved(byte) {
+        out.extend_from_slice(&[b'}', turned(byte)])?;
+    } else {
+        out.extend_from_slice(&[byte])?;
+    }
+    Ok(())
+}
+
+/// Puts what stands for bytes.
+pub fn push_escaped(out: &mut Vec<u8>, bytes: &[u8]) -> Result<(), NoMemory>
+    ensures { OnOk result (out.new.items ≡ out.old.items ++ escaped bytes.now) }
+{
+    for byte in bytes {
+        push_byte(out, *byte)?;
+    }
+    Ok(())
+}
+
+/// The bytes that data stand for.
+pub fn unescaped(alloc: Global, bytes: &[u8]) -> Result<Vec<u8>, NoMemory>
+    ensures { IfOk result (λ content. content.items ≡ unescaped bytes.now) }
+{
+    let mut content = Vec::new(alloc);
+    let mut open_escape = false;
+    for byte in bytes {
+        if open_escape {
+            open_escape = false;
+            content.extend_from_slice(&[turned(*byte)])?;
+        } else if *byte == b'}' {
+            open_escape = true;
+        } else {
+            content.extend_from_slice(&[*byte])?;
+        }
+    }
+    Ok(content)
+}

@@ -1,0 +1,81 @@
+//! Hexadecimal digits.
+ghost use Rattle.std.specs.Prelude.{◌≡◌, ◌<◌, ◌++◌, OnOk, IfOk, IfSome, IfNone, None, Some};
+ghost use Rattle.debug_session.specs.Hex.{hex_digit, digit_value, hex_of, number_of, number_from, bytes_of_hex};
+
+use sloth_base::memory::NoMemory;
+use std::alloc::Global;
+
+/// The hexadecimal digit of a value, in lower case.
+pub fn digit_of(n: u8) -> u8
+    requires { n < 16 }
+    ensures { result ≡ hex_digit n }
+{
+    if n < 10 { n + 48 } else { n + 87 }
+}
+
+/// The value of a hexadecimal digit of either case, or 16 of another byte.
+pub fn value_of(byte: u8) -> u8
+    ensures { result ≡ digit_value byte }
+{
+    match byte {
+        48..=57 => byte - 48,
+        97..=102 => byte - 87,
+        65..=70 => byte - 55,
+        _ => 16,
+    }
+}
+
+/// Puts bytes in two digits each.
+pub fn push_hex(out: &mut Vec<u8>, bytes: &[u8]) -> Result<(), NoMemory>
+    ensures { OnOk result (out.new.items ≡ out.old.items ++ hex_of bytes.now) }
+{
+    for byte in bytes {
+        out.extend_from_slice(&[digit_of(*byte / 16), digit_of(*byte % 16)])?;
+    }
+    Ok(())
+}
+
+/// A number of one to eight hexadecimal digits.
+pub fn number(text: &[u8]) -> Option<u32>
+    ensures { result ≡ number_of text.now }
+{
+    if text.is_empty() || text.len() > 8 {
+        return None;
+    }
+    digits(text)
+}
+
+// The number that digits tell.
+fn digits(text: &[u8]) -> Option<u32>
+    ensures { result ≡ number_from 0 text.now }
+{
+    let mut value = 0u32;
+    for byte in text {
+        let digit = value_of(*byte);
+        if digit >= 16 {
+            return None;
+        }
+        value = value.wrapping_mul(16).wrapping_add(u32::from(digit));
+    }
+    Some(value)
+}
+
+/// The bytes that pairs of digits tell, if they are such.
+pub fn bytes_of_hex(alloc: Global, text: &[u8]) -> Result<Option<Vec<u8>>, NoMemory>
+    ensures some { IfOk result (λ told. IfSome told (λ bytes. bytes_of_hex text.now ≡ Some bytes.items)) }
+    ensures none { IfOk result (λ told. IfNone told (bytes_of_hex text.now ≡ None)) }
+{
+    let mut bytes = Vec::new(alloc);
+    if text.len() % 2 == 1 {
+        return Ok(None);
+    }
+    for place in 0..text.len() / 2 {
+        let high = value_of(text[2 * place]);
+        let low = value_of(text[2 * place + 1]);
+        if high >= 16 || low >= 16 {
+            return Ok(None);
+        }
+        bytes.extend_from_slice(&[high * 16 + low])?;
+    }
+    Ok(Some(bytes))
+}

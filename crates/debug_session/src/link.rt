@@ -1,0 +1,92 @@
+//! What is sent at each message beside the answer to it.
+ghost use Rattle.std.specs.Prelude.{◌≡◌, ◌++◌, OnOk};
+ghost use Rattle.debug_session.specs.Framing.{framed};
+ghost use Rattle.debug_session.specs.Acknowledging.{first_sending, sent, without_acks, acknowledged, refused, repeated};
+
+use crate::writing::push_packet;
+use sloth_base::memory::NoMemory;
+use std::alloc::Global;
+use std::marker::Model;
+
+/// Whether packets are acknowledged, and the packet that was sent last.
+#[derive(Drop)]
+pub struct Link {
+    acks: bool,
+    last: Vec<u8>,
+}
+
+impl Model for Link {
+    ghost use Rattle.debug_session.specs.Acknowledging.{Sending};
+
+    ghost Value = { Sending };
+
+    ghost view = { λ link. record { acks = link.acks; last = link.last.items } };
+}
+
+impl Link {
+    /// A link on which nothing was sent.
+    pub fn new(alloc: Global) -> Link
+        ensures { result ≡ first_sending }
+    {
+        Link {
+            acks: true,
+            last: Vec::new(alloc),
+        }
+    }
+
+    /// Packets are no longer acknowledged.
+    pub fn stop_acks(&mut self)
+        ensures { self.new ≡ without_acks self.old }
+    {
+        self.acks = false;
+    }
+
+    /// Puts what tells that a packet came whole.
+    pub fn acknowledge(&self, out: &mut Vec<u8>) -> Result<(), NoMemory>
+        ensures { OnOk result (out.new.items ≡ out.old.items ++ acknowledged self.now) }
+    {
+        if self.acks {
+            out.extend_from_slice(b"+")?;
+        }
+        Ok(())
+    }
+
+    /// Puts what tells that the sum of a packet is wrong.
+    pub fn refuse(&self, alloc: Global, out: &mut Vec<u8>) -> Result<(), NoMemory>
+        ensures { OnOk result (out.new.items ≡ out.old.items ++ refused self.now) }
+    {
+        if self.acks {
+            out.extend_from_slice(b"-")?;
+            return Ok(());
+        }
+        push_packet(alloc, out, b"E01")
+    }
+
+    /// Puts the last packet again.
+    pub fn repeat(&self, out: &mut Vec<u8>) -> Result<(), NoMemory>
+        ensures { OnOk result (out.new.items ≡ out.old.items ++ repeated self.now) }
+    {
+        if self.acks {
+            out.extend_from_slice(self.last.as_slice())?;
+        }
+        Ok(())
+    }
+
+    // Keeps data as the packet that was sent last.
+    fn keep(&mut self, alloc: Global, content: &[u8]) -> Result<(), NoMemory>
+        ensures { OnOk result (self.new ≡ sent self.old content.now) }
+    {
+        self.last.clear();
+        push_packet(alloc, &mut self.last, content)
+    }
+
+    /// Puts data as a packet, which is then the last one.
+    pub fn send(&mut self, alloc: Global, out: &mut Vec<u8>, content: &[u8]) -> Result<(), NoMemory>
+        ensures bytes { OnOk result (out.new.items ≡ out.old.items ++ framed content.now) }
+        ensures last { OnOk result (self.new ≡ sent self.old content.now) }
+    {
+        self.keep(alloc, content)?;
+        out.extend_from_slice(self.last.as_slice())?;
+        Ok(())
+    }
+}

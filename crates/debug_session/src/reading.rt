@@ -1,0 +1,144 @@
+//! The packets among bytes.
+ghost use Rattle.std.specs.Prelude.{◌≡◌, IfOk};
+ghost use Rattle.debug_session.specs.Reading.{fresh, opened, event_after, event_at, reading_after, after_outside, after_inside, is_told};
+
+use crate::hex::value_of;
+use sloth_base::memory::NoMemory;
+use std::alloc::Global;
+use std::marker::Model;
+
+/// The greatest number of bytes of data in a packet.
+pub const LONGEST: usize = 16_384;
+
+/// Where reading stands: outside packets, in the data, behind their `#`, or behind the first digit of the sum.
+#[derive(Clone, Copy)]
+pub enum Place {
+    Outside,
+    Inside,
+    Behind,
+    Half(u8),
+}
+
+/// What a byte completes: nothing, an interrupt, a demand for the last reply, a packet whose sum is wrong, or a packet.
+#[derive(Clone, Copy)]
+pub enum Event {
+    Nothing,
+    Interrupt,
+    Again,
+    Wrong,
+    Packet,
+}
+
+/// A reader of packets. It takes no memory once it is made.
+#[derive(Drop)]
+pub struct PacketReader {
+    place: Place,
+    content: Vec<u8>,
+    sum: u8,
+}
+
+impl Model for PacketReader {
+    ghost use Rattle.std.specs.Prelude.{◌≤◌, length, vec_capacity};
+    ghost use Rattle.debug_session.specs.Reading.{Reading};
+
+    ghost Value = { Reading };
+
+    ghost view = { λ reader. record { place = reader.place; content = reader.content.items; sum = reader.sum } };
+
+    ghost invariant = { λ reader. (length reader.content.items ≤ 16385) × (16385 ≤ vec_capacity reader.content) };
+}
+
+// Whether two digits tell this sum.
+fn is_told(first: u8, second: u8, sum: u8) -> bool
+    ensures { result ≡ is_told first second sum }
+{
+    u32::from(value_of(first)) * 16 + u32::from(value_of(second)) == u32::from(sum)
+}
+
+impl PacketReader {
+    /// A reader that has read nothing.
+    pub fn new(alloc: Global) -> Result<PacketReader, NoMemory>
+        ensures { IfOk result (λ reader. reader ≡ fresh) }
+    {
+        Ok(PacketReader {
+            place: Place::Outside,
+            content: Vec::with_capacity(alloc, LONGEST + 1)?,
+            sum: 0,
+        })
+    }
+
+    /// What stands in the packet that was read last; of what is too long the first 16,385 bytes.
+    pub fn content(&self) -> &[u8]
+        ensures { result.now ≡ self.now.content }
+    {
+        self.content.as_slice()
+    }
+
+    /// Takes a byte, and says what it completes.
+    pub fn take(&mut self, byte: u8) -> Event
+        ensures event { result ≡ event_after self.old byte }
+        ensures reading { self.new ≡ reading_after self.old byte }
+    {
+        match self.place {
+            Place::Outside => self.take_outside(byte),
+            Place::Inside => {
+                self.take_inside(byte);
+                Event::Nothing
+            }
+            Place::Behind => {
+                self.place = Place::Half(byte);
+                Event::Nothing
+            }
+            Place::Half(first) => {
+                self.place = Place::Outside;
+                if is_told(first, byte, self.sum) {
+                    Event::Packet
+                } else {
+                    Event::Wrong
+                }
+            }
+        }
+    }
+
+    // Begins a packet.
+    fn begin(&mut self)
+        ensures { self.new ≡ opened }
+    {
+        self.place = Place::Inside;
+        self.content.clear();
+        self.sum = 0;
+    }
+
+    // Takes a byte outside packets.
+    fn take_outside(&mut self, byte: u8) -> Event
+        ensures event { result ≡ event_at Place.Outside self.old byte }
+        ensures reading { self.new ≡ after_outside self.old byte }
+    {
+        match byte {
+            b'$' => {
+                self.begin();
+                Event::Nothing
+            }
+            3 => Event::Interrupt,
+            b'-' => Event::Again,
+            _ => Event::Nothing,
+        }
+    }
+
+    // Takes a byte in the data.
+    fn take_inside(&mut self, byte: u8)
+        requires { self.old.place ≡ Place.Inside }
+        ensures { self.new ≡ after_inside self.old byte }
+    {
+        match byte {
+            b'$' => self.begin(),
+            b'#' => self.place = Place::Behind,
+            _ => {
+                if self.content.len() <= LONGEST {
+                    self.content.push_reserved(byte);
+                }
+                self.sum = self.sum.wrapping_add(byte);
+            }
+        }
+    }
+}

@@ -1,0 +1,48 @@
+//! Packets as they are written.
+ghost use Rattle.std.specs.Prelude.{◌≡◌, ◌++◌, OnOk, IfOk};
+ghost use Rattle.debug_session.specs.Escapes.{escaped};
+ghost use Rattle.debug_session.specs.Framing.{checksum, packet_of, framed};
+
+use crate::escapes::push_escaped;
+use crate::hex::digit_of;
+use sloth_base::memory::NoMemory;
+use std::alloc::Global;
+
+// The sum of bytes, modulo 256.
+fn sum_of(bytes: &[u8]) -> u8
+    ensures { result ≡ checksum bytes.now }
+{
+    let mut sum = 0u8;
+    for byte in bytes {
+        sum = sum.wrapping_add(*byte);
+    }
+    sum
+}
+
+// Puts bytes between the marks of a packet.
+fn push_between(out: &mut Vec<u8>, bytes: &[u8]) -> Result<(), NoMemory>
+    ensures { OnOk result (out.new.items ≡ out.old.items ++ packet_of bytes.now) }
+{
+    let sum = sum_of(bytes);
+    out.extend_from_slice(b"$")?;
+    out.extend_from_slice(bytes)?;
+    out.extend_from_slice(&[b'#', digit_of(sum / 16), digit_of(sum % 16)])?;
+    Ok(())
+}
+
+// What stands for bytes.
+fn escaped(alloc: Global, bytes: &[u8]) -> Result<Vec<u8>, NoMemory>
+    ensures { IfOk result (λ list. list.items ≡ escaped bytes.now) }
+{
+    let mut list = Vec::new(alloc);
+    push_escaped(&mut list, bytes)?;
+    Ok(list)
+}
+
+/// Puts data as a packet.
+pub fn push_packet(alloc: Global, out: &mut Vec<u8>, content: &[u8]) -> Result<(), NoMemory>
+    ensures { OnOk result (out.new.items ≡ out.old.items ++ framed content.now) }
+{
+    let bytes = escaped(alloc, content)?;
+    push_between(out, bytes.as_slice())
+}

@@ -1,9 +1,0 @@
-pub mod Acknowledging
-pub mod Actions
-pub mod Escapes
-pub mod Framing
-pub mod Hex
-pub mod Messages
-pub mod Reading
-pub mod Requests
-pub mod Words

@@ -1,9 +1,0 @@
-use Rattle.std.proofs.Common.{◌≡◌, drop, length}
-use Rattle.shared_data.specs.Contexts.{spread_all}
-use Rattle.shared_data.proofs.contexts.spread_all.Given as goal
-
-abbrev pub invariant-loop-call : goal.invariant-loop-call
-invariant-loop-call l = record {
-  count : length l.table ≡ length l.initial.table;
-  rest : spread_all l.table (drop l.call-index l.calls) ≡ spread_all l.initial.table l.calls;
-}

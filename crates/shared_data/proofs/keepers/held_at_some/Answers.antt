@@ -1,7 +1,0 @@
-use Rattle.std.proofs.Common.{◌||◌, ap}
-use Rattle.call_graph.proofs.Sets.{has_none}
-use Rattle.shared_data.specs.Computed.{is_held_at_some}
-use Rattle.shared_data.proofs.keepers.held_at_some.Goals as goal
-
-pub loop-used-init : goal.loop-used-init
-loop-used-init c = λ r. ap (λ b. b || is_held_at_some c.args.uses.now c.args.task r) (has_none r)

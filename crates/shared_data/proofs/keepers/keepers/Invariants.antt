@@ -1,8 +1,0 @@
-use Rattle.shared_data.proofs.Listing.{below, Fronts}
-use Rattle.shared_data.proofs.keepers.keepers.Given as goal
-
-abbrev pub invariant-loop-task : goal.invariant-loop-task
-invariant-loop-task l = Fronts l.tasks l.ceilings l.users l.uses l.above l.list.items
-
-abbrev pub decreases-loop-task : goal.decreases-loop-task
-decreases-loop-task l = below l.tasks l.above

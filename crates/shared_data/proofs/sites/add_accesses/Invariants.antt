@@ -1,6 +1,0 @@
-use Rattle.std.proofs.Common.{◌≡◌, ◌++◌, drop}
-use Rattle.shared_data.specs.Sites.{gather_items, access_at}
-use Rattle.shared_data.proofs.sites.add_accesses.Given as goal
-
-abbrev pub invariant-loop-number : goal.invariant-loop-number
-invariant-loop-number l = l.accesses.items ++ gather_items access_at l.func l.number (drop l.number l.items) l.rows ≡ l.initial.accesses.items ++ gather_items access_at l.func 0 l.items l.rows

@@ -1,0 +1,85 @@
+//! The uses of a symbol: each access to it by each task that comes there.
+ghost use Rattle.std.specs.Prelude.{◌≡◌, ◌++◌, OnOk, IfOk};
+ghost use Rattle.shares_text.specs.Computed.{use_of, use_in, uses_by, uses_among};
+
+use crate::contexts::{Context, Contexts, context_at, through};
+use crate::sites::Access;
+use sloth_base::memory::NoMemory;
+use std::alloc::Global;
+use text_pieces::growth::push;
+
+/// An access of a task: what the task holds there on each way of calls, and its least current priority.
+#[derive(Clone, Copy)]
+pub struct Use {
+    pub task: usize,
+    pub func: usize,
+    pub item: usize,
+    pub line: u32,
+    pub stores: bool,
+    pub held: u64,
+    pub least: u32,
+}
+
+// The use of an access in this context.
+fn use_of(access: &Access, task: usize, context: Context) -> Use
+    ensures { result ≡ use_of access.now task context }
+{
+    let here = through(context, access.held);
+    Use {
+        task,
+        func: access.func,
+        item: access.item,
+        line: access.line,
+        stores: access.stores,
+        held: here.held,
+        least: here.least,
+    }
+}
+
+// One more use, if calls of the task lead there.
+fn add_use(
+    uses: &mut Vec<Use>,
+    access: &Access,
+    task: usize,
+    context: Context,
+) -> Result<(), NoMemory>
+    ensures { OnOk result (uses.new.items ≡ uses.old.items ++ use_in access.now task context) }
+{
+    if context.reached {
+        push(uses, use_of(access, task, context))?;
+    }
+    Ok(())
+}
+
+// The uses of an access by all tasks.
+fn add_uses(uses: &mut Vec<Use>, access: &Access, tasks: &[Contexts]) -> Result<(), NoMemory>
+    ensures { OnOk result (uses.new.items ≡ uses.old.items ++ uses_by access.now 0 tasks.now) }
+{
+    for (task, contexts) in tasks.iter().enumerate() {
+        add_use(
+            uses,
+            access,
+            task,
+            context_at(contexts.table.items(), access.func),
+        )?;
+    }
+    Ok(())
+}
+
+/// The uses of a symbol.
+pub fn uses_of(
+    alloc: Global,
+    accesses: &[Access],
+    tasks: &[Contexts],
+    symbol: u32,
+) -> Result<Vec<Use>, NoMemory>
+    ensures { IfOk result (λ uses. uses.items ≡ uses_among tasks.now symbol accesses.now) }
+{
+    let mut uses = Vec::new(alloc);
+    for access in accesses {
+        if access.symbol == symbol {
+            add_uses(&mut uses, access, tasks)?;
+        }
+    }
+    Ok(uses)
+}
