@@ -174,7 +174,9 @@ def main():
     for it in crates:
         it.rlib = f"{place(it)}/{it.name}.rlib"
     os.makedirs(place(program), exist_ok=True)
-    with open(f"{place(program)}/lock", "w") as lock:
+    os.makedirs(place(crates[0]), exist_ok=True)
+    # (in the first crate, which all programs are made of)
+    with open(f"{place(crates[0])}/lock", "w") as lock:
         try:
             fcntl.flock(lock, fcntl.LOCK_EX | fcntl.LOCK_NB)
         except BlockingIOError:

@@ -2,19 +2,20 @@
 //! to the top call, over the system's files and standard output, and the status is how it ends.
 //!
 //! Of the program as it ships `program::run_over` says the same, over the system's files and standard output: for the bytes that the reads delivered its
-//! answer is required, with what was written and printed (`specs/ProgramRun`). Whatever the answer, what was read are the first of the command's files,
+//! answer is required, with what was written and printed (`core_commands`, `ProgramRun`). Whatever the answer, what was read are the first of the command's files,
 //! in the order of its words, and nothing else (`reads`). The words `debug IMG ARR` have a debugger's session (`program::run_words`; `debug_command`).
 //!
 //! Clause `answers`: each answer has its cause, the sink took exactly the text that is due, and the files hold what it says. The other clauses say
 //! which answer comes: `usage`, `overwrite`, `refused` and `complete`; of image files `fault`, `no_image`, `exec_refused`, `executed` and `listed`; of `sample`
 //! `sample_refused` and `sampled`; of tools `tool` and `tool_done`. Each line of a tool's text is one put (`lines`). All of them are defined in
-//! `sloth_commands` (`Top`, `ImageAnswers`, `SampleAnswers`, `ToolAnswers`, `ToolLines`).
+//! `core_commands` (`Top`, `ImageAnswers`, `SampleAnswers`), for a program with any tools, and in `sloth_commands` (`ToolAnswers`, `ToolLines`), whose
+//! `IsToolAnswer` says what the tools of this one answer. Words of no tool go to the top call of the commands that build and run (`core_top`).
 #![tactic(auto)]
 
 pub mod program;
 pub mod top;
 
-pub use sloth_commands::laws;
+pub use core_commands::laws;
 pub use sloth_runner::{RunEnd, Runner, Tally};
 pub use tool_answers::Status;
 pub use top::sloth_top;

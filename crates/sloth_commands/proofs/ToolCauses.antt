@@ -1,29 +1,31 @@
 -- What a tool did, and why it did not.
-use Rattle.std.proofs.Common.{◌≡◌, ◌∙◌, inr, ℕ, List, [], ◌∷◌, ◌++◌, refl, sym, ap, subst, arith, length}
+use Rattle.std.proofs.Common.{◌≡◌, ◌∙◌, ℕ, List, [], ◌∷◌, ◌++◌, refl, sym, ap, subst, arith, length}
 use Rattle.std.specs.Prelude.{IsTrue, Option, Some, None, Result, Ok, Err, IfOk, OnOk}
 use Rattle.image_file.specs.declared.fault.ImageFault.{ImageFault}
 use Rattle.sloth_io.specs.Counts.{Rose}
 use Rattle.sloth_io.specs.Sink.{Output}
 use Rattle.sloth_io.specs.Store.{Files, KeepsFiles, AreDelivered, call_files}
 use Rattle.sloth_io.specs.Slots.{is_space_for}
-use Rattle.command_line.specs.Command.{Uses, IsCommand}
+use Rattle.command_line.specs.Command.{Uses}
 use Rattle.command_line.specs.Tools.{ToolUse, IsToolUse, file_names}
-use Rattle.tool_commands.specs.Answers.{IsAnswer, input, reads_image}
-use Rattle.tool_commands.specs.Lines.{tool_text}
+use Rattle.tool_commands.specs.Answers.{IsAnswer, input}
+use Rattle.tool_answers.specs.ImageReaders.{reads_image}
+use Rattle.tool_answers.specs.Lines.{tool_text}
 use Rattle.tool_answers.specs.declared.answer.ToolAnswer.{ToolAnswer}
 use Rattle.tool_answers.specs.declared.answer.ToolAnswer.TheVariants as tool_answer
 use Rattle.command_line.proofs.ToolWords.{files-counted}
 use Rattle.tool_commands.proofs.OneAnswer.{no-image, reads-one}
-use Rattle.sloth_commands.specs.ImageFiles.{IsNoImage}
+use Rattle.core_commands.specs.ImageFiles.{IsNoImage}
 use Rattle.tool_answers.specs.Statuses.{tool_status}
-use Rattle.sloth_commands.specs.ToolFiles.{AreToolInputs, IsToolAnswer, ReadsImageFirst, input_deliveries}
-use Rattle.sloth_commands.specs.Top.{World, world, FilesAfter, IsOutputWritten, IsToolEnd, IsUnwrittenOutput, IsRequired, IsTextTaken}
-use Rattle.sloth_commands.specs.Failures.{IsTellFailure, IsCommandFailure, IsPerformed}
+use Rattle.sloth_commands.specs.ToolFiles.{IsToolAnswer}
+use Rattle.core_commands.specs.ToolInputs.{AreToolInputs, ReadsImageFirst, input_deliveries}
+use Rattle.core_commands.specs.Top.{World, world, FilesAfter, IsOutputWritten, IsUnwrittenOutput, IsTextTaken}
+use Rattle.core_commands.specs.Failures.{IsTellFailure, IsCommandFailure, IsPerformed}
 use Rattle.tool_answers.specs.declared.status.Status.{Status}
-use Rattle.sloth_commands.specs.declared.failure.Failure.{Failure}
-use Rattle.sloth_commands.specs.declared.failure.Failure.TheVariants as failure
-use Rattle.sloth_commands.proofs.CallFiles.{delivered-in_call, tool-inputs-in_call, stays-behind, still}
-use Rattle.sloth_commands.proofs.ToolReads.{as-many}
+use Rattle.core_commands.specs.declared.failure.Failure.{Failure}
+use Rattle.core_commands.specs.declared.failure.Failure.TheVariants as failure
+use Rattle.core_commands.proofs.CallFiles.{delivered-in_call, tool-inputs-in_call, stays-behind, still}
+use Rattle.core_commands.proofs.ToolReads.{as-many}
 
 -- ---- no image
 
@@ -36,7 +38,7 @@ first-of files u [] reads is read =
     absurd (omega (arith, same, counted, one))
 first-of files u (b ∷ rest) reads is read = (record { rest = rest; first = reads; read = read }, refl)
 
-no-image-file : (files : Files) (u : ToolUse) (fault : ImageFault) → IsToolUse u → IsToolAnswer files u (tool_answer.NotAnImage fault)
+pub no-image-file : (files : Files) (u : ToolUse) (fault : ImageFault) → IsToolUse u → IsToolAnswer files u (tool_answer.NotAnImage fault)
     → IsNoImage files (Uses u) fault
 no-image-file files u fault is h =
     let no = no-image u.tool u.counts u.inputs h.inputs fault h.is in
@@ -47,29 +49,6 @@ no-image-file files u fault is h =
       delivered = h.delivered ∙ ap (λ (xs : List (List ℕ)). input_deliveries (file_names u) xs) first.1;
       faulty = no.1;
     }
-
--- ---- what the answer requires
-
-tool-required : (a : ToolAnswer) (words : List (List ℕ)) (u : ToolUse) (old new : Files) → IsCommand words (Uses u) → IsToolAnswer old u a
-    → FilesAfter a old new u.output → IsRequired (tool_status a) words old new (tool_text a)
-tool-required (tool_answer.Done outcome) words u old new is h after =
-    (Uses u, is, record { answer = tool_answer.Done outcome; is = h; status_is = refl; text_is = refl; files = after })
-tool-required (tool_answer.Stopped pc stop) words u old new is h after =
-    (Uses u, is, record { answer = tool_answer.Stopped pc stop; is = h; status_is = refl; text_is = refl; files = after })
-tool-required (tool_answer.Refused r) words u old new is h after = (Uses u, is, r, h, refl, after)
-tool-required (tool_answer.NotAnImage fault) words u old new is h after = (Uses u, is, fault, no-image-file old u fault is.1 h, refl, after)
-tool-required (tool_answer.NotAnElf fault) words u old new is h after = (u, is, fault, h, refl, after)
-tool-required (tool_answer.Explained kind fault) words u old new is h after = (u, is, fault, h, refl, after)
-tool-required (tool_answer.BadTrace fault) words u old new is h after = (u, is, fault, h, refl, after)
-tool-required tool_answer.NoHolds words u old new is h after = (u, is, h, refl, after)
-tool-required (tool_answer.OpenDeadline lines) words u old new is h after = (u, is, lines, h, refl, after)
-tool-required tool_answer.NoTask words u old new is h after = (inr (u, is, h), refl, after)
-
-pub end-required : (s : Status) (words : List (List ℕ)) (u : ToolUse) (old new : Files) (text : List ℕ) → IsCommand words (Uses u) → IsToolEnd s old new u text
-    → IsRequired s words old new text
-end-required s words u old new text is h =
-    subst (λ x. IsRequired x words old new text) (sym h.status_is)
-    (subst (λ t. IsRequired (tool_status h.answer) words old new t) (sym h.text_is) (tool-required h.answer words u old new is h.is h.files))
 
 -- ---- behind the reads
 
@@ -112,7 +91,7 @@ module _ (old mid : Files) (sink : Output) (new : World) (u : ToolUse) (kept : K
   at-end a is = still (λ files. IsToolAnswer files u a) old mid new.files same is
 
   pub tell-ends : (f : Failure) (a : ToolAnswer) → IsToolAnswer (call_files old mid) u a → IsTellFailure f a (world mid sink) new u.output
-      → IsCommandFailure f (world (call_files old new.files) sink) new (Uses u)
+      → IsCommandFailure IsToolAnswer f (world (call_files old new.files) sink) new (Uses u)
   tell-ends failure.Put a is h = (
     tool_status a,
     tool_text a,
@@ -137,7 +116,7 @@ module _ (old mid : Files) (sink : Output) (new : World) (u : ToolUse) (kept : K
   tell-ends failure.NoMemory a is h = absurd h
 
   pub tool-performed : (s : Status) (a : ToolAnswer) → IsToolAnswer (call_files old mid) u a → s ≡ tool_status a → IsTextTaken sink new.sink (tool_text a)
-      → FilesAfter a mid new.files u.output → IsPerformed s (world (call_files old new.files) sink) new (Uses u)
+      → FilesAfter a mid new.files u.output → IsPerformed IsToolAnswer s (world (call_files old new.files) sink) new (Uses u)
   tool-performed s a is status text after =
       (tool_text a, record { answer = a; is = at-end a is; status_is = status; text_is = refl; files = after-kept a old mid new.files u.output kept after }, text)
 

@@ -12,31 +12,27 @@ use Rattle.command_line.specs.declared.counts.Counts.{Counts}
 use Rattle.command_line.specs.declared.tool.Tool.{Tool}
 use Rattle.command_line.proofs.Commands.{one-command}
 use Rattle.tool_commands.specs.Answers.{IsAnswer}
-use Rattle.tool_commands.specs.Lines.{tool_text}
+use Rattle.tool_answers.specs.Lines.{tool_text}
 use Rattle.tool_answers.specs.declared.answer.Outcome.{Outcome}
 use Rattle.tool_answers.specs.declared.answer.ToolAnswer.{ToolAnswer}
 use Rattle.tool_answers.specs.declared.answer.ToolAnswer.TheVariants as tool_answer
-use Rattle.tool_commands.proofs.OneAnswer.{HasImage, image-or-fault, no-image, one_answer}
-use Rattle.sloth_commands.specs.ImageFiles.{IsNoImage}
+use Rattle.tool_commands.proofs.OneAnswer.{image-or-fault, no-image, one_answer}
+use Rattle.tool_answers.specs.ImageReaders.{HasImage}
+use Rattle.core_commands.specs.ImageFiles.{IsNoImage}
 use Rattle.tool_answers.specs.Statuses.{tool_status}
-use Rattle.sloth_commands.specs.ToolFiles.{AreToolInputs, IsToolAnswer, ReadsImageFirst}
+use Rattle.sloth_commands.specs.ToolFiles.{IsToolAnswer}
+use Rattle.core_commands.specs.ToolInputs.{AreToolInputs, ReadsImageFirst}
 use Rattle.sloth_commands.specs.ToolAnswers.{IsToolTold, IsToolStatus, OutputWorks, StandsFor, ToolWorks, HasToolAnswer, HasToolDoneAnswer}
-use Rattle.sloth_commands.specs.Top.{World, IsFailedRead, IsLongRead, FilesAfter, IsUnwrittenOutput, IsRequired, IsPutAnswer, IsTextTaken, IsTextBrokenOff, IsFullAnswer, IsTopAnswer}
-use Rattle.sloth_commands.specs.Top.{IsCommandDone, IsCommandRefused, IsCommandUnwritten, IsCommandStopped, ReadsWork, LacksTask}
+use Rattle.core_commands.specs.Top.{World, IsFailedRead, IsLongRead, FilesAfter, IsUnwrittenOutput, IsRequired, IsPutAnswer, IsTextTaken, IsTextBrokenOff, IsFullAnswer, IsTopAnswer}
+use Rattle.core_commands.specs.Top.{IsCommandDone, IsCommandRefused, IsCommandUnwritten, IsCommandStopped, ReadsWork, LacksTask}
 use Rattle.tool_answers.specs.declared.status.Status.{Status}
 use Rattle.tool_answers.specs.declared.status.Status.TheVariants as status
-use Rattle.sloth_commands.proofs.OwnOutput.{keeps-inputs, no-usage}
-use Rattle.sloth_commands.specs.CommandFiles.{HasOwnOutput, IsUsageCause}
-use Rattle.sloth_commands.proofs.Complete.{not-missing, not-long, counted-put, no-broken-put, no-failed-write}
-use Rattle.sloth_commands.proofs.ToolReads.{none-unread, told-inputs}
-
--- a command is a tool with this answer
-abbrev pub AnswersAs : Files → ToolAnswer → Command → Type 0
-AnswersAs files a (Builds b) = ⊥
-AnswersAs files a (Executes e) = ⊥
-AnswersAs files a (Lists img) = ⊥
-AnswersAs files a (Samples seed img) = ⊥
-AnswersAs files a (Uses u) = IsToolAnswer files u a
+use Rattle.core_commands.proofs.OwnOutput.{keeps-inputs, no-usage}
+use Rattle.core_commands.specs.CommandFiles.{HasOwnOutput, IsUsageCause}
+use Rattle.core_commands.proofs.Complete.{not-missing, not-long, counted-put, no-broken-put, no-failed-write}
+use Rattle.core_commands.proofs.ImageComplete.{KnowsAnyImage}
+use Rattle.core_commands.proofs.ToolEnds.{AnswersAs}
+use Rattle.core_commands.proofs.ToolReads.{none-unread, told-inputs}
 
 pub no-failed-tool-read : (old new : Files) (u : ToolUse) (inputs : List (List ℕ)) → IsTrue old.tells → AreToolInputs old (file_names u) inputs → ReadsWork old new
     → IsFailedRead old new (Uses u) → ⊥
@@ -57,9 +53,16 @@ image-of-inputs old u file b tells i inputs read answers =
     let is = subst (λ xs. IsAnswer u.tool u.counts u.inputs xs b) same answers in
     image-or-fault u.tool u.counts u.inputs (file ∷ i.rest) b i.first is
 
-pub tool-image : (old : Files) (u : ToolUse) (file : List ℕ) (b : ToolAnswer) → IsTrue old.tells → ReadsImageFirst old u file → IsToolAnswer old u b
+tool-image : (old : Files) (u : ToolUse) (file : List ℕ) (b : ToolAnswer) → IsTrue old.tells → ReadsImageFirst old u file → IsToolAnswer old u b
     → HasImage file ⊎ ((fault : ImageFault) × (b ≡ tool_answer.NotAnImage fault))
 tool-image old u file b tells i h = image-of-inputs old u file b tells i h.inputs h.read h.is
+
+pub knows-image : (old : Files) (c : Command) → KnowsAnyImage IsToolAnswer old c
+knows-image old (Builds b) file tells i = tt
+knows-image old (Executes e) file tells i = tt
+knows-image old (Lists img) file tells i = tt
+knows-image old (Samples seed img) file tells i = tt
+knows-image old (Uses u) file tells i = λ b h. tool-image old u file b tells i h
 
 -- the write of an answer's file failed
 abbrev IsUnwrittenFor : ToolAnswer → Option (List ℕ) → Files → Files → Type 0
@@ -77,7 +80,7 @@ IsUnwrittenFor tool_answer.NoTask output old new = ⊥
 -- what a failed write leaves to be said
 data Told (words : List (List ℕ)) (a : ToolAnswer) (output : Option (List ℕ)) (old new : World) (answer : Status) : Type 0 where
   Whole : IsToolTold a output old new answer → Told words a output old new answer
-  Wanting : IsFullAnswer status.NoMemory words old new answer → Told words a output old new answer
+  Wanting : IsFullAnswer IsToolAnswer status.NoMemory words old new answer → Told words a output old new answer
   Unwritten : answer ≡ status.WriteFault → IsUnwrittenFor a output old.files new.files → Told words a output old new answer
   Broke : answer ≡ status.WriteFault → IsTextBrokenOff old.sink new.sink (tool_text a) → Told words a output old new answer
   BrokeWanting : answer ≡ status.WriteFault → IsTextBrokenOff old.sink new.sink (codes "no memory\n") → Told words a output old new answer
@@ -102,8 +105,8 @@ module _ (words : List (List ℕ)) (old new : World) (answer : Status) (u : Tool
   ended wanted b text h status_is text_is after (inr p) =
       (b, an-answer b h, Broke p.0 (subst (λ x. IsTextBrokenOff old.sink new.sink x) text_is p.1))
 
-  own : (c : Command) (b : ToolAnswer) → IsCommand words c → AnswersAs old.files b c → IsToolAnswer old.files u b
-  own c b other h = subst (AnswersAs old.files b) (one-command words c (Uses u) other is) h
+  own : (c : Command) (b : ToolAnswer) → IsCommand words c → AnswersAs IsToolAnswer old.files b c → IsToolAnswer old.files u b
+  own c b other h = subst (AnswersAs IsToolAnswer old.files b) (one-command words c (Uses u) other is) h
 
   -- where the image file that it reads has a fault, this is its answer
   no-image-told : (fault : ImageFault) → IsNoImage old.files (Uses u) fault → IsToolAnswer old.files u (tool_answer.NotAnImage fault)
@@ -123,16 +126,16 @@ module _ (words : List (List ℕ)) (old new : World) (answer : Status) (u : Tool
             is = subst (λ f. IsAnswer u.tool u.counts u.inputs (n.file ∷ n.inputs.rest) (tool_answer.NotAnImage f)) fault_is is_no;
           }
 
-  told-by : (wanted : Status) (text : List ℕ) → IsRequired wanted words old.files new.files text → IsPutAnswer wanted answer old.sink new.sink text
+  told-by : (wanted : Status) (text : List ℕ) → IsRequired IsToolAnswer wanted words old.files new.files text → IsPutAnswer wanted answer old.sink new.sink text
       → (b : ToolAnswer) × IsAnswer u.tool u.counts u.inputs inputs b × Told words b u.output old new answer
   told-by status.Done text q p =
-      let d = subst (λ x. IsCommandDone old.files new.files x text) (one-command words q.0 (Uses u) q.1 is) q.2 in
+      let d = subst (λ x. IsCommandDone IsToolAnswer old.files new.files x text) (one-command words q.0 (Uses u) q.1 is) q.2 in
       ended status.Done d.answer text d.is d.status_is d.text_is d.files p
   told-by status.Stopped text q p =
-      let d = subst (λ x. IsCommandStopped old.files new.files x text) (one-command words q.0 (Uses u) q.1 is) q.2 in
+      let d = subst (λ x. IsCommandStopped IsToolAnswer old.files new.files x text) (one-command words q.0 (Uses u) q.1 is) q.2 in
       ended status.Stopped d.answer text d.is d.status_is d.text_is d.files p
   told-by status.Refused text q p =
-      let d = subst (λ x. IsCommandRefused old.files x q.2) (one-command words q.0 (Uses u) q.1 is) q.3 in
+      let d = subst (λ x. IsCommandRefused IsToolAnswer old.files x q.2) (one-command words q.0 (Uses u) q.1 is) q.3 in
       ended status.Refused (tool_answer.Refused q.2) text d refl q.4 q.5 p
   told-by status.NotAnImage text q p =
       let n = subst (λ x. IsNoImage old.files x q.2) (one-command words q.0 (Uses u) q.1 is) q.3 in
@@ -146,7 +149,7 @@ module _ (words : List (List ℕ)) (old new : World) (answer : Status) (u : Tool
   told-by status.NoMemory text q (inl p) = (a, is_answer, Wanting (p.0, (text, q, p.1)))
   told-by status.NoMemory text q (inr p) = (a, is_answer, BrokeWanting p.0 (subst (λ x. IsTextBrokenOff old.sink new.sink x) q.2 p.1))
   told-by status.WriteFault text q p =
-      let d = subst (IsCommandUnwritten old.files new.files) (one-command words q.0 (Uses u) q.1 is) q.2 in
+      let d = subst (IsCommandUnwritten IsToolAnswer old.files new.files) (one-command words q.0 (Uses u) q.1 is) q.2 in
       (tool_answer.Done d.outcome, an-answer (tool_answer.Done d.outcome) d.is, Unwritten (write-fault p) d.failed)
     where
       write-fault : IsPutAnswer status.WriteFault answer old.sink new.sink text → answer ≡ status.WriteFault
@@ -154,7 +157,7 @@ module _ (words : List (List ℕ)) (old new : World) (answer : Status) (u : Tool
       write-fault (inr p) = p.0
   told-by status.Usage text q p = by q.0
     where
-      by : IsUsageCause words old.files new.files ⊎ LacksTask words old.files
+      by : IsUsageCause words old.files new.files ⊎ LacksTask IsToolAnswer words old.files
           → (b : ToolAnswer) × IsAnswer u.tool u.counts u.inputs inputs b × Told words b u.output old new answer
       by (inl h) = absurd (no-usage words old.files new.files (Uses u) is (keeps-inputs old.files new.files (Uses u) tells own_output) h)
       by (inr h) = ended status.Usage tool_answer.NoTask text (own (Uses h.0) tool_answer.NoTask h.1 h.2) refl q.1 q.2 p
@@ -207,7 +210,7 @@ answers-tool words a output old new answer (Broke is h) = inr (inr (inr (is, cou
 answers-tool words a output old new answer (BrokeWanting is h) = inr (inr (inr (is, counted-put old.sink new.sink (codes "no memory\n") h)))
 
 answers-done : (words : List (List ℕ)) (a : ToolAnswer) (output : Option (List ℕ)) (old new : World) (answer : Status) → ToolWorks a output old new
-    → Told words a output old new answer → IsToolTold a output old new answer ⊎ IsFullAnswer status.NoMemory words old new answer
+    → Told words a output old new answer → IsToolTold a output old new answer ⊎ IsFullAnswer IsToolAnswer status.NoMemory words old new answer
 answers-done words a output old new answer works (Whole h) = inl h
 answers-done words a output old new answer works (Wanting h) = inr h
 answers-done words a output old new answer works (Unwritten is h) = absurd (not-unwritten a output old.files new.files works.write h)
@@ -219,7 +222,7 @@ stands : (t : Tool) (counts : Option Counts) (names inputs : List (List ℕ)) (b
     → IsAnswer t counts names inputs a → StandsFor t b a
 stands t counts names inputs b a p q = λ d. one_answer t counts names inputs b a d p q
 
-pub tells-tool : (words : List (List ℕ)) (old new : World) (answer : Status) → IsTopAnswer words old new answer → HasToolAnswer words old new answer
+pub tells-tool : (words : List (List ℕ)) (old new : World) (answer : Status) → IsTopAnswer IsToolAnswer words old new answer → HasToolAnswer words old new answer
 tells-tool words old new answer h u is tells own inputs i reads a is_answer =
     let t = told-by words old new answer u is tells own inputs i reads a is_answer h.wanted h.text h.required h.puts in
     (t.0, t.1, stands u.tool u.counts u.inputs inputs t.0 a t.1 is_answer, answers-tool words t.0 u.output old new answer t.2)
@@ -229,9 +232,9 @@ one-done : (P S Q : ToolAnswer → Type 0) (R : Type 0) (b : ToolAnswer) → P b
 one-done P S Q R b p s (inl q) = inl (b, p, s, q)
 one-done P S Q R b p s (inr r) = inr r
 
-pub tells-tool-done : (words : List (List ℕ)) (old new : World) (answer : Status) → IsTopAnswer words old new answer → HasToolDoneAnswer words old new answer
+pub tells-tool-done : (words : List (List ℕ)) (old new : World) (answer : Status) → IsTopAnswer IsToolAnswer words old new answer → HasToolDoneAnswer words old new answer
 tells-tool-done words old new answer h u is tells own inputs i a is_answer works =
     let t = told-by words old new answer u is tells own inputs i (works a is_answer).reads a is_answer h.wanted h.text h.required h.puts in
     one-done (λ b. IsAnswer u.tool u.counts u.inputs inputs b) (λ b. StandsFor u.tool b a) (λ b. IsToolTold b u.output old new answer)
-    (IsFullAnswer status.NoMemory words old new answer) t.0 t.1 (stands u.tool u.counts u.inputs inputs t.0 a t.1 is_answer)
+    (IsFullAnswer IsToolAnswer status.NoMemory words old new answer) t.0 t.1 (stands u.tool u.counts u.inputs inputs t.0 a t.1 is_answer)
     (answers-done words t.0 u.output old new answer (works t.0 t.1) t.2)

@@ -1,14 +1,4 @@
-pub mod CommandFiles
-pub mod ImageFiles
-pub mod Samples
-pub mod Top
-pub mod ImageAnswers
-pub mod SampleAnswers
-pub mod Failures
-pub mod InMemory
-pub mod FileInputs
 pub mod ToolFiles
 pub mod ToolAnswers
 pub mod ToolLines
-pub mod CheckedRuns
 pub mod PrintedMap

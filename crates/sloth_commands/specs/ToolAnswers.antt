@@ -6,13 +6,14 @@ use Rattle.command_line.specs.Command.{Uses, IsCommand}
 use Rattle.command_line.specs.Tools.{ToolUse, file_names}
 use Rattle.command_line.specs.declared.tool.Tool.{Tool}
 use Rattle.tool_commands.specs.Answers.{IsAnswer, is_determined}
-use Rattle.tool_commands.specs.Lines.{tool_text}
+use Rattle.tool_answers.specs.Lines.{tool_text}
 use Rattle.tool_answers.specs.declared.answer.ToolAnswer.{ToolAnswer}
 use Rattle.tool_answers.specs.declared.answer.ToolAnswer.TheVariants as tool_answer
 use Rattle.tool_answers.specs.Statuses.{tool_status}
-use Rattle.sloth_commands.specs.CommandFiles.{HasOwnOutput}
-use Rattle.sloth_commands.specs.ToolFiles.{AreToolInputs}
-use Rattle.sloth_commands.specs.Top.{World, IsTextTaken, FilesAfter, IsFullAnswer, IsBrokenOff, ReadsWork, WritesWork, PutsWork}
+use Rattle.core_commands.specs.CommandFiles.{HasOwnOutput}
+use Rattle.core_commands.specs.ToolInputs.{AreToolInputs}
+use Rattle.sloth_commands.specs.ToolFiles.{IsToolAnswer}
+use Rattle.core_commands.specs.Top.{World, IsTextTaken, FilesAfter, IsFullAnswer, IsBrokenOff, ReadsWork, WritesWork, PutsWork}
 use Rattle.tool_answers.specs.declared.status.Status.{Status}
 use Rattle.tool_answers.specs.declared.status.Status.TheVariants as status
 
@@ -29,7 +30,7 @@ IsNotWritten old new answer = (answer ≡ status.WriteFault) × Rose old.files.f
 -- this answer, unless memory was wanting, the tool's file was not written or the text could not be put
 abbrev pub IsToolStatus : List (List ℕ) → ToolAnswer → Option (List ℕ) → World → World → Status → Type 0
 IsToolStatus words a output old new answer =
-    IsToolTold a output old new answer ⊎ (IsFullAnswer status.NoMemory words old new answer ⊎ (IsNotWritten old new answer ⊎ IsBrokenOff old new answer))
+    IsToolTold a output old new answer ⊎ (IsFullAnswer IsToolAnswer status.NoMemory words old new answer ⊎ (IsNotWritten old new answer ⊎ IsBrokenOff old new answer))
 
 -- no write of the file of a tool that was done failed, or none is to fail
 abbrev pub OutputWorks : ToolAnswer → Option (List ℕ) → Files → Files → Type 0
@@ -66,4 +67,4 @@ HasToolDoneAnswer words old new answer =
     → AreToolInputs old.files (file_names u) inputs
     → (a : ToolAnswer) → IsAnswer u.tool u.counts u.inputs inputs a → EachWorks u inputs old new
     → ((b : ToolAnswer) × IsAnswer u.tool u.counts u.inputs inputs b × StandsFor u.tool b a × IsToolTold b u.output old new answer)
-    ⊎ IsFullAnswer status.NoMemory words old new answer
+    ⊎ IsFullAnswer IsToolAnswer status.NoMemory words old new answer

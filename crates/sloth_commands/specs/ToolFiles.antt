@@ -1,23 +1,10 @@
--- What tools read, and what they answer to it.
-use Rattle.std.specs.Prelude.{ℕ, ◌≡◌, List, [], ◌∷◌, IsTrue}
+-- What tools answer to the files that they read.
+use Rattle.std.specs.Prelude.{ℕ, ◌≡◌, List}
 use Rattle.sloth_io.specs.Store.{Files}
 use Rattle.command_line.specs.Tools.{ToolUse, file_names}
-use Rattle.tool_commands.specs.Answers.{IsAnswer, reads_image}
+use Rattle.tool_commands.specs.Answers.{IsAnswer}
 use Rattle.tool_answers.specs.declared.answer.ToolAnswer.{ToolAnswer}
-use Rattle.sloth_commands.specs.FileInputs.{IsInput}
-
--- these are the files of these names, where the store tells its files, each of at most 4 MiB
-abbrev pub AreToolInputs : Files → List (List ℕ) → List (List ℕ) → Type 0
-AreToolInputs files [] [] = Unit {0}
-AreToolInputs files [] (bytes ∷ rest) = ⊥
-AreToolInputs files (name ∷ names) [] = ⊥
-AreToolInputs files (name ∷ names) (bytes ∷ rest) = IsInput files name bytes × AreToolInputs files names rest
-
--- what is read of files of these names, where these are their bytes
-abbrev pub input_deliveries : List (List ℕ) → List (List ℕ) → List (List ℕ × List ℕ)
-input_deliveries [] inputs = []
-input_deliveries (name ∷ names) [] = []
-input_deliveries (name ∷ names) (bytes ∷ rest) = (name, bytes) ∷ input_deliveries names rest
+use Rattle.core_commands.specs.ToolInputs.{AreToolInputs, input_deliveries}
 
 -- the tool reads these files, and this is its answer to them
 pub record IsToolAnswer (files : Files) (u : ToolUse) (answer : ToolAnswer) : Type 0 where
@@ -26,9 +13,3 @@ pub record IsToolAnswer (files : Files) (u : ToolUse) (answer : ToolAnswer) : Ty
   -- and exactly they were read, in this order
   pub delivered : files.reads ≡ input_deliveries (file_names u) inputs
   pub is : IsAnswer u.tool u.counts u.inputs inputs answer
-
--- the tool reads an image file first, which has these bytes
-pub record ReadsImageFirst (files : Files) (u : ToolUse) (file : List ℕ) : Type 0 where
-  pub rest : List (List ℕ)
-  pub first : IsTrue (reads_image u.tool)
-  pub read : AreToolInputs files (file_names u) (file ∷ rest)

@@ -1,15 +1,15 @@
 -- That each line of a tool's answer is one put.
-use Rattle.std.specs.Prelude.{ℕ, ◌≡◌, ◌⊎◌, List, [], ◌∷◌, ◌++◌, codes}
+use Rattle.std.specs.Prelude.{ℕ, ◌≡◌, ◌⊎◌, List, ◌++◌}
 use Rattle.sloth_io.specs.Sink.{Output, output_with, FailsToPassOn}
 use Rattle.sloth_io.specs.Lines.{lines_in, BreaksOffInLine}
-use Rattle.command_line.specs.Command.{Command, Builds, Executes, Lists, Samples, Uses, IsCommand}
-use Rattle.command_line.specs.LastLine.{refusal_line, no_image_line}
+use Rattle.command_line.specs.Command.{Uses, IsCommand}
 use Rattle.command_line.specs.Tools.{ToolUse}
 use Rattle.tool_answers.specs.declared.status.Status.{Status}
 use Rattle.tool_answers.specs.declared.status.Status.TheVariants as status
-use Rattle.sloth_commands.specs.Top.{World, IsRequired, IsTextTaken, IsToolEnd}
-use Rattle.sloth_commands.specs.declared.failure.Failure.{Failure}
-use Rattle.sloth_commands.specs.declared.failure.Failure.TheVariants as failure
+use Rattle.sloth_commands.specs.ToolFiles.{IsToolAnswer}
+use Rattle.core_commands.specs.Top.{World, IsRequired, IsTextTaken, IsToolEnd}
+use Rattle.core_commands.specs.declared.failure.Failure.{Failure}
+use Rattle.core_commands.specs.declared.failure.Failure.TheVariants as failure
 
 -- a line broke off, or all of them were put, and what the sink holds back was not handed on
 abbrev pub AreLinesBroken : Output → Output → List (List ℕ) → List (List ℕ) → List ℕ → Type 0
@@ -27,7 +27,7 @@ ArePutByLine wanted answer old new before after text =
 pub record IsLineAnswer (words : List (List ℕ)) (old new : World) (before after : List (List ℕ)) (answer : Status) : Type 0 where
   pub wanted : Status
   pub text : List ℕ
-  pub required : IsRequired wanted words old.files new.files text
+  pub required : IsRequired IsToolAnswer wanted words old.files new.files text
   pub puts : ArePutByLine wanted answer old.sink new.sink before after text
 
 -- a tool has such an answer
@@ -37,18 +37,14 @@ HasToolLines words old new before after answer = (u : ToolUse) → IsCommand wor
 -- ---- before the last line
 
 -- the answer of a tool was told, each line of its text by one put
-abbrev pub IsToldByLine : Status → World → World → List (List ℕ) → List (List ℕ) → Command → Type 0
-IsToldByLine status old new before after (Uses u) =
-    (text : List ℕ) × IsToolEnd status old.files new.files u text × IsTextTaken old.sink new.sink text × (after ≡ before ++ lines_in text)
-IsToldByLine status old new before after (Builds b) = Unit {0}
-IsToldByLine status old new before after (Executes e) = Unit {0}
-IsToldByLine status old new before after (Lists img) = Unit {0}
-IsToldByLine status old new before after (Samples seed img) = Unit {0}
+abbrev pub IsToldByLine : Status → World → World → List (List ℕ) → List (List ℕ) → ToolUse → Type 0
+IsToldByLine status old new before after u =
+    (text : List ℕ) × IsToolEnd IsToolAnswer status old.files new.files u text × IsTextTaken old.sink new.sink text × (after ≡ before ++ lines_in text)
 
 -- the text of a tool's answer broke off in one of its lines
 abbrev pub IsToolBrokenOff : World → World → List (List ℕ) → List (List ℕ) → ToolUse → Type 0
 IsToolBrokenOff old new before after u =
-    (status : Status) × (text : List ℕ) × IsToolEnd status old.files new.files u text × BreaksOffInLine old.sink new.sink before after text
+    (status : Status) × (text : List ℕ) × IsToolEnd IsToolAnswer status old.files new.files u text × BreaksOffInLine old.sink new.sink before after text
 
 -- a tool was not done for this reason, and nothing was put, but where a put failed
 abbrev pub IsToolUntold : Failure → World → World → List (List ℕ) → List (List ℕ) → ToolUse → Type 0
@@ -60,26 +56,8 @@ IsToolUntold failure.NoMemory old new before after u = after ≡ before
 IsToolUntold failure.WriteFile old new before after u = after ≡ before
 IsToolUntold failure.Put old new before after u = IsToolBrokenOff old new before after u
 
--- the same, where the command is a tool
-abbrev pub IsUntoldByLine : Failure → World → World → List (List ℕ) → List (List ℕ) → Command → Type 0
-IsUntoldByLine f old new before after (Uses u) = IsToolUntold f old new before after u
-IsUntoldByLine f old new before after (Builds b) = Unit {0}
-IsUntoldByLine f old new before after (Executes e) = Unit {0}
-IsUntoldByLine f old new before after (Lists img) = Unit {0}
-IsUntoldByLine f old new before after (Samples seed img) = Unit {0}
-
 -- an answer was not told for this reason: its file was not written, or its text broke off in a line
 abbrev pub IsAnswerUntold : Failure → Output → Output → List (List ℕ) → List (List ℕ) → List ℕ → Type 0
 IsAnswerUntold failure.Put old new before after text = BreaksOffInLine old new before after text
 IsAnswerUntold failure.WriteFile old new before after text = after ≡ before
 IsAnswerUntold _ old new before after text = ⊥
-
--- the last lines of a failure: one, but for a put that failed
-abbrev pub last_lines : Failure → List (List ℕ)
-last_lines (failure.Refused refusal) = refusal_line refusal ∷ []
-last_lines failure.ReadFault = codes "read fault\n" ∷ []
-last_lines failure.TooLong = codes "too long\n" ∷ []
-last_lines (failure.NotAnImage fault) = no_image_line fault ∷ []
-last_lines failure.NoMemory = codes "no memory\n" ∷ []
-last_lines failure.WriteFile = codes "write fault\n" ∷ []
-last_lines failure.Put = []

@@ -5,27 +5,28 @@ ghost use Rattle.sloth_io.specs.Store.{KeepsFiles, AreDelivered, call_files};
 ghost use Rattle.command_line.specs.Command.{Uses, words_of};
 ghost use Rattle.command_line.specs.Tools.{IsToolUse, file_names};
 ghost use Rattle.command_line.specs.Words.{use_of};
-ghost use Rattle.tool_commands.specs.Lines.{tool_text};
+ghost use Rattle.tool_answers.specs.Lines.{tool_text};
 ghost use Rattle.tool_answers.specs.declared.answer.ToolAnswer.TheVariants as tool_answer;
 ghost use Rattle.tool_answers.specs.Statuses.{tool_status};
-ghost use Rattle.sloth_commands.specs.CommandFiles.{inputs_of, AreFirstDelivered};
-ghost use Rattle.sloth_commands.specs.ToolFiles.{AreToolInputs, input_deliveries};
-ghost use Rattle.sloth_commands.specs.Top.{world, IsTextTaken, FilesAfter, IsOutputWritten};
-ghost use Rattle.sloth_commands.specs.Failures.{IsReadFailure, IsOutputFailure, IsLineFailure, IsTellFailure, IsCommandFailure, IsPerformed};
-ghost use Rattle.sloth_commands.specs.ToolLines.{IsAnswerUntold, IsToldByLine, IsUntoldByLine};
+ghost use Rattle.core_commands.specs.CommandFiles.{inputs_of, AreFirstDelivered};
+ghost use Rattle.core_commands.specs.ToolInputs.{AreToolInputs, input_deliveries};
+ghost use Rattle.core_commands.specs.Top.{world, IsTextTaken, FilesAfter, IsOutputWritten};
+ghost use Rattle.core_commands.specs.Failures.{IsReadFailure, IsOutputFailure, IsLineFailure, IsTellFailure, IsCommandFailure, IsPerformed};
+ghost use Rattle.sloth_commands.specs.ToolFiles.{IsToolAnswer};
+ghost use Rattle.sloth_commands.specs.ToolLines.{IsAnswerUntold, IsToldByLine, IsToolUntold};
 
-use crate::failure::Failure;
-use crate::inputs::fetch;
 use command_line::last_line::{no_image_line, refusal_line};
 use command_line::tool::{ToolWords, file_words};
+use core_commands::failure::Failure;
+use core_commands::inputs::fetch;
 use sloth_base::list::List;
 use sloth_io::lines::put_lines;
 use sloth_io::sink::Sink;
 use sloth_io::store::Store;
 use std::alloc::Global;
-use tool_answers::Status;
+use tool_answers::{Outcome, Status, ToolAnswer};
+use tool_commands::judge;
 use tool_commands::lines::{bad_trace_line, no_elf_line};
-use tool_commands::{Outcome, ToolAnswer, judge};
 use trace_text::stop_line::stopped_line;
 
 // The bytes of these files, in their order.
@@ -169,17 +170,17 @@ pub fn use_tool<F: Store, S: Sink>(
     words: &ToolWords,
 ) -> Result<Status, Failure>
     requires { IsToolUse (use_of words.now) }
-    ensures done { IfOk result (λ status. IsPerformed status
+    ensures done { IfOk result (λ status. IsPerformed IsToolAnswer status
         (world (call_files (F.seen files.old) (F.seen files.new)) (S.seen out.old)) (world (F.seen files.new) (S.seen out.new)) (Uses (use_of words.now))) }
-    ensures err { IfErr result (λ failure. IsCommandFailure failure
+    ensures err { IfErr result (λ failure. IsCommandFailure IsToolAnswer failure
         (world (call_files (F.seen files.old) (F.seen files.new)) (S.seen out.old)) (world (F.seen files.new) (S.seen out.new)) (Uses (use_of words.now))) }
     ensures reads { AreFirstDelivered (F.seen files.old) (F.seen files.new) (inputs_of (Uses (use_of words.now))) }
     ensures lines { IfOk result (λ status. IsToldByLine status
         (world (call_files (F.seen files.old) (F.seen files.new)) (S.seen out.old)) (world (F.seen files.new) (S.seen out.new))
-        (S.pieces out.old) (S.pieces out.new) (Uses (use_of words.now))) }
-    ensures untold { IfErr result (λ failure. IsUntoldByLine failure
+        (S.pieces out.old) (S.pieces out.new) (use_of words.now)) }
+    ensures untold { IfErr result (λ failure. IsToolUntold failure
         (world (call_files (F.seen files.old) (F.seen files.new)) (S.seen out.old)) (world (F.seen files.new) (S.seen out.new))
-        (S.pieces out.old) (S.pieces out.new) (Uses (use_of words.now))) }
+        (S.pieces out.old) (S.pieces out.new) (use_of words.now)) }
 {
     let inputs = fetch_inputs(alloc, files, words)?;
     let answer = judge(

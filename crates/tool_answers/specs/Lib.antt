@@ -1,2 +1,5 @@
 pub mod CheckAnswers
+pub mod ImageReaders
+pub mod Lines
+pub mod RunInputs
 pub mod Statuses

@@ -6,6 +6,7 @@
 
 pub mod answer;
 pub mod check_command;
+pub mod run_inputs;
 pub mod status;
 pub mod text_answer;
 

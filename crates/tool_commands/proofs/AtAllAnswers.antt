@@ -23,9 +23,9 @@ use Rattle.sloth_runner.specs.declared.task_states.Sight.{Sight}
 use Rattle.sloth_runner.specs.declared.task_states.Sight.TheVariants as sight
 use Rattle.sloth_runner.proofs.RunStates.{one_sight}
 use Rattle.tool_commands.specs.AtAllAnswers.{IsAllAnswer, IsAtAllAnswer, all_answer, all_text, done}
-use Rattle.tool_commands.specs.AtAnswers.{IsAtRefused}
+use Rattle.tool_answers.specs.RunInputs.{IsRunRefused}
 use Rattle.tool_commands.proofs.AtAnswers.{one-refused}
-use Rattle.tool_commands.specs.RunAnswers.{AreRunInputs}
+use Rattle.tool_answers.specs.RunInputs.{AreRunInputs}
 use Rattle.tool_answers.specs.declared.answer.ToolAnswer.{ToolAnswer}
 use Rattle.tool_answers.specs.declared.answer.ToolAnswer.TheVariants as answer
 use Rattle.trace_check.proofs.Refused.{of-arrivals}
@@ -34,7 +34,7 @@ use Rattle.trace_check.proofs.Refused.{of-arrivals}
 pub data AllView (img arr : List ℕ) (k : ℕ) (a : ToolAnswer) : Type 0 where
   shows : IsAllAnswer img arr k a → AllView img arr k a
   faults : (fault : ImageFault) → a ≡ answer.NotAnImage fault → IsFirstImageFault fault img → AllView img arr k a
-  refuses : (refusal : Refusal) → a ≡ answer.Refused refusal → IsAtRefused img arr refusal → AllView img arr k a
+  refuses : (refusal : Refusal) → a ≡ answer.Refused refusal → IsRunRefused img arr refusal → AllView img arr k a
 
 pub all-view : (img arr : List ℕ) (k : ℕ) (a : ToolAnswer) → IsAtAllAnswer img arr k a → AllView img arr k a
 all-view img arr k (answer.Done outcome) h = AllView.shows h
@@ -58,7 +58,7 @@ one-shown img arr k a b h i =
     h.answer_is ∙ ap (λ (x : Image). all_answer x h.arrivals h.sight) image ∙ ap (λ a. all_answer i.image a h.sight) arrivals
     ∙ ap (all_answer i.image i.arrivals) sight ∙ sym i.answer_is
 
-shown-not-refused : (img arr : List ℕ) (k : ℕ) (a : ToolAnswer) (r : Refusal) → IsAllAnswer img arr k a → IsAtRefused img arr r → ⊥
+shown-not-refused : (img arr : List ℕ) (k : ℕ) (a : ToolAnswer) (r : Refusal) → IsAllAnswer img arr k a → IsRunRefused img arr r → ⊥
 shown-not-refused img arr k a r h i =
     let image : h.image ≡ i.0 = image-unique h.image i.0 img h.is_image i.1 in
     let N : Image → Type 0 = λ x. NoFault (ArrivalsFault x.tasks x.counters arr) in

@@ -16,8 +16,9 @@ use Rattle.sloth_runner.specs.TaskStates.{AreStatesAt}
 use Rattle.sloth_runner.specs.declared.task_states.Sight.{Sight}
 use Rattle.sloth_runner.specs.declared.task_states.Sight.TheVariants as sight
 use Rattle.sloth_runner.proofs.RunStates.{one_sight}
-use Rattle.tool_commands.specs.AtAnswers.{IsStatesAnswer, IsAtRefused, IsAtAnswer, states_answer}
-use Rattle.tool_commands.specs.RunAnswers.{AreRunInputs}
+use Rattle.tool_commands.specs.AtAnswers.{IsStatesAnswer, IsAtAnswer, states_answer}
+use Rattle.tool_answers.specs.RunInputs.{IsRunRefused}
+use Rattle.tool_answers.specs.RunInputs.{AreRunInputs}
 use Rattle.tool_answers.specs.declared.answer.ToolAnswer.{ToolAnswer}
 use Rattle.tool_answers.specs.declared.answer.ToolAnswer.TheVariants as answer
 use Rattle.trace_check.proofs.Refused.{of-arrivals}
@@ -26,7 +27,7 @@ use Rattle.trace_check.proofs.Refused.{of-arrivals}
 pub data AtView (img arr : List ℕ) (k : ℕ) (a : ToolAnswer) : Type 0 where
   shows : IsStatesAnswer img arr k a → AtView img arr k a
   faults : (fault : ImageFault) → a ≡ answer.NotAnImage fault → IsFirstImageFault fault img → AtView img arr k a
-  refuses : (refusal : Refusal) → a ≡ answer.Refused refusal → IsAtRefused img arr refusal → AtView img arr k a
+  refuses : (refusal : Refusal) → a ≡ answer.Refused refusal → IsRunRefused img arr refusal → AtView img arr k a
 
 pub at-view : (img arr : List ℕ) (k : ℕ) (a : ToolAnswer) → IsAtAnswer img arr k a → AtView img arr k a
 at-view img arr k (answer.Done outcome) h = AtView.shows h
@@ -49,13 +50,13 @@ one-shown img arr k a b h i =
     let sight : h.sight ≡ i.sight = one_sight i.image i.arrivals k h.sight i.sight (subst T arrivals (subst S image h.seen)) i.seen in
     h.answer_is ∙ ap (λ (x : Image). states_answer x h.sight) image ∙ ap (states_answer i.image) sight ∙ sym i.answer_is
 
-pub one-refused : (img arr : List ℕ) (r s : Refusal) → IsAtRefused img arr r → IsAtRefused img arr s → r ≡ s
+pub one-refused : (img arr : List ℕ) (r s : Refusal) → IsRunRefused img arr r → IsRunRefused img arr s → r ≡ s
 one-refused img arr r s h i =
     let image : h.0 ≡ i.0 = image-unique h.0 i.0 img h.1 i.1 in
     let L : Image → Type 0 = λ x. IsLeast (ArrivalsFault x.tasks x.counters arr) r in
     one_least Arr (ArrivalsFault i.0.tasks i.0.counters arr) (of-arrivals i.0.tasks i.0.counters arr) r s (subst L image h.2) i.2
 
-shown-not-refused : (img arr : List ℕ) (k : ℕ) (a : ToolAnswer) (r : Refusal) → IsStatesAnswer img arr k a → IsAtRefused img arr r → ⊥
+shown-not-refused : (img arr : List ℕ) (k : ℕ) (a : ToolAnswer) (r : Refusal) → IsStatesAnswer img arr k a → IsRunRefused img arr r → ⊥
 shown-not-refused img arr k a r h i =
     let image : h.image ≡ i.0 = image-unique h.image i.0 img h.is_image i.1 in
     let N : Image → Type 0 = λ x. NoFault (ArrivalsFault x.tasks x.counters arr) in

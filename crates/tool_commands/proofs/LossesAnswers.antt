@@ -14,10 +14,11 @@ use Rattle.sloth_runner.specs.Admissions.{AreAdmissions, run_admissions}
 use Rattle.sloth_runner.specs.declared.admissions.Admission.{Admission}
 use Rattle.sloth_runner.specs.declared.samples.Sample.{Sample}
 use Rattle.sloth_runner.proofs.OneSample.{one-samples}
-use Rattle.tool_commands.specs.AtAnswers.{IsAtRefused}
+use Rattle.tool_answers.specs.RunInputs.{IsRunRefused}
 use Rattle.tool_commands.specs.LossesAnswers.{IsLossesShown, IsLossesAnswer}
 use Rattle.tool_commands.specs.LossesText.{losses_text}
-use Rattle.tool_commands.specs.RunAnswers.{AreRunInputs, IsHalted}
+use Rattle.tool_commands.specs.RunAnswers.{IsHalted}
+use Rattle.tool_answers.specs.RunInputs.{AreRunInputs}
 use Rattle.tool_answers.specs.declared.answer.Outcome.{Outcome}
 use Rattle.tool_answers.specs.declared.answer.ToolAnswer.{ToolAnswer}
 use Rattle.tool_answers.specs.declared.answer.ToolAnswer.TheVariants as answer
@@ -62,7 +63,7 @@ module _ (img arr : List ℕ) (n : ℕ) where
     shows : (o : Outcome) → a ≡ answer.Done o → IsLossesShown img arr n o → LossesView a
     halts : (pc : ℕ) (stop : Stop) → a ≡ answer.Stopped pc stop → IsHalted img arr n pc stop → LossesView a
     faults : (fault : ImageFault) → a ≡ answer.NotAnImage fault → IsFirstImageFault fault img → LossesView a
-    refuses : (refusal : Refusal) → a ≡ answer.Refused refusal → IsAtRefused img arr refusal → LossesView a
+    refuses : (refusal : Refusal) → a ≡ answer.Refused refusal → IsRunRefused img arr refusal → LossesView a
 
   losses-view : (a : ToolAnswer) → IsLossesAnswer img arr n a → LossesView a
   losses-view (answer.Done outcome) h = LossesView.shows outcome refl h

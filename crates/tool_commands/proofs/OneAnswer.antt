@@ -11,7 +11,8 @@ use Rattle.command_line.specs.declared.counts.Counts.{Counts}
 use Rattle.command_line.specs.declared.tool.Tool.{Tool}
 use Rattle.command_line.specs.declared.tool.Tool.TheVariants as tool
 use Rattle.elf_image.specs.ElfText.{ElfText}
-use Rattle.tool_commands.specs.Answers.{IsAnswer, OneAnswer, input, reads_image}
+use Rattle.tool_commands.specs.Answers.{IsAnswer, OneAnswer, input}
+use Rattle.tool_answers.specs.ImageReaders.{reads_image, HasImage}
 use Rattle.tool_answers.specs.declared.answer.ToolAnswer.{ToolAnswer}
 use Rattle.tool_answers.specs.declared.answer.ToolAnswer.TheVariants as answer
 use Rattle.tool_commands.proofs.AtAllAnswers.{all-one, all-image}
@@ -117,10 +118,6 @@ no-image tool.Symbols counts names inputs fault h = absurd h
 no-image tool.Labels counts names inputs fault h = absurd h
 no-image tool.TraceReason counts names inputs fault h = absurd h
 no-image tool.Unused counts names inputs fault h = absurd h
-
--- these bytes are an image's
-abbrev pub HasImage : List ℕ → Type 0
-HasImage file = (image : Image) × ImageText file image
 
 -- what an answer says of the image file that is read
 pub image-or-fault : (t : Tool) (counts : Option Counts) (names inputs : List (List ℕ)) (a : ToolAnswer) → IsTrue (reads_image t)

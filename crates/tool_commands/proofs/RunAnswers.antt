@@ -13,9 +13,10 @@ use Rattle.rv32_instr.specs.declared.stop.Stop.{Stop}
 use Rattle.trace_text.specs.ArrivalsText.{ArrivalsFault, arrivals_in}
 use Rattle.sloth_runner.specs.Runner.{run_end}
 use Rattle.sloth_runner.specs.declared.runner.RunEnd.TheVariants as ends
-use Rattle.tool_commands.specs.AtAnswers.{IsAtRefused}
+use Rattle.tool_answers.specs.RunInputs.{IsRunRefused}
 use Rattle.tool_commands.specs.Lines.{written_line}
-use Rattle.tool_commands.specs.RunAnswers.{AreRunInputs, IsDrawn, IsHalted, IsRunAnswer}
+use Rattle.tool_commands.specs.RunAnswers.{IsDrawn, IsHalted, IsRunAnswer}
+use Rattle.tool_answers.specs.RunInputs.{AreRunInputs}
 use Rattle.tool_answers.specs.declared.answer.Outcome.{Outcome}
 use Rattle.tool_answers.specs.declared.answer.ToolAnswer.{ToolAnswer}
 use Rattle.tool_answers.specs.declared.answer.ToolAnswer.TheVariants as answer
@@ -31,7 +32,7 @@ module _ (img arr : List ℕ) where
   one-arrivals i j A B h k = h.arrivals_are ∙ ap (λ (x : Image). arrivals_in x.tasks x.counters arr) (one-image i j A B h k) ∙ sym k.arrivals_are
 
   -- and are not refused
-  pub not-refused : (i : Image) (A : List Arrival) (r : Refusal) → AreRunInputs img arr i A → IsAtRefused img arr r → ⊥
+  pub not-refused : (i : Image) (A : List Arrival) (r : Refusal) → AreRunInputs img arr i A → IsRunRefused img arr r → ⊥
   not-refused i A r h k =
       let N : Image → Type 0 = λ x. NoFault (ArrivalsFault x.tasks x.counters arr) in
       subst N (image-unique i k.0 img h.is_image k.1) h.no_fault r k.2.is_fault
@@ -75,7 +76,7 @@ module _ (Shows : Image → List Arrival → List ℕ → Type 0) (img arr : Lis
     draws : (o : Outcome) → a ≡ answer.Done o → IsDrawn Shows img arr o → RunView a
     halts : (pc : ℕ) (stop : Stop) → a ≡ answer.Stopped pc stop → IsHalted img arr n pc stop → RunView a
     faults : (fault : ImageFault) → a ≡ answer.NotAnImage fault → IsFirstImageFault fault img → RunView a
-    refuses : (refusal : Refusal) → a ≡ answer.Refused refusal → IsAtRefused img arr refusal → RunView a
+    refuses : (refusal : Refusal) → a ≡ answer.Refused refusal → IsRunRefused img arr refusal → RunView a
 
   run-view : (a : ToolAnswer) → IsRunAnswer Shows img arr n a → RunView a
   run-view (answer.Done outcome) h = RunView.draws outcome refl h

@@ -56,32 +56,6 @@ IsAnswer tool.TraceReason counts names inputs answer =
     IsTraceReasonAnswer (input inputs 0) (input inputs 1) (input inputs 2) (input inputs 3) (number_of counts) answer
 IsAnswer tool.Unused counts names inputs answer = IsUnusedAnswer (input inputs 0) (input inputs 1) answer
 
--- the first file that it reads is to be an image file
-abbrev pub reads_image : Tool → Bool
-reads_image tool.Elf = true
-reads_image tool.Unelf = false
-reads_image tool.Infer = false
-reads_image tool.At = true
-reads_image tool.AtAll = true
-reads_image tool.Losses = true
-reads_image tool.Wave = true
-reads_image tool.Picture = true
-reads_image tool.Check = false
-reads_image tool.Bounds = false
-reads_image tool.Latency = false
-reads_image tool.LowerCounts = false
-reads_image tool.Map = false
-reads_image tool.Shares = false
-reads_image tool.Response = false
-reads_image tool.Why = false
-reads_image tool.TaskBound = false
-reads_image tool.TaskResponse = false
-reads_image tool.RunResponse = false
-reads_image tool.Symbols = false
-reads_image tool.Labels = false
-reads_image tool.TraceReason = false
-reads_image tool.Unused = false
-
 -- its answer is determined by what it reads; the file of `symbols` by the image too, and of a response's starts more than one may be the greatest
 abbrev pub is_determined : Tool → Bool
 is_determined tool.Elf = true

@@ -14,7 +14,7 @@ use Rattle.sloth_runner.specs.declared.task_states.Sight.{Sight}
 use Rattle.sloth_runner.specs.declared.task_states.Sight.TheVariants as sight
 use Rattle.system_text.specs.SystemText.{system_text}
 use Rattle.tool_commands.specs.StatesText.{count_line}
-use Rattle.tool_commands.specs.AtAnswers.{IsAtRefused}
+use Rattle.tool_answers.specs.RunInputs.{IsRunRefused}
 use Rattle.tool_answers.specs.declared.answer.ToolAnswer.{ToolAnswer}
 use Rattle.tool_answers.specs.declared.answer.ToolAnswer.TheVariants as answer
 
@@ -50,7 +50,7 @@ abbrev pub IsAtAllAnswer : (img arr : List ℕ) (k : ℕ) → ToolAnswer → Typ
 IsAtAllAnswer img arr k (answer.Done outcome) = IsAllAnswer img arr k (answer.Done outcome)
 IsAtAllAnswer img arr k (answer.Stopped pc stop) = IsAllAnswer img arr k (answer.Stopped pc stop)
 IsAtAllAnswer img arr k (answer.NotAnImage fault) = IsFirstImageFault fault img
-IsAtAllAnswer img arr k (answer.Refused refusal) = IsAtRefused img arr refusal
+IsAtAllAnswer img arr k (answer.Refused refusal) = IsRunRefused img arr refusal
 IsAtAllAnswer img arr k (answer.NotAnElf fault) = ⊥
 IsAtAllAnswer img arr k (answer.BadTrace fault) = ⊥
 IsAtAllAnswer img arr k answer.NoHolds = ⊥

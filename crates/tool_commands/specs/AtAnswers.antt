@@ -2,8 +2,7 @@
 use Rattle.std.specs.Prelude.{ℕ, ◌≡◌, List, [], codes}
 use Rattle.sloth_base.specs.declared.event.Arrival.{Arrival}
 use Rattle.sloth_base.specs.declared.image.Image.{Image}
-use Rattle.sloth_base.specs.declared.refusal.Refusal.{Refusal}
-use Rattle.least_fault.specs.Order.{IsLeast, NoFault}
+use Rattle.least_fault.specs.Order.{NoFault}
 use Rattle.image_file.specs.ImageText.{ImageText}
 use Rattle.image_file.specs.Faults.{IsFirstImageFault}
 use Rattle.trace_text.specs.ArrivalsText.{ArrivalsFault, arrivals_in}
@@ -11,6 +10,7 @@ use Rattle.sloth_runner.specs.TaskStates.{AreStatesAt}
 use Rattle.sloth_runner.specs.declared.task_states.Sight.{Sight}
 use Rattle.sloth_runner.specs.declared.task_states.Sight.TheVariants as sight
 use Rattle.tool_commands.specs.StatesText.{states_text}
+use Rattle.tool_answers.specs.RunInputs.{IsRunRefused}
 use Rattle.tool_answers.specs.declared.answer.ToolAnswer.{ToolAnswer}
 use Rattle.tool_answers.specs.declared.answer.ToolAnswer.TheVariants as answer
 
@@ -32,16 +32,12 @@ pub record IsStatesAnswer (img arr : List ℕ) (k : ℕ) (shown : ToolAnswer) : 
   pub seen : AreStatesAt image arrivals k sight
   pub answer_is : shown ≡ states_answer image sight
 
--- the first file is that of an image, and this is the least fault of the arrivals
-abbrev pub IsAtRefused : (img arr : List ℕ) → Refusal → Type 0
-IsAtRefused img arr refusal = (image : Image) × ImageText img image × IsLeast (ArrivalsFault image.tasks image.counters arr) refusal
-
 -- `at`: what the run shows of the tasks, or where and why it stops; or the first fault of the image file, or the least of the arrivals
 abbrev pub IsAtAnswer : (img arr : List ℕ) (k : ℕ) → ToolAnswer → Type 0
 IsAtAnswer img arr k (answer.Done outcome) = IsStatesAnswer img arr k (answer.Done outcome)
 IsAtAnswer img arr k (answer.Stopped pc stop) = IsStatesAnswer img arr k (answer.Stopped pc stop)
 IsAtAnswer img arr k (answer.NotAnImage fault) = IsFirstImageFault fault img
-IsAtAnswer img arr k (answer.Refused refusal) = IsAtRefused img arr refusal
+IsAtAnswer img arr k (answer.Refused refusal) = IsRunRefused img arr refusal
 IsAtAnswer img arr k (answer.NotAnElf fault) = ⊥
 IsAtAnswer img arr k (answer.BadTrace fault) = ⊥
 IsAtAnswer img arr k answer.NoHolds = ⊥

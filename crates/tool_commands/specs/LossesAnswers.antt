@@ -5,9 +5,10 @@ use Rattle.sloth_base.specs.declared.image.Image.{Image}
 use Rattle.image_file.specs.Faults.{IsFirstImageFault}
 use Rattle.sloth_runner.specs.Admissions.{AreAdmissions}
 use Rattle.sloth_runner.specs.declared.admissions.Admission.{Admission}
-use Rattle.tool_commands.specs.AtAnswers.{IsAtRefused}
+use Rattle.tool_answers.specs.RunInputs.{IsRunRefused}
 use Rattle.tool_commands.specs.LossesText.{losses_text}
-use Rattle.tool_commands.specs.RunAnswers.{AreRunInputs, IsHalted}
+use Rattle.tool_commands.specs.RunAnswers.{IsHalted}
+use Rattle.tool_answers.specs.RunInputs.{AreRunInputs}
 use Rattle.tool_answers.specs.declared.answer.Outcome.{Outcome}
 use Rattle.tool_answers.specs.declared.answer.ToolAnswer.{ToolAnswer}
 use Rattle.tool_answers.specs.declared.answer.ToolAnswer.TheVariants as answer
@@ -26,7 +27,7 @@ abbrev pub IsLossesAnswer : (img arr : List ℕ) (n : ℕ) → ToolAnswer → Ty
 IsLossesAnswer img arr n (answer.Done outcome) = IsLossesShown img arr n outcome
 IsLossesAnswer img arr n (answer.Stopped pc stop) = IsHalted img arr n pc stop
 IsLossesAnswer img arr n (answer.NotAnImage fault) = IsFirstImageFault fault img
-IsLossesAnswer img arr n (answer.Refused refusal) = IsAtRefused img arr refusal
+IsLossesAnswer img arr n (answer.Refused refusal) = IsRunRefused img arr refusal
 IsLossesAnswer img arr n (answer.NotAnElf fault) = ⊥
 IsLossesAnswer img arr n (answer.BadTrace fault) = ⊥
 IsLossesAnswer img arr n answer.NoHolds = ⊥

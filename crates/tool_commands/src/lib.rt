@@ -25,7 +25,6 @@ mod losses_lines;
 mod map_command;
 mod picture_command;
 mod response_command;
-pub mod run_inputs;
 mod shares_command;
 mod symbols_command;
 mod trace_reason_command;

@@ -1,6 +1,7 @@
 //! The lines of tools.
 ghost use Rattle.std.specs.Prelude.{◌≡◌, ◌≤◌, length};
-ghost use Rattle.tool_commands.specs.Lines.{elf_fault_text, no_elf_line, bad_trace_line, written_line};
+ghost use Rattle.tool_commands.specs.Lines.{written_line};
+ghost use Rattle.tool_answers.specs.Lines.{elf_fault_text, no_elf_line, bad_trace_line};
 
 use elf_image::fault::ElfFault;
 use itoa::Buffer;

@@ -1,9 +1,9 @@
 use Rattle.std.proofs.Common.{◌∙◌, List, [], ◌∷◌, ◌++◌, ℕ, sym, ap, subst, append-nil}
 use Rattle.std.specs.Prelude.{string_bytes}
 use Rattle.std.proofs.lemmas.Result.{err_from_is_err_and}
-use Rattle.sloth_commands.specs.ToolFiles.{AreToolInputs}
-use Rattle.sloth_commands.proofs.InOrder.{err-anyway}
-use Rattle.sloth_commands.proofs.ToolReads.{fetched-front, fetched-more, fetched-one-more, fetch-failed, kept-none}
+use Rattle.core_commands.specs.ToolInputs.{AreToolInputs}
+use Rattle.core_commands.proofs.InOrder.{err-anyway}
+use Rattle.core_commands.proofs.ToolReads.{fetched-front, fetched-more, fetched-one-more, fetch-failed, kept-none}
 use Rattle.sloth_commands.proofs.tool_command.fetch_all.Goals as goal
 
 pub loop-name-init : goal.loop-name-init

@@ -1,4 +1,4 @@
-use Rattle.sloth_commands.proofs.ToolReads.{AreFetched}
+use Rattle.core_commands.proofs.ToolReads.{AreFetched}
 use Rattle.sloth_commands.proofs.tool_command.fetch_all.Given as goal
 
 abbrev pub invariant-loop-name : goal.invariant-loop-name

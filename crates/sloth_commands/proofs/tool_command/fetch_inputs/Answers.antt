@@ -1,9 +1,9 @@
 use Rattle.std.proofs.Common.{List, ℕ, subst}
 use Rattle.std.specs.Prelude.{Result, IfOk, IfErr}
 use Rattle.sloth_io.specs.Store.{AreDelivered}
-use Rattle.sloth_commands.specs.CommandFiles.{AreFirstDelivered}
-use Rattle.sloth_commands.specs.ToolFiles.{AreToolInputs, input_deliveries}
-use Rattle.sloth_commands.specs.Failures.{IsReadFailure}
+use Rattle.core_commands.specs.CommandFiles.{AreFirstDelivered}
+use Rattle.core_commands.specs.ToolInputs.{AreToolInputs, input_deliveries}
+use Rattle.core_commands.specs.Failures.{IsReadFailure}
 use Rattle.sloth_commands.proofs.tool_command.fetch_inputs.Goals as goal
 
 pub returns-clause-ok : goal.returns-clause-ok

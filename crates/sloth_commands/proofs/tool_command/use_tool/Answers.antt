@@ -8,13 +8,14 @@ use Rattle.command_line.specs.Command.{Uses}
 use Rattle.command_line.specs.Tools.{file_names}
 use Rattle.command_line.proofs.ToolWords.{files-counted}
 use Rattle.command_line.specs.Words.{use_of}
-use Rattle.sloth_commands.specs.CommandFiles.{inputs_of}
-use Rattle.sloth_commands.proofs.InOrder.{still-delivered}
-use Rattle.sloth_commands.proofs.Causes.{read-ends}
+use Rattle.core_commands.specs.CommandFiles.{inputs_of}
+use Rattle.core_commands.proofs.InOrder.{still-delivered}
+use Rattle.sloth_commands.specs.ToolFiles.{IsToolAnswer}
+use Rattle.core_commands.proofs.Causes.{read-ends}
 use Rattle.sloth_commands.proofs.ToolCauses.{all-told, answer-of, tell-ends, tool-performed}
-use Rattle.sloth_commands.proofs.CallFiles.{stays-kept}
+use Rattle.core_commands.proofs.CallFiles.{stays-kept}
 use Rattle.sloth_commands.proofs.ToolLines.{both-err, four-told, read-untold, told, untold}
-use Rattle.sloth_commands.proofs.ToolReads.{all-short, as-many}
+use Rattle.core_commands.proofs.ToolReads.{all-short, as-many}
 use Rattle.sloth_commands.proofs.tool_command.use_tool.Goals as goal
 
 -- they have as many names
@@ -39,7 +40,7 @@ pub returns-in_err-inputs-clause-err : goal.returns-in_err-inputs-clause-err
 returns-in_err-inputs-clause-err g c =
     let failed = err_from_is_err_and c.from_residual.result c.from_residual.ensures.1 in
     rw (failed.1, failed.2)
-    (read-ends c.in_err-inputs.field-0.0 _ _ _ (Uses (use_of c.args.words.now)) c.in_err-inputs.ensures.err
+    (read-ends IsToolAnswer c.in_err-inputs.field-0.0 _ _ _ (Uses (use_of c.args.words.now)) c.in_err-inputs.ensures.err
     (stays-kept _ _ c.fetch_inputs.ensures.keeps))
 
 pub returns-clause-err : goal.returns-clause-err

@@ -1,0 +1,14 @@
+pub mod FileInputs
+pub mod ToolInputs
+pub mod ToolTables
+pub mod CommandFiles
+pub mod ImageFiles
+pub mod Samples
+pub mod CheckedRuns
+pub mod Top
+pub mod ImageAnswers
+pub mod SampleAnswers
+pub mod NoTools
+pub mod Failures
+pub mod InMemory
+pub mod ProgramRun

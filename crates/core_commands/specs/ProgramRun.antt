@@ -1,0 +1,30 @@
+-- What a program did, by what the system delivered to it and what it gave to the system.
+use Rattle.std.specs.Prelude.{◌≡◌, ◌≢◌, ◌⊎◌, ℕ, List, []}
+use Rattle.sloth_io.specs.Counts.{Rose}
+use Rattle.sloth_io.specs.Store.{Files}
+use Rattle.sloth_io.specs.Buffered.{IsPrefix}
+use Rattle.sloth_io.specs.FileStore.{untold_files}
+use Rattle.core_commands.specs.CommandFiles.{ReadsInOrder}
+use Rattle.core_commands.specs.ToolTables.{ToolTable}
+use Rattle.core_commands.specs.Top.{IsRequired}
+use Rattle.tool_answers.specs.declared.status.Status.{Status}
+use Rattle.tool_answers.specs.declared.status.Status.TheVariants as status
+
+-- With these words, where the files show these reads, writes and counts of failures at the end, the program with these tools gave `printed` to standard
+-- output, of whose calls `faults` failed, and answered so: an answer is required by exactly what was read, with this text and these writes. Either this
+-- answer was told, and all of its text was printed; or a put failed, the answer is WriteFault, and a first part of the text was printed. Where a command's
+-- words require `usage`, the store said in this run that the file which it writes is one that it reads (`same`).
+pub record IsProgramRun (IsToolAnswer : ToolTable) (words : List (List ℕ)) (files : Files) (printed : List ℕ) (faults : ℕ) (answer : Status) : Type 0 where
+  pub wanted : Status
+  pub text : List ℕ
+  -- of the command's files the first were read, in the order of the words, and nothing else
+  pub in_order : ReadsInOrder words (untold_files 0 0 0 [] [] []) files
+  pub required : IsRequired IsToolAnswer wanted words (untold_files 0 0 0 files.reads [] []) files text
+  pub told : (answer ≡ wanted) ⊎ ((answer ≡ status.WriteFault) × Rose 0 faults)
+  pub front : IsPrefix printed text
+  pub whole : answer ≢ status.WriteFault → printed ≡ text
+
+-- such a run ended with this answer
+abbrev pub HasTopRun : ToolTable → List (List ℕ) → Status → Type 0
+HasTopRun IsToolAnswer words answer =
+    (files : Files) × (printed : List ℕ) × (faults : ℕ) × IsProgramRun IsToolAnswer words files printed faults answer

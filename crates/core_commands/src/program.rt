@@ -1,0 +1,67 @@
+//! What a program without tools does with its words: they go to the top call, over the system's files and standard output, and the status is how it ends.
+ghost use Rattle.std.specs.Prelude.{◌≡◌, []};
+ghost use Rattle.sloth_io.specs.FileStore.{shown_files, untold_files};
+ghost use Rattle.sloth_io.specs.OutSink.{shown_output, accepted_bytes, given_bytes};
+ghost use Rattle.command_line.specs.Command.{words_of};
+ghost use Rattle.core_commands.specs.ProgramRun.{IsProgramRun, HasTopRun};
+ghost use Rattle.core_commands.specs.ToolTables.{LacksTools};
+
+use crate::top::core_top;
+use sloth_io::file_store::FileStore;
+use sloth_io::out_sink::OutSink;
+use std::alloc::Global;
+use std::env;
+use std::env::Env;
+use std::io::ErrorKind;
+use std::process::ExitCode;
+use std::rt::Files;
+use tool_answers::Status;
+
+/// The words without the program's own name, or how the program ends without them: a word that is not UTF-8 is none of a command's.
+pub fn words_given(rt: &(impl Env + AllocGlobal)) -> Result<Vec<String>, Status> {
+    let mut words = Vec::new(rt.alloc());
+    let args = match env::args(rt) {
+        Ok(args) => args,
+        Err(fault) if fault.kind() == ErrorKind::OutOfMemory => return Err(Status::NoMemory),
+        Err(_) => return Err(Status::Usage),
+    };
+    for word in args.skip(1) {
+        if words.push(word).is_err() {
+            return Err(Status::NoMemory);
+        }
+    }
+    Ok(words)
+}
+
+/// Runs the command of these words, over files of which nothing was read, none written and nothing said, and standard output to which nothing was put.
+pub fn run_over<R: Files, P: Print>(
+    alloc: Global,
+    words: &[String],
+    files: &mut FileStore<'_, R>,
+    out: &mut OutSink<'_, P>,
+) -> Status
+    requires files { shown_files files.old ≡ untold_files 0 0 0 [] [] [] }
+    requires out { accepted_bytes out.old ≡ [] }
+    requires faults { (shown_output out.old).faults ≡ 0 }
+    ensures { IsProgramRun LacksTools (words_of words.now) (shown_files files.new) (given_bytes out.new) (shown_output out.new).faults result }
+{
+    core_top(alloc, words, files, out)
+}
+
+/// Runs the command of these words.
+pub fn run_words(rt: &(impl Files + Print + AllocGlobal), words: &[String]) -> Status
+    ensures { HasTopRun LacksTools (words_of words.now) result }
+{
+    let mut files = FileStore::new(rt, rt.alloc());
+    let mut out = OutSink::new(rt);
+    run_over(rt.alloc(), words, &mut files, &mut out)
+}
+
+/// Runs the command of the program's words, and answers with the number of its status.
+pub fn run_program(rt: &(impl Env + Files + Print + AllocGlobal)) -> ExitCode {
+    let status = match words_given(rt) {
+        Ok(words) => run_words(rt, words.as_slice()),
+        Err(status) => status,
+    };
+    ExitCode::from(status.code())
+}

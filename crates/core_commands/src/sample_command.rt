@@ -1,0 +1,162 @@
+//! The command `sample`: an application is generated, built and run, and its events are counted.
+ghost use Rattle.std.specs.Prelude.{◌≡◌, IfOk, IfErr, OnOk, OnErr};
+ghost use Rattle.sloth_base.specs.Arrivals.{AreArrivals};
+ghost use Rattle.sloth_base.specs.Owners.{owners_in, owners_named};
+ghost use Rattle.sloth_base.specs.ImageRange.{InFormat};
+ghost use Rattle.sloth_io.specs.Sink.{output_with, GainsPart};
+ghost use Rattle.sloth_io.specs.Store.{call_files};
+ghost use Rattle.image_file.specs.ImageText.{image_bytes};
+ghost use Rattle.sloth_source.specs.Texts.{AreAccepted};
+ghost use Rattle.command_line.specs.Command.{Samples};
+ghost use Rattle.sloth_runner.specs.Runner.{IsFresh, image_of, given_arrivals};
+ghost use Rattle.core_commands.specs.CommandFiles.{inputs_of, AreFirstDelivered};
+ghost use Rattle.core_commands.specs.Samples.{sample_oil, sample_source, sample_arrivals, sample_text};
+ghost use Rattle.core_commands.specs.Top.{world, IsBuiltImage, IsWritten, IsTextTaken};
+ghost use Rattle.core_commands.specs.Failures.{IsSampleFailure, IsPerformFailure, IsCommandFailure, IsPerformed};
+ghost use Rattle.tool_answers.specs.declared.status.Status.TheVariants.{Done as DoneStatus};
+ghost use Rattle.core_commands.specs.ToolTables.{LacksTools};
+
+use crate::building::build_image;
+use crate::failure::Failure;
+use app_gen::application::Sample;
+use app_gen::sample;
+use image_file::write_image;
+use sloth_base::event::Arrival;
+use sloth_base::image::Image;
+use sloth_base::limits::{COUNT_LIMIT, TASK_LIMIT};
+use sloth_base::list::List;
+use sloth_build::Built;
+use sloth_io::sink::{Sink, SinkFault};
+use sloth_io::store::Store;
+use sloth_runner::runner::Runner;
+use sloth_runner::summary::put_summary;
+use std::alloc::Global;
+use tool_answers::Status;
+
+// What is built of generated texts, and the arrivals.
+struct Generated {
+    built: Built,
+    arrivals: List<Arrival>,
+}
+
+// Written out: what is derived is proved anew wherever a value is let go.
+impl Drop for Generated {
+    fn drop(self) {
+        let Generated {
+            built: _,
+            arrivals: _,
+        } = self;
+    }
+}
+
+// Generates an application, and builds its image.
+fn generate(alloc: Global, seed: u32) -> Result<Generated, Failure>
+    ensures accepted { IfOk result (λ made. AreAccepted sample_oil (sample_source seed) made.built.config made.built.app) }
+    ensures image { IfOk result (λ made. IsBuiltImage made.built.config made.built.app made.built.image) }
+    ensures arrivals { IfOk result (λ made. made.arrivals ≡ sample_arrivals seed) }
+    ensures in_range { IfOk result (λ made. AreArrivals (owners_in made.built.config) made.arrivals) }
+    ensures err { IfErr result (λ failure. IsSampleFailure failure seed) }
+{
+    let Sample { oil, src, arrivals } = sample(alloc, seed, TASK_LIMIT as u32)?;
+    let built = build_image(alloc, oil.items(), src.items())?;
+    Ok(Generated { built, arrivals })
+}
+
+// Runs the image of a runner that has run nothing, and puts the summary.
+#[tactic(auto, unfolding(crate::specs::Samples::sample_text))]
+fn show<S: Sink>(runner: &mut Runner, out: &mut S) -> Result<(), SinkFault>
+    requires fresh { IsFresh runner.old }
+    ensures ok { OnOk result (S.seen out.new ≡ output_with (S.seen out.old) (sample_text (image_of runner.old) (given_arrivals runner.old))) }
+    ensures err { OnErr result (GainsPart (S.seen out.old) (S.seen out.new) (sample_text (image_of runner.old) (given_arrivals runner.old))) }
+{
+    let tally = runner.tally(COUNT_LIMIT);
+    put_summary(&tally.counts, out)
+}
+
+// Writes the image's file, runs the image of a runner that has run nothing, and puts the summary.
+fn write_and_show<F: Store, S: Sink>(
+    files: &mut F,
+    out: &mut S,
+    img: &str,
+    bytes: &[u8],
+    runner: &mut Runner,
+) -> Result<(), Failure>
+    requires fresh { IsFresh runner.old }
+    ensures written { OnOk result (IsWritten (F.seen files.old) (F.seen files.new) img.now bytes.now) }
+    ensures text { OnOk result (IsTextTaken (S.seen out.old) (S.seen out.new) (sample_text (image_of runner.old) (given_arrivals runner.old))) }
+    ensures err { IfErr result (λ failure.
+        IsPerformFailure failure (world (F.seen files.old) (S.seen out.old)) (world (F.seen files.new) (S.seen out.new))
+        img.now bytes.now (sample_text (image_of runner.old) (given_arrivals runner.old))) }
+    ensures reads { (F.seen files.new).reads ≡ (F.seen files.old).reads }
+{
+    files.write(img, bytes).map_err(|_| Failure::WriteFile)?;
+    show(runner, out)?;
+    Ok(())
+}
+
+// Takes all memory of the run, writes the image's file, runs the image, and puts the summary.
+fn perform<F: Store, S: Sink>(
+    alloc: Global,
+    files: &mut F,
+    out: &mut S,
+    img: &str,
+    image: &Image,
+    arrivals: &[Arrival],
+) -> Result<(), Failure>
+    requires format { InFormat image.now }
+    requires arrivals { AreArrivals (owners_named image.now) arrivals.now }
+    ensures written { OnOk result (IsWritten (F.seen files.old) (F.seen files.new) img.now (image_bytes image.now)) }
+    ensures text { OnOk result (IsTextTaken (S.seen out.old) (S.seen out.new) (sample_text image.now arrivals.now)) }
+    ensures err { IfErr result (λ failure.
+        IsPerformFailure failure (world (F.seen files.old) (S.seen out.old)) (world (F.seen files.new) (S.seen out.new))
+        img.now (image_bytes image.now) (sample_text image.now arrivals.now)) }
+    ensures reads { (F.seen files.new).reads ≡ (F.seen files.old).reads }
+{
+    let bytes = write_image(alloc, image)?;
+    let mut runner = Runner::new(alloc, image, arrivals)?;
+    write_and_show(files, out, img, bytes.as_slice(), &mut runner)
+}
+
+// Generates an application, builds and runs its image, and puts the summary, but for the last line of a failure.
+fn attempt<F: Store, S: Sink>(
+    alloc: Global,
+    files: &mut F,
+    out: &mut S,
+    seed: u32,
+    img: &str,
+) -> Result<(), Failure>
+    ensures done { OnOk result (IsPerformed LacksTools DoneStatus
+        (world (call_files (F.seen files.old) (F.seen files.new)) (S.seen out.old)) (world (F.seen files.new) (S.seen out.new)) (Samples seed img.now)) }
+    ensures err { IfErr result (λ failure. IsCommandFailure LacksTools failure
+        (world (call_files (F.seen files.old) (F.seen files.new)) (S.seen out.old)) (world (F.seen files.new) (S.seen out.new)) (Samples seed img.now)) }
+    ensures reads { AreFirstDelivered (F.seen files.old) (F.seen files.new) (inputs_of (Samples seed img.now)) }
+{
+    let made = generate(alloc, seed)?;
+    perform(
+        alloc,
+        files,
+        out,
+        img,
+        &made.built.image,
+        made.arrivals.items(),
+    )
+}
+
+/// Generates an application from a seed, builds and runs its image, and puts the summary of the run, but for the last line of a
+/// failure.
+pub fn sample_run<F: Store, S: Sink>(
+    alloc: Global,
+    files: &mut F,
+    out: &mut S,
+    seed: u32,
+    img: &str,
+) -> Result<Status, Failure>
+    ensures done { IfOk result (λ status. IsPerformed LacksTools status
+        (world (call_files (F.seen files.old) (F.seen files.new)) (S.seen out.old)) (world (F.seen files.new) (S.seen out.new)) (Samples seed img.now)) }
+    ensures err { IfErr result (λ failure. IsCommandFailure LacksTools failure
+        (world (call_files (F.seen files.old) (F.seen files.new)) (S.seen out.old)) (world (F.seen files.new) (S.seen out.new)) (Samples seed img.now)) }
+    ensures reads { AreFirstDelivered (F.seen files.old) (F.seen files.new) (inputs_of (Samples seed img.now)) }
+{
+    attempt(alloc, files, out, seed, img)?;
+    Ok(Status::Done)
+}

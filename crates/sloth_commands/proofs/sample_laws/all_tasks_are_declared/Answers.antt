@@ -1,5 +1,0 @@
-use Rattle.sloth_commands.proofs.Declared.{thirty-tasks}
-use Rattle.sloth_commands.proofs.sample_laws.all_tasks_are_declared.Goals as goal
-
-pub returns : goal.returns
-returns c = thirty-tasks
