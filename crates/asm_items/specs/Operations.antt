@@ -17,8 +17,8 @@ use Rattle.sloth_base.specs.declared.config.EventDecl.{EventDecl}
 use Rattle.sloth_base.specs.ConfigRange.{scheduler_number}
 use Rattle.asm_lines.specs.declared.operands.Operand.{Operand}
 use Rattle.asm_lines.specs.declared.operands.Operand.TheVariants.{Register, Number, Name, Frame, Direct, Indexed}
-use Rattle.asm_lines.specs.declared.forms.Mnemonic.{Mnemonic}
-use Rattle.asm_lines.specs.declared.forms.Mnemonic.TheVariants as m
+use Rattle.asm_forms.specs.declared.forms.Mnemonic.{Mnemonic}
+use Rattle.asm_forms.specs.declared.forms.Mnemonic.TheVariants as m
 use Rattle.asm_lines.specs.declared.source_line.SourceLine.{SourceLine}
 use Rattle.asm_lines.specs.declared.source_line.SourceLine.TheVariants.{Statement}
 use Rattle.asm_lines.specs.Numbers.{is_within}

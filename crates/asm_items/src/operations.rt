@@ -4,7 +4,8 @@ ghost use Rattle.asm_items.specs.Numbered.{IsNumbered};
 ghost use Rattle.asm_items.specs.Operations.{as_word, as_short, register_op, number_op, frame_op, symbol_op, element_op, access_op, jump_op, op_by, op_of};
 
 use crate::services::{call_of, number_of};
-use asm_lines::{Mnemonic, Operand, SourceLine};
+use asm_forms::Mnemonic;
+use asm_lines::{Operand, SourceLine};
 use asm_scopes::Scope;
 use sloth_base::app::{ImmKind, Op, Width};
 use sloth_base::config::Config;

@@ -7,6 +7,3 @@ pub mod Operands
 pub mod SourceLines
 pub mod Faults
 pub mod Grammar
-pub mod Forms
-pub mod Places
-pub mod LabelLines

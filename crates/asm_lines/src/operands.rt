@@ -3,10 +3,10 @@ ghost use Rattle.std.specs.Prelude.{◌≡◌, IfOk};
 ghost use Rattle.asm_lines.specs.Operands.{small_of, register_operand, number_operand, frame_operand, name_operand, direct_operand, indexed_operand, in_brackets, bracketed_operand, place, bytes_operand, read_operand};
 ghost use Rattle.hex.specs.Hex.{decode_of};
 
-use crate::Form;
 use crate::bytes::trim;
 use crate::numerals::{is_within, number};
 use crate::registers::register;
+use asm_forms::Form;
 use hex::{FromHexError, decode};
 use sloth_base::limits::OPERAND_LIMIT;
 use sloth_base::list::List;

@@ -7,7 +7,7 @@ use crate::bytes::{are_shown, begins_with_letter, is_blank, trim, word_of};
 use crate::cutting::operands_of;
 use crate::operands::{Operand, read_operand};
 use crate::table::mnemonic_of;
-use crate::{Mnemonic, form_of};
+use asm_forms::{Mnemonic, form_of};
 use sloth_base::list::List;
 use sloth_base::memory::NoMemory;
 use std::alloc::Global;

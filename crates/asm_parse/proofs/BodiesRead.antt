@@ -15,7 +15,7 @@ use Rattle.asm_lines.specs.declared.source_line.SourceLine.TheVariants.{Empty}
 use Rattle.asm_scopes.specs.declared.scope.Scope.{Scope}
 use Rattle.asm_scopes.specs.Statements.{opens_body, closes_body, is_item, is_label, name_of, number_of, label_names}
 use Rattle.asm_scopes.specs.Bodies.{BodyText, bodies_from, body_name, function_names}
-use Rattle.asm_scopes.specs.NameFaults.{has_long, is_misnamed, is_beyond, is_too_great, items_in, LineNameFault, BodyNameFault}
+use Rattle.asm_parse.specs.NameFaults.{has_long, is_misnamed, is_beyond, is_too_great, items_in, LineNameFault, BodyNameFault}
 use Rattle.asm_scopes.specs.Scopes.{has_unknown}
 use Rattle.asm_parse.proofs.Growth.{within, Apart, all_apart, kept_apart}
 use Rattle.asm_parse.proofs.Read.{IsRead}

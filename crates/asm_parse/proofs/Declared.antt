@@ -11,16 +11,16 @@ use Rattle.asm_lines.specs.declared.operands.Operand.{Operand}
 use Rattle.asm_lines.specs.declared.operands.Operand.TheVariants.{Number, Name, Bytes}
 use Rattle.asm_lines.specs.declared.source_line.SourceLine.{SourceLine}
 use Rattle.asm_lines.specs.declared.source_line.SourceLine.TheVariants.{Empty, Shapeless, Unknown, Statement}
-use Rattle.asm_lines.specs.declared.forms.Form.TheVariants as form
-use Rattle.asm_lines.specs.declared.forms.Mnemonic.{Mnemonic}
-use Rattle.asm_lines.specs.declared.forms.Mnemonic.TheVariants as m
+use Rattle.asm_forms.specs.declared.forms.Form.TheVariants as form
+use Rattle.asm_forms.specs.declared.forms.Mnemonic.{Mnemonic}
+use Rattle.asm_forms.specs.declared.forms.Mnemonic.TheVariants as m
 use Rattle.asm_lines.specs.Faults.{is_long}
 use Rattle.asm_lines.specs.Numbers.{is_within}
-use Rattle.asm_lines.specs.Forms.{is_operand_count, form_of, is_body_start}
+use Rattle.asm_forms.specs.Forms.{is_operand_count, form_of, is_body_start}
 use Rattle.asm_scopes.specs.Statements.{is_data, opens_body, name_of, first_name, second_number, written_name}
-use Rattle.asm_scopes.specs.NameFaults.{has_long_name, has_long}
+use Rattle.asm_parse.specs.NameFaults.{has_long_name, has_long}
 use Rattle.asm_items.specs.Apps.{third_bytes, bytes_with}
-use Rattle.asm_parse.proofs.Fit.{FitsBytes, Fits, AllFit}
+use Rattle.asm_parse.proofs.Fit.{FitsBytes, FitsForm, AllFit}
 use Rattle.asm_parse.proofs.Operands.{name_case, number_case, some_of, two_of, three_of}
 use Rattle.asm_parse.proofs.OpsRange.{at_most}
 use Rattle.asm_parse.proofs.Read.{IsRead}
@@ -54,7 +54,7 @@ declares m os is_name some h s =
     (λ a os h s.
     name_case (λ a. has_long (Statement m (a ∷ os)) ≡ false → IsName (first_name (a ∷ os)))
     (λ n w s. record { word = w; short = ltb-false name_limit (length n) (or_parts (nat_lt name_limit (length n)) (list_any (λ x. has_long_name (written_name x)) os) s).0 })
-    a (subst (λ F. Fits F a) is_name h.0) s)
+    a (subst (λ F. FitsForm F a) is_name h.0) s)
     os some h s
 
 pub header_name : (l : SourceLine) → opens_body l ≡ true → IsRead l → has_long l ≡ false → IsName (name_of l)

@@ -4,11 +4,11 @@ use Rattle.sloth_base.specs.ImageRange.{IsWord}
 use Rattle.sloth_base.specs.Limits.{operand_limit}
 use Rattle.asm_lines.specs.declared.operands.Operand.{Operand}
 use Rattle.asm_lines.specs.declared.operands.Operand.TheVariants.{Register, Number, Name, Frame, Direct, Indexed, Bytes}
-use Rattle.asm_lines.specs.declared.forms.Form.{Form}
-use Rattle.asm_lines.specs.declared.forms.Form.TheVariants as form
-use Rattle.asm_lines.specs.declared.forms.Mnemonic.{Mnemonic}
+use Rattle.asm_forms.specs.declared.forms.Form.{Form}
+use Rattle.asm_forms.specs.declared.forms.Form.TheVariants as form
+use Rattle.asm_forms.specs.declared.forms.Mnemonic.{Mnemonic}
 use Rattle.asm_lines.specs.Numbers.{is_within}
-use Rattle.asm_lines.specs.Forms.{form_of}
+use Rattle.asm_forms.specs.Forms.{form_of}
 use Rattle.code_rules.specs.AppRange.{IsRegister}
 
 -- a place in a symbol
@@ -38,16 +38,16 @@ FitsBytes (Bytes bytes) = Unit {0}
 FitsBytes _ = ⊥
 
 -- an operand of this form
-abbrev pub Fits : Form → Operand → Type 0
-Fits form.Register o = FitsRegister o
-Fits (form.Number low high) (Number n) = is_within low high n ≡ true
-Fits (form.Number low high) _ = ⊥
-Fits form.Name o = FitsName o
-Fits form.Place o = FitsPlace o
-Fits form.WordPlace o = FitsWord o
-Fits form.Bytes o = FitsBytes o
+abbrev pub FitsForm : Form → Operand → Type 0
+FitsForm form.Register o = FitsRegister o
+FitsForm (form.Number low high) (Number n) = is_within low high n ≡ true
+FitsForm (form.Number low high) _ = ⊥
+FitsForm form.Name o = FitsName o
+FitsForm form.Place o = FitsPlace o
+FitsForm form.WordPlace o = FitsWord o
+FitsForm form.Bytes o = FitsBytes o
 
 -- the operands of a statement, from place i on, fit their forms
 abbrev pub AllFit : Mnemonic → ℕ → List Operand → Type 0
 AllFit m i [] = Unit {0}
-AllFit m i (o ∷ os) = Fits (form_of m i) o × AllFit m (i + 1) os
+AllFit m i (o ∷ os) = FitsForm (form_of m i) o × AllFit m (i + 1) os

@@ -16,7 +16,7 @@ use Rattle.sloth_base.specs.declared.config.Config.{Config}
 use Rattle.asm_lines.specs.declared.operands.Operand.{Operand}
 use Rattle.asm_lines.specs.declared.source_line.SourceLine.{SourceLine}
 use Rattle.asm_lines.specs.declared.source_line.SourceLine.TheVariants.{Statement}
-use Rattle.asm_lines.specs.declared.forms.Mnemonic.TheVariants as m
+use Rattle.asm_forms.specs.declared.forms.Mnemonic.TheVariants as m
 use Rattle.asm_scopes.specs.declared.scope.Kind.TheVariants as kind
 use Rattle.asm_scopes.specs.declared.scope.Scope.{Scope}
 use Rattle.asm_scopes.specs.Statements.{is_item, is_label, name_of, label_names, written_name}

@@ -1,3 +1,4 @@
+pub mod Fronts
 pub mod Stages
 pub mod Fit
 pub mod MnemonicKinds

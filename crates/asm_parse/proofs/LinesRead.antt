@@ -10,10 +10,10 @@ use Rattle.least_fault.specs.Order.{NoFault}
 use Rattle.least_fault.proofs.Nowhere.{nowhere, case_false}
 use Rattle.asm_lines.specs.declared.source_line.SourceLine.{SourceLine}
 use Rattle.asm_lines.specs.declared.source_line.SourceLine.TheVariants.{Empty, Shapeless}
-use Rattle.asm_lines.specs.declared.forms.Mnemonic.{Mnemonic}
+use Rattle.asm_forms.specs.declared.forms.Mnemonic.{Mnemonic}
 use Rattle.asm_lines.specs.Bytes.{word_of, trim}
 use Rattle.asm_lines.specs.Lines.{lines, operands_of}
-use Rattle.asm_lines.specs.Forms.{is_operand_count}
+use Rattle.asm_forms.specs.Forms.{is_operand_count}
 use Rattle.asm_lines.specs.Table.{mnemonic_of}
 use Rattle.asm_lines.specs.Operands.{before}
 use Rattle.asm_lines.specs.SourceLines.{read_operands, known_statement, statement_of, source_line, has_empty, begins_statement}

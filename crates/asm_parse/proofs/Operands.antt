@@ -5,17 +5,17 @@ use Rattle.std.specs.List.{AllByRecursion}
 use Rattle.std.proofs.lemmas.Bool.{not-false, or_parts}
 use Rattle.asm_lines.specs.declared.operands.Operand.{Operand}
 use Rattle.asm_lines.specs.declared.operands.Operand.TheVariants.{Register, Number, Name}
-use Rattle.asm_lines.specs.declared.forms.Form.TheVariants as form
-use Rattle.asm_lines.specs.declared.forms.Mnemonic.{Mnemonic}
+use Rattle.asm_forms.specs.declared.forms.Form.TheVariants as form
+use Rattle.asm_forms.specs.declared.forms.Mnemonic.{Mnemonic}
 use Rattle.asm_lines.specs.Numbers.{is_within}
-use Rattle.asm_lines.specs.Forms.{form_of}
+use Rattle.asm_forms.specs.Forms.{form_of}
 use Rattle.asm_scopes.specs.declared.scope.Kind.{Kind}
 use Rattle.asm_scopes.specs.declared.scope.Scope.{Scope}
 use Rattle.asm_scopes.specs.Statements.{written_name}
 use Rattle.asm_scopes.specs.Scopes.{is_named, is_lacking, any_unknown, kind_of}
 use Rattle.code_rules.specs.AppRange.{IsRegister}
 use Rattle.sloth_base.specs.ImageRange.{IsWord}
-use Rattle.asm_parse.proofs.Fit.{Fits, FitsRegister, FitsName, AllFit}
+use Rattle.asm_parse.proofs.Fit.{FitsForm, FitsRegister, FitsName, AllFit}
 
 -- ---- by their forms
 
@@ -30,7 +30,7 @@ pub name_case : (P : Operand → Type 0) → ((n : List ℕ) → IsWord n → P 
 name_case P f (Name n) h = f n h
 name_case P f o h = absurd h
 
-pub number_case : (low high : ℤ) (P : Operand → Type 0) → ((n : ℤ) → is_within low high n ≡ true → P (Number n)) → (o : Operand) → Fits (form.Number low high) o → P o
+pub number_case : (low high : ℤ) (P : Operand → Type 0) → ((n : ℤ) → is_within low high n ≡ true → P (Number n)) → (o : Operand) → FitsForm (form.Number low high) o → P o
 number_case low high P f (Number n) h = f n h
 number_case low high P f o h = absurd h
 
@@ -89,7 +89,7 @@ module _ (scope : Scope) (labels : List (List ℕ)) (K : Kind) where
   all_names m i (x ∷ os) f h u =
       let k = kind_of m i in
       let lacks = is_lacking scope labels k (written_name x) in (
-        names x (subst (λ F. Fits F x) (f i (omega arith)).0 h.0)
+        names x (subst (λ F. FitsForm F x) (f i (omega arith)).0 h.0)
             (subst (λ k. is_lacking scope labels k (written_name x) ≡ false) (f i (omega arith)).1 (or_parts lacks (any_unknown scope labels m (i + 1) os) u).0),
         all_names m (i + 1) os (λ j l. f j (omega (arith, l))) h.1 (or_parts lacks (any_unknown scope labels m (i + 1) os) u).1,
       )

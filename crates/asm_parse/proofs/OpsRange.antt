@@ -19,11 +19,11 @@ use Rattle.sloth_base.specs.declared.service.Service.{Service}
 use Rattle.sloth_base.specs.declared.service.Service.TheVariants as service
 use Rattle.asm_lines.specs.declared.operands.Operand.{Operand}
 use Rattle.asm_lines.specs.declared.operands.Operand.TheVariants.{Register, Number, Name, Frame, Direct, Indexed}
-use Rattle.asm_lines.specs.declared.forms.Mnemonic.{Mnemonic}
-use Rattle.asm_lines.specs.declared.forms.Mnemonic.TheVariants as m
+use Rattle.asm_forms.specs.declared.forms.Mnemonic.{Mnemonic}
+use Rattle.asm_forms.specs.declared.forms.Mnemonic.TheVariants as m
 use Rattle.asm_lines.specs.Numbers.{is_within}
-use Rattle.asm_lines.specs.declared.forms.Form.TheVariants as form
-use Rattle.asm_lines.specs.Forms.{is_operand_count, form_of}
+use Rattle.asm_forms.specs.declared.forms.Form.TheVariants as form
+use Rattle.asm_forms.specs.Forms.{is_operand_count, form_of}
 use Rattle.asm_scopes.specs.declared.scope.Kind.TheVariants as kind
 use Rattle.asm_scopes.specs.declared.scope.Scope.{Scope}
 use Rattle.asm_scopes.specs.Statements.{is_action, written_name}
@@ -32,7 +32,7 @@ use Rattle.asm_items.specs.declared.operations.Access.{Access}
 use Rattle.asm_items.specs.declared.operations.Access.TheVariants.{Load, Store}
 use Rattle.asm_items.specs.Operations.{as_word, as_short, number_of, frame_op, symbol_op, element_op, access_op, op_by, call_of, mask_of}
 use Rattle.code_rules.specs.AppRange.{IsRegister, IsShort, IsAmount, IsNumberOf, IsStored, IsSymbol, IsMask, IsOp}
-use Rattle.asm_parse.proofs.Fit.{Fits, FitsRegister, FitsPlace, FitsWord, AllFit}
+use Rattle.asm_parse.proofs.Fit.{FitsForm, FitsRegister, FitsPlace, FitsWord, AllFit}
 use Rattle.asm_parse.proofs.MnemonicKinds.{HasKind}
 use Rattle.asm_parse.proofs.Known.{IsKnown}
 use Rattle.asm_parse.proofs.Operands.{register_case, registers_case, name_case, number_case, none_of, one_of, two_of, three_of, some_of, some_two_of, does_exist, names, all_names}
@@ -92,7 +92,7 @@ module _ (config : Config) (app : App) (f : Func) (scope : Scope) (labels : List
   -- an operation on a register and a number from low to high
   amount_range : (w : Mnemonic) (k : ImmKind) (low high : ℤ) → ((d r : ℕ) (n : ℤ) → op_by config scope labels w (Register d ∷ Register r ∷ Number n ∷ []) ≡ Some (op.AluImm k d r (as_short n)))
       → ((n : ℤ) → is_within low high n ≡ true → IsNumberOf k (as_short n))
-      → (a b c : Operand) → FitsRegister a → FitsRegister b → Fits (form.Number low high) c → Ranged w (a ∷ b ∷ c ∷ [])
+      → (a b c : Operand) → FitsRegister a → FitsRegister b → FitsForm (form.Number low high) c → Ranged w (a ∷ b ∷ c ∷ [])
   amount_range w k low high is are a b c h g e =
       registers_case (λ a b. Ranged w (a ∷ b ∷ c ∷ []))
       (λ d r x y. number_case low high (λ c. Ranged w (Register d ∷ Register r ∷ c ∷ [])) (λ n z. (op.AluImm k d r (as_short n), is d r n, (x, y, are n z))) c e)
@@ -107,7 +107,7 @@ module _ (config : Config) (app : App) (f : Func) (scope : Scope) (labels : List
   -- a register that gets a number from low to high as a word
   word_range : (w : Mnemonic) (low high : ℤ) (made : ℕ → ℕ → Op) → ((d : ℕ) (n : ℤ) → op_by config scope labels w (Register d ∷ Number n ∷ []) ≡ Some (made d (as_word n)))
       → ((d : ℕ) (n : ℤ) → IsRegister d → is_within low high n ≡ true → IsOp config app f (made d (as_word n)))
-      → (a b : Operand) → FitsRegister a → Fits (form.Number low high) b → Ranged w (a ∷ b ∷ [])
+      → (a b : Operand) → FitsRegister a → FitsForm (form.Number low high) b → Ranged w (a ∷ b ∷ [])
   word_range w low high made is are a b h e =
       register_case (λ a. Ranged w (a ∷ b ∷ []))
       (λ d x. number_case low high (λ b. Ranged w (Register d ∷ b ∷ [])) (λ n z. (made d (as_word n), is d n, are d n x z)) b e) a h
@@ -189,7 +189,7 @@ module _ (config : Config) (app : App) (f : Func) (scope : Scope) (labels : List
   -- a statement of one operand, the name of an object
   name_range : (w : Mnemonic) → form_of w 0 ≡ form.Name → ((n : List ℕ) → is_named scope labels (kind_of w 0) n ≡ true → Ranged w (Name n ∷ [])) → (a : Operand) → Ranges w (a ∷ [])
   name_range w form made a h u =
-      let n = names scope labels (kind_of w 0) a (subst (λ F. Fits F a) form h.0) (or_parts (is_lacking scope labels (kind_of w 0) (written_name a)) false u).0 in
+      let n = names scope labels (kind_of w 0) a (subst (λ F. FitsForm F a) form h.0) (or_parts (is_lacking scope labels (kind_of w 0) (written_name a)) false u).0 in
       subst (λ a. Ranged w (a ∷ [])) (sym n.1) (made n.0 n.2)
 
   jump_range : (a : Operand) → Ranges m.Jump (a ∷ [])

@@ -35,7 +35,7 @@ use Rattle.asm_scopes.specs.Statements.{is_data, is_label, is_task, name_of, lab
 use Rattle.asm_scopes.specs.Bodies.{BodyText, bodies_of, body_name, is_task_body, is_called_body, function_names, called_names, task_body_names}
 use Rattle.sloth_base.specs.DeclaredNames.{task_names, event_names, alarm_names}
 use Rattle.asm_scopes.specs.Scopes.{scope_of, is_scheduler}
-use Rattle.asm_scopes.specs.NameFaults.{has_long, items_in, is_body_missing, BodyNameFault, NameFault}
+use Rattle.asm_parse.specs.NameFaults.{has_long, items_in, is_body_missing, BodyNameFault, NameFault}
 use Rattle.asm_items.specs.Operations.{number_of as number_in, resource_number, mask_given, mask_at}
 use Rattle.asm_items.specs.Apps.{func_of, symbol_of, body_task, app_of, labels_from}
 use Rattle.asm_parse.specs.AppTexts.{AppText, SourceTextFault}

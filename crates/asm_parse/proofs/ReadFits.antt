@@ -4,8 +4,8 @@ use Rattle.std.specs.Prelude.{nat_le, ◌==◌, slice_index, drop, codes, if◌t
 use Rattle.std.specs.List.{list_any, list_all, AllPass}
 use Rattle.std.proofs.lemmas.List.Sums.{AllPass-from_list_all}
 use Rattle.asm_lines.specs.SourceLines.{read_operands}
-use Rattle.asm_lines.specs.Forms.{form_of}
-use Rattle.asm_lines.specs.declared.forms.Mnemonic.{Mnemonic}
+use Rattle.asm_forms.specs.Forms.{form_of}
+use Rattle.asm_forms.specs.declared.forms.Mnemonic.{Mnemonic}
 use Rattle.std.specs.Str.{bytes_eq}
 use Rattle.std.proofs.lemmas.Bool.Decides.{eqb_tells, leb_tells}
 use Rattle.std.proofs.lemmas.Bool.{or_parts, and_parts}
@@ -18,15 +18,15 @@ use Rattle.asm_lines.specs.declared.operands.Operand.{Operand}
 use Rattle.asm_lines.specs.declared.operands.Operand.TheVariants.{Wrong, Outside, Register, Number, Name, Frame, Direct, Indexed, Bytes}
 use Rattle.asm_lines.specs.declared.operands.Small.{Small}
 use Rattle.asm_lines.specs.declared.operands.Small.TheVariants.{NoNumber, TooFar, Is}
-use Rattle.asm_lines.specs.declared.forms.Form.{Form}
-use Rattle.asm_lines.specs.declared.forms.Form.TheVariants as form
+use Rattle.asm_forms.specs.declared.forms.Form.{Form}
+use Rattle.asm_forms.specs.declared.forms.Form.TheVariants as form
 use Rattle.asm_lines.specs.Bytes.{trim}
 use Rattle.asm_lines.specs.Numbers.{number, is_within}
 use Rattle.asm_lines.specs.Registers.{register, lettered_register, lettered_register_by, small_number}
 use Rattle.asm_lines.specs.Operands.{before, behind, small_of, register_operand, number_operand, name_operand, frame_operand, direct_operand, indexed_operand, in_brackets, bracketed_operand, place, bytes_operand, read_operand}
 use Rattle.asm_lines.specs.Faults.{is_wrong, is_outside}
 use Rattle.code_rules.specs.AppRange.{IsRegister}
-use Rattle.asm_parse.proofs.Fit.{FitsPlace, FitsWord, FitsRegister, FitsName, FitsBytes, Fits, AllFit}
+use Rattle.asm_parse.proofs.Fit.{FitsPlace, FitsWord, FitsRegister, FitsName, FitsBytes, FitsForm, AllFit}
 
 -- what is neither wrong nor outside has P
 abbrev Sound : (Operand → Type 0) → Operand → Type 0
@@ -88,13 +88,13 @@ register_sound : (o : Option ℕ) → IsRegisterIf o → Sound FitsRegister (reg
 register_sound None r w x = cc
 register_sound (Some n) r w x = r
 
-number_sound : (low high : ℤ) (o : Option ℤ) → Sound (Fits (form.Number low high)) (number_operand low high o)
-number_sound low high None = wrong_sound (Fits (form.Number low high))
+number_sound : (low high : ℤ) (o : Option ℤ) → Sound (FitsForm (form.Number low high)) (number_operand low high o)
+number_sound low high None = wrong_sound (FitsForm (form.Number low high))
 number_sound low high (Some n) = by (is_within low high n) refl
   where
-    by : (b : Bool) → is_within low high n ≡ b → Sound (Fits (form.Number low high)) (cond b (Number n) Outside)
+    by : (b : Bool) → is_within low high n ≡ b → Sound (FitsForm (form.Number low high)) (cond b (Number n) Outside)
     by true e = λ w x. e
-    by false e = outside_sound (Fits (form.Number low high))
+    by false e = outside_sound (FitsForm (form.Number low high))
 
 named : (P : Operand → Type 0) (t : List ℕ) (o : Operand) → (IsWord t → Sound P o) → Sound P (if is_name t then o else Wrong)
 named P t o f = by (is_name t) refl
@@ -183,7 +183,7 @@ bytes_sound : (r : Result (List ℕ) FromHexError) → Sound FitsBytes (bytes_op
 bytes_sound (Ok bytes) = λ w x. tt
 bytes_sound (Err e) = wrong_sound FitsBytes
 
-pub read_fits : (f : Form) (t : List ℕ) → Sound (Fits f) (read_operand f t)
+pub read_fits : (f : Form) (t : List ℕ) → Sound (FitsForm f) (read_operand f t)
 read_fits form.Register t = register_sound (register t) (is_register t)
 read_fits (form.Number low high) t = number_sound low high (number t)
 read_fits form.Name t = name_sound t

@@ -6,7 +6,7 @@ use Rattle.sloth_base.specs.declared.refusal.BuildError.{BuildError}
 use Rattle.sloth_base.specs.declared.refusal.BuildError.TheVariants.{Refused, Memory}
 use Rattle.least_fault.specs.Order.{NoFault, IsLeast, ErrorIs}
 use Rattle.asm_lines.specs.Faults.{source_lines, SourceLinesFault}
-use Rattle.asm_scopes.specs.NameFaults.{NameFault}
+use Rattle.asm_parse.specs.NameFaults.{NameFault}
 use Rattle.asm_parse.specs.AppTexts.{SourceTextFault}
 
 module _ (config : Config) (text : List ℕ) where

@@ -18,7 +18,7 @@ use Rattle.least_fault.proofs.Nowhere.{nowhere, case_false}
 use Rattle.asm_lines.specs.declared.source_line.SourceLine.{SourceLine}
 use Rattle.asm_lines.specs.declared.source_line.SourceLine.TheVariants.{Empty}
 use Rattle.asm_scopes.specs.Statements.{is_data, name_of, number_of, symbol_names}
-use Rattle.asm_scopes.specs.NameFaults.{has_long, bytes_of, is_taken, is_too_much, DataFault}
+use Rattle.asm_parse.specs.NameFaults.{has_long, bytes_of, is_taken, is_too_much, DataFault}
 use Rattle.asm_items.specs.Apps.{symbol_of}
 use Rattle.asm_parse.proofs.Declared.{data_or, data_name, data_size}
 use Rattle.asm_parse.proofs.Growth.{within, sum_kept, Apart, kept_apart}

@@ -5,7 +5,7 @@ use Rattle.sloth_base.specs.declared.config.Config.{Config}
 use Rattle.sloth_base.specs.declared.refusal.Refusal.{Refusal}
 use Rattle.least_fault.specs.Order.{NoFault}
 use Rattle.asm_lines.specs.Faults.{source_lines, SourceLinesFault}
-use Rattle.asm_scopes.specs.NameFaults.{NameFault}
+use Rattle.asm_parse.specs.NameFaults.{NameFault}
 use Rattle.asm_items.specs.Apps.{app_of}
 
 -- the text says this task code

@@ -1,1 +1,2 @@
+pub mod NameFaults
 pub mod AppTexts

@@ -1,4 +1,3 @@
 pub mod Statements
 pub mod Scopes
 pub mod Bodies
-pub mod NameFaults

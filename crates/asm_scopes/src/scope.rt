@@ -4,7 +4,8 @@ ghost use Rattle.asm_scopes.specs.Scopes.{object_name, service_kind, kind_of, is
 ghost use Rattle.asm_scopes.specs.Statements.{written_name};
 
 use crate::statements::written;
-use asm_lines::{Mnemonic, Operand, SourceLine};
+use asm_forms::Mnemonic;
+use asm_lines::{Operand, SourceLine};
 use sloth_base::service::{ObjectKind, Service};
 use text_pieces::bytes::same;
 use text_pieces::names::Names;

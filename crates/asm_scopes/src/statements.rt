@@ -3,7 +3,8 @@ ghost use Rattle.std.specs.Prelude.{◌≡◌, ◌≤◌, map, filter, IfOk, opt
 ghost use Rattle.sloth_base.specs.Limits.{operand_limit};
 ghost use Rattle.asm_scopes.specs.Statements.{is_data, opens_body, closes_body, is_task, is_label, is_action, is_item, first_name, name_of, small_value, second_number, number_of, written_name, declares, symbol_names, label_names};
 
-use asm_lines::{Mnemonic, Operand, SourceLine, closes, opens};
+use asm_forms::{Mnemonic, closes, opens};
+use asm_lines::{Operand, SourceLine};
 use sloth_base::limits::OPERAND_LIMIT;
 use sloth_base::memory::NoMemory;
 use std::alloc::Global;

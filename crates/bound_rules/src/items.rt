@@ -1,10 +1,9 @@
-//! Levels that are reached, and tasks that chain themselves.
+//! Levels that are reached, and items with which no section goes on.
 ghost use Rattle.std.specs.Prelude.{◌≡◌};
-ghost use Rattle.sloth_base.specs.Options.{is_number};
-ghost use Rattle.raised_sections.specs.Walks.{chains_itself};
+ghost use Rattle.raised_sections.specs.Sections.{is_schedule};
 ghost use Rattle.bound_rules.specs.Items.{reaches_level};
 
-use sloth_base::app::{Func, Op};
+use sloth_base::app::Op;
 use sloth_base::service::Service;
 
 /// Whether what is held reaches a level.
@@ -17,23 +16,12 @@ pub fn reaches_level(level: Option<u32>, ceiling: u32) -> bool
     }
 }
 
-fn is_of_task(func: &Func, task: u32) -> bool
-    ensures { result ≡ is_number task func.now.task }
-{
-    match func.task {
-        Some(owner) => owner.0 == task,
-        None => false,
-    }
-}
-
-/// Whether the operation is a ChainTask of the task whose body the function is.
-pub fn chains_itself(func: &Func, op: Op) -> bool
-    ensures { result ≡ chains_itself func.now op }
+/// Whether an operation is a Schedule.
+pub fn is_schedule(op: Op) -> bool
+    ensures { result ≡ is_schedule op }
 {
     match op {
-        Op::Serve(call) => {
-            call.service.code() == Service::ChainTask.code() && is_of_task(func, call.object)
-        }
+        Op::Serve(call) => call.service.code() == Service::Schedule.code(),
         _ => false,
     }
 }

@@ -9,7 +9,7 @@ use Rattle.bound_rules.specs.declared.bound.Bound.{Bound}
 use Rattle.bound_rules.specs.declared.bound.Bound.TheVariants as bound
 use Rattle.bounds_text.specs.Bounds.{AreToldBounds}
 use Rattle.bounds_text.specs.BoundsText.{bound_line}
-use Rattle.section_ways.specs.declared.points.Point.{Point}
+use Rattle.walk_sums.specs.declared.standing.Point.{Point}
 use Rattle.section_ways.specs.declared.ways.Way.{Way}
 use Rattle.section_ways.specs.SectionWays.{IsSectionWay, IsCycleWay}
 

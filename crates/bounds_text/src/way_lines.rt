@@ -4,11 +4,11 @@ ghost use Rattle.sloth_base.specs.Named.{function, item_of, declaration};
 ghost use Rattle.bounds_text.specs.TaskBound.{point_word, point_words, task_line, way_lines, shown_lines};
 
 use itoa::Buffer;
-use section_ways::points::Point;
 use section_ways::ways::Way;
 use sloth_base::app::App;
 use sloth_base::config::Config;
 use sloth_base::memory::NoMemory;
+use walk_sums::standing::Point;
 
 // The line of the item at a point, 0 where there is none.
 fn line_of(app: &App, point: Point) -> u32

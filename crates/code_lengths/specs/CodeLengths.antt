@@ -12,6 +12,7 @@ use Rattle.sloth_base.specs.declared.config.Config.{Config}
 use Rattle.sloth_base.specs.declared.config.TaskDecl.{TaskDecl}
 use Rattle.sloth_base.specs.declared.service.Service.{Service}
 use Rattle.sloth_base.specs.declared.service.Service.TheVariants as service
+use Rattle.code_lengths.specs.declared.lengths.ServiceCounts.{ServiceCounts}
 
 -- ---- boot
 
@@ -67,24 +68,32 @@ tick_length counter alarms = 11 + alarms_length counter alarms
 
 -- ---- services
 
--- the code of a service, whatever its object
+abbrev counts : (all going : ℕ) → ServiceCounts
+counts all going = record { all = all; going = going }
+
+-- the code of a service, whatever its object: all its instructions, and those of its longest path behind which its caller goes on, 0 where it never
+-- does
+abbrev pub service_counts : Service → ServiceCounts
+service_counts service.ActivateTask = counts 12 12
+service_counts service.TerminateTask = counts 49 0
+service_counts service.ChainTask = counts 63 13
+service_counts service.Schedule = counts 13 9
+service_counts service.GetTaskID = counts 6 6
+service_counts service.GetTaskState = counts 17 11
+service_counts service.GetResource = counts 9 9
+service_counts service.ReleaseResource = counts 6 6
+service_counts service.SetEvent = counts 20 20
+service_counts service.ClearEvent = counts 13 13
+service_counts service.GetEvent = counts 12 12
+service_counts service.WaitEvent = counts 90 13
+service_counts service.SetRelAlarm = counts 23 17
+service_counts service.SetAbsAlarm = counts 28 22
+service_counts service.CancelAlarm = counts 8 8
+service_counts service.GetAlarm = counts 8 8
+
+-- all of them
 abbrev pub service_length : Service → ℕ
-service_length service.ActivateTask = 12
-service_length service.TerminateTask = 49
-service_length service.ChainTask = 63
-service_length service.Schedule = 13
-service_length service.GetTaskID = 6
-service_length service.GetTaskState = 17
-service_length service.GetResource = 9
-service_length service.ReleaseResource = 6
-service_length service.SetEvent = 20
-service_length service.ClearEvent = 13
-service_length service.GetEvent = 12
-service_length service.WaitEvent = 90
-service_length service.SetRelAlarm = 23
-service_length service.SetAbsAlarm = 28
-service_length service.CancelAlarm = 8
-service_length service.GetAlarm = 8
+service_length served = (service_counts served).all
 
 -- nothing where there is no service
 abbrev pub option_length : Option Service → ℕ

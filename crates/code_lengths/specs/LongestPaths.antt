@@ -6,28 +6,13 @@ use Rattle.sloth_base.specs.declared.app.App.{App}
 use Rattle.sloth_base.specs.declared.config.Config.{Config}
 use Rattle.sloth_base.specs.declared.service.Service.{Service}
 use Rattle.sloth_base.specs.declared.service.Service.TheVariants as service
-use Rattle.code_lengths.specs.CodeLengths.{boot_length, tick_length}
+use Rattle.code_lengths.specs.CodeLengths.{boot_length, tick_length, service_counts}
 
 -- ---- services
 
 -- the code of a service behind which its caller goes on; 0 where it never does
 abbrev pub going_path : Service → ℕ
-going_path service.ActivateTask = 12
-going_path service.TerminateTask = 0
-going_path service.ChainTask = 13
-going_path service.Schedule = 9
-going_path service.GetTaskID = 6
-going_path service.GetTaskState = 11
-going_path service.GetResource = 9
-going_path service.ReleaseResource = 6
-going_path service.SetEvent = 20
-going_path service.ClearEvent = 13
-going_path service.GetEvent = 12
-going_path service.WaitEvent = 13
-going_path service.SetRelAlarm = 17
-going_path service.SetAbsAlarm = 22
-going_path service.CancelAlarm = 8
-going_path service.GetAlarm = 8
+going_path served = (service_counts served).going
 
 -- the code of a service with which its caller leaves, by whether it chains itself; 0 where it never does
 abbrev pub leaving_path : Service → (itself : Bool) → ℕ

@@ -3,7 +3,7 @@ ghost use Rattle.std.specs.Prelude.{◌≡◌, ◌<◌, ◌≤◌, ◌*◌, ℕ,
 ghost use Rattle.sloth_base.specs.Blocks.{block_count};
 ghost use Rattle.sloth_base.specs.Limits.{task_limit, counter_limit, frame_limit};
 ghost use Rattle.code_lengths.specs.Bodies.{IsBodyPlace};
-ghost use Rattle.code_lengths.specs.CodeLengths.{lines_length, boot_length, prologue_length, service_length, block_length, IsPrologueLength};
+ghost use Rattle.code_lengths.specs.CodeLengths.{lines_length, boot_length, prologue_length, service_counts, service_length, block_length, IsPrologueLength};
 
 use crate::body::body_of;
 use sloth_base::app::App;
@@ -70,27 +70,49 @@ pub fn start_length(task: TaskId, config: &Config, app: &App) -> u32
     prologue_length(config.tasks.items()[task.0 as usize].extended, words)
 }
 
+/// The instructions of a service's code, whatever its object.
+#[derive(Clone, Copy)]
+pub struct ServiceCounts {
+    /// All of them.
+    pub all: u32,
+    /// Those of its longest path behind which its caller goes on; 0 where it never does.
+    pub going: u32,
+}
+
+fn counts(all: u32, going: u32) -> ServiceCounts
+    ensures { result ≡ record { all = all; going = going } }
+{
+    ServiceCounts { all, going }
+}
+
+/// The instructions of a service's code, of each service.
+pub fn service_counts(service: Service) -> ServiceCounts
+    ensures { result ≡ service_counts service }
+{
+    match service {
+        Service::ActivateTask => counts(12, 12),
+        Service::TerminateTask => counts(49, 0),
+        Service::ChainTask => counts(63, 13),
+        Service::Schedule => counts(13, 9),
+        Service::GetTaskID => counts(6, 6),
+        Service::GetTaskState => counts(17, 11),
+        Service::GetResource => counts(9, 9),
+        Service::ReleaseResource => counts(6, 6),
+        Service::SetEvent => counts(20, 20),
+        Service::ClearEvent => counts(13, 13),
+        Service::GetEvent => counts(12, 12),
+        Service::WaitEvent => counts(90, 13),
+        Service::SetRelAlarm => counts(23, 17),
+        Service::SetAbsAlarm => counts(28, 22),
+        Service::CancelAlarm | Service::GetAlarm => counts(8, 8),
+    }
+}
+
 /// How many instructions the code of a service has, whatever its object.
 pub fn service_length(service: Service) -> u32
     ensures { result ≡ service_length service }
 {
-    match service {
-        Service::ActivateTask => 12,
-        Service::TerminateTask => 49,
-        Service::ChainTask => 63,
-        Service::Schedule => 13,
-        Service::GetTaskID => 6,
-        Service::GetTaskState => 17,
-        Service::GetResource => 9,
-        Service::ReleaseResource => 6,
-        Service::SetEvent => 20,
-        Service::ClearEvent => 13,
-        Service::GetEvent => 12,
-        Service::WaitEvent => 90,
-        Service::SetRelAlarm => 23,
-        Service::SetAbsAlarm => 28,
-        Service::CancelAlarm | Service::GetAlarm => 8,
-    }
+    service_counts(service).all
 }
 
 /// How many instructions the code of the service has that stands at a place in the table of blocks.

@@ -3,7 +3,7 @@ ghost use Rattle.std.specs.Prelude.{◌≡◌, ◌≤◌, ◌+◌, ◌*◌, leng
 ghost use Rattle.sloth_base.specs.Limits.{alarm_limit, counter_limit, task_limit, frame_limit};
 ghost use Rattle.code_lengths.specs.LongestPaths.{going_path, leaving_path, served_path, entry_path, tick_path, boot_path};
 
-use crate::lengths::boot_length;
+use crate::lengths::{boot_length, service_counts};
 use crate::ticks::tick_length;
 use sloth_base::config::Config;
 use sloth_base::service::Service;
@@ -16,23 +16,7 @@ pub fn going_path(service: Service) -> u32
     ensures is { result ≡ going_path service }
     ensures short { result ≤ 22 }
 {
-    match service {
-        Service::ActivateTask => 12,
-        Service::TerminateTask => 0,
-        Service::ChainTask => 13,
-        Service::Schedule => 9,
-        Service::GetTaskID => 6,
-        Service::GetTaskState => 11,
-        Service::GetResource => 9,
-        Service::ReleaseResource => 6,
-        Service::SetEvent => 20,
-        Service::ClearEvent => 13,
-        Service::GetEvent => 12,
-        Service::WaitEvent => 13,
-        Service::SetRelAlarm => 17,
-        Service::SetAbsAlarm => 22,
-        Service::CancelAlarm | Service::GetAlarm => 8,
-    }
+    service_counts(service).going
 }
 
 /// The code of a service with which its caller leaves, by whether it chains itself; 0 where it never does.
@@ -44,11 +28,7 @@ pub fn leaving_path(service: Service, itself: bool) -> u32
         Service::TerminateTask => 49,
         Service::ChainTask => { if itself { 54 } else { 60 } }
         Service::WaitEvent => 86,
-        Service::ActivateTask | Service::Schedule | Service::GetTaskID => 0,
-        Service::GetTaskState | Service::GetResource | Service::ReleaseResource => 0,
-        Service::SetEvent | Service::ClearEvent | Service::GetEvent => 0,
-        Service::SetRelAlarm | Service::SetAbsAlarm | Service::CancelAlarm => 0,
-        Service::GetAlarm => 0,
+        _ => 0,
     }
 }
 

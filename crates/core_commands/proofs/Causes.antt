@@ -16,7 +16,7 @@ use Rattle.image_file.specs.ImageText.{image_bytes}
 use Rattle.sloth_source.specs.Texts.{AreAccepted}
 use Rattle.command_line.specs.Command.{Command, Building, Builds, Executes, Lists, Samples, Uses, IsCommand, IsInLimit}
 use Rattle.sloth_base.specs.Limits.{file_limit}
-use Rattle.trace_check.specs.Inputs.{AreArrivalsOf}
+use Rattle.run_inputs.specs.Inputs.{AreArrivalsOf}
 use Rattle.command_line.specs.LastLine.{refusal_line, no_image_line}
 use Rattle.tool_answers.specs.declared.status.Status.{Status}
 use Rattle.tool_answers.specs.declared.status.Status.TheVariants as status
@@ -27,7 +27,7 @@ use Rattle.core_commands.specs.CommandFiles.{inputs_of, output_of, IsFileAmong, 
 use Rattle.sloth_base.specs.DeclaredNames.{task_names, counter_names}
 use Rattle.core_commands.specs.Top.{IsWritten, IsDone, IsRequired, IsTextTaken, IsPutAnswer, IsCloseAnswer, IsTextBrokenOff, IsTopAnswer, done_text}
 use Rattle.core_commands.specs.Failures.{IsReadFailure, IsJudgeFailure, IsPerformFailure, IsCommandEnd, IsPlainEnd, IsCommandFailure, IsPerformed, IsFailureEnd}
-use Rattle.core_commands.proofs.Ceilings.{shown-keep, shown-keep_bounds}
+use Rattle.core_commands.proofs.Ceilings.{shown-keep}
 use Rattle.core_commands.proofs.CallFiles.{delivered-in_call, inputs-in_call, unread-in_call, stays-behind, still}
 use Rattle.core_commands.proofs.ToolEnds.{FaultsAreOfImages, end-required}
 use Rattle.core_commands.specs.ToolTables.{LacksTools, ToolTable}
@@ -139,7 +139,6 @@ done old mid new c image arrivals b same w = record {
   written = (written-behind old mid new c.img (image_bytes image) b.kept w.0, λ name other. w.1 name other ∙ b.kept.holds name);
   text_is = refl;
   protocol = shown-keep b.config b.app image arrivals c.run b.is_image.protocol b.accepted.in_range b.in_limit;
-  bounds = shown-keep_bounds b.config b.app image arrivals c.run b.is_image.bounds b.accepted.in_range b.in_limit;
 }
 
 pub perform-ends : (f : Failure) (old mid : Files) (sink : Output) (new : World) (c : Building) (image : Image) (arrivals : List Arrival)

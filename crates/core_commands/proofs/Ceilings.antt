@@ -1,4 +1,4 @@
--- The runs of what is built keep the priority ceiling protocol and the blocking bounds.
+-- Accepted task code is well formed, and the runs of what is built of it keep the priority ceiling protocol.
 use Rattle.std.proofs.Common.{ℕ, List, Option, Some, None}
 use Rattle.sloth_base.specs.declared.config.Config.{Config}
 use Rattle.sloth_base.specs.declared.app.App.{App}
@@ -9,37 +9,24 @@ use Rattle.sloth_base.specs.Owners.{owners_in}
 use Rattle.code_rules.specs.AppRange.{AppInRange}
 use Rattle.code_rules.specs.WellFormed.{WellFormed}
 use Rattle.osek_blocking.proofs.Protocol.{keeps_protocol}
-use Rattle.run_counts.proofs.Runs.{keeps_blocking_bounds}
 use Rattle.sim_induction.specs.Sound.{Sound, events_of}
 use Rattle.sloth_source.specs.Texts.{AreAccepted}
 use Rattle.command_line.specs.Command.{Run, IsInLimit}
-use Rattle.core_commands.specs.Top.{RunsKeepProtocol, RunsKeepBlockingBounds, ShownKeepProtocol, ShownKeepBlockingBounds}
+use Rattle.core_commands.specs.Top.{RunsKeepProtocol, ShownKeepProtocol}
 
--- accepted task code is well formed
-well_formed : (oil src : List ℕ) (config : Config) (app : App) → AppInRange config app → AreAccepted oil src config app → WellFormed config app
+-- accepted task code that is in range is well formed
+pub well_formed : (oil src : List ℕ) (config : Config) (app : App) → AppInRange config app → AreAccepted oil src config app → WellFormed config app
 well_formed oil src config app range accepted =
     let code = accepted.code in
     record { in_range = range; no_cycle = code.no_cycle; no_fault = code.no_fault }
 
--- and each run of its image is one of the abstract scheduler
-pub runs-keep : (oil src : List ℕ) (config : Config) (app : App) (image : Image) → AppInRange config app → AreAccepted oil src config app → Sound config app image
-    → RunsKeepProtocol config app image
-runs-keep oil src config app image range accepted sound arrivals n in_range few =
-    keeps_protocol config app (events_of image arrivals n) (well_formed oil src config app range accepted) (sound.each arrivals n in_range few).osek
-
-pub runs-keep_bounds : (oil src : List ℕ) (config : Config) (app : App) (image : Image) → AppInRange config app → AreAccepted oil src config app
-    → Sound config app image → RunsKeepBlockingBounds config app image
-runs-keep_bounds oil src config app image range accepted sound arrivals n in_range few =
-    keeps_blocking_bounds config app image arrivals n (well_formed oil src config app range accepted) (sound.each arrivals n in_range few)
+-- each run of its image is one of the abstract scheduler, and so keeps the protocol
+pub runs-keep : (config : Config) (app : App) (image : Image) → WellFormed config app → Sound config app image → RunsKeepProtocol config app image
+runs-keep config app image well sound arrivals n in_range few =
+    keeps_protocol config app (events_of image arrivals n) well (sound.each arrivals n in_range few).osek
 
 -- and so does the run that a command shows
 pub shown-keep : (config : Config) (app : App) (image : Image) (arrivals : List Arrival) (run : Option Run) → RunsKeepProtocol config app image
     → AreArrivals (owners_in config) arrivals → IsInLimit run → ShownKeepProtocol config app image arrivals run
 shown-keep config app image arrivals None keeps in_range few = tt
 shown-keep config app image arrivals (Some run) keeps in_range few = keeps arrivals run.n in_range few
-
-pub shown-keep_bounds : (config : Config) (app : App) (image : Image) (arrivals : List Arrival) (run : Option Run)
-    → RunsKeepBlockingBounds config app image → AreArrivals (owners_in config) arrivals → IsInLimit run
-    → ShownKeepBlockingBounds config app image arrivals run
-shown-keep_bounds config app image arrivals None keeps in_range few = tt
-shown-keep_bounds config app image arrivals (Some run) keeps in_range few = keeps arrivals run.n in_range few

@@ -19,19 +19,19 @@ use Rattle.sloth_source.proofs.Unique.{one_meaning}
 use Rattle.command_line.specs.LastLine.{refusal_line}
 use Rattle.command_line.specs.Command.{Command, Building, Run, Builds, Uses, IsCommand, IsNoTool, NoCommand}
 use Rattle.command_line.specs.Tools.{ToolUse}
-use Rattle.trace_check.specs.Inputs.{AreArrivalsOf}
+use Rattle.run_inputs.specs.Inputs.{AreArrivalsOf}
 use Rattle.core_commands.specs.ImageFiles.{IsNoImage}
 use Rattle.tool_answers.specs.declared.status.Status.{Status}
 use Rattle.tool_answers.specs.declared.status.Status.TheVariants as status
 use Rattle.core_commands.specs.Top.{World, FirstUnread, AreInputs, HoldsArrivals, AreThere, IsFailedRead, IsLongRead}
 use Rattle.core_commands.specs.CommandFiles.{arrivals_named, inputs_of, OverwritesInput, IsUsageCause}
 use Rattle.core_commands.specs.Top.{IsCommandDone, IsCommandRefused, IsCommandUnwritten, IsCommandStopped, done_text, IsRefused, IsAccepted, IsBuiltImage, IsRequired, IsPutAnswer, IsTextTaken, IsTextBrokenOff, IsFullAnswer, IsTopAnswer}
-use Rattle.trace_check.specs.Inputs.{IsRefusal}
+use Rattle.run_inputs.specs.Inputs.{IsRefusal}
 use Rattle.sloth_base.specs.DeclaredNames.{task_names, counter_names}
 use Rattle.core_commands.specs.Top.{IsUsageAnswer, IsRefusalAnswer, ReadsWork, WritesWork, HasSpace, PutsWork, CallsWork, HasUsageAnswer, HasRefusalAnswer, IsComplete, LacksTask}
 use Rattle.command_line.proofs.Commands.{one-command}
 use Rattle.core_commands.proofs.OwnOutput.{keeps-inputs, no-usage}
-use Rattle.trace_check.proofs.Refused.{not-refused, one-way}
+use Rattle.run_inputs.proofs.Refused.{not-refused, one-way}
 use Rattle.core_commands.specs.ToolTables.{ToolTable}
 
 pub stays : (a b : ℕ) → Stays a b → Rose a b → ⊥

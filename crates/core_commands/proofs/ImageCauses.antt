@@ -12,7 +12,7 @@ use Rattle.sloth_io.proofs.Gains.{gains-gains, gains-nil, part-behind}
 use Rattle.image_file.specs.ImageText.{ImageText}
 use Rattle.trace_text.specs.Listing.{listing}
 use Rattle.command_line.specs.Command.{Execution, Executes, Lists}
-use Rattle.trace_check.specs.Inputs.{AreArrivalsOf}
+use Rattle.run_inputs.specs.Inputs.{AreArrivalsOf}
 use Rattle.core_commands.specs.ImageFiles.{AreExecInputs, IsRunnable, IsExecuted, IsListed, exec_deliveries, exec_text}
 use Rattle.core_commands.specs.ImageAnswers.{end_status}
 use Rattle.sloth_runner.specs.Runner.{run_end}

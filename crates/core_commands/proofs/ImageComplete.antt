@@ -25,7 +25,7 @@ use Rattle.core_commands.specs.FileInputs.{IsInput}
 use Rattle.tool_answers.specs.Statuses.{tool_status}
 use Rattle.core_commands.proofs.ToolReads.{told-inputs, none-unread as no-tool-unread}
 use Rattle.core_commands.proofs.ToolEnds.{AnswersAs, KnowsImage}
-use Rattle.trace_check.specs.Inputs.{AreArrivalsOf}
+use Rattle.run_inputs.specs.Inputs.{AreArrivalsOf}
 use Rattle.core_commands.specs.ImageFiles.{AreExecInputs, ReadsImageFile, IsRunnable, IsExecuted, IsNoImage, exec_text}
 use Rattle.core_commands.specs.ImageAnswers.{end_status, LinesWork, IsNoImageAnswer, IsImageFaultAnswer, IsImageFaultTold, IsNoImageTold, HasExecRefusedAnswer, HasExecutedAnswer, HasListedAnswer}
 use Rattle.command_line.specs.LastLine.{no_image_line, refusal_line}
@@ -40,7 +40,7 @@ use Rattle.tool_answers.specs.declared.status.Status.TheVariants as status
 use Rattle.command_line.proofs.Commands.{one-command}
 use Rattle.core_commands.proofs.OwnOutput.{keeps-inputs, no-usage}
 use Rattle.core_commands.proofs.Complete.{told, not-missing, not-long, counted-put, no-tool, never-usage, stands}
-use Rattle.trace_check.proofs.Refused.{of-arrivals}
+use Rattle.run_inputs.proofs.Refused.{of-arrivals}
 use Rattle.core_commands.specs.ToolTables.{ToolTable}
 
 -- ---- the inputs that are told

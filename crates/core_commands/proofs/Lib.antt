@@ -16,7 +16,4 @@ pub mod SampleComplete
 pub mod NoTools
 mod InMemoryCalls
 pub mod Declared
-pub mod Registers
-pub mod TaskDeclared
-pub mod Printed
 pub mod Shipped

@@ -9,10 +9,9 @@ use Rattle.sloth_base.specs.declared.lines.Owners.{Owners}
 use Rattle.sloth_base.specs.Arrivals.{AreArrivals}
 use Rattle.sloth_base.specs.Owners.{IsOwned, owners_in}
 use Rattle.sloth_base.specs.Limits.{count_limit}
-use Rattle.code_rules.specs.AppRange.{AppInRange}
+use Rattle.code_rules.specs.WellFormed.{WellFormed}
 use Rattle.osek_blocking.proofs.WithoutArrivals.{only_run}
 use Rattle.sim_induction.specs.Sound.{Sound, events_of}
-use Rattle.sloth_source.specs.Texts.{AreAccepted}
 use Rattle.core_commands.specs.Top.{RunsAreOnly}
 
 -- no arrivals are arrivals of any owners
@@ -24,10 +23,8 @@ no_arrivals owners = record {
   lines_owned = All-nil (λ (a : Arrival). IsOwned owners a.line);
 }
 
--- accepted task code is well formed, and each run of its image is one of the abstract scheduler and in time
-pub runs-only : (oil src : List ℕ) (config : Config) (app : App) (image : Image) → AppInRange config app → AreAccepted oil src config app → Sound config app image
-    → RunsAreOnly config app image
-runs-only oil src config app image range accepted sound n few =
-    let code = accepted.code in
+-- each run of the image of well-formed task code is one of the abstract scheduler and in time
+pub runs-only : (config : Config) (app : App) (image : Image) → WellFormed config app → Sound config app image → RunsAreOnly config app image
+runs-only config app image well sound n few =
     let run = sound.each [] n (no_arrivals (owners_in config)) few in
-    only_run config app n (events_of image [] n) (record { in_range = range; no_cycle = code.no_cycle; no_fault = code.no_fault }) run.osek run.in_time
+    only_run config app n (events_of image [] n) well run.osek run.in_time

@@ -51,7 +51,6 @@ sampled old new seed img image is written = record {
   text_is = refl;
   whole = whole-run is.config is.app image (sample_arrivals seed) count_limit is.is_image.sound is.in_range (omega arith);
   protocol = is.is_image.protocol (sample_arrivals seed) count_limit is.in_range (omega arith);
-  bounds = is.is_image.bounds (sample_arrivals seed) count_limit is.in_range (omega arith);
 }
 
 pub sample-failed : (f : Failure) (old : Files) (sink : Output) (new : World) (seed : ℕ) (img : List ℕ) (image : Image)

@@ -25,7 +25,7 @@ use Rattle.command_line.specs.LastLine.{refusal_line, no_image_line}
 use Rattle.core_commands.specs.Samples.{sample_oil, sample_source}
 use Rattle.core_commands.specs.Top.{World, FirstUnread, IsFailedRead, IsLongRead, AreFilesSame, IsWritten, IsTextTaken, IsTextBrokenOff, IsPutAnswer}
 use Rattle.core_commands.specs.ToolTables.{ToolTable}
-use Rattle.trace_check.specs.Inputs.{IsRefusal}
+use Rattle.run_inputs.specs.Inputs.{IsRefusal}
 use Rattle.core_commands.specs.Top.{IsCommandDone, IsCommandRefused, IsCommandUnwritten, IsCommandStopped, FilesAfter, IsToolEnd, IsUnwrittenOutput}
 use Rattle.tool_answers.specs.declared.status.Status.{Status}
 use Rattle.tool_answers.specs.declared.status.Status.TheVariants as status

@@ -10,7 +10,7 @@ use Rattle.image_file.specs.declared.fault.ImageFault.{ImageFault}
 use Rattle.trace_text.specs.ArrivalsText.{ArrivalsFault}
 use Rattle.trace_text.specs.Listing.{listing}
 use Rattle.command_line.specs.Command.{Command, Execution, Executes, Lists, IsCommand, IsNoTool}
-use Rattle.trace_check.specs.Inputs.{AreArrivalsOf}
+use Rattle.run_inputs.specs.Inputs.{AreArrivalsOf}
 use Rattle.core_commands.specs.FileInputs.{IsInput}
 use Rattle.core_commands.specs.ImageFiles.{AreExecInputs, ReadsImageFile, exec_text}
 use Rattle.command_line.specs.LastLine.{no_image_line}

@@ -15,7 +15,7 @@ use Rattle.trace_text.specs.Listing.{listing}
 use Rattle.trace_text.specs.declared.printing.Form.TheVariants as form
 use Rattle.command_line.specs.Command.{Command, Execution, Builds, Executes, Lists, Samples, Uses}
 use Rattle.command_line.specs.Tools.{file_names}
-use Rattle.trace_check.specs.Inputs.{AreArrivalsOf}
+use Rattle.run_inputs.specs.Inputs.{AreArrivalsOf}
 use Rattle.core_commands.specs.FileInputs.{IsInput}
 use Rattle.core_commands.specs.ToolInputs.{ReadsImageFirst, input_deliveries}
 use Rattle.trace_text.specs.StopLine.{stopped_line}

@@ -4,7 +4,6 @@ pub mod ToolTables
 pub mod CommandFiles
 pub mod ImageFiles
 pub mod Samples
-pub mod CheckedRuns
 pub mod Top
 pub mod ImageAnswers
 pub mod SampleAnswers

@@ -10,10 +10,9 @@ use Rattle.sloth_base.specs.Arrivals.{AreArrivals}
 use Rattle.sloth_base.specs.ImageRange.{InFormat}
 use Rattle.sloth_base.specs.Owners.{owners_in}
 use Rattle.sloth_base.specs.Limits.{file_limit, count_limit}
-use Rattle.core_commands.specs.CheckedRuns.{RunsAreChecked}
+use Rattle.code_rules.specs.WellFormed.{WellFormed}
 use Rattle.rv32_expand.specs.InPlace.{ItemsInPlace}
 use Rattle.osek_blocking.specs.Protocol.{KeepsCeilingProtocol}
-use Rattle.run_counts.specs.BlockingBounds.{KeepsBlockingBounds}
 use Rattle.osek_blocking.specs.NextEvents.{IsOnlyRun}
 use Rattle.sim_induction.specs.Sound.{Sound, events_of}
 use Rattle.sim_induction.specs.Weighed.{Weighed}
@@ -30,15 +29,15 @@ use Rattle.rv32_instr.specs.declared.stop.Stop.{Stop}
 use Rattle.sloth_source.specs.Texts.{AreAccepted, FirstRefusal}
 use Rattle.command_line.specs.Command.{Command, Building, Run, Builds, Executes, Lists, Samples, Uses, IsCommand, NoCommand}
 use Rattle.command_line.specs.Tools.{ToolUse}
-use Rattle.elf_image.specs.declared.fault.ElfFault.{ElfFault}
+use Rattle.image_file.specs.declared.elf_fault.ElfFault.{ElfFault}
 use Rattle.tool_answers.specs.Lines.{no_elf_line, bad_trace_line, tool_text}
 use Rattle.tool_answers.specs.declared.answer.ToolAnswer.{ToolAnswer}
 use Rattle.tool_answers.specs.declared.answer.ToolAnswer.TheVariants as tool_answer
 use Rattle.tool_answers.specs.declared.answer.Outcome.{Outcome}
 use Rattle.tool_answers.specs.declared.answer.TraceFault.{TraceFault}
-use Rattle.trace_check.specs.Inputs.{IsRefusal}
+use Rattle.run_inputs.specs.Inputs.{IsRefusal}
 use Rattle.sloth_base.specs.DeclaredNames.{task_names, counter_names}
-use Rattle.trace_check.specs.Inputs.{AreArrivalsOf}
+use Rattle.run_inputs.specs.Inputs.{AreArrivalsOf}
 use Rattle.tool_answers.specs.Statuses.{tool_status}
 use Rattle.core_commands.specs.CommandFiles.{inputs_of, HasOwnOutput, IsUsageCause}
 use Rattle.core_commands.specs.ToolTables.{ToolTable}
@@ -135,18 +134,14 @@ RunsKeepProtocol config app image =
     (arrivals : List Arrival) (n : ℕ) → AreArrivals (owners_in config) arrivals → n ≤ count_limit
     → KeepsCeilingProtocol config app (events_of image arrivals n)
 
--- and the blocking bounds of the tasks
-abbrev pub RunsKeepBlockingBounds : Config → App → Image → Type 0
-RunsKeepBlockingBounds config app image =
-    (arrivals : List Arrival) (n : ℕ) → AreArrivals (owners_in config) arrivals → n ≤ count_limit
-    → KeepsBlockingBounds config app n (events_of image arrivals n)
-
 -- in every run of an image in which no line arrives, the observed events are the only run of their number of the abstract scheduler
 abbrev pub RunsAreOnly : Config → App → Image → Type 0
 RunsAreOnly config app image = (n : ℕ) → n ≤ count_limit → IsOnlyRun config app (events_of image [] n)
 
 -- an image of a configuration and its task code
 pub record IsBuiltImage (config : Config) (app : App) (image : Image) : Type 0 where
+  -- the configuration and the task code are in range and keep every rule
+  pub well_formed : WellFormed config app
   -- every run of the image, whatever lines arrive, is one of the abstract scheduler
   pub sound : Sound config app image
   -- no stretch of it takes more counts than its weight, by its event and the state that it finds
@@ -157,12 +152,8 @@ pub record IsBuiltImage (config : Config) (app : App) (image : Image) : Type 0 w
   pub shows : HasTaskStates config app image
   -- so a Ready task is blocked by one lower task at most, and resources are held by one task at a time
   pub protocol : RunsKeepProtocol config app image
-  -- and waits for no more work of lower tasks than its bound
-  pub bounds : RunsKeepBlockingBounds config app image
   -- where no line arrives, what happens is determined by the configuration and its task code alone
   pub only : RunsAreOnly config app image
-  -- the checker of texts answers yes to what a run of the image prints
-  pub checked : RunsAreChecked config app image
   -- the items of the task code stand in the image, each with its mark on its last instruction
   pub items : ItemsInPlace image config app
   -- its numbers and names are those of an image file
@@ -178,11 +169,6 @@ abbrev pub ShownKeepProtocol : Config → App → Image → List Arrival → Opt
 ShownKeepProtocol config app image arrivals None = Unit {0}
 ShownKeepProtocol config app image arrivals (Some run) = KeepsCeilingProtocol config app (events_of image arrivals run.n)
 
--- and the blocking bounds of the tasks
-abbrev pub ShownKeepBlockingBounds : Config → App → Image → List Arrival → Option Run → Type 0
-ShownKeepBlockingBounds config app image arrivals None = Unit {0}
-ShownKeepBlockingBounds config app image arrivals (Some run) = KeepsBlockingBounds config app run.n (events_of image arrivals run.n)
-
 -- The inputs are accepted, IMG holds the image's file, and this is the text of the image's run with the arrivals, or of its file's length.
 pub record IsDone (old new : Files) (c : Building) (text : List ℕ) : Type 0 where
   pub config : Config
@@ -193,9 +179,8 @@ pub record IsDone (old new : Files) (c : Building) (text : List ℕ) : Type 0 wh
   pub is_image : IsBuiltImage config app image
   pub written : IsWritten old new c.img (image_bytes image)
   pub text_is : text ≡ done_text image arrivals c.run
-  -- and the events of this text keep the priority ceiling protocol and the blocking bounds
+  -- and the events of this text keep the priority ceiling protocol
   pub protocol : ShownKeepProtocol config app image arrivals c.run
-  pub bounds : ShownKeepBlockingBounds config app image arrivals c.run
 
 -- the inputs are refused so
 pub record IsRefused (old : Files) (c : Building) (refusal : Refusal) : Type 0 where
@@ -229,9 +214,8 @@ pub record IsSampled (old new : Files) (seed : ℕ) (img text : List ℕ) : Type
   pub text_is : text ≡ sample_text image (sample_arrivals seed)
   -- so all its instructions are run
   pub whole : run_end image (sample_arrivals seed) count_limit ≡ ends.Whole
-  -- and the events that are counted keep the priority ceiling protocol and the blocking bounds
+  -- and the events that are counted keep the priority ceiling protocol
   pub protocol : KeepsCeilingProtocol config app (events_of image (sample_arrivals seed) count_limit)
-  pub bounds : KeepsBlockingBounds config app count_limit (events_of image (sample_arrivals seed) count_limit)
 
 -- the generated texts are accepted, the write of the image's file failed, and no other file has changed
 pub record IsUnwrittenSample (old new : Files) (seed : ℕ) (img : List ℕ) : Type 0 where

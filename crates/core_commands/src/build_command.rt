@@ -9,7 +9,7 @@ ghost use Rattle.image_file.specs.ImageText.{image_bytes};
 ghost use Rattle.sloth_source.specs.Texts.{AreAccepted};
 ghost use Rattle.command_line.specs.Command.{Builds, IsInLimit};
 ghost use Rattle.command_line.specs.Words.{building_of, run_of};
-ghost use Rattle.trace_check.specs.Inputs.{AreArrivalsOf};
+ghost use Rattle.run_inputs.specs.Inputs.{AreArrivalsOf};
 ghost use Rattle.command_line.specs.LastLine.{built_line};
 ghost use Rattle.sloth_runner.specs.Runner.{IsFresh, image_of, given_arrivals, run_text};
 ghost use Rattle.core_commands.specs.Top.{world, arrival_deliveries, text_deliveries};

@@ -8,7 +8,7 @@ use sloth_base::refusal::BuildError;
 use sloth_build::{Built, build};
 use std::alloc::Global;
 
-/// Builds the image of a configuration and its task source. Each of its runs keeps the ceiling protocol and the blocking bounds.
+/// Builds the image of a configuration and its task source. Each of its runs keeps the ceiling protocol.
 pub fn build_image(alloc: Global, oil: &[u8], src: &[u8]) -> Result<Built, BuildError>
     requires oil { length oil.now < 4294967295 }
     requires src { length src.now < 4294967295 }

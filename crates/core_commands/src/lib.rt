@@ -3,7 +3,7 @@
 //!
 //! Each command is performed as its answer requires, or is not for one of the causes of `specs/Failures`, and then its last line is put
 //! (`build_command::judge`, `build_command::perform`, `execute`, `list`, `sample_run`, `finish`). The image that is built keeps in each
-//! run the ceiling protocol and the blocking bounds, and each of its pieces stands where the planned map has it. Calls in memory work
+//! run the ceiling protocol, and each of its pieces stands where the planned map has it. Calls in memory work
 //! (`calls_work_in_memory`, `lines_work_in_memory`, `sample_works_in_memory`).
 //!
 //! An answer and its cause hold for exactly what the reads of the call delivered, in their order (`call_files` of `sloth_io`), and nothing is written
@@ -14,15 +14,13 @@
 //! tools: what these answer is their first argument (`specs/ToolTables`). `core_top` and `program::run_over` have none, and answer their words by `usage`
 //! (`LacksTools`; `specs/NoTools`); the program with all tools is `sloth_cli`, whose top call calls this one for all other words.
 //!
-//! Two laws stand here since the promise cites them. The text of each run of a sound image with its items in place is that of a run of the abstract
-//! scheduler with the arrivals in time, so `check` answers yes (`runs_are_checked`, `specs/CheckedRuns`). And the OIL text of a generated application
-//! of 30 tasks declares 30 tasks and no counter (`all_tasks_are_declared`, `no_counter_is_declared`). The image: `sim_induction` (`Sound`),
-//! `osek_blocking` (`Protocol`), `run_counts` (`BlockingBounds`), `rv32_expand` (`InPlace`).
+//! The OIL text of a generated application of 30 tasks declares 30 tasks and no counter (`all_tasks_are_declared`, `no_counter_is_declared`). The image:
+//! `sim_induction` (`Sound`), `osek_blocking` (`Protocol`), `rv32_expand` (`InPlace`). Laws of every image that is built, on its blocking bounds and on what
+//! `check` answers: `sloth_commands`.
 #![tactic(auto)]
 
 pub mod build_command;
 mod building;
-mod checked_run_laws;
 pub mod ending;
 pub mod failure;
 pub mod image_commands;

@@ -3,7 +3,7 @@ use Rattle.std.proofs.Common.{◌≡◌, inl, inr, ℕ, List, [], Option, Some, 
 use Rattle.std.specs.Prelude.{Result, Ok, Err, OnOk, IfErr}
 use Rattle.sloth_io.specs.Sink.{Output, output_with, FailsToPassOn}
 use Rattle.sloth_io.proofs.Gains.{gains-nil, part-whole, part-behind}
-use Rattle.sloth_io.specs.Input.{Coming}
+use Rattle.debug_session.specs.Input.{Coming}
 use Rattle.debug_ways.specs.Runs.{Run}
 use Rattle.debug_session.specs.Serving.{session_text, IsWhole, BrokeOff, IsAnswered, IsAnsweredInPart}
 use Rattle.debug_session.specs.declared.serving.SessionFault.{SessionFault}

@@ -5,7 +5,7 @@ use Rattle.sloth_base.specs.declared.image.Image.{Image}
 use Rattle.sloth_io.specs.Sink.{Output, output_with, GainsPart, FailsToPassOn}
 use Rattle.sloth_io.specs.Store.{Files}
 use Rattle.command_line.specs.LastLine.{refusal_line, no_image_line}
-use Rattle.sloth_io.specs.Input.{Coming}
+use Rattle.debug_session.specs.Input.{Coming}
 use Rattle.debug_ways.specs.Runs.{Run}
 use Rattle.debug_view.specs.ShownRun.{run_of}
 use Rattle.debug_session.specs.Serving.{IsWhole, BrokeOff, IsAnswered, IsAnsweredInPart}

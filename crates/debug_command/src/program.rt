@@ -8,8 +8,8 @@ ghost use Rattle.debug_command.specs.Words.{debugging_of};
 
 use crate::command::debug;
 use crate::words::DebugWords;
+use debug_session::input::Input;
 use sloth_io::file_store::FileStore;
-use sloth_io::input::Input;
 use sloth_io::out_sink::OutSink;
 use std::alloc::Global;
 use std::rt::Files;

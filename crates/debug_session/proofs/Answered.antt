@@ -3,7 +3,7 @@ use Rattle.std.proofs.Common.{◌≡◌, ℕ, List, [], ◌∷◌, ◌++◌, ref
 use Rattle.std.specs.Prelude.{Option}
 use Rattle.sloth_io.specs.Sink.{Output, output_with}
 use Rattle.sloth_io.proofs.Gains.{gains-gains, gains-nil, part-behind}
-use Rattle.sloth_io.specs.Input.{Coming}
+use Rattle.debug_session.specs.Input.{Coming}
 use Rattle.debug_session.specs.Reading.{Reading, fresh}
 use Rattle.debug_session.specs.declared.reading.Event.{Event}
 use Rattle.debug_ways.specs.Runs.{Run}

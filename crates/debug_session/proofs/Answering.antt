@@ -2,7 +2,7 @@
 use Rattle.std.proofs.Common.{◌≡◌, ◌≤◌, ◌+◌, inl, inr, ◌==◌, ℕ, List, [], ◌∷◌, ◌++◌, length, Option, None, Some, Bool, true, false, if◌then◌else◌, suc, refl, sym, ◌∙◌, ap, arith, append_assoc, append-nil}
 use Rattle.sloth_io.specs.Sink.{Output, output_with}
 use Rattle.sloth_io.proofs.Gains.{gains-gains, gains-nil, part-behind}
-use Rattle.sloth_io.specs.Input.{Coming, Gives, Ends}
+use Rattle.debug_session.specs.Input.{Coming, Gives, Ends}
 use Rattle.debug_session.specs.Messages.{Message, Packet, Wrong, Again, Interrupt, messages, message_of}
 use Rattle.debug_session.specs.Reading.{Reading, fresh, reading_after, reading_at, event_after, event_at}
 use Rattle.debug_session.specs.declared.reading.Place.{Place}

@@ -10,3 +10,5 @@ pub mod Escaping
 pub mod Parting
 pub mod RoundTrip
 pub mod PacketStanding
+pub mod Giving
+mod NoGivenFields

@@ -1,3 +1,6 @@
+pub mod ByteReader
+pub mod Input
+pub mod MemInput
 pub mod Causes
 pub mod Description
 pub mod Exchanges

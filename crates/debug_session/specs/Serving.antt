@@ -1,7 +1,7 @@
 -- A session over bytes that come.
 use Rattle.std.specs.Prelude.{◌≡◌, ◌≤◌, ◌+◌, ◌⊎◌, ℕ, List, [], ◌++◌, length, Option, None, Some, true}
 use Rattle.sloth_io.specs.Sink.{Output, output_with, GainsPart}
-use Rattle.sloth_io.specs.Input.{Coming}
+use Rattle.debug_session.specs.Input.{Coming}
 use Rattle.debug_session.specs.Messages.{Packet, Wrong, Again, Interrupt, messages}
 use Rattle.debug_session.specs.Reading.{Reading, fresh}
 use Rattle.debug_session.specs.declared.reading.Event.{Event}

@@ -22,17 +22,28 @@
 //! bytes they are of, and each packet that is read stands so among the bytes (`laws`).
 //!
 //! What the data of a packet asks, of any data (`request_of`, `specs/Requests`; the actions of `vCont`: `specs/Actions`; parts of data: `specs/Words`).
+//!
+//! Bytes of a session, one by one as they come: a trait, in memory and at the system.
+//!
+//! Each byte is given once, in its order; behind the last one stands the end or a fault, which comes again and again (`Input`, `specs/Input`). The
+//! form in memory gives exactly its bytes and then what it was made with (`MemInput`). The form over a reader gives, of any reader that tells its bytes, the
+//! next one, and the end where there is none; it asks the reader for more only where it holds none, so no byte that came waits for another
+//! (`ByteReader`, `specs/ByteReader`). Every input tells the bytes that it gave (`Given`).
 #![tactic(auto)]
 
 mod actions;
 pub mod around;
+pub mod byte_reader;
 mod commands;
 mod description;
 pub mod escapes;
 mod events;
+pub mod given;
 pub mod hex;
+pub mod input;
 pub mod laws;
 pub mod link;
+pub mod mem_input;
 mod merging;
 pub mod packet_laws;
 mod passages;

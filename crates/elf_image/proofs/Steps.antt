@@ -7,8 +7,8 @@ use Rattle.image_file.specs.declared.sizes.Sizes.{Sizes}
 use Rattle.elf_image.specs.ElfText.{ElfText, note_bytes}
 use Rattle.elf_image.specs.Faults.{Description, IsElfErrorOf, HasNote, IsFramed, described_bytes}
 use Rattle.elf_image.specs.Reading.{AreNamesAndMarks, HasDescriptionSizes, IsContentsError, IsDescriptionError, IsDescription, IsNote, IsElfMarksError, IsNoteError, IsElfPartsError, description_at}
-use Rattle.elf_image.specs.declared.fault.ElfFault.TheVariants as fault
-use Rattle.elf_image.specs.declared.fault.ElfFault.{ElfFault}
+use Rattle.image_file.specs.declared.elf_fault.ElfFault.TheVariants as fault
+use Rattle.image_file.specs.declared.elf_fault.ElfFault.{ElfFault}
 use Rattle.image_file.specs.declared.fault.FileError.{FileError}
 use Rattle.image_file.specs.declared.fault.FileError.TheVariants as failure
 use Rattle.elf_image.proofs.Faulted.{short-note}

@@ -8,14 +8,14 @@ ghost use Rattle.sloth_base.specs.MemoryMap.{memory_bytes};
 ghost use Rattle.elf_image.specs.ElfText.{ElfText, note_bytes};
 ghost use Rattle.elf_image.specs.Faults.{IsElfErrorOf, IsFirstElfFault};
 ghost use Rattle.elf_image.specs.Reading.{IsFramedAt, IsElfPartsError, IsElfMarksError, IsNote, IsNoteError, HasDescriptionSizes, IsDescription, IsDescriptionError, AreNamesAndMarks, AreRightMarks, IsContentsError};
-ghost use Rattle.elf_image.specs.declared.fault.ElfFault.{ElfFault as FaultOf};
+ghost use Rattle.image_file.specs.declared.elf_fault.ElfFault.{ElfFault as FaultOf};
 ghost use Rattle.image_file.specs.declared.fault.FileError.TheVariants as failed_by;
 
-use crate::fault::{ElfError, ElfFault};
 use crate::headers::HEADERS;
 use crate::names::has_right_names;
 use crate::note::{NOTE_HEAD, padding_size, put_note};
 use crate::reading::{judge_header, read_load_header, read_note_header};
+use image_file::elf_fault::{ElfError, ElfFault};
 use image_file::fault::ImageError;
 use image_file::mark_services::service_limit;
 use image_file::marks::{are_ascending, read_marks};

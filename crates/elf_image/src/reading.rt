@@ -4,10 +4,10 @@ ghost use Rattle.sloth_base.specs.MemoryMap.{memory_bytes};
 ghost use Rattle.elf_image.specs.ElfText.{load_header, note_header};
 ghost use Rattle.elf_image.specs.Faults.{IsElfErrorOf, HasElfHeader, HasElfMagic, HasLoadHeader, HasNoteHeader, IsMemorySize, IsNoteSize};
 
-use crate::fault::{ElfError, ElfFault};
 use crate::headers::{
     ELF_HEADER, HEADERS, PROGRAM_HEADER, elf_header, put_load_header, put_note_header,
 };
+use image_file::elf_fault::{ElfError, ElfFault};
 use image_file::numbers::u32_at;
 use sloth_base::memory::NoMemory;
 use sloth_base::memory_map::MEMORY_BYTES;

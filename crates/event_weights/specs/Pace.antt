@@ -37,17 +37,12 @@ single_counts size _ = 0
 -- How many counts that show nothing stand in front of the stretch of an event at most: a service's are those of its item, and in front of an entry
 -- or a tick any item may have begun. An event of one instruction alone has its own with them.
 abbrev pub gap_counts : ItemSizes → (longest : ℕ) → (found : System) → Event → ℕ
-gap_counts size longest found (event.Run t func item result) = single_counts size (event.Run t func item result)
-gap_counts size longest found event.Idle = single_counts size event.Idle
 gap_counts size longest found (event.Call t served status) = next_size_of size (task found t)
 gap_counts size longest found (event.Left t served) = next_size_of size (task found t)
 gap_counts size longest found (event.Back t) = next_size_of size (task found t)
 gap_counts size longest found (event.Enter t) = longest
 gap_counts size longest found (event.Tick c) = longest
-gap_counts size longest found event.Boot = 0
-gap_counts size longest found (event.Admit t) = 0
-gap_counts size longest found (event.Due c) = 0
-gap_counts size longest found event.Stray = 0
+gap_counts size longest found e = single_counts size e
 
 -- the most counts from behind an event to the end of this one
 abbrev pub paced_counts : Config → App → ItemSizes → (longest : ℕ) → (found : System) → Event → ℕ

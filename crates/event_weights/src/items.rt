@@ -3,8 +3,8 @@ ghost use Rattle.std.specs.Prelude.{ℕ, ◌≡◌, ◌≤◌, get_or, IfOk};
 ghost use Rattle.code_rules.specs.AppRange.{IsTaskCode};
 ghost use Rattle.event_weights.specs.Items.{length_of, AreLengths, served_counts, going_counts, leaving_counts, ending_counts};
 
-use bound_rules::items::chains_itself;
 use code_lengths::{leaving_path, served_path};
+use raised_sections::chaining::chains_itself;
 use rv32_expand::long_branches::shortest;
 use sloth_base::app::{App, Func, Op};
 use sloth_base::list::List;

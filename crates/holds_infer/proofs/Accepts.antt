@@ -29,14 +29,14 @@ use Rattle.asm_lines.specs.declared.operands.Operand.{Operand}
 use Rattle.asm_lines.specs.declared.operands.Operand.TheVariants.{Name}
 use Rattle.asm_lines.specs.declared.source_line.SourceLine.{SourceLine}
 use Rattle.asm_lines.specs.declared.source_line.SourceLine.TheVariants.{Statement}
-use Rattle.asm_lines.specs.declared.forms.Mnemonic.TheVariants as m
+use Rattle.asm_forms.specs.declared.forms.Mnemonic.TheVariants as m
 use Rattle.asm_lines.specs.Faults.{is_a1, after_line, is_end_inside, FaultAt, SourceFault, SourceLinesFault, source_lines}
 use Rattle.asm_scopes.specs.declared.scope.Scope.{Scope}
 use Rattle.asm_scopes.specs.declared.scope.Kind.TheVariants as kind
 use Rattle.asm_scopes.specs.Statements.{is_label, name_of, written_name}
 use Rattle.asm_scopes.specs.Bodies.{bodies_of}
 use Rattle.asm_scopes.specs.Scopes.{any_unknown, is_scheduler, is_lacking, kind_of, scope_of}
-use Rattle.asm_scopes.specs.NameFaults.{has_long_name, NameFault}
+use Rattle.asm_parse.specs.NameFaults.{has_long_name, NameFault}
 use Rattle.asm_items.specs.Apps.{app_of}
 use Rattle.asm_parse.specs.AppTexts.{AppText, SourceTextFault}
 use Rattle.asm_parse.proofs.Fit.{FitsName}
@@ -44,7 +44,7 @@ use Rattle.asm_parse.proofs.Read.{IsRead}
 use Rattle.asm_parse.proofs.LinesRead.{all_read}
 use Rattle.sloth_source.specs.SourceText.{HasApp, SourceText}
 use Rattle.holds_infer.specs.Filling.{bare_app, SameButLists}
-use Rattle.asm_lines.specs.LabelLines.{resource_name, resource_names}
+use Rattle.holds_infer.specs.LabelLines.{resource_name, resource_names}
 use Rattle.holds_infer.specs.Relabel.{func_holds, all_holds, relabeled_lines}
 use Rattle.holds_infer.proofs.InPlace.{AreInPlace}
 use Rattle.holds_infer.specs.FilledText.{filled_text}

@@ -22,7 +22,7 @@ use Rattle.code_rules.specs.Code.{held_list_at}
 use Rattle.task_verify.proofs.Paths.{reached_of}
 use Rattle.holds_infer.specs.Filling.{bare_label, bare_func, SameButLists, IsClear, AreClear, IsFilling}
 use Rattle.holds_infer.specs.RightLists.{HasRightLists}
-use Rattle.asm_lines.specs.Places.{PlaceLists, list_or, list_at}
+use Rattle.holds_infer.specs.Places.{PlaceLists, list_or, list_at}
 use Rattle.holds_infer.specs.Spread.{AreLists, relisted_label, relisted_func}
 use Rattle.holds_infer.specs.BodyFilling.{HaveTheirLabels, HasResourceLists, IsBodyFilling, AreBodyFillings}
 use Rattle.holds_infer.proofs.Held.{held_of_label}

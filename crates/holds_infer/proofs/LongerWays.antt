@@ -6,7 +6,7 @@ use Rattle.std.proofs.lemmas.List.{take_all, take_at, take-append-le, length-app
 use Rattle.std.proofs.lemmas.List.Sums.{fold-append, fold_more}
 use Rattle.sloth_base.specs.declared.app.Func.{Func}
 use Rattle.sloth_base.specs.Named.{item_of}
-use Rattle.asm_lines.specs.Places.{PlaceLists}
+use Rattle.holds_infer.specs.Places.{PlaceLists}
 use Rattle.code_rules.specs.Code.{IsPathStep, held_after}
 use Rattle.fault_witnesses.specs.CleanWays.{is_orderly}
 use Rattle.holds_infer.specs.LabelWays.{way_place, held_on_way, IsWayStep, HoldsOnWay}

@@ -23,7 +23,7 @@ use Rattle.task_verify.proofs.Paths.{next_goes, jump_goes, goes_from_inside}
 use Rattle.task_verify.proofs.Searches.{taken, gone_on, begun, ended, next_inside, jump_inside}
 use Rattle.holds_infer.specs.Filling.{bare_func}
 use Rattle.holds_infer.specs.RightLists.{HasRightLists}
-use Rattle.asm_lines.specs.Places.{PlaceLists, list_or, list_at}
+use Rattle.holds_infer.specs.Places.{PlaceLists, list_or, list_at}
 use Rattle.holds_infer.specs.Spread.{list_behind, list_after, marks, IsListVisit, AreTrueLists, AreSpreading, AreLists}
 use Rattle.holds_infer.proofs.Held.{held_first, held_falls, held_turns}
 use Rattle.holds_infer.proofs.Bare.{item_same, goes_same}

@@ -17,7 +17,7 @@ use Rattle.asm_lines.specs.SourceLines.{source_line}
 use Rattle.asm_lines.specs.Faults.{source_lines}
 use Rattle.asm_lines.proofs.Cuts.{has_in, has_here, last_is, but_last, ends_there}
 use Rattle.asm_scopes.specs.Statements.{is_label, name_of}
-use Rattle.asm_lines.specs.LabelLines.{label_text, line_end, resource_names}
+use Rattle.holds_infer.specs.LabelLines.{label_text, line_end, resource_names}
 use Rattle.holds_infer.specs.Relabel.{all_holds, first_list, other_lists, label_statement, relabeled_lines}
 use Rattle.holds_infer.specs.FilledText.{lists_behind, filled_parts, filled_text}
 use Rattle.holds_infer.proofs.Written.{AreWritten, text_lacks, label_read}

@@ -12,7 +12,7 @@ use Rattle.sloth_base.specs.declared.app.Op.TheVariants as op
 use Rattle.sloth_base.specs.declared.service.Service.{Service}
 use Rattle.sloth_base.specs.declared.service.Service.TheVariants as service
 use Rattle.sloth_base.specs.Named.{no_function, no_item, no_label, function, item_of, label_of}
-use Rattle.asm_lines.specs.Places.{PlaceLists, list_or}
+use Rattle.holds_infer.specs.Places.{PlaceLists, list_or}
 use Rattle.code_rules.specs.AppRange.{AppInRange, IsResource, IsOp}
 use Rattle.code_rules.specs.Code.{held_after, held_behind}
 use Rattle.call_graph.specs.declared.ranking.Ranks.{Ranks}

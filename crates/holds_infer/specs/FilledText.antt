@@ -7,7 +7,7 @@ use Rattle.asm_lines.specs.declared.source_line.SourceLine.{SourceLine}
 use Rattle.asm_lines.specs.Lines.{line_of}
 use Rattle.asm_lines.specs.SourceLines.{source_line}
 use Rattle.asm_scopes.specs.Statements.{is_label, name_of}
-use Rattle.asm_lines.specs.LabelLines.{label_text, line_end, resource_names}
+use Rattle.holds_infer.specs.LabelLines.{label_text, line_end, resource_names}
 use Rattle.holds_infer.specs.Relabel.{all_holds, first_list, other_lists}
 
 -- the part between two LFs of a line, with this list where the line is a label

@@ -4,7 +4,9 @@ pub mod FilledText
 pub mod Filling
 pub mod InferErrors
 pub mod LabelAnswers
+pub mod LabelLines
 pub mod LabelWays
+pub mod Places
 pub mod Relabel
 pub mod RightLists
 pub mod Spread

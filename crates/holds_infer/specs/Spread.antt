@@ -8,7 +8,7 @@ use Rattle.sloth_base.specs.declared.app.Op.{Op}
 use Rattle.sloth_base.specs.declared.app.Op.TheVariants as op
 use Rattle.sloth_base.specs.declared.service.Service.{Service}
 use Rattle.sloth_base.specs.declared.service.Service.TheVariants as service
-use Rattle.asm_lines.specs.Places.{PlaceLists, list_at}
+use Rattle.holds_infer.specs.Places.{PlaceLists, list_at}
 use Rattle.code_rules.specs.AppRange.{IsResource}
 use Rattle.code_rules.specs.Code.{is_in, without_last, held_list_at}
 use Rattle.task_verify.specs.Ways.{IsReachedItem, IsMarked, IsMarking}

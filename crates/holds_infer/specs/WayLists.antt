@@ -4,7 +4,7 @@ use Rattle.sloth_base.specs.declared.app.App.{App}
 use Rattle.sloth_base.specs.declared.app.Func.{Func}
 use Rattle.sloth_base.specs.declared.app.Label.{Label}
 use Rattle.sloth_base.specs.Named.{no_function, label_of}
-use Rattle.asm_lines.specs.Places.{PlaceLists}
+use Rattle.holds_infer.specs.Places.{PlaceLists}
 use Rattle.code_rules.specs.Code.{IsPathStep}
 use Rattle.holds_infer.specs.Filling.{bare_func}
 use Rattle.holds_infer.specs.LabelWays.{HoldsOnWay}

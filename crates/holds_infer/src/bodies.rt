@@ -4,12 +4,12 @@ ghost use Rattle.holds_infer.specs.RightLists.{HasItsLabels};
 ghost use Rattle.holds_infer.specs.Spread.{AreLists, relisted_label, relisted_func};
 ghost use Rattle.holds_infer.specs.BodyFilling.{HaveTheirLabels, IsBodyFilling, AreBodyFillings};
 
+use crate::label_lists::held_list;
 use crate::spread::places;
-use asm_lines::held_list;
 use sloth_base::app::{Func, Label};
-use sloth_base::copy::TryCopy;
 use sloth_base::list::List;
 use sloth_base::memory::NoMemory;
+use sloth_base::name::Name;
 use sloth_base::numbers::ResId;
 use std::alloc::Global;
 use text_pieces::growth::push;
@@ -23,7 +23,7 @@ fn relisted_label(
 {
     let holds = held_list(alloc, lists, label)?;
     Ok(Label {
-        name: label.name.try_copy(alloc)?,
+        name: Name::new(alloc, label.name.bytes())?,
         holds: List::from_vec(holds),
         line: label.line,
         item: label.item,
@@ -54,8 +54,8 @@ pub fn relisted_func(
     ensures { IfOk result (λ made. made ≡ relisted_func lists.now func.now) }
 {
     Ok(Func {
-        name: func.name.try_copy(alloc)?,
-        items: func.items.try_copy(alloc)?,
+        name: Name::new(alloc, func.name.bytes())?,
+        items: List::from_vec(Vec::from_slice(alloc, func.items.items())?),
         labels: relisted_labels(alloc, lists, func.labels.items())?,
         line: func.line,
         task: func.task,

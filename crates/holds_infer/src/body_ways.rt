@@ -4,8 +4,8 @@ ghost use Rattle.holds_infer.specs.RightLists.{HasItsLabels};
 ghost use Rattle.holds_infer.specs.WayLists.{IsWayList, AreWayLists, AreHeldBehind};
 
 use crate::holding_ways::goes;
+use crate::label_lists::list_at;
 use crate::spread::{no_lists, op_at};
-use asm_lines::list_at;
 use fault_witnesses::clean_steps::is_orderly;
 use sloth_base::app::Func;
 use sloth_base::list::List;

@@ -11,7 +11,6 @@ use crate::bodies::body_fillings;
 use call_graph::ranking::Ranks;
 use sloth_base::app::App;
 use sloth_base::config::Config;
-use sloth_base::copy::TryCopy;
 use sloth_base::list::List;
 use sloth_base::memory::NoMemory;
 use sloth_base::refusal::BuildError;
@@ -41,7 +40,7 @@ fn candidate(alloc: Global, app: &App) -> Result<App, NoMemory>
     ensures symbols { IfOk result (λ other. other.symbols ≡ app.now.symbols) }
 {
     let funcs = body_fillings(alloc, app.funcs.items())?;
-    let symbols = app.symbols.try_copy(alloc)?;
+    let symbols = app.symbols_copy(alloc)?;
     Ok(App {
         funcs: List::from_vec(funcs),
         symbols,

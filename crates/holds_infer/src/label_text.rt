@@ -1,9 +1,11 @@
 //! Writes the line of a label.
 ghost use Rattle.std.specs.Prelude.{◌≡◌, ◌++◌, OnOk};
-ghost use Rattle.asm_lines.specs.LabelLines.{label_text, resource_names};
+ghost use Rattle.holds_infer.specs.LabelLines.{label_text, resource_names};
 ghost use Rattle.holds_infer.specs.FilledText.{filled_part};
 
-use asm_lines::{SourceLine, line_end, write_resources};
+use crate::line_ends::line_end;
+use crate::resources::write_resources;
+use asm_lines::SourceLine;
 use asm_scopes::{is_label, name_of};
 use sloth_base::config::Config;
 use sloth_base::memory::NoMemory;

@@ -6,7 +6,7 @@ ghost use Rattle.code_rules.specs.Code.{is_in};
 ghost use Rattle.holds_infer.specs.RightLists.{HasItsLabels};
 ghost use Rattle.holds_infer.specs.Spread.{list_behind, list_after, IsListVisit, AreLists, AreSpreading};
 
-use asm_lines::list_at;
+use crate::label_lists::list_at;
 use sloth_base::app::{Call, Func, Op};
 use sloth_base::list::List;
 use sloth_base::memory::NoMemory;

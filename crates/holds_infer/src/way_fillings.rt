@@ -7,7 +7,6 @@ ghost use Rattle.holds_infer.specs.WayLists.{IsWayFilling, AreWayFillings, IsWay
 use crate::bodies::relisted_func;
 use crate::body_ways::body_ways;
 use sloth_base::app::{App, Func};
-use sloth_base::copy::TryCopy;
 use sloth_base::list::List;
 use sloth_base::memory::NoMemory;
 use std::alloc::Global;
@@ -40,7 +39,7 @@ pub fn way_filled(alloc: Global, app: &App) -> Result<App, NoMemory>
     ensures { IfOk result (IsWayFilled app.now) }
 {
     let funcs = way_fillings(alloc, app.funcs.items())?;
-    let symbols = app.symbols.try_copy(alloc)?;
+    let symbols = app.symbols_copy(alloc)?;
     Ok(App {
         funcs: List::from_vec(funcs),
         symbols,

@@ -6,9 +6,10 @@
 //!
 //! The fields: numbers and magic bytes as they are written, the limits of a header's numbers, which services marks may name, whether bytes follow a
 //! place (`put_u32`, `put_u16`, `put_magic`, `Sizes::are_within`, `service_limit`, `is_followed`; `specs/Fields`, `specs/Limits`). Images in range:
-//! `sloth_base` (`ImageRange`).
+//! `sloth_base` (`ImageRange`). What may be wrong with an ELF file of an image stands here as plain data (`elf_fault`); its reader: `elf_image`.
 #![tactic(auto)]
 
+pub mod elf_fault;
 pub mod fault;
 pub mod file_end;
 pub mod header;

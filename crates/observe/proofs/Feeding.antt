@@ -6,14 +6,14 @@ use Rattle.sloth_base.specs.declared.step.Step.{Step}
 use Rattle.observe.specs.Pieces.{begins, cut_off_steps}
 use Rattle.observe.specs.Observe.{View, observe}
 use Rattle.observe.specs.Touches.{HasPlace}
-use Rattle.observe.specs.Progress.{Progress, left_over_events, advanced_progress, one_or_none, FedProgress, arrivals_from}
+use Rattle.observe.specs.Progress.{Progress, left_over_events, advanced_progress, one_or_none, IsProgress, arrivals_from}
 use Rattle.observe.proofs.Cutting.{cut_off-append}
 use Rattle.observe.proofs.Growing.{observe-more}
 use Rattle.observe.proofs.Turning.{Ready, Turned, turned}
 
 pub fed-keeps : (view : View) (arrivals : List Arrival) (p : Progress) (step : Step) (run : List Step) (events : List Stamped)
-    → FedProgress view arrivals p run events → left_over_events view p ≡ [] → step.count ≡ p.expected → IfSome p.first (λ first. HasPlace step) → (begins step ≡ true → HasPlace step)
-    → FedProgress view arrivals (advanced_progress view p step) (run ++ step ∷ []) events
+    → IsProgress view arrivals p run events → left_over_events view p ≡ [] → step.count ≡ p.expected → IfSome p.first (λ first. HasPlace step) → (begins step ≡ true → HasPlace step)
+    → IsProgress view arrivals (advanced_progress view p step) (run ++ step ∷ []) events
 fed-keeps view arrivals p step run events f drained e joins opens =
     let r : Ready arrivals p step = record { ordered = f.ordered; joins = joins; opens = opens; coming = rw e f.coming; count = e } in
     let t : Turned view arrivals (advanced_progress view p step) (cut_off_steps [] run) step = turned view arrivals p step p.first (cut_off_steps [] run) r refl f.stretch in

@@ -11,7 +11,7 @@ use Rattle.sloth_base.specs.declared.step.Step.{Step}
 use Rattle.observe.specs.Pieces.{begins}
 use Rattle.observe.specs.Observe.{View, mark_at, events_of_kind, outside_events, stamp}
 use Rattle.observe.specs.Touches.{noted_touches, HasPlace}
-use Rattle.observe.specs.Progress.{Progress, advanced_progress, advanced_progress_from, arrivals_due, begun_progress, is_shown, is_shown_kind, joined_progress, noted_progress, only_element, outside_progress, passed_count, passed_progress, progress_behind_stretch, FedProgress, left_over_events}
+use Rattle.observe.specs.Progress.{Progress, advanced_progress, advanced_progress_from, arrivals_due, begun_progress, is_shown, is_shown_kind, joined_progress, noted_progress, only_element, outside_progress, passed_count, passed_progress, progress_behind_stretch, IsProgress, left_over_events}
 use Rattle.observe.proofs.Feeding.{fed-keeps}
 
 -- a mark that is not shown has no event
@@ -57,21 +57,21 @@ no_first (Some first) e = absurd cc
 -- so it is fed
 pub fed_inside : (view : View) (arrivals : List Arrival) (p q : Progress) (step : Step) (run : List Step) (events : List Stamped)
     → is_some p.first ≡ true → (step.enabled_after ≡ false) × HasPlace step × (q ≡ record (passed_count p step.count) { touched = noted_touches step.touched step.count p.touched })
-    → FedProgress view arrivals p run events → left_over_events view p ≡ [] → step.count ≡ p.expected → FedProgress view arrivals q (run ++ step ∷ []) events
+    → IsProgress view arrivals p run events → left_over_events view p ≡ [] → step.count ≡ p.expected → IsProgress view arrivals q (run ++ step ∷ []) events
 fed_inside view arrivals p q step run events within passed f drained e =
     let some = some_first p.first within in
     let same : q ≡ advanced_progress view p step = passed.2 ∙ passed_inside view p some.0 step some.1 passed.0 in
     let J : Option Step → Type 0 = λ o. IfSome o (λ first. HasPlace step) in
-    let F : Progress → Type 0 = λ x. FedProgress view arrivals x (run ++ step ∷ []) events in
+    let F : Progress → Type 0 = λ x. IsProgress view arrivals x (run ++ step ∷ []) events in
     subst F (sym same) (fed-keeps view arrivals p step run events f drained e (subst J (sym some.1) passed.1) (λ b. passed.1))
 
 pub fed_outside : (view : View) (arrivals : List Arrival) (p q : Progress) (step : Step) (run : List Step) (events : List Stamped)
     → is_some p.first ≡ false → (begins step ≡ false) × (is_shown (mark_at view step.pc) ≡ false) × (q ≡ record (passed_count p step.count) { found = arrivals_due step.count p.coming })
-    → FedProgress view arrivals p run events → left_over_events view p ≡ [] → step.count ≡ p.expected → FedProgress view arrivals q (run ++ step ∷ []) events
+    → IsProgress view arrivals p run events → left_over_events view p ≡ [] → step.count ≡ p.expected → IsProgress view arrivals q (run ++ step ∷ []) events
 fed_outside view arrivals p q step run events beyond passed f drained e =
     let none = no_first p.first beyond in
     let same : q ≡ advanced_progress view p step = passed.2 ∙ passed_outside view p step none passed.0 passed.1 in
     let J : Option Step → Type 0 = λ o. IfSome o (λ first. HasPlace step) in
-    let F : Progress → Type 0 = λ x. FedProgress view arrivals x (run ++ step ∷ []) events in
+    let F : Progress → Type 0 = λ x. IsProgress view arrivals x (run ++ step ∷ []) events in
     let goes_on : begins step ≡ false = passed.0 in
     subst F (sym same) (fed-keeps view arrivals p step run events f drained e (subst J (sym none) tt) (λ (b : begins step ≡ true). absurd cc))

@@ -201,7 +201,7 @@ IsOpen arrivals p (Some first) [] = ⊥
 IsOpen arrivals p (Some first) (step ∷ steps) = (first ≡ step) × IsStretch arrivals p first (step ∷ steps)
 
 -- what is kept after these steps, when these events have been told
-pub record FedProgress (view : View) (arrivals : List Arrival) (p : Progress) (steps : List Step) (events : List Stamped) : Type 0 where
+pub record IsProgress (view : View) (arrivals : List Arrival) (p : Progress) (steps : List Step) (events : List Stamped) : Type 0 where
   pub ordered : AreRisingMoments 0 arrivals
   pub told : events ++ left_over_events view p ≡ observe view arrivals steps
   pub expected : p.expected ≡ length steps
@@ -210,5 +210,5 @@ pub record FedProgress (view : View) (arrivals : List Arrival) (p : Progress) (s
 
 -- The observer was fed these steps and has handed out these events: they are the front of the run's events, of
 -- which the rest remains; it expects the next count; and its open stretch is that of the steps.
-abbrev pub Fed : Observer → List Step → List Stamped → Type 0
-Fed o steps events = FedProgress (view_of o) (arrivals_of o) (progress_of o) steps events
+abbrev pub HasProgress : Observer → List Step → List Stamped → Type 0
+HasProgress o steps events = IsProgress (view_of o) (arrivals_of o) (progress_of o) steps events

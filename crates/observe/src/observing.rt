@@ -43,7 +43,7 @@ impl<'a> Observer<'a> {
     ghost use Rattle.sloth_base.specs.Arrivals.{AreRisingMoments};
     ghost use Rattle.observe.specs.MarkTable.{IsMarkTable};
     ghost use Rattle.observe.specs.Touches.{HasPlace, noted_touches};
-    ghost use Rattle.observe.specs.Progress.{Fed, progress_of, view_of, arrivals_of, expected_count, remaining, arrivals_due, passed_count, joined_progress, progress_behind_stretch, advanced_progress, one_or_none, settled_progress, begins_by, is_shown, step_of_parts};
+    ghost use Rattle.observe.specs.Progress.{HasProgress, progress_of, view_of, arrivals_of, expected_count, remaining, arrivals_due, passed_count, joined_progress, progress_behind_stretch, advanced_progress, one_or_none, settled_progress, begins_by, is_shown, step_of_parts};
 
     /// An observer of a run of the image with these arrivals, which has seen no step. It needs no memory of its own.
     pub fn new(
@@ -54,7 +54,7 @@ impl<'a> Observer<'a> {
         requires ascending { AreAscending image.now.marks }
         requires ordered { AreRisingMoments 0 arrivals.now }
         ensures answers { IsOk result }
-        ensures fed { IfOk result (λ o. Fed o [] []) }
+        ensures fed { IfOk result (λ o. HasProgress o [] []) }
         ensures view { IfOk result (λ o. view_of o ≡ view_of_image image.now) }
         ensures arrivals { IfOk result (λ o. arrivals_of o ≡ arrivals.now) }
         ensures expected { IfOk result (λ o. expected_count o ≡ 0) }
@@ -71,7 +71,7 @@ impl<'a> Observer<'a> {
     ) -> Result<Observer<'a>, NoMemory>
         requires ascending { AreAscending image.now.marks }
         requires ordered { AreRisingMoments 0 arrivals.now }
-        ensures fed { IfOk result (λ o. Fed o [] []) }
+        ensures fed { IfOk result (λ o. HasProgress o [] []) }
         ensures view { IfOk result (λ o. view_of o ≡ view_of_image image.now) }
         ensures arrivals { IfOk result (λ o. arrivals_of o ≡ arrivals.now) }
         ensures expected { IfOk result (λ o. expected_count o ≡ 0) }
@@ -86,7 +86,7 @@ impl<'a> Observer<'a> {
         requires ascending { AreAscending image.now.marks }
         requires ordered { AreRisingMoments 0 arrivals.now }
         requires table { IfSome table (IsMarkTable image.now.marks) }
-        ensures fed { Fed result [] [] }
+        ensures fed { HasProgress result [] [] }
         ensures view { view_of result ≡ view_of_image image.now }
         ensures arrivals { arrivals_of result ≡ arrivals.now }
         ensures expected { expected_count result ≡ 0 }
@@ -225,7 +225,7 @@ impl<'a> Observer<'a> {
     pub fn feed(&mut self, step: &Step)
         requires expected { step.now.count ≡ expected_count self.old }
         requires drained { remaining self.old ≡ [] }
-        ensures fed { (steps : List AnyStep) (events : List AnyStamped) → Fed self.old steps events → Fed self.new (steps ++ step.now ∷ []) events }
+        ensures fed { (steps : List AnyStep) (events : List AnyStamped) → HasProgress self.old steps events → HasProgress self.new (steps ++ step.now ∷ []) events }
         ensures view { view_of self.new ≡ view_of self.old }
         ensures arrivals { arrivals_of self.new ≡ arrivals_of self.old }
         ensures expected { expected_count self.new ≡ expected_count self.old + 1 }
@@ -289,8 +289,8 @@ impl<'a> Observer<'a> {
     ) -> bool
         requires expected { count ≡ expected_count self.old }
         requires drained { remaining self.old ≡ [] }
-        ensures fed { result ≡ true → (cur_before cur_after : ℕ) (regs : List ℕ) (steps : List AnyStep) (events : List AnyStamped) → Fed self.old steps events
-            → Fed self.new (steps ++ step_of_parts count pc entered.now enabled_before enabled_after touched.now cur_before cur_after regs ∷ []) events }
+        ensures fed { result ≡ true → (cur_before cur_after : ℕ) (regs : List ℕ) (steps : List AnyStep) (events : List AnyStamped) → HasProgress self.old steps events
+            → HasProgress self.new (steps ++ step_of_parts count pc entered.now enabled_before enabled_after touched.now cur_before cur_after regs ∷ []) events }
         ensures left { result ≡ false → self.new ≡ self.old }
         ensures view { view_of self.new ≡ view_of self.old }
         ensures arrivals { arrivals_of self.new ≡ arrivals_of self.old }
@@ -361,11 +361,11 @@ impl<'a> Observer<'a> {
     /// Hands out the next finished event.
     #[inline(always)]
     pub fn next(&mut self) -> Option<Stamped>
-        ensures some { IfSome result (λ event. (steps : List AnyStep) (events : List AnyStamped) → Fed self.old steps events
-            → Fed self.new steps (events ++ event ∷ [])) }
-        ensures none { IfNone result ((steps : List AnyStep) (events : List AnyStamped) → Fed self.old steps events
-            → Fed self.new steps events × (events ≡ observe (view_of self.old) (arrivals_of self.old) steps)) }
-        ensures exact { (steps : List AnyStep) (events : List AnyStamped) → Fed self.old steps events
+        ensures some { IfSome result (λ event. (steps : List AnyStep) (events : List AnyStamped) → HasProgress self.old steps events
+            → HasProgress self.new steps (events ++ event ∷ [])) }
+        ensures none { IfNone result ((steps : List AnyStep) (events : List AnyStamped) → HasProgress self.old steps events
+            → HasProgress self.new steps events × (events ≡ observe (view_of self.old) (arrivals_of self.old) steps)) }
+        ensures exact { (steps : List AnyStep) (events : List AnyStamped) → HasProgress self.old steps events
             → (IsNone result ↔ (events ≡ observe (view_of self.old) (arrivals_of self.old) steps)) }
         ensures head { IfSome result (λ event. remaining self.old ≡ event ∷ remaining self.new) }
         ensures empty { IfNone result (remaining self.old ≡ []) }

@@ -205,10 +205,10 @@ least text n place ts k on s r f =
 
 -- ---- the same, of the cutter
 
-abbrev pub Goes : Bor (List ℕ) → Cutter → Type 0
-Goes text c = (c.text ≡ text) × GoesOn text c.line c.place c.tokens.items
+abbrev pub IsCutterOf : Bor (List ℕ) → Cutter → Type 0
+IsCutterOf text c = (c.text ≡ text) × GoesOn text c.line c.place c.tokens.items
 
-pub begun : (text : Bor (List ℕ)) (c : Cutter) → c.text ≡ text → c.place ≡ 0 → c.line ≡ 1 → c.tokens.items ≡ [] → Goes text c
+pub begun : (text : Bor (List ℕ)) (c : Cutter) → c.text ≡ text → c.place ≡ 0 → c.line ≡ 1 → c.tokens.items ≡ [] → IsCutterOf text c
 begun text c same p l e = (
   same,
   λ ps cut.
@@ -221,7 +221,7 @@ begun text c same p l e = (
       },
 )
 
-pub goes : (text : Bor (List ℕ)) (c d : Cutter) → Goes text c → HasCut c d → Goes text d
+pub goes : (text : Bor (List ℕ)) (c d : Cutter) → IsCutterOf text c → HasCut c d → IsCutterOf text d
 goes text c d g h = (h.text ∙ g.0, moved)
   where
     on : GoesOn c.text c.line c.place c.tokens.items
@@ -254,12 +254,12 @@ lines_next c d h l =
     let place = h.place in
     omega (arith, ends, long, line, place, l)
 
-pub stops : (text : Bor (List ℕ)) (c : Cutter) (e : BuildError) → Goes text c → IsStopped c e → ErrorIs (TextFault text.now) e
+pub stops : (text : Bor (List ℕ)) (c : Cutter) (e : BuildError) → IsCutterOf text c → IsStopped c e → ErrorIs (TextFault text.now) e
 stops text c Memory g h = tt
 stops text c (Refused r) g h = subst (λ (x : Bor (List ℕ)). IsLeast (TextFault x.now) r) g.0
     (least c.text c.line c.place c.tokens.items h.piece (subst (λ (x : Bor (List ℕ)). GoesOn x c.line c.place c.tokens.items) (sym g.0) g.1) h.begins r h.refused)
 
-pub ends : (text : Bor (List ℕ)) (c : Cutter) → Goes text c → length c.text.now ≤ c.place → AreSlices text c.tokens.items × NoFault (TextFault text.now)
+pub ends : (text : Bor (List ℕ)) (c : Cutter) → IsCutterOf text c → length c.text.now ≤ c.place → AreSlices text c.tokens.items × NoFault (TextFault text.now)
 ends text c g l =
     let nothing : drop c.place text.now ≡ [] = drop_of_length-le text.now {i = c.place} (subst (λ (x : Bor (List ℕ)). length x.now ≤ c.place) g.0 l) in
     let w = g.1 [] nothing in (

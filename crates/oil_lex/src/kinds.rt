@@ -1,7 +1,7 @@
 //! Tokens.
 
 /// What a token is.
-#[derive(Clone, Copy, Debug)]
+#[derive(Clone, Copy)]
 pub enum TokenKind {
     /// A letter or `_`, then letters, digits and `_`.
     Word,

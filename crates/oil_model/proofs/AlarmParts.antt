@@ -19,11 +19,11 @@ use Rattle.oil_table.specs.Table.{place_of, attribute_of, is_allowed, block_plac
 use Rattle.oil_table.specs.Objects.{is_of_kind, is_use, has_scheduler}
 use Rattle.oil_rules.specs.AttributeFaults.{inner_place, misses_value, refers_to_none, is_refused, RowFault}
 use Rattle.oil_table.specs.declared.alarm_limits.Limits.{Limits}
-use Rattle.oil_alarms.specs.Limits.{limits_of}
-use Rattle.oil_alarms.specs.Blocks.{BlockText, blocks_of, first_block, is_inner_use, is_used_in}
+use Rattle.oil_table.specs.AlarmCounters.{limits_of}
+use Rattle.oil_rules.specs.Blocks.{BlockText, blocks_of, first_block, is_inner_use, is_used_in}
 use Rattle.oil_table.specs.Beyond.{is_beyond}
-use Rattle.oil_alarms.specs.AlarmFaults.{lacks_part, is_unlisted, InsideFault, BlockFault}
-use Rattle.oil_alarms.specs.ModelFaults.{ModelFault}
+use Rattle.oil_rules.specs.AlarmFaults.{lacks_part, is_unlisted, InsideFault, BlockFault}
+use Rattle.oil_rules.specs.ModelFaults.{ModelFault}
 use Rattle.oil_model.proofs.NoFaults.{part_at}
 use Rattle.oil_model.proofs.Lists.{IsFirst, first_of}
 use Rattle.oil_model.proofs.Attributes.{attribute_at}

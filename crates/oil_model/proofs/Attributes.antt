@@ -14,7 +14,7 @@ use Rattle.oil_table.specs.declared.table.Place.TheVariants.{Nowhere}
 use Rattle.oil_table.specs.Table.{place_of, attribute_of, is_allowed}
 use Rattle.oil_table.specs.Objects.{is_of_kind, is_use, has_scheduler}
 use Rattle.oil_rules.specs.AttributeFaults.{inner_place, place_at, misses_value, refers_to_none, is_refused, AttributeFault, RowFault}
-use Rattle.oil_alarms.specs.ModelFaults.{ModelFault}
+use Rattle.oil_rules.specs.ModelFaults.{ModelFault}
 use Rattle.least_fault.proofs.Nowhere.{nowhere, case_false}
 use Rattle.oil_model.proofs.NoFaults.{inner_at}
 use Rattle.sloth_base.specs.declared.refusal.Part.TheVariants.{Oil}

@@ -10,7 +10,7 @@ use Rattle.oil_table.specs.declared.table.Place.{Place}
 use Rattle.oil_table.specs.Table.{block_place}
 use Rattle.oil_table.specs.Objects.{is_use}
 use Rattle.oil_rules.specs.AttributeFaults.{opened_place}
-use Rattle.oil_alarms.specs.Blocks.{is_inner, BlockText, blocks_of, first_block}
+use Rattle.oil_rules.specs.Blocks.{is_inner, BlockText, blocks_of, first_block}
 
 not_true : (b : Bool) → not b ≡ true → b ≡ false
 not_true true e = cc

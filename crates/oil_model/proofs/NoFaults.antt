@@ -19,8 +19,8 @@ use Rattle.oil_table.specs.Events.{events_of}
 use Rattle.oil_rules.specs.ObjectFaults.{is_known, is_above, is_clock_above, comes_behind}
 use Rattle.oil_model.specs.Configs.{resource_names}
 use Rattle.oil_rules.specs.TreeFaults.{KnownObjectFault, ObjectFault}
-use Rattle.oil_alarms.specs.AlarmFaults.{PartFault, AlarmFault}
-use Rattle.oil_alarms.specs.ModelFaults.{ModelFault}
+use Rattle.oil_rules.specs.AlarmFaults.{PartFault, AlarmFault}
+use Rattle.oil_rules.specs.ModelFaults.{ModelFault}
 
 lt_of_ne : (a b m : ℕ) → a ≤ b → (a ≡ b → ⊥) → m ≡ a + 1 → m ≤ b
 lt_of_ne a b m h ne e = ⊎_elim (λ l. omega (arith, l, e)) (λ l. absurd (ne (omega (arith, h, l)))) (cases_lt a b)

@@ -16,7 +16,7 @@ use Rattle.oil_parse.specs.declared.tree.OilObject.{OilObject}
 use Rattle.oil_parse.specs.declared.tree.OilTree.{OilTree}
 use Rattle.oil_table.specs.Objects.{is_of_kind, has_scheduler, names_of}
 use Rattle.oil_table.specs.Events.{number_masks, events_of}
-use Rattle.oil_alarms.specs.ModelFaults.{ModelFault}
+use Rattle.oil_rules.specs.ModelFaults.{ModelFault}
 use Rattle.oil_model.specs.Clocks.{declared_counter, declared_alarm}
 use Rattle.oil_model.specs.Configs.{resource_names, declared_task, tasks_of, config_of}
 use Rattle.oil_model.proofs.NoFaults.{few_tasks, few_names, few_events, few_counters, few_alarms}

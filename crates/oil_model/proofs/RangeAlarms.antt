@@ -26,16 +26,17 @@ use Rattle.oil_table.specs.declared.table.Attribute.TheVariants as attribute
 use Rattle.oil_table.specs.declared.table.Place.{Place}
 use Rattle.oil_table.specs.declared.table.Place.TheVariants as place
 use Rattle.oil_table.specs.Table.{attribute_of, is_allowed, is_word, block_place}
-use Rattle.oil_table.specs.Objects.{is_of_kind, is_use, is_used, is_given, first_is, first_number, number_of, number_given, has_scheduler, names_of}
+use Rattle.oil_table.specs.Objects.{is_of_kind, is_use, is_used, is_given, first_is, first_number, number_of, number_given, has_scheduler, names_of, object_named}
 use Rattle.oil_table.specs.Events.{events_of, mask_named, mask_given, number_masks}
 use Rattle.oil_rules.specs.AttributeFaults.{misses_value}
 use Rattle.oil_rules.specs.ObjectFaults.{lacks_task_attribute, is_endless}
 use Rattle.oil_table.specs.declared.alarm_limits.Limits.{Limits}
-use Rattle.oil_alarms.specs.Limits.{object_named, limit_by, limits_given}
-use Rattle.oil_alarms.specs.Blocks.{first_block, is_inner_use, is_used_in, first_in, number_in}
+use Rattle.oil_table.specs.AlarmCounters.{limit_by, limits_given}
+use Rattle.oil_rules.specs.Blocks.{first_block, is_inner_use, is_used_in, first_in, number_in}
 use Rattle.oil_table.specs.Beyond.{is_value_beyond, is_beyond}
-use Rattle.oil_alarms.specs.AlarmFaults.{lacks_inner, place_behind, lacks_behind, lists_event, leaves_out, is_left_out, is_unlisted}
-use Rattle.oil_alarms.specs.ModelFaults.{ModelFault}
+use Rattle.oil_rules.specs.AlarmFaults.{lacks_inner, place_behind, lacks_behind, leaves_out, is_left_out, is_unlisted}
+use Rattle.oil_table.specs.ListedEvents.{lists_event}
+use Rattle.oil_rules.specs.ModelFaults.{ModelFault}
 use Rattle.oil_table.specs.Masks.{mask_of_value, listed_mask, event_mask}
 use Rattle.oil_model.specs.Clocks.{declared_counter, number_named, mask_named_by, action_of, started, declared_alarm}
 use Rattle.oil_model.specs.Configs.{resource_names, declared_task, config_of}

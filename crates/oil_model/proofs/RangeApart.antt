@@ -10,7 +10,7 @@ use Rattle.least_fault.specs.Order.{NoFault}
 use Rattle.oil_parse.specs.declared.tree.OilObject.{OilObject}
 use Rattle.oil_parse.specs.declared.tree.OilTree.{OilTree}
 use Rattle.oil_table.specs.Objects.{is_of_kind, is_declaration, is_declared, names_of}
-use Rattle.oil_alarms.specs.ModelFaults.{ModelFault}
+use Rattle.oil_rules.specs.ModelFaults.{ModelFault}
 use Rattle.text_pieces.proofs.Tests.{none_pass, All-kept}
 use Rattle.oil_model.proofs.RangeNames.{true_not_false, names_shared}
 

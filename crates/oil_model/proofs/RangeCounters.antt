@@ -18,8 +18,8 @@ use Rattle.oil_table.specs.declared.table.Attribute.TheVariants.{Limit}
 use Rattle.oil_table.specs.Table.{attribute_of, place_of, is_allowed}
 use Rattle.oil_table.specs.Objects.{is_of_kind, is_use, is_used, first_number, number_of, number_given}
 use Rattle.oil_rules.specs.ObjectFaults.{lacks_attribute}
-use Rattle.oil_alarms.specs.Limits.{limit_by}
-use Rattle.oil_alarms.specs.ModelFaults.{ModelFault}
+use Rattle.oil_table.specs.AlarmCounters.{limit_by}
+use Rattle.oil_rules.specs.ModelFaults.{ModelFault}
 use Rattle.oil_model.specs.Clocks.{declared_counter}
 use Rattle.oil_model.proofs.NoFaults.{inner_at}
 use Rattle.oil_model.proofs.Lists.{first_of}

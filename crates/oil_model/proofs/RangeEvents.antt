@@ -19,7 +19,7 @@ use Rattle.oil_table.specs.declared.table.Attribute.TheVariants.{Mask}
 use Rattle.oil_table.specs.Table.{is_allowed, is_word}
 use Rattle.oil_table.specs.Objects.{is_of_kind, is_use, is_used, is_given, number_of, number_given}
 use Rattle.oil_table.specs.Events.{bits, is_event, is_auto, number_mask, number_masks, free_bit, mask_by, taken_more, taken_bits_before, lacks_bit, event_decls, events_of, BitFault}
-use Rattle.oil_alarms.specs.ModelFaults.{ModelFault}
+use Rattle.oil_rules.specs.ModelFaults.{ModelFault}
 use Rattle.least_fault.proofs.Nowhere.{nowhere, case_false}
 use Rattle.sloth_base.specs.declared.refusal.Part.TheVariants.{Oil}
 use Rattle.oil_model.proofs.Lists.{found_has, first_of}

@@ -15,7 +15,7 @@ use Rattle.oil_table.specs.Table.{is_allowed}
 use Rattle.oil_table.specs.Objects.{is_of_kind, is_use, is_used, is_declared, has_scheduler}
 use Rattle.oil_table.specs.Events.{is_event, number_masks, mask_by, event_decls, events_of, mask_named, mask_given}
 use Rattle.oil_rules.specs.AttributeFaults.{misses_value}
-use Rattle.oil_alarms.specs.ModelFaults.{ModelFault}
+use Rattle.oil_rules.specs.ModelFaults.{ModelFault}
 use Rattle.oil_table.specs.Masks.{mask_of_value, listed_mask, event_mask}
 use Rattle.text_pieces.proofs.Tests.{none_pass}
 use Rattle.oil_model.proofs.Lists.{found_has, IsFirst, first_of}

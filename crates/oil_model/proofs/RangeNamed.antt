@@ -11,10 +11,9 @@ use Rattle.oil_parse.specs.declared.tree.OilValue.TheVariants.{Word, Number, Tex
 use Rattle.oil_parse.specs.declared.tree.OilObject.{OilObject}
 use Rattle.oil_table.specs.declared.table.Attribute.TheVariants.{Counter, ActionTask, ActionEvent}
 use Rattle.oil_table.specs.Table.{is_allowed}
-use Rattle.oil_table.specs.Objects.{is_of_kind, is_declared, names_of}
+use Rattle.oil_table.specs.Objects.{is_of_kind, is_declared, names_of, object_of_value}
 use Rattle.oil_rules.specs.AttributeFaults.{misses_value}
 use Rattle.oil_table.proofs.Names.{place_in, declared_at, numbered}
-use Rattle.oil_alarms.specs.Limits.{object_of_value}
 use Rattle.oil_model.specs.Clocks.{number_of_value}
 
 -- the object of a kind that a value names

@@ -14,7 +14,7 @@ use Rattle.oil_parse.specs.declared.tree.OilObject.{OilObject}
 use Rattle.oil_parse.specs.declared.tree.OilTree.{OilTree}
 use Rattle.oil_table.specs.Objects.{is_of_kind, has_scheduler}
 use Rattle.oil_rules.specs.ObjectFaults.{is_double_of, shares_name, is_doubled, is_clock_above, comes_behind}
-use Rattle.oil_alarms.specs.ModelFaults.{ModelFault}
+use Rattle.oil_rules.specs.ModelFaults.{ModelFault}
 use Rattle.text_pieces.proofs.Tests.{none_pass, All-kept}
 use Rattle.least_fault.proofs.Nowhere.{case_false}
 use Rattle.oil_model.proofs.NoFaults.{inner_at, not_above}

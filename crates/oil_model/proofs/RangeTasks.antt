@@ -21,7 +21,7 @@ use Rattle.oil_table.specs.Events.{events_of}
 use Rattle.oil_rules.specs.ObjectFaults.{lacks_task_attribute, lacks_attribute}
 use Rattle.oil_rules.specs.TaskFaults.{has_priority, is_taken, repeats_priority, shares_bit, TaskFault}
 use Rattle.sloth_base.specs.Options.{is_number}
-use Rattle.oil_alarms.specs.ModelFaults.{ModelFault}
+use Rattle.oil_rules.specs.ModelFaults.{ModelFault}
 use Rattle.oil_model.specs.Configs.{resource_number, listed_resource, with_number, with_resource, resources_of}
 use Rattle.least_fault.proofs.Nowhere.{nowhere, case_false}
 use Rattle.oil_model.proofs.NoFaults.{inner_at}

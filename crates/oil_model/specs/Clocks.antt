@@ -13,7 +13,7 @@ use Rattle.oil_parse.specs.declared.tree.OilAttr.{OilAttr}
 use Rattle.oil_parse.specs.declared.tree.OilObject.{OilObject}
 use Rattle.oil_table.specs.Objects.{is_of_kind, is_use, first_is, first_number}
 use Rattle.oil_table.specs.Masks.{mask_of_value}
-use Rattle.oil_alarms.specs.Blocks.{first_block, first_in, number_in}
+use Rattle.oil_rules.specs.Blocks.{first_block, first_in, number_in}
 
 -- the counter that an object declares
 abbrev pub declared_counter : OilObject → CounterDecl

@@ -4,8 +4,8 @@ ghost use Rattle.sloth_base.specs.MemoryMap.{line_count};
 ghost use Rattle.oil_table.specs.Objects.{names_of};
 ghost use Rattle.oil_model.specs.Clocks.{declared_counter, counters_of, number_of_value, number_named, mask_named_by, action_of, started, declared_alarm, alarms_of};
 
-use oil_alarms::{first_block, first_in, number_in};
 use oil_parse::tree::{OilAttr, OilObject, OilValue};
+use oil_rules::{first_block, first_in, number_in};
 use oil_table::{
     EventTable, first_is, first_number, first_use, is_of_kind, mask_of_value, names_of,
 };

@@ -7,19 +7,16 @@ ghost use Rattle.sloth_base.specs.declared.config.Config.{Config};
 ghost use Rattle.sloth_base.specs.Limits.{resource_limit};
 ghost use Rattle.sloth_base.specs.MemoryMap.{line_count};
 ghost use Rattle.oil_parse.specs.declared.tree.OilTree.{OilTree};
-ghost use Rattle.oil_table.specs.Objects.{has_scheduler};
+ghost use Rattle.oil_table.specs.Objects.{has_scheduler, names_of};
 ghost use Rattle.oil_model.specs.Trees.{IsTree};
 ghost use Rattle.oil_table.specs.Events.{events_of};
-ghost use Rattle.oil_table.specs.Objects.{names_of};
-ghost use Rattle.oil_alarms.specs.ModelFaults.{ModelFault};
+ghost use Rattle.oil_rules.specs.ModelFaults.{ModelFault};
 ghost use Rattle.oil_model.specs.Configs.{resource_names, config_of, IsConfig};
 
 use crate::clocks::{Clocks, clocks_of};
 use crate::config::{resource_names, tasks_of};
-use least_fault::merge;
-use oil_alarms::judge as judge_alarms;
 use oil_parse::tree::{OilObject, OilTree};
-use oil_rules::{Front, judge};
+use oil_rules::judge;
 use oil_table::{EventTable, events_of, has_scheduler, names_of};
 use sloth_base::config::{Config, EventDecl};
 use sloth_base::list::List;
@@ -72,12 +69,8 @@ fn refusal_of(
     requires events { events.now ≡ events_of tree.now.objects }
     ensures { IfOk result (IsSearchResult (ModelFault tree.now)) }
 {
-    let objects = tree.objects.items();
-    let all = Front::of(alloc, objects)?;
     let events = EventTable::new(events, event_names);
-    let of_tree = judge(alloc, tree, &all, scheduler, &events)?;
-    let of_alarms = judge_alarms(alloc, objects)?;
-    Ok(merge(of_tree, of_alarms))
+    judge(alloc, tree, scheduler, &events)
 }
 
 /// The configuration of a tree with these events, or its least fault.

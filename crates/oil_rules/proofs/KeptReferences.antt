@@ -17,7 +17,8 @@ use Rattle.oil_parse.specs.declared.tree.OilAttr.{OilAttr}
 use Rattle.oil_table.specs.Objects.{is_use}
 use Rattle.oil_table.specs.Events.{mask_named}
 use Rattle.oil_rules.specs.TaskFaults.{have_common_bit, is_event_clash, shares_bit}
-use Rattle.oil_rules.specs.References.{event_word, refers_to_clash, referred_word}
+use Rattle.oil_table.specs.ListedEvents.{event_word, referred_word}
+use Rattle.oil_rules.specs.References.{refers_to_clash}
 use Rattle.oil_rules.specs.KeptReferences.{is_to, has_bit, is_clash, AreKept}
 use Rattle.text_pieces.proofs.Tests.{and_swap, or_absorbs, any_implies, any_but, any_none}
 use Rattle.oil_rules.specs.declared.references.Reference.{Reference}

@@ -1,3 +1,4 @@
 mod Doubles
 mod Fronts
 mod KeptReferences
+mod NamedTasks

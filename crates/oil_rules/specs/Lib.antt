@@ -5,3 +5,6 @@ pub mod Fronts
 pub mod References
 pub mod KeptReferences
 pub mod TreeFaults
+pub mod Blocks
+pub mod AlarmFaults
+pub mod ModelFaults

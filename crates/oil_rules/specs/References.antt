@@ -1,7 +1,6 @@
 -- The events that a task refers to.
-use Rattle.std.specs.Prelude.{ℕ, Bool, if◌then◌else◌, ◌&&◌, List, codes, Option, Some, None}
+use Rattle.std.specs.Prelude.{ℕ, Bool, ◌&&◌, List, codes}
 use Rattle.sloth_base.specs.declared.config.EventDecl.{EventDecl}
-use Rattle.oil_parse.specs.declared.tree.OilValue.{OilValue}
 use Rattle.oil_parse.specs.declared.tree.OilValue.TheVariants.{Word}
 use Rattle.oil_parse.specs.declared.tree.OilAttr.{OilAttr}
 use Rattle.oil_table.specs.Objects.{is_use}
@@ -11,15 +10,6 @@ use Rattle.oil_rules.specs.TaskFaults.{is_event_clash}
 pub record ReferenceContext : Type 0 where
   pub events : List EventDecl
   pub attrs : List OilAttr
-
--- the word that a value is
-abbrev pub referred_word : OilValue → Option (List ℕ)
-referred_word (Word word) = Some word
-referred_word _ = None
-
--- the event that an attribute refers to
-abbrev pub event_word : OilAttr → Option (List ℕ)
-event_word attr = if is_use (codes "EVENT") attr then referred_word attr.value else None
 
 -- an attribute refers to another event that shares a bit with this one
 abbrev pub refers_to_clash : List EventDecl → List ℕ → OilAttr → Bool

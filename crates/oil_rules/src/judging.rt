@@ -5,7 +5,9 @@ ghost use Rattle.oil_table.specs.Objects.{has_scheduler};
 ghost use Rattle.oil_table.specs.Events.{events_of};
 ghost use Rattle.oil_rules.specs.ObjectFaults.{is_known};
 ghost use Rattle.oil_rules.specs.TreeFaults.{TaskFaults, KnownObjectFault, ObjectFault, TreeFault};
+ghost use Rattle.oil_rules.specs.ModelFaults.{ModelFault};
 
+use crate::alarms::faults_of_alarms;
 use crate::attribute_faults::attribute_faults;
 use crate::front::Front;
 use crate::object_faults::{kind_fault, known_fault};
@@ -87,8 +89,8 @@ fn object_faults(
     Ok(least)
 }
 
-/// The least fault of a tree with these objects and events.
-pub fn judge(
+// The least fault of a tree with these objects and events, the blocks of alarms aside.
+fn faults_among(
     alloc: Global,
     tree: &OilTree,
     table: &Front,
@@ -104,4 +106,35 @@ pub fn judge(
     let of_objects = object_faults(alloc, objects, table, scheduler, events)?;
     let without_os = fault_if(!table.has_os(), Part::Oil, tree.cpu_line, Code::O11);
     Ok(merge(of_objects, merge(events_without_bit(objects), without_os)))
+}
+
+// The same without a table of the objects.
+fn tree_faults(
+    alloc: Global,
+    tree: &OilTree,
+    scheduler: bool,
+    events: &EventTable,
+) -> Result<Option<Refusal>, NoMemory>
+    requires scheduler { scheduler ≡ has_scheduler tree.now.objects }
+    requires events { events.now ≡ events_of tree.now.objects }
+    ensures { IfOk result (IsSearchResult (TreeFault tree.now)) }
+{
+    let table = Front::of(alloc, tree.objects.items())?;
+    faults_among(alloc, tree, &table, scheduler, events)
+}
+
+/// The least fault of a tree with these events, O7 to O15.
+pub fn judge(
+    alloc: Global,
+    tree: &OilTree,
+    scheduler: bool,
+    events: &EventTable,
+) -> Result<Option<Refusal>, NoMemory>
+    requires scheduler { scheduler ≡ has_scheduler tree.now.objects }
+    requires events { events.now ≡ events_of tree.now.objects }
+    ensures { IfOk result (IsSearchResult (ModelFault tree.now)) }
+{
+    let of_tree = tree_faults(alloc, tree, scheduler, events)?;
+    let of_alarms = faults_of_alarms(alloc, tree.objects.items())?;
+    Ok(merge(of_tree, of_alarms))
 }

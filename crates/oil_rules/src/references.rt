@@ -1,12 +1,12 @@
 //! The events that a task refers to.
-ghost use Rattle.std.specs.Prelude.{◌≡◌, ◌||◌, ◌==◌, bit_and, [], ◌∷◌, ◌++◌, IfOk, option_copied};
+ghost use Rattle.std.specs.Prelude.{◌≡◌, ◌||◌, ◌==◌, bit_and, [], ◌∷◌, ◌++◌, IfOk};
 ghost use Rattle.std.specs.List.{list_any};
 ghost use Rattle.oil_rules.specs.TaskFaults.{shares_bit};
-ghost use Rattle.oil_rules.specs.References.{ReferenceContext, event_word, refers_to_clash};
+ghost use Rattle.oil_rules.specs.References.{ReferenceContext, refers_to_clash};
 ghost use Rattle.oil_rules.specs.KeptReferences.{is_to, is_clash};
 
-use oil_parse::tree::{OilAttr, OilValue};
-use oil_table::{EventTable, is_use};
+use oil_parse::tree::OilAttr;
+use oil_table::{EventTable, event_word};
 use sloth_base::memory::NoMemory;
 use std::alloc::Global;
 use std::marker::Model;
@@ -43,16 +43,6 @@ impl<'t> Model for References<'t> {
     ghost view = { λ references. record { events = references.events.now; attrs = references.attrs.now } };
 
     ghost invariant = { λ references. AreKept references.events.now references.attrs.now references.kept.items references.once references.twice };
-}
-
-/// The event that an attribute refers to.
-pub fn event_word<'t>(attr: &'t OilAttr) -> Option<&'t [u8]>
-    ensures { option_copied result ≡ event_word attr.now }
-{
-    match &attr.value {
-        OilValue::Word(word) if is_use(attr, b"EVENT") => Some(word.bytes()),
-        _ => None,
-    }
 }
 
 fn is_to(reference: &Reference, word: &[u8]) -> bool

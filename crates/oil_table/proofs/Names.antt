@@ -8,9 +8,8 @@ use Rattle.std.proofs.lemmas.List.{length-map}
 use Rattle.std.proofs.lemmas.List.Quantifiers.{position-Some}
 use Rattle.sloth_base.specs.declared.config.EventDecl.{EventDecl}
 use Rattle.oil_parse.specs.declared.tree.OilObject.{OilObject}
-use Rattle.oil_table.specs.Objects.{is_of_kind, is_declaration, is_declared}
+use Rattle.oil_table.specs.Objects.{is_of_kind, is_declaration, is_declared, names_of}
 use Rattle.oil_table.specs.Events.{mask_given, mask_named}
-use Rattle.oil_table.specs.Objects.{names_of}
 use Rattle.text_pieces.proofs.Places.{further, bytes_eq-sym, position-cons, position-any}
 
 abbrev pub place_in : {X : Type 0} → List X → Option ℕ → Option X

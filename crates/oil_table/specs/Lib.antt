@@ -5,3 +5,5 @@ pub mod Uses
 pub mod Beyond
 pub mod Events
 pub mod Masks
+pub mod ListedEvents
+pub mod AlarmCounters

@@ -3,7 +3,7 @@ use Rattle.std.specs.Prelude.{ℕ, Bool, true, false, not, ◌&&◌, ◌==◌, L
 use Rattle.std.specs.List.{list_any}
 use Rattle.std.specs.Str.{bytes_eq}
 use Rattle.oil_parse.specs.declared.tree.OilValue.{OilValue}
-use Rattle.oil_parse.specs.declared.tree.OilValue.TheVariants.{Number}
+use Rattle.oil_parse.specs.declared.tree.OilValue.TheVariants.{Word, Number}
 use Rattle.oil_parse.specs.declared.tree.OilAttr.{OilAttr}
 use Rattle.oil_parse.specs.declared.tree.OilObject.{OilObject}
 use Rattle.oil_table.specs.Table.{is_word}
@@ -50,6 +50,16 @@ is_declaration kind name object = bytes_eq object.kind kind && bytes_eq object.n
 -- an object of this kind and name
 abbrev pub is_declared : List OilObject → List ℕ → List ℕ → Bool
 is_declared objects kind name = list_any (is_declaration kind name) objects
+
+-- the first object of this kind that a value names
+abbrev pub object_of_value : List OilObject → List ℕ → OilValue → Option OilObject
+object_of_value objects kind (Word word) = find (is_declaration kind word) objects
+object_of_value objects kind _ = None
+
+-- the first object of this kind that an attribute names
+abbrev pub object_named : List OilObject → List ℕ → Option OilAttr → Option OilObject
+object_named objects kind None = None
+object_named objects kind (Some attr) = object_of_value objects kind attr.value
 
 -- an object of this kind
 abbrev pub is_of_kind : List ℕ → OilObject → Bool

@@ -3,7 +3,8 @@
 //! The rows: `place_of`, `attribute_of`, `is_single`, `allows`, `block_place` (`specs/Table`). What an object declares and what its attributes say:
 //! `first_use`, `first_number`, `declares`, `is_of_kind`, .. (`specs/Objects`). The limits: an object of a kind comes behind as many of it as there
 //! may be, or not (`comes_behind`, `is_clock_more`); a number in a block of an alarm lies outside the limits of its counter, or not (`is_beyond`,
-//! `specs/Beyond`). Trees: `oil_parse` (`Grammar`).
+//! `specs/Beyond`). The events that each task lists, and the limits of each counter, found by names: `TaskEvents` (`specs/ListedEvents`),
+//! `CounterLimits` (`specs/AlarmCounters`). Trees: `oil_parse` (`Grammar`).
 //!
 //! The events of an OIL tree, and their masks (OIL 2.5, section 3).
 //!
@@ -13,6 +14,7 @@
 #![tactic(auto)]
 
 pub mod alarm_limits;
+pub mod counter_limits;
 pub mod event_table;
 pub mod events;
 pub mod masks;
@@ -21,9 +23,11 @@ pub mod object_limits;
 pub mod objects;
 pub mod sets;
 pub mod table;
+pub mod task_events;
 pub mod uses;
 
 pub use alarm_limits::{Limits, is_beyond};
+pub use counter_limits::CounterLimits;
 pub use event_table::EventTable;
 pub use events::events_of;
 pub use masks::{event_mask, mask_of_value};
@@ -33,4 +37,5 @@ pub use objects::{
     number_of,
 };
 pub use table::{Attribute, Place, attribute_of, block_place, is_single, is_word};
+pub use task_events::{TaskEvents, event_word};
 pub use uses::{EarlierUses, is_second};

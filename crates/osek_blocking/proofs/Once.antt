@@ -259,12 +259,12 @@ module _ (config : Config) (app : App) (h : ℕ) (declared : h < length config.t
         by u k (inr n) = alone u (from_same u (f.moves.acts.calm u n) k)
 
     -- h is fresh still, or not any more
-    abbrev Goes : Event → (b further : ℕ) → Type 0
-    Goes e b further =
+    abbrev AloneBehind : Event → (b further : ℕ) → Type 0
+    AloneBehind e b further =
         ((is_in h next.fresh ≡ true) × (BlocksAlone config h next b × (behind_event config h e b further ≡ further)))
         ⊎ ((is_in h next.fresh ≡ false) × BlocksAlone config h next (behind_event config h e b further))
 
-    fresh_step : (e : Event) (b further : ℕ) → BlocksAlone config h s b → is_in h s.fresh ≡ true → Effect config s next e → Goes e b further
+    fresh_step : (e : Event) (b further : ℕ) → BlocksAlone config h s b → is_in h s.fresh ≡ true → Effect config s next e → AloneBehind e b further
     fresh_step (event.Admit t) b further alone is f = inl (f.fresh h ready ∙ is, (λ u k. alone u (from_same u (f.same u) k), refl))
     fresh_step (event.Enter t) b further alone is f = inr (none f.moves.acts.settles, λ u k. alone u (split [] t f.moves (entered t f) u k))
     fresh_step (event.Run t func item result) b further alone is f = inr (none f.moves.acts.settles, λ u k. alone u (works t f u k))

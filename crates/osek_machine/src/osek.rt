@@ -29,11 +29,9 @@ use sloth_base::memory::NoMemory;
 use sloth_base::numbers::TaskId;
 use std::alloc::Global;
 use std::marker::Model;
-use thiserror::Error;
 
 /// The event has no next state.
-#[derive(Clone, Copy, Debug, Error)]
-#[error("not a run")]
+#[derive(Clone, Copy)]
 pub struct NotARun;
 
 /// The abstract scheduler of a configuration and its task code. Contracts see these and the system as it stands.

@@ -1,7 +1,12 @@
 pub mod Tests
+pub mod Guards
+pub mod TaskEvents
 pub mod Next
 pub mod Leading
 pub mod Examples
+pub mod TaskExamples
+pub mod EventExamples
+pub mod AlarmExamples
 pub mod Outcomes
 pub mod Ticking
 pub mod SystemAfter

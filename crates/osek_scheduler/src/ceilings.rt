@@ -4,14 +4,14 @@ ghost use Rattle.osek_scheduler.specs.Priority.{ceiling, greatest, highest_prior
 ghost use Rattle.code_rules.specs.Code.{is_in};
 
 use sloth_base::config::{Config, TaskDecl};
-use sloth_base::numbers::{RES_SCHEDULER, ResId};
+use sloth_base::numbers::RES_SCHEDULER;
 
 // Whether a task lists a resource.
 fn lists(task: &TaskDecl, resource: u32) -> bool
     ensures { result ≡ is_in resource task.now.resources }
 {
     for other in task.resources.items() {
-        if *other == ResId(resource) {
+        if other.0 == resource {
             return true;
         }
     }

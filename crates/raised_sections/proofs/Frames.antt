@@ -156,13 +156,13 @@ module _ (c : ℕ) (s : System) where
     pub goes : served ≢ service.TerminateTask
 
   -- it leaves with no frames, or behind a WaitEvent
-  abbrev HasLeft : Service → Task → Type 0
-  HasLeft served new = (new.frames ≡ []) ⊎ ((new.frames ≡ moved_frames (task s c).frames) × (served ≡ service.WaitEvent))
+  abbrev DepartureFrames : Service → Task → Type 0
+  DepartureFrames served new = (new.frames ≡ []) ⊎ ((new.frames ≡ moved_frames (task s c).frames) × (served ≡ service.WaitEvent))
 
   pub record LeavesFrames (served : Service) (after : System) : Type 0 where
     pub others : KeepsOthers c s after
     pub gone : c < length s.tasks → (task after c).state ≢ mode.Active
-    pub frames : c < length s.tasks → HasLeft served (task after c)
+    pub frames : c < length s.tasks → DepartureFrames served (task after c)
     pub held : c < length s.tasks → (task after c).held ≡ (task s c).held
 
   abbrev pub Served : Service → ServiceOutcome → Type 0
@@ -170,7 +170,7 @@ module _ (c : ℕ) (s : System) where
   Served served (Leaves after) = LeavesFrames served after
 
   departure : (served : Service) (d : TaskChange) → is_departure served d ≡ true
-      → ((changed_task d (task s c)).state ≢ mode.Active) × HasLeft served (changed_task d (task s c)) × ((changed_task d (task s c)).held ≡ (task s c).held)
+      → ((changed_task d (task s c)).state ≢ mode.Active) × DepartureFrames served (changed_task d (task s c)) × ((changed_task d (task s c)).held ≡ (task s c).held)
   departure served change.End e = ((λ a. cc), inl refl, refl)
   departure served (change.Wait mask) e = ((λ a. cc), inr (refl, same_service served service.WaitEvent e), refl)
   departure served d e = absurd (false≢true e)
@@ -198,7 +198,7 @@ module _ (c : ℕ) (s : System) where
         held = λ lt. ((changed p).caller lt).held ∙ d.2;
       }
     where
-      left : (new k : Task) → k.frames ≡ new.frames → HasLeft served new → HasLeft served k
+      left : (new k : Task) → k.frames ≡ new.frames → DepartureFrames served new → DepartureFrames served k
       left new k is (inl none) = inl (is ∙ none)
       left new k is (inr waits) = inr (is ∙ waits.0, waits.1)
 

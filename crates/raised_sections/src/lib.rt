@@ -6,7 +6,8 @@
 //! (`runs_keep_bounds`). Where each event but the boot ends at most 200 counts behind the one before it (an `enter` or a `tick`: 40 and its
 //! own counts), at most 200 times the bound are spent on them (`runs_keep_counts`). Ways through task code: `specs/Walks`; priority along a
 //! walk, sections, bounds: `specs/Sections`; what a bound promises of events and of counts: `specs/Kept`, `specs/Spent`, `specs/Pace`,
-//! `specs/RunLaws`. Who blocks: `osek_blocking` (`Blocking`).
+//! `specs/RunLaws`. Which operation chains its own task: `chains_itself`. Who blocks: `osek_blocking` (`Blocking`).
 #![tactic(auto)]
 
+pub mod chaining;
 pub mod laws;

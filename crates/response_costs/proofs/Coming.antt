@@ -14,13 +14,13 @@ use Rattle.raised_sections.specs.Walks.{Position, place, IsWalk}
 use Rattle.raised_sections.specs.Sections.{held_list_along, operation_at}
 use Rattle.raised_sections.proofs.Reached.{IsReached, reached_next, reached_first}
 use Rattle.walk_sums.specs.Activations.{ceiling_before, ReachesItem, reaches_first, reaches_inside, reaches_behind}
-use Rattle.walk_sums.proofs.Standing.{AreCallers, Walked, walked_to}
+use Rattle.walk_sums.proofs.Callers.{AreCallers, Walked, walked_to}
 use Rattle.walk_sums.specs.declared.counted.Counted.{Counted}
 use Rattle.walk_sums.specs.Rounds.{Reaches}
 use Rattle.walk_sums.specs.Counted.{is_ending_counted}
 use Rattle.walk_sums.specs.Clears.{ReachesCounted}
 use Rattle.response_costs.specs.Tops.{ComesTo, comes_here, comes_called, IsTop}
-use Rattle.response_costs.proofs.Steps.{step_inside}
+use Rattle.walk_sums.proofs.PlainSteps.{step_inside}
 
 -- ---- ceilings
 

@@ -1,4 +1,3 @@
-mod Steps
 mod Members
 mod Coming
 pub mod Raised

@@ -6,10 +6,10 @@ ghost use Rattle.event_weights.specs.Items.{length_of, AreLengths};
 ghost use Rattle.walk_sums.specs.Weights.{AreWeights};
 ghost use Rattle.response_costs.specs.PathWeights.{going_path_of, leaving_path_of, ending_path_of, IsBodyOf, AreWeightsBy, ArePathWeights};
 
-use bound_rules::items::chains_itself;
 use bound_rules::weights::BodyWeights;
 use code_lengths::{leaving_path, served_path};
 use event_weights::{ItemLengths, length_of, lengths};
+use raised_sections::chaining::chains_itself;
 use sloth_base::app::{App, Func, Op};
 use sloth_base::list::List;
 use sloth_base::memory::NoMemory;

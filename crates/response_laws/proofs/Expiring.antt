@@ -38,13 +38,13 @@ abbrev expired : (c a : ℕ) → Stage → ℕ
 expired c a x = cond (at_tick c x) (cond ((alarm x.found a).left == 1) 1 0) 0
 
 -- so many expiries come within m ticks, from where the alarm stands so
-abbrev Fits : Alarm → (m e : ℕ) → Type 0
-Fits k m e = (e ≡ 0) ⊎ ((q : ℕ) × (e ≡ suc q) × (1 ≤ k.left) × (k.left + q * k.cycle ≤ m) × ((q ≡ 0) ⊎ (1 ≤ k.cycle)))
+abbrev FitsExpiries : Alarm → (m e : ℕ) → Type 0
+FitsExpiries k m e = (e ≡ 0) ⊎ ((q : ℕ) × (e ≡ suc q) × (1 ≤ k.left) × (k.left + q * k.cycle ≤ m) × ((q ≡ 0) ⊎ (1 ≤ k.cycle)))
 
-tick_fits : (k next : Alarm) (m e : ℕ) → next ≡ alarm_behind true k → Fits next m e → Fits k (1 + m) (cond (k.left == 1) 1 0 + e)
+tick_fits : (k next : Alarm) (m e : ℕ) → next ≡ alarm_behind true k → FitsExpiries next m e → FitsExpiries k (1 + m) (cond (k.left == 1) 1 0 + e)
 tick_fits k next m e is rest = by (k.left == 1) refl (ap (λ (z : Alarm). z.left) is) (ap (λ (z : Alarm). z.cycle) is) rest
   where
-    by : (b : Bool) → (k.left == 1) ≡ b → next.left ≡ cond b k.cycle (k.left - 1) → next.cycle ≡ k.cycle → Fits next m e → Fits k (1 + m) (cond b 1 0 + e)
+    by : (b : Bool) → (k.left == 1) ≡ b → next.left ≡ cond b k.cycle (k.left - 1) → next.cycle ≡ k.cycle → FitsExpiries next m e → FitsExpiries k (1 + m) (cond b 1 0 + e)
     by true one left cycle (inl none) =
         let here = eqb-true k.left 1 one in
         inr (0, (omega (arith, none)), (omega (arith, here)), (omega (arith, here)), inl refl)
@@ -62,7 +62,7 @@ tick_fits k next m e is rest = by (k.left == 1) refl (ap (λ (z : Alarm). z.left
         way (inl none) = inl none
         way (inr some) = inr (omega (arith, some, cycle))
 
-calm_fits : (k next : Alarm) (m e : ℕ) → (next ≡ k) ⊎ ((next.left ≡ 0) × (next.cycle ≡ k.cycle)) → Fits next m e → Fits k (0 + m) (0 + e)
+calm_fits : (k next : Alarm) (m e : ℕ) → (next ≡ k) ⊎ ((next.left ≡ 0) × (next.cycle ≡ k.cycle)) → FitsExpiries next m e → FitsExpiries k (0 + m) (0 + e)
 calm_fits k next m e which (inl none) = inl (omega (arith, none))
 calm_fits k next m e (inl same) (inr (q, some, ahead, fits, few)) =
     let P : Alarm → Type 0 = λ z. (1 ≤ z.left) × (z.left + q * z.cycle ≤ 0 + m) × ((q ≡ 0) ⊎ (1 ≤ z.cycle)) in
@@ -93,14 +93,14 @@ module _ (config : Config) (app : App) (a : ℕ) (inside : a < length config.ala
 
   module _ (unset : (f i : ℕ) → sets_alarm a (operation app f i) ≡ false) where
     fits_in : (at : ℕ) (s : System) (xs : List Stage) → Linked at s xs → AllByRecursion (Known config app) xs
-        → Fits (alarm s a) (count (at_tick decl.counter) xs) (total (expired decl.counter a) xs)
+        → FitsExpiries (alarm s a) (count (at_tick decl.counter) xs) (total (expired decl.counter a) xs)
     fits_in at s [] l k = inl refl
     fits_in at s (x ∷ xs) l k =
-        subst (λ (y : System). Fits (alarm y a) (count (at_tick decl.counter) (x ∷ xs)) (total (expired decl.counter a) (x ∷ xs))) l.1
+        subst (λ (y : System). FitsExpiries (alarm y a) (count (at_tick decl.counter) (x ∷ xs)) (total (expired decl.counter a) (x ∷ xs))) l.1
         (by (at_tick decl.counter x) refl (fits_in (end_of x) x.next xs l.2 k.1))
       where
-        by : (b : Bool) → at_tick decl.counter x ≡ b → Fits (alarm x.next a) (count (at_tick decl.counter) xs) (total (expired decl.counter a) xs)
-            → Fits (alarm x.found a) (cond b 1 0 + count (at_tick decl.counter) xs)
+        by : (b : Bool) → at_tick decl.counter x ≡ b → FitsExpiries (alarm x.next a) (count (at_tick decl.counter) xs) (total (expired decl.counter a) xs)
+            → FitsExpiries (alarm x.found a) (cond b 1 0 + count (at_tick decl.counter) xs)
             (cond b (cond ((alarm x.found a).left == 1) 1 0) 0 + total (expired decl.counter a) xs)
         by true is rest =
             tick_fits (alarm x.found a) (alarm x.next a) (count (at_tick decl.counter) xs) (total (expired decl.counter a) xs)
@@ -141,7 +141,7 @@ module _ (config : Config) (app : App) (a : ℕ) (inside : a < length config.ala
     stands_behind at s (x ∷ xs) l k h =
         stands_behind (end_of x) x.next xs l.2 k.1 (stands_on x.stamped.event x.found x.next k.0.step (subst Stands (sym l.1) h))
 
-    within : (boot : Bool) (s : System) (m most e : ℕ) → Stands s → (boot ≡ true → (alarm s a).left ≡ decl.time) → m ≤ most → Fits (alarm s a) m e
+    within : (boot : Bool) (s : System) (m most e : ℕ) → Stands s → (boot ≡ true → (alarm s a).left ≡ decl.time) → m ≤ most → FitsExpiries (alarm s a) m e
         → e ≤ cond (decl.time == 0) 0 (cond boot (booted_expiries decl.time decl.cycle most) (cyclic_expiries decl.cycle most))
     within boot s m most e stands first le (inl none) = omega (arith, none)
     within boot s m most e stands first le (inr (q, some, ahead, fits, which)) = by (decl.time == 0) refl
@@ -263,7 +263,7 @@ module _ (config : Config) (app : App) (boot : Bool) (is_set : ℕ → Bool) (ma
       by true is = let le = expired_few config app a inside c xs in let most_ticks = few in omega (arith, le, most_ticks)
       by false off =
           let unset = marks a off in
-          let P : ℕ → Type 0 = λ n. Fits (alarm (last_state (opening config app) before) a) (count (at_tick n) xs) (total (expired n a) xs) in
+          let P : ℕ → Type 0 = λ n. FitsExpiries (alarm (last_state (opening config app) before) a) (count (at_tick n) xs) (total (expired n a) xs) in
           within config app a inside unset boot (last_state (opening config app) before) (count (at_tick c) xs) most (total (expired c a) xs)
           (stands_behind config app a inside unset 0 (opening config app) before links_before known_before (opens config app a inside unset))
           (λ is.

@@ -32,7 +32,7 @@ use Rattle.sim_induction.proofs.Pacing.{last-append}
 use Rattle.run_counts.specs.EntryLatency.{is_tick, EntersBefore}
 use Rattle.run_counts.proofs.Awaiting.{Awaits, is_outside}
 use Rattle.run_counts.proofs.Waiting.{IsOnTheWay, on_the_way}
-use Rattle.run_counts.proofs.Entering.{stand_before, entry_facts, Entry, enters, enters_not, find_entry}
+use Rattle.run_counts.proofs.Entering.{stand_before, entry_facts, FirstEntry, enters, enters_not, find_entry}
 use Rattle.run_counts.specs.Spending.{NoneIsLower}
 use Rattle.run_counts.specs.Latency.{tick_weight, tick_weights, TakesWithin, IsEntryLimit, IsBehindBoot, RunsEnterByWeights}
 use Rattle.run_counts.proofs.Spending.{paced_behind, leads_behind}
@@ -202,7 +202,7 @@ enters_by_weights config app size longest n weights arrivals events wf run timed
         let small = few in
         omega (arith, le, small)
 
-    by : Entry h behind
+    by : FirstEntry h behind
         → EntersBefore h (made.stamp.at + (running + lower + (longest + entry) + tick_weights config longest (events_up_to_entry h behind))) behind
     by (enters e rest entered split) =
         let le = reach (e ∷ rest) split in

@@ -214,11 +214,11 @@ entry_facts h (event.Enter t) is = (refl, refl, refl)
 entry_facts h e is = absurd (false≢true is)
 
 -- the first entry of the events, or there is none
-pub data Entry (h : ℕ) (events : List Stamped) : Type 0 where
-  enters : (entry : Stamped) (rest : List Stamped) → is_entry_of h entry.event ≡ true → events ≡ events_up_to_entry h events ++ entry ∷ rest → Entry h events
-  enters_not : events_up_to_entry h events ≡ events → Entry h events
+pub data FirstEntry (h : ℕ) (events : List Stamped) : Type 0 where
+  enters : (entry : Stamped) (rest : List Stamped) → is_entry_of h entry.event ≡ true → events ≡ events_up_to_entry h events ++ entry ∷ rest → FirstEntry h events
+  enters_not : events_up_to_entry h events ≡ events → FirstEntry h events
 
-pub find_entry : (h : ℕ) (events : List Stamped) → Entry h events
+pub find_entry : (h : ℕ) (events : List Stamped) → FirstEntry h events
 find_entry h [] = enters_not refl
 find_entry h (e ∷ events) = by (cases_Bool (is_entry_of h e.event)) (find_entry h events)
   where
@@ -228,7 +228,7 @@ find_entry h (e ∷ events) = by (cases_Bool (is_entry_of h e.event)) (find_entr
     on : is_entry_of h e.event ≡ false → events_up_to_entry h (e ∷ events) ≡ e ∷ events_up_to_entry h events
     on other = cond-false (is_entry_of h e.event) [] (e ∷ events_up_to_entry h events) other
 
-    by : (is_entry_of h e.event ≡ true) ⊎ (is_entry_of h e.event ≡ false) → Entry h events → Entry h (e ∷ events)
+    by : (is_entry_of h e.event ≡ true) ⊎ (is_entry_of h e.event ≡ false) → FirstEntry h events → FirstEntry h (e ∷ events)
     by (inl is) further = enters e events is (sym (ap (λ front. front ++ e ∷ events) (here is)))
     by (inr other) (enters entry rest is at) = enters entry rest is (ap (λ es. e ∷ es) at ∙ sym (ap (λ front. front ++ entry ∷ rest) (on other)))
     by (inr other) (enters_not all) = enters_not (on other ∙ ap (λ es. e ∷ es) all)
@@ -304,7 +304,7 @@ module _ (config : Config) (app : App) (n : ℕ) (events : List Stamped) (code :
           let few = subst (λ es. waiting es ≤ b) front most in
           omega (arith, le, few)
 
-      by : Entry h behind → EntersBefore h (made.stamp.at + latency_with_ticks config h b made.stamp.at before behind) behind
+      by : FirstEntry h behind → EntersBefore h (made.stamp.at + latency_with_ticks config h b made.stamp.at before behind) behind
       by (enters entry rest entered split) =
           let le = reach (events_up_to_entry h behind) (entry ∷ rest) split refl in
           let p = behind_paced at (events_up_to_entry h behind) (entry ∷ rest) (subst (IsPaced at) split pace) in

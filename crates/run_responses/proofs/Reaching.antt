@@ -20,7 +20,7 @@ use Rattle.osek_scheduler.proofs.Stacks.{has_body, calls_reach}
 use Rattle.raised_sections.specs.Walks.{Position, first_position, AreConsecutive, IsWalk}
 use Rattle.raised_sections.specs.Sections.{operation_at}
 use Rattle.walk_sums.specs.Activations.{reaches_first}
-use Rattle.walk_sums.proofs.Standing.{AreCallers, Walked, stands_on}
+use Rattle.walk_sums.proofs.Callers.{AreCallers, Walked, stands_on}
 use Rattle.walk_sums.specs.Rounds.{Reaches, is_wait}
 
 module _ (config : Config) (app : App) (w : Facts config app) (t : ℕ) (declared : t < length config.tasks) where

@@ -1,7 +1,7 @@
 //! Why the machine stops.
 
 /// Why an instruction isn't executed.
-#[derive(Clone, Copy, Debug)]
+#[derive(Clone, Copy)]
 pub enum Stop {
     /// pc isn't in RAM: its value.
     Fetch(u32),

@@ -5,11 +5,11 @@ use Rattle.sloth_base.specs.declared.image.Image.{Image}
 use Rattle.sloth_base.specs.Machine.{State}
 use Rattle.sloth_base.specs.Owners.{counter_line}
 use Rattle.sloth_runner.specs.TaskStates.{task_levels}
-use Rattle.sloth_runner.specs.declared.admissions.Admission.{Admission}
-use Rattle.sloth_runner.specs.declared.samples.Sample.{Sample}
-use Rattle.sloth_runner.specs.Admissions.{run_admissions}
-use Rattle.sloth_runner.specs.Samples.{AreSampledLevels}
-use Rattle.sloth_runner.proofs.OneSample.{one-samples}
+use Rattle.run_samples.specs.declared.admissions.Admission.{Admission}
+use Rattle.run_samples.specs.declared.samples.Sample.{Sample}
+use Rattle.run_samples.specs.Admissions.{run_admissions}
+use Rattle.run_samples.specs.Samples.{AreSampledLevels}
+use Rattle.run_samples.proofs.OneSample.{one-samples}
 use Rattle.lane_drawing.specs.declared.bars.Bar.{Bar}
 use Rattle.lane_drawing.specs.declared.scale.Scale.{Scale}
 use Rattle.lane_drawing.specs.Bars.{AreBars}

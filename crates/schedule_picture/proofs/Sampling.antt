@@ -14,19 +14,19 @@ use Rattle.sloth_runner.specs.Moments.{sloth_state}
 use Rattle.sloth_runner.specs.declared.machine_states.Seen.{Seen}
 use Rattle.sloth_runner.specs.declared.runner.Halt.{Halt}
 use Rattle.sloth_runner.specs.declared.runner.RunEnd.TheVariants as ends
-use Rattle.sloth_runner.specs.declared.admissions.Admission.{Admission}
-use Rattle.sloth_runner.specs.declared.samples.Sample.{Sample}
-use Rattle.sloth_runner.specs.declared.samples.Sampler.{Sampler}
-use Rattle.sloth_runner.specs.Admissions.{Notes, no_notes, run_admissions, with_accesses, with_sample, settled}
-use Rattle.sloth_runner.specs.Samples.{AreSampledLevels, IsSample, IsSampling, StopsAt, no_sample, seen_behind, sampled_image, sampled_arrivals, sampled_count}
+use Rattle.run_samples.specs.declared.admissions.Admission.{Admission}
+use Rattle.run_samples.specs.declared.samples.Sample.{Sample}
+use Rattle.run_samples.specs.declared.samples.Sampler.{Sampler}
+use Rattle.run_samples.specs.Admissions.{Notes, no_notes, run_admissions, with_accesses, with_sample, settled}
+use Rattle.run_samples.specs.Samples.{AreSampledLevels, IsSample, IsSampling, StopsAt, no_sample, seen_behind, sampled_image, sampled_arrivals, sampled_count}
 use Rattle.sloth_inspect.specs.declared.service_words.ServiceWords.{ServiceWords}
-use Rattle.sloth_runner.specs.Addresses.{address_behind}
-use Rattle.sloth_runner.specs.ServiceWords.{words_behind}
-use Rattle.sloth_runner.proofs.Noted.{found_at, notes_none, notes_more}
+use Rattle.run_samples.specs.Addresses.{address_behind}
+use Rattle.run_samples.specs.ServiceWords.{words_behind}
+use Rattle.run_samples.proofs.Noted.{found_at, notes_none, notes_more}
 use Rattle.schedule_picture.specs.Marks.{Watch, no_watch, watched, run_marks}
 use Rattle.schedule_picture.specs.declared.marks.Mark.{Mark}
 use Rattle.schedule_picture.proofs.Watched.{watch_none, watch_more, addresses_counted}
-use Rattle.sloth_runner.proofs.OneSample.{samples-more}
+use Rattle.run_samples.proofs.OneSample.{samples-more}
 use Rattle.lane_drawing.specs.declared.bars.Bar.{Bar}
 use Rattle.lane_drawing.specs.declared.bars.Look.{Look}
 use Rattle.lane_drawing.specs.declared.scale.Scale.{Scale}

@@ -2,9 +2,9 @@
 use Rattle.std.specs.Prelude.{ℕ, ◌≡◌, ◌≤◌, ◌+◌, ◌-◌, List, length, get_or}
 use Rattle.sloth_base.specs.declared.event.Arrival.{Arrival}
 use Rattle.sloth_base.specs.declared.image.Image.{Image}
-use Rattle.sloth_runner.specs.declared.samples.Sample.{Sample}
-use Rattle.sloth_runner.specs.declared.samples.Sampler.{Sampler}
-use Rattle.sloth_runner.specs.Admissions.{Notes, run_notes}
+use Rattle.run_samples.specs.declared.samples.Sample.{Sample}
+use Rattle.run_samples.specs.declared.samples.Sampler.{Sampler}
+use Rattle.run_samples.specs.Admissions.{Notes, run_notes}
 use Rattle.schedule_picture.specs.Marks.{Watch, run_watch}
 use Rattle.lane_drawing.specs.Strips.{Lane, IsStrip, empty_lane}
 use Rattle.schedule_picture.specs.LaneLooks.{owned_lanes, look_of}

@@ -13,14 +13,14 @@ use Rattle.rv32_machine.specs.Start.{start}
 use Rattle.rv32_machine.specs.Run.{state_after}
 use Rattle.observe.proofs.Moments.{moments-none}
 use Rattle.sim_induction.proofs.Schedule.{moments-split}
-use Rattle.sloth_runner.specs.Accesses.{arrival_kind, arrival_access, arrival_accesses, accesses_at, access_of, can_raise, code_access, fetched, stored_line_of}
-use Rattle.sloth_runner.specs.Admissions.{Notes, no_notes, is_by_code, admission_of, admissions_of, with_accesses, with_code, with_sample, settled, run_notes, run_admissions}
-use Rattle.sloth_runner.specs.Samples.{IsSample, AreSamples, no_sample, seen_behind}
-use Rattle.sloth_runner.specs.declared.accesses.Access.{Access}
-use Rattle.sloth_runner.specs.declared.admissions.Admission.{Admission}
+use Rattle.run_samples.specs.Accesses.{arrival_kind, arrival_access, arrival_accesses, accesses_at, access_of, can_raise, code_access, fetched, stored_line_of}
+use Rattle.run_samples.specs.Admissions.{Notes, no_notes, is_by_code, admission_of, admissions_of, with_accesses, with_code, with_sample, settled, run_notes, run_admissions}
+use Rattle.run_samples.specs.Samples.{IsSample, AreSamples, no_sample, seen_behind}
+use Rattle.run_samples.specs.declared.accesses.Access.{Access}
+use Rattle.run_samples.specs.declared.admissions.Admission.{Admission}
 use Rattle.sloth_runner.specs.declared.machine_states.Seen.{Seen}
-use Rattle.sloth_runner.specs.declared.samples.Sample.{Sample}
-use Rattle.sloth_runner.proofs.Noted.{found_at}
+use Rattle.run_samples.specs.declared.samples.Sample.{Sample}
+use Rattle.run_samples.proofs.Noted.{found_at}
 
 -- the arrivals of which it is told what became of them
 abbrev told_of : List Admission → List Arrival

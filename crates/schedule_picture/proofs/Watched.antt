@@ -5,11 +5,11 @@ use Rattle.std.proofs.Math.Seq.{get_or-append_seam}
 use Rattle.sloth_base.specs.declared.event.Arrival.{Arrival}
 use Rattle.sloth_base.specs.declared.image.Image.{Image}
 use Rattle.sloth_inspect.specs.declared.service_words.ServiceWords.{ServiceWords}
-use Rattle.sloth_runner.specs.declared.samples.Sample.{Sample}
-use Rattle.sloth_runner.specs.declared.samples.Sampler.{Sampler}
-use Rattle.sloth_runner.specs.Samples.{no_sample, sampled_image, sampled_arrivals, sampled_count}
-use Rattle.sloth_runner.specs.Addresses.{address_behind}
-use Rattle.sloth_runner.specs.ServiceWords.{words_behind}
+use Rattle.run_samples.specs.declared.samples.Sample.{Sample}
+use Rattle.run_samples.specs.declared.samples.Sampler.{Sampler}
+use Rattle.run_samples.specs.Samples.{no_sample, sampled_image, sampled_arrivals, sampled_count}
+use Rattle.run_samples.specs.Addresses.{address_behind}
+use Rattle.run_samples.specs.ServiceWords.{words_behind}
 use Rattle.schedule_picture.specs.Marks.{Watch, no_watch, watched, run_watch}
 
 -- the ticks that alarms have left at a count

@@ -5,8 +5,8 @@ use Rattle.sloth_base.specs.Options.{is_number}
 use Rattle.sloth_base.specs.Owners.{counter_line}
 use Rattle.osek_scheduler.specs.declared.state.TaskState.TheVariants as mode
 use Rattle.sloth_runner.specs.declared.machine_states.Seen.{Seen}
-use Rattle.sloth_runner.specs.declared.samples.Sample.{Sample}
-use Rattle.sloth_runner.specs.Samples.{no_sample}
+use Rattle.run_samples.specs.declared.samples.Sample.{Sample}
+use Rattle.run_samples.specs.Samples.{no_sample}
 use Rattle.lane_drawing.specs.declared.bars.Look.{Look}
 use Rattle.lane_drawing.specs.declared.bars.Look.TheVariants as look
 use Rattle.lane_drawing.specs.TaskLooks.{task_look}

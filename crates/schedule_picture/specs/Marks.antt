@@ -7,11 +7,11 @@ use Rattle.sloth_base.specs.declared.image.Image.{Image}
 use Rattle.osek_scheduler.specs.declared.state.TaskState.{TaskState}
 use Rattle.osek_scheduler.specs.declared.state.TaskState.TheVariants as mode
 use Rattle.lane_drawing.specs.Signs.{is_woken, is_over}
-use Rattle.sloth_runner.specs.Addresses.{address_behind}
-use Rattle.sloth_runner.specs.Samples.{no_sample}
-use Rattle.sloth_runner.specs.ServiceWords.{words_behind}
+use Rattle.run_samples.specs.Addresses.{address_behind}
+use Rattle.run_samples.specs.Samples.{no_sample}
+use Rattle.run_samples.specs.ServiceWords.{words_behind}
 use Rattle.sloth_runner.specs.declared.machine_states.Seen.{Seen}
-use Rattle.sloth_runner.specs.declared.samples.Sample.{Sample}
+use Rattle.run_samples.specs.declared.samples.Sample.{Sample}
 use Rattle.schedule_picture.specs.declared.marks.Actor.{Actor}
 use Rattle.schedule_picture.specs.declared.marks.Actor.TheVariants as actor
 use Rattle.schedule_picture.specs.declared.marks.Mark.{Mark}

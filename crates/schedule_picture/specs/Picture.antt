@@ -5,8 +5,8 @@ use Rattle.sloth_base.specs.declared.event.Arrival.{Arrival}
 use Rattle.sloth_base.specs.declared.image.Image.{Image}
 use Rattle.sloth_runner.specs.declared.runner.RunEnd.TheVariants as ends
 use Rattle.sloth_runner.specs.Runner.{run_end}
-use Rattle.sloth_runner.specs.declared.samples.Sample.{Sample}
-use Rattle.sloth_runner.specs.Samples.{AreSampledLevels, AreSamples}
+use Rattle.run_samples.specs.declared.samples.Sample.{Sample}
+use Rattle.run_samples.specs.Samples.{AreSampledLevels, AreSamples}
 use Rattle.lane_drawing.specs.declared.bars.Bar.{Bar}
 use Rattle.schedule_picture.specs.declared.picture.Picture.{Picture}
 use Rattle.schedule_picture.specs.declared.picture.Picture.TheVariants as picture
@@ -16,8 +16,8 @@ use Rattle.schedule_picture.specs.LaneLooks.{owned_lanes, look_of}
 use Rattle.lane_drawing.specs.declared.scale.Scale.{Scale}
 use Rattle.lane_drawing.specs.Drawing.{left_margin, head_line, style_lines, axis_lines, lane_line, bar_line, row_middle, is_above, legend_lines}
 use Rattle.lane_drawing.specs.Arrivals.{arrival_line}
-use Rattle.sloth_runner.specs.declared.admissions.Admission.{Admission}
-use Rattle.sloth_runner.specs.Admissions.{run_admissions}
+use Rattle.run_samples.specs.declared.admissions.Admission.{Admission}
+use Rattle.run_samples.specs.Admissions.{run_admissions}
 use Rattle.lane_drawing.specs.Marks.{wake_line, expiry_line}
 use Rattle.schedule_picture.specs.Items.{bar_words}
 use Rattle.schedule_picture.specs.Marks.{run_marks, run_addresses}

@@ -5,11 +5,11 @@ use Rattle.sloth_base.specs.declared.image.Image.{Image}
 use Rattle.sloth_runner.specs.Runner.{run_end}
 use Rattle.sloth_runner.specs.declared.runner.Halt.{Halt}
 use Rattle.sloth_runner.specs.declared.runner.RunEnd.TheVariants as ends
-use Rattle.sloth_runner.specs.declared.admissions.Admission.{Admission}
-use Rattle.sloth_runner.specs.declared.samples.Sample.{Sample}
-use Rattle.sloth_runner.specs.declared.samples.Sampler.{Sampler}
-use Rattle.sloth_runner.specs.Samples.{AreSamples, IsSampling, sampled_image, sampled_arrivals, sampled_count}
-use Rattle.sloth_runner.specs.Admissions.{run_admissions}
+use Rattle.run_samples.specs.declared.admissions.Admission.{Admission}
+use Rattle.run_samples.specs.declared.samples.Sample.{Sample}
+use Rattle.run_samples.specs.declared.samples.Sampler.{Sampler}
+use Rattle.run_samples.specs.Samples.{AreSamples, IsSampling, sampled_image, sampled_arrivals, sampled_count}
+use Rattle.run_samples.specs.Admissions.{run_admissions}
 use Rattle.schedule_picture.specs.Marks.{run_marks, run_addresses}
 use Rattle.schedule_picture.specs.declared.marks.Mark.{Mark}
 use Rattle.lane_drawing.specs.Bars.{AreBars}

@@ -6,8 +6,8 @@ ghost use Rattle.lane_drawing.specs.Scale.{IsScale};
 ghost use Rattle.schedule_picture.specs.Picture.{admission_line, is_shown, shown_arrivals};
 
 use lane_drawing::{Scale, arrival_line};
+use run_samples::Admission;
 use sloth_base::memory::NoMemory;
-use sloth_runner::Admission;
 
 // Whether an arrival is of a line, in the counts of a picture.
 fn is_shown(scale: Scale, line: u8, admission: &Admission) -> bool

@@ -3,7 +3,7 @@ ghost use Rattle.std.specs.Prelude.{◌≡◌, ◌≤◌, ◌+◌, ◌-◌, ◌+
 ghost use Rattle.sloth_base.specs.ImageRange.{InFormat, AreAscending};
 ghost use Rattle.lane_drawing.specs.Bars.{IsBarInside};
 ghost use Rattle.trace_text.specs.Listing.{mark_on};
-ghost use Rattle.schedule_picture.specs.Items.{is_item, item_mark, item_at, first_item, last_item, first_words, last_words, items_words, is_running, bar_words};
+ghost use Rattle.schedule_picture.specs.Items.{is_item, item_mark, item_at, first_item, last_item, first_item_words, last_item_words, items_words, is_running, bar_words};
 
 use lane_drawing::{Bar, Look, Scale};
 use sloth_base::image::{Image, Mark, MarkKind};
@@ -91,7 +91,7 @@ fn last_item(image: &Image, addresses: &[u32], from: usize, to: usize) -> Option
 fn push_first(line: &mut LineText, image: &Image, mark: &Option<Mark>)
     requires format { InFormat image.now }
     requires room { length line.old ≤ 100 }
-    ensures words { line.new ≡ line.old ++ first_words image.now.funcs mark.now }
+    ensures words { line.new ≡ line.old ++ first_item_words image.now.funcs mark.now }
     ensures short { length line.new ≤ length line.old + 85 }
 {
     if let Some(mark) = mark {
@@ -104,7 +104,7 @@ fn push_first(line: &mut LineText, image: &Image, mark: &Option<Mark>)
 fn push_last(line: &mut LineText, image: &Image, mark: &Option<Mark>)
     requires format { InFormat image.now }
     requires room { length line.old ≤ 100 }
-    ensures { line.new ≡ line.old ++ last_words image.now.funcs mark.now }
+    ensures { line.new ≡ line.old ++ last_item_words image.now.funcs mark.now }
 {
     if let Some(mark) = mark {
         line.push(b" to");

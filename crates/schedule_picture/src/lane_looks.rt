@@ -5,8 +5,8 @@ ghost use Rattle.schedule_picture.specs.LaneLooks.{is_kernel, is_tick, state_loo
 
 use lane_drawing::Look;
 use lane_drawing::task_looks::task_look;
+use run_samples::Sample;
 use sloth_base::lines::FIRST_COUNTER_LINE;
-use sloth_runner::Sample;
 use sloth_runner::task_states::Seen;
 
 fn is_kernel(sample: &Sample) -> bool

@@ -3,10 +3,10 @@ ghost use Rattle.std.specs.Prelude.{ℕ, ◌≡◌, ◌≤◌, ◌+◌, List, le
 ghost use Rattle.sloth_base.specs.Arrivals.{AreRisingMoments, moments};
 ghost use Rattle.sloth_base.specs.declared.event.Arrival.{Arrival};
 ghost use Rattle.sloth_base.specs.declared.image.Image.{Image};
-ghost use Rattle.sloth_runner.specs.Admissions.{run_admissions};
-ghost use Rattle.sloth_runner.specs.Samples.{AreSamples};
-ghost use Rattle.sloth_runner.specs.declared.admissions.Admission.{Admission};
-ghost use Rattle.sloth_runner.specs.declared.samples.Sample.{Sample};
+ghost use Rattle.run_samples.specs.Admissions.{run_admissions};
+ghost use Rattle.run_samples.specs.Samples.{AreSamples};
+ghost use Rattle.run_samples.specs.declared.admissions.Admission.{Admission};
+ghost use Rattle.run_samples.specs.declared.samples.Sample.{Sample};
 
 /// Of each arrival of the counts of a run, and of no other, it is told once whether it is kept or lost, in their order.
 pub fn arrivals_are_told_once()

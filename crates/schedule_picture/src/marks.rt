@@ -6,11 +6,11 @@ ghost use Rattle.schedule_picture.specs.declared.marks.Sign.TheVariants.{Wakes, 
 ghost use Rattle.schedule_picture.specs.Marks.{is_task_woken, actor_of, wakes, wakes_by, is_alarm_over, ticking, expiries, expiries_at, marks_when_open, marks_when_masked, marks_at, no_watch, watched};
 
 use lane_drawing::signs::{is_over, is_woken};
+use run_samples::Sample;
 use sloth_base::limits::{ALARM_LIMIT, TASK_LIMIT};
 use sloth_base::lines::FIRST_COUNTER_LINE;
 use sloth_base::memory::NoMemory;
 use sloth_base::numbers::Line;
-use sloth_runner::Sample;
 use sloth_runner::task_states::Seen;
 use std::alloc::Global;
 use std::marker::Model;

@@ -4,8 +4,8 @@ ghost use Rattle.sloth_base.specs.ImageRange.{InFormat};
 ghost use Rattle.sloth_base.specs.Arrivals.{AreArrivals};
 ghost use Rattle.sloth_base.specs.Owners.{owners_named};
 ghost use Rattle.sloth_base.specs.Limits.{task_limit, counter_limit, count_limit, picture_limit};
-ghost use Rattle.sloth_runner.specs.Samples.{IsSampling, sampled_image, sampled_arrivals, sampled_count};
-ghost use Rattle.sloth_runner.specs.Admissions.{no_notes, with_sample};
+ghost use Rattle.run_samples.specs.Samples.{IsSampling, sampled_image, sampled_arrivals, sampled_count};
+ghost use Rattle.run_samples.specs.Admissions.{no_notes, with_sample};
 ghost use Rattle.schedule_picture.specs.Marks.{no_watch, watched};
 ghost use Rattle.lane_drawing.specs.Strips.{IsFreshStrip, ShowsMore, empty_lane};
 ghost use Rattle.schedule_picture.specs.LaneLooks.{lane_look};
@@ -17,11 +17,11 @@ use crate::lanes::{close, empty_strips, show};
 use crate::marks::Watching;
 use crate::text::{Drawn, scale_of, text_of};
 use lane_drawing::Strip;
+use run_samples::{Noting, Sample, Sampler, ServiceWords};
 use sloth_base::event::Arrival;
 use sloth_base::image::Image;
 use sloth_base::memory::NoMemory;
 use sloth_runner::runner::Halt;
-use sloth_runner::{Noting, Sample, Sampler, ServiceWords};
 use std::alloc::Global;
 
 /// The picture of a part of a run, or where and why the run stops in front of its last count.

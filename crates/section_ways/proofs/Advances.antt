@@ -13,10 +13,11 @@ use Rattle.raised_sections.specs.Sections.{priority_at, operation_at, is_schedul
 use Rattle.raised_sections.proofs.Reached.{IsReached}
 use Rattle.walk_sums.specs.Activations.{ceiling_before, is_plain, ReachesItem}
 use Rattle.walk_sums.proofs.LevelsAt.{raised_at_is}
-use Rattle.section_ways.specs.declared.points.Point.{Point}
-use Rattle.section_ways.specs.declared.steps.Standing.{Standing}
-use Rattle.section_ways.specs.SectionWays.{place_of}
-use Rattle.section_ways.specs.Standings.{is_raised_at, position_of, AreTold, IsStart, IsAdvance, IsRaisedAt, IsSectionStep}
+use Rattle.walk_sums.specs.declared.standing.Point.{Point}
+use Rattle.walk_sums.specs.declared.standing.Standing.{Standing}
+use Rattle.walk_sums.specs.Positions.{place_of}
+use Rattle.section_ways.specs.Standings.{is_raised_at, AreTold, IsStart, IsAdvance, IsRaisedAt, IsSectionStep}
+use Rattle.walk_sums.specs.Positions.{position_of}
 use Rattle.section_ways.proofs.Stacks.{position_more, told_more, told_less}
 use Rattle.section_ways.proofs.Walks.{step_inside, walk_called, walk_body}
 

@@ -1,5 +1,5 @@
 -- Ways that end at the position at which they begin, and where the lower task is raised wherever it stands.
-use Rattle.std.proofs.Common.{◌≡◌, ℕ, zero, suc, ◌+◌, ◌≤◌, ◌<◌, inl, leb, max, Bool, true, false, cond, List, [], ◌∷◌, ◌++◌, length, get_or, refl, sym, ap, ◌∙◌, subst, arith}
+use Rattle.std.proofs.Common.{◌≡◌, ℕ, zero, suc, ◌+◌, ◌≤◌, ◌<◌, inl, leb, max, Bool, true, false, cond, List, [], ◌∷◌, ◌++◌, length, refl, sym, ap, ◌∙◌, subst, arith}
 use Rattle.std.proofs.lemmas.Bool.{le-leb, lt-leb}
 use Rattle.sloth_base.specs.declared.config.Config.{Config}
 use Rattle.sloth_base.specs.declared.app.App.{App}
@@ -9,27 +9,12 @@ use Rattle.osek_scheduler.specs.Apart.{static_priority}
 use Rattle.osek_scheduler.proofs.Excluding.{below_ceiling}
 use Rattle.raised_sections.specs.Walks.{Position}
 use Rattle.raised_sections.specs.Sections.{IsLower, IsSection}
-use Rattle.section_ways.specs.declared.points.Point.{Point}
-use Rattle.section_ways.specs.declared.steps.Standing.{Standing}
-use Rattle.section_ways.specs.SectionWays.{place_of, StandAt, IsSectionWay, IsCycleWay}
-use Rattle.section_ways.specs.Standings.{is_raised_at, position_on, position_of, IsStart, last_of, IsStretch, IsClosedWay}
+use Rattle.walk_sums.specs.declared.standing.Point.{Point}
+use Rattle.walk_sums.specs.declared.standing.Standing.{Standing}
+use Rattle.section_ways.specs.SectionWays.{StandAt, IsSectionWay, IsCycleWay}
+use Rattle.section_ways.specs.Standings.{is_raised_at, IsStart, last_of, IsStretch, IsClosedWay}
+use Rattle.walk_sums.specs.Positions.{position_of}
 use Rattle.section_ways.proofs.Stretches.{section_of}
-
--- ---- positions
-
-same_on : (outer : Position) (a b : List Standing) (d : Standing) → length a ≡ length b
-    → ((k : ℕ) → k < length a → (get_or a k d).point ≡ (get_or b k d).point) → position_on outer a ≡ position_on outer b
-same_on outer [] [] d e same = refl
-same_on outer [] (y ∷ ys) d e same = absurd (omega (arith, e))
-same_on outer (x ∷ xs) [] d e same = absurd (omega (arith, e))
-same_on outer (x ∷ xs) (y ∷ ys) d e same =
-    ap (λ p. position_on (place_of p ∷ outer) xs) (same 0 (omega arith))
-    ∙ same_on (place_of y.point ∷ outer) xs ys d (omega (arith, e)) (λ k lt. same (suc k) (omega (arith, lt)))
-
--- stacks of the same points have one position
-pub same_position : (a b : List Standing) (d : Standing) → length a ≡ length b
-    → ((k : ℕ) → k < length a → (get_or a k d).point ≡ (get_or b k d).point) → position_of a ≡ position_of b
-same_position a b d e same = same_on [] a b d e same
 
 -- ---- points of positions
 

@@ -3,9 +3,10 @@ use Rattle.std.proofs.Common.{◌≡◌, ℕ, ◌||◌, leb, Bool, List, [], ◌
 use Rattle.sloth_base.specs.declared.config.Config.{Config}
 use Rattle.sloth_base.specs.declared.app.App.{App}
 use Rattle.raised_sections.specs.Walks.{Position}
-use Rattle.section_ways.specs.declared.steps.Standing.{Standing}
-use Rattle.section_ways.specs.SectionWays.{place_of}
-use Rattle.section_ways.specs.Standings.{is_raised_at, position_on, AreToldOn}
+use Rattle.walk_sums.specs.declared.standing.Standing.{Standing}
+use Rattle.walk_sums.specs.Positions.{place_of}
+use Rattle.section_ways.specs.Standings.{is_raised_at, AreToldOn}
+use Rattle.walk_sums.specs.Positions.{position_on}
 
 -- the position of a stack with one more function
 pub position_more : (outer : Position) (stack : List Standing) (s : Standing) → position_on outer (stack ++ s ∷ []) ≡ place_of s.point ∷ position_on outer stack

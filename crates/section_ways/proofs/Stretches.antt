@@ -9,10 +9,12 @@ use Rattle.osek_scheduler.specs.Apart.{static_priority}
 use Rattle.raised_sections.specs.Walks.{Position, IsPositionStep, AreConsecutive, IsWalk}
 use Rattle.raised_sections.specs.Sections.{priority_at, operation_at, is_schedule, is_counted, OnlyLastSchedules, IsSection, size_of_section}
 use Rattle.raised_sections.proofs.Reached.{walk_on}
-use Rattle.section_ways.specs.declared.points.Point.{Point}
-use Rattle.section_ways.specs.declared.steps.Standing.{Standing}
-use Rattle.section_ways.specs.SectionWays.{place_of, no_point, StandAt}
-use Rattle.section_ways.specs.Standings.{position_of, AreTold, IsStart, IsRaisedAt, IsSectionStep, last_of, IsStretch}
+use Rattle.walk_sums.specs.declared.standing.Point.{Point}
+use Rattle.walk_sums.specs.declared.standing.Standing.{Standing}
+use Rattle.section_ways.specs.SectionWays.{StandAt}
+use Rattle.walk_sums.specs.Positions.{place_of, no_point}
+use Rattle.section_ways.specs.Standings.{AreTold, IsStart, IsRaisedAt, IsSectionStep, last_of, IsStretch}
+use Rattle.walk_sums.specs.Positions.{position_of}
 
 some_there : (x : Position) (xs : List Position) → x ∷ xs ≢ []
 some_there x xs = λ e. cc

@@ -1,31 +1,14 @@
 -- Walks inside functions, and into calls.
-use Rattle.std.proofs.Common.{◌≡◌, ℕ, ◌+◌, ◌<◌, true, false, List, [], ◌∷◌, ◌++◌, refl, sym, ap, ◌∙◌, subst}
+use Rattle.std.proofs.Common.{◌≡◌, ℕ, ◌+◌, true, false, [], ◌∷◌, refl, ap, ◌∙◌}
 use Rattle.sloth_base.specs.declared.app.App.{App}
 use Rattle.sloth_base.specs.declared.app.Op.{Op}
 use Rattle.sloth_base.specs.declared.app.Op.TheVariants as op
 use Rattle.sloth_base.specs.Named.{function, operation, body_of}
 use Rattle.code_rules.specs.Code.{IsItem, IsPathStep}
-use Rattle.raised_sections.specs.Walks.{Position, place, GoesOnInside, LeadsTo, IsPositionStep, chains_itself}
+use Rattle.raised_sections.specs.Walks.{Position, place, IsPositionStep, chains_itself}
 use Rattle.raised_sections.proofs.Reached.{IsReached, reached_next, reached_first}
-use Rattle.walk_sums.specs.Activations.{is_plain, IsInnerStep, ReachesItem, reaches_first, reaches_inside, reaches_behind}
-
--- a plain operation leads to where a path of its function goes on
-pub plain_leads : (app : App) (o : Op) (f i : ℕ) (outer next : Position) → is_plain o ≡ true → GoesOnInside app f i outer next → LeadsTo app o f i outer next
-plain_leads app (op.Invoke g) f i outer next p l = absurd cc
-plain_leads app op.Return f i outer next p l = absurd cc
-plain_leads app (op.Alu kind rd a b) f i outer next p l = l
-plain_leads app (op.AluImm kind rd a n) f i outer next p l = l
-plain_leads app (op.Lui rd n) f i outer next p l = l
-plain_leads app (op.Li rd v) f i outer next p l = l
-plain_leads app (op.FrameLoad rd word) f i outer next p l = l
-plain_leads app (op.FrameStore rs word) f i outer next p l = l
-plain_leads app (op.Load w rd y offset) f i outer next p l = l
-plain_leads app (op.Store w rs y offset) f i outer next p l = l
-plain_leads app (op.LoadAt w rd y index mask) f i outer next p l = l
-plain_leads app (op.StoreAt w rs y index mask) f i outer next p l = l
-plain_leads app (op.Branch kind a b k) f i outer next p l = l
-plain_leads app (op.Jump k) f i outer next p l = l
-plain_leads app (op.Serve call) f i outer next p l = l
+use Rattle.walk_sums.proofs.PlainSteps.{plain_leads}
+use Rattle.walk_sums.specs.Activations.{is_plain, ReachesItem, reaches_first, reaches_inside, reaches_behind}
 
 module _ (app : App) where
   -- one step inside a function

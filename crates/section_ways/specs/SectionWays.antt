@@ -2,17 +2,10 @@
 use Rattle.std.specs.Prelude.{ℕ, ◌≡◌, List, [], ◌∷◌, ◌++◌, length}
 use Rattle.sloth_base.specs.declared.config.Config.{Config}
 use Rattle.sloth_base.specs.declared.app.App.{App}
-use Rattle.raised_sections.specs.Walks.{Place, place, Position}
+use Rattle.raised_sections.specs.Walks.{Position}
 use Rattle.raised_sections.specs.Sections.{IsSection, IsLower, size_of_section}
-use Rattle.section_ways.specs.declared.points.Point.{Point}
-
--- a point as a place of a walk
-abbrev pub place_of : Point → Place
-place_of p = place p.func p.item
-
--- what stands in the place of a point that is not there
-abbrev pub no_point : Point
-no_point = record { func = 0; item = 0 }
+use Rattle.walk_sums.specs.declared.standing.Point.{Point}
+use Rattle.walk_sums.specs.Positions.{place_of}
 
 -- the innermost function of each of these positions stands at the point
 abbrev pub StandAt : List Position → List Point → Type 0

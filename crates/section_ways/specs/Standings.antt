@@ -6,22 +6,14 @@ use Rattle.sloth_base.specs.declared.app.App.{App}
 use Rattle.osek_scheduler.specs.Apart.{static_priority}
 use Rattle.raised_sections.specs.Walks.{Position, IsPositionStep, AreConsecutive, IsWalk}
 use Rattle.raised_sections.specs.Sections.{priority_at, operation_at, is_schedule, is_counted, OnlyLastSchedules, IsSection, size_of_section}
-use Rattle.section_ways.specs.declared.points.Point.{Point}
-use Rattle.section_ways.specs.declared.steps.Standing.{Standing}
-use Rattle.section_ways.specs.SectionWays.{place_of, no_point, StandAt}
+use Rattle.walk_sums.specs.declared.standing.Point.{Point}
+use Rattle.walk_sums.specs.declared.standing.Standing.{Standing}
+use Rattle.walk_sums.specs.Positions.{place_of, position_of}
+use Rattle.section_ways.specs.SectionWays.{StandAt}
 
 -- the current priority of task t at the position is at least the static priority of task h
 abbrev pub is_raised_at : Config → App → (h t : ℕ) → Position → Bool
 is_raised_at config app h t at = leb (static_priority config h) (priority_at config app t at)
-
--- the position of a stack inside these functions
-abbrev pub position_on : (outer : Position) → List Standing → Position
-position_on outer [] = outer
-position_on outer (s ∷ inner) = position_on (place_of s.point ∷ outer) inner
-
--- the position of a stack
-abbrev pub position_of : List Standing → Position
-position_of stack = position_on [] stack
 
 -- of each it is told whether the functions around it raise the task
 abbrev pub AreToldOn : Config → App → (h t : ℕ) → (outer : Position) → List Standing → Type 0
@@ -30,10 +22,6 @@ AreToldOn config app h t outer (s ∷ inner) = (s.raised ≡ is_raised_at config
 
 abbrev pub AreTold : Config → App → (h t : ℕ) → List Standing → Type 0
 AreTold config app h t stack = AreToldOn config app h t [] stack
-
--- what stands in the place of a function in progress that is not there
-abbrev pub no_standing : Standing
-no_standing = record { point = no_point; raised = false }
 
 -- a walk of task t leads to the position of the stack
 pub record IsStart (config : Config) (app : App) (h t : ℕ) (stack : List Standing) : Type 0 where

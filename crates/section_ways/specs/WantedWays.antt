@@ -2,7 +2,7 @@
 use Rattle.std.specs.Prelude.{ℕ, ◌≡◌, List, length, Option, Some, None}
 use Rattle.sloth_base.specs.declared.config.Config.{Config}
 use Rattle.sloth_base.specs.declared.app.App.{App}
-use Rattle.section_ways.specs.declared.points.Point.{Point}
+use Rattle.walk_sums.specs.declared.standing.Point.{Point}
 use Rattle.section_ways.specs.declared.ways.Wanted.{Wanted}
 use Rattle.section_ways.specs.declared.ways.Wanted.TheVariants as wanted
 use Rattle.section_ways.specs.declared.ways.Way.{Way}

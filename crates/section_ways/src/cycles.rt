@@ -2,7 +2,6 @@
 use crate::frames::{Frame, Mode};
 use crate::items::{Level, called, func_at};
 use crate::levels::{Tables, table_at};
-use crate::points::Point;
 use crate::starts::call_from;
 use crate::walking::points_on;
 use bound_rules::bodies::Body;
@@ -10,6 +9,7 @@ use sloth_base::app::App;
 use sloth_base::memory::NoMemory;
 use std::alloc::Global;
 use text_pieces::growth::push;
+use walk_sums::standing::Point;
 
 /// The most points of a cycle that is given.
 pub const LONGEST: usize = 1_000_000;

@@ -1,10 +1,9 @@
 //! What items are and where they go on, for the search.
-ghost use Rattle.std.specs.Prelude.{◌≡◌};
-ghost use Rattle.raised_sections.specs.Sections.{is_schedule};
 
 use bound_rules::bodies::Body;
-use bound_rules::items::chains_itself;
+use bound_rules::items::is_schedule;
 use bound_rules::marks::{is_marked, number_at};
+use raised_sections::chaining::chains_itself;
 use sloth_base::app::{App, Func, Op};
 use sloth_base::service::Service;
 
@@ -82,16 +81,6 @@ pub fn is_last(func: &Func, item: usize) -> bool {
         return true;
     }
     is_schedule(items[item].op) || chains_itself(func, items[item].op)
-}
-
-/// Whether it is a Schedule.
-pub fn is_schedule(op: Op) -> bool
-    ensures { result ≡ is_schedule op }
-{
-    match op {
-        Op::Serve(call) => call.service.code() == Service::Schedule.code(),
-        _ => false,
-    }
 }
 
 /// Where the items of a body go on.

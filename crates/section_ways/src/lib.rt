@@ -11,7 +11,6 @@ mod items;
 mod levels;
 mod orders;
 mod parts;
-pub mod points;
 mod sizes;
 mod starts;
 mod steps;

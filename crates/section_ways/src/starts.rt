@@ -3,12 +3,12 @@ use crate::frames::{Frame, Mode};
 use crate::items::{Level, called, func_at};
 use crate::levels::{Tables, table_at};
 use crate::parts::{Begin, Part, calls_raised, parts_at};
-use crate::points::Point;
 use bound_rules::bodies::Body;
 use sloth_base::app::App;
 use sloth_base::memory::NoMemory;
 use std::alloc::Global;
 use text_pieces::growth::push;
+use walk_sums::standing::Point;
 
 // A function in which a part begins: whether it was called raised, and whether the part leaves it by its `ret`.
 #[derive(Clone, Copy)]

@@ -2,30 +2,25 @@
 ghost use Rattle.std.specs.Prelude.{◌≡◌, ◌<◌, ◌+◌, ◌||◌, ◌∷◌, leb, length, true, false, IfOk, IfSome};
 ghost use Rattle.sloth_base.specs.Named.{function, item_of, label_of};
 ghost use Rattle.sloth_base.specs.declared.app.Op.TheVariants as op_is;
-ghost use Rattle.code_rules.specs.Code.{IsItem, IsPathStep, is_followed};
+ghost use Rattle.code_rules.specs.Code.{IsItem, IsPathStep};
 ghost use Rattle.osek_scheduler.specs.Apart.{static_priority};
 ghost use Rattle.raised_sections.specs.Walks.{chains_itself};
 ghost use Rattle.walk_sums.specs.Activations.{ceiling_before, is_plain};
 ghost use Rattle.walk_sums.specs.KnownBodies.{AreKnownBodies};
-ghost use Rattle.section_ways.specs.SectionWays.{place_of};
-ghost use Rattle.section_ways.specs.Standings.{position_of, AreTold, is_raised_at, IsAdvance};
+ghost use Rattle.walk_sums.specs.Positions.{place_of};
+ghost use Rattle.section_ways.specs.Standings.{AreTold, is_raised_at, IsAdvance};
+ghost use Rattle.walk_sums.specs.Positions.{position_of};
 
-use crate::points::Point;
 use bound_rules::bodies::Body;
-use bound_rules::items::chains_itself;
 use bound_rules::marks::number_at;
+use raised_sections::chaining::chains_itself;
 use sloth_base::app::{App, Func, Op};
 use sloth_base::config::Config;
 use sloth_base::memory::NoMemory;
-use task_verify::ways::{falls, way};
+use task_verify::ways::way;
 use text_pieces::growth::push;
-
-/// Where a function in progress stands, and whether those around it raise the task.
-#[derive(Clone, Copy)]
-pub struct Standing {
-    pub point: Point,
-    pub raised: bool,
-}
+use walk_sums::links::falls_to;
+use walk_sums::standing::{Point, Standing};
 
 /// Two tasks: one, and a lower one.
 #[derive(Clone, Copy)]
@@ -55,14 +50,6 @@ fn is_place(func: &Func, label: u32, to: usize) -> bool
 {
     let labels = func.labels.items();
     (label as usize) < labels.len() && labels[label as usize].item as usize == to
-}
-
-// Whether a path goes on to the next item, which is this one.
-fn falls_to(op: Op, from: usize, to: usize) -> bool
-    ensures goes { result ≡ true → is_followed op ≡ true }
-    ensures next { result ≡ true → to ≡ from + 1 }
-{
-    falls(op) && 0 < to && to - 1 == from
 }
 
 fn jumps_to(func: &Func, from: usize, to: usize) -> bool

@@ -1,5 +1,5 @@
 //! Whether points are those of a section.
-ghost use Rattle.std.specs.Prelude.{◌≡◌, ◌<◌, ◌≤◌, ◌+◌, ◌∷◌, ◌++◌, [], ℕ, get_or, length, true, false, not, Decides, IfOk, IfSome};
+ghost use Rattle.std.specs.Prelude.{◌≡◌, ◌<◌, ◌≤◌, ◌+◌, ◌∷◌, ◌++◌, [], ℕ, get_or, length, true, false, not, IfOk, IfSome};
 ghost use Rattle.sloth_base.specs.Named.{function, operation, body_of};
 ghost use Rattle.sloth_base.specs.declared.app.Op.TheVariants as op_is;
 ghost use Rattle.code_rules.specs.Code.{IsItem};
@@ -7,13 +7,12 @@ ghost use Rattle.code_rules.specs.WellFormed.{WellFormed};
 ghost use Rattle.raised_sections.specs.Sections.{is_counted, is_schedule};
 ghost use Rattle.walk_sums.specs.Activations.{ReachesItem};
 ghost use Rattle.walk_sums.specs.KnownBodies.{AreKnownBodies};
-ghost use Rattle.section_ways.specs.SectionWays.{place_of, no_point};
-ghost use Rattle.section_ways.specs.Standings.{position_of, AreTold, IsStart, IsRaisedAt, IsSectionStep, IsStretch, is_raised_at};
+ghost use Rattle.section_ways.specs.Standings.{AreTold, IsStart, IsRaisedAt, IsSectionStep, IsStretch, is_raised_at};
+ghost use Rattle.walk_sums.specs.Positions.{no_point, position_of};
 
-use crate::items::is_schedule;
-use crate::points::Point;
-use crate::steps::{Pair, Standing, advance, is_raised, op_at};
+use crate::steps::{Pair, advance, is_raised, op_at};
 use bound_rules::bodies::Body;
+use bound_rules::items::is_schedule;
 use bound_rules::marks::is_marked;
 use sloth_base::app::{App, Op};
 use sloth_base::config::Config;
@@ -21,12 +20,7 @@ use sloth_base::memory::NoMemory;
 use sloth_base::service::Service;
 use std::alloc::Global;
 use text_pieces::growth::push;
-
-fn is_same(one: Point, other: Point) -> bool
-    ensures { Decides result (one ≡ other) }
-{
-    one.func == other.func && one.item == other.item
-}
+use walk_sums::standing::{Point, Standing, is_same};
 
 fn is_reached(app: &App, config: &Config, bodies: &[Body], point: Point) -> bool
     requires bodies { AreKnownBodies config.now app.now bodies.now }
@@ -345,19 +339,4 @@ pub fn is_section(
         return Ok(false);
     }
     goes_through(config, app, bodies, pair, stack, points)
-}
-
-/// Whether one stack is the position of the other.
-pub fn is_standing(stack: &[Standing], other: &[Standing]) -> bool
-    ensures { result ≡ true → position_of stack.now ≡ position_of other.now }
-{
-    if stack.len() != other.len() {
-        return false;
-    }
-    for (number, at) in stack.iter().enumerate() {
-        if !is_same(at.point, other[number].point) {
-            return false;
-        }
-    }
-    true
 }

@@ -8,15 +8,15 @@ ghost use Rattle.walk_sums.specs.KnownBodies.{AreKnownBodies};
 ghost use Rattle.section_ways.specs.SectionWays.{IsSectionWay};
 ghost use Rattle.section_ways.specs.Standings.{IsStart, IsClosedWay, is_raised_at};
 
-use crate::points::Point;
-use crate::steps::{Pair, Standing};
-use crate::trial::{is_section, is_standing, standing_at};
+use crate::steps::Pair;
+use crate::trial::{is_section, standing_at};
 use bound_rules::bodies::Body;
 use sloth_base::app::App;
 use sloth_base::config::Config;
 use sloth_base::memory::NoMemory;
 use stack_bounds::task_bodies::body_of;
 use std::alloc::Global;
+use walk_sums::standing::{Point, Standing, is_standing};
 
 fn is_non(config: &Config, task: usize) -> bool
     requires { task < length config.now.tasks }

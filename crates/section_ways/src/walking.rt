@@ -3,7 +3,6 @@ use crate::frames::{Frame, Mode};
 use crate::items::{Level, Nexts, called, func_at, is_return};
 use crate::levels::{Tables, table_at};
 use crate::orders::nexts;
-use crate::points::Point;
 use crate::sizes::both;
 use bound_rules::bodies::Body;
 use bound_rules::marks::number_at;
@@ -11,6 +10,7 @@ use sloth_base::app::{App, Func};
 use sloth_base::memory::NoMemory;
 use std::alloc::Global;
 use text_pieces::growth::push;
+use walk_sums::standing::Point;
 
 // The size from an item on, as the mode asks for it.
 fn size_at(tables: &Tables, frame: Frame, item: usize) -> u32 {

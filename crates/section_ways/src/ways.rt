@@ -10,7 +10,6 @@ ghost use Rattle.section_ways.specs.WantedWays.{ArePointsOf, IsWayOf};
 use crate::cycles::{cycle_points, cycle_start};
 use crate::frames::{Frame, points_of};
 use crate::levels::{Tables, tables_of};
-use crate::points::Point;
 use crate::starts::start_of;
 use crate::steps::Pair;
 use crate::tried::{body_in, is_closed_way, is_section_way};
@@ -24,6 +23,7 @@ use sloth_base::memory::NoMemory;
 use std::alloc::Global;
 use walk_sums::bodies::bodies;
 use walk_sums::order::callees_first;
+use walk_sums::standing::Point;
 
 /// What is asked for: a section of so many items that count, or a cycle within one.
 #[derive(Clone, Copy)]

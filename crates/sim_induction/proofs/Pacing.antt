@@ -123,13 +123,7 @@ module _ (config : Config) (app : App) (size wider : ItemSizes) (longer : (func 
   gap_wider longest found (event.Call t served status) = next_wider (task found t)
   gap_wider longest found (event.Left t served) = next_wider (task found t)
   gap_wider longest found (event.Back t) = next_wider (task found t)
-  gap_wider longest found (event.Enter t) = omega arith
-  gap_wider longest found (event.Tick c) = omega arith
-  gap_wider longest found event.Idle = omega arith
-  gap_wider longest found event.Boot = omega arith
-  gap_wider longest found (event.Admit t) = omega arith
-  gap_wider longest found (event.Due c) = omega arith
-  gap_wider longest found event.Stray = omega arith
+  gap_wider longest found what = omega arith
 
   pub paced_wider : (image : Image) → Paced config app size image → Paced config app wider image
   paced_wider image paced = record {

@@ -50,7 +50,7 @@ pub record Prepares (b : Build) (state : State) (own : List ℕ) (frame : Frame)
   pub scratch : (offset : ℕ) → HasScratch b own frame operation (done + steps) (thread_of (offset_state offset (record state.core { registers = registers })))
 
 -- a thread that has a value in one register, and all else of these
-pub record Holds (x : List ℕ) (rd value : ℕ) (th : Thread) : Type 0 where
+pub record HoldsValue (x : List ℕ) (rd value : ℕ) (th : Thread) : Type 0 where
   pub is : th.x rd ≡ value
   pub others : (i : ℕ) → i ≢ rd → th.x i ≡ slice_index x i
 
@@ -69,7 +69,7 @@ module _ (b : Build) (state : State) (own : List ℕ) (frame : Frame) (long : Bo
 
   module _ (o : Op) (done : ℕ) (before : List InstrKind) (kind : InstrKind) (rest : List InstrKind) (expands : expansion_of o ≡ before ++ (kind ∷ rest)) (reached : length before ≡ done)
       (more : done + 1 < length (expansion_of o)) (rd value : ℕ) (from : 30 ≤ rd) (to : rd < 32) (writes : (pc : ℕ) → effect kind pc x ≡ Write rd value)
-      (scratch : (th : Thread) → Holds x rd value th → HasScratch b own frame o (done + 1) th) where
+      (scratch : (th : Thread) → HoldsValue x rd value th → HasScratch b own frame o (done + 1) th) where
     performs_write : (offset word : ℕ) → offset + 4 ≤ memory_bytes
         → perform (effect kind (memory_base + offset) x) word (memory_base + offset) state.core ≡ Going (offset_state (offset + 4 * 1) (record state.core { registers = set x rd value }))
     unfolding perform

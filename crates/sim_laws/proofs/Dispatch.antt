@@ -187,18 +187,18 @@ module _ (b : Build) (image : Image) (kernel : Kernel b image) where
     few : length b.config.tasks ≤ line_count
     few = let f = kernel.fits.few_tasks in omega arith
 
-    abbrev Goes : Type 0
-    Goes = Advances (setting_of b view arrivals) (λ p. Stands (with_passed b p)) (progress_in b) b.passed count state s
+    abbrev NextAdvance : Type 0
+    NextAdvance = Advances (setting_of b view arrivals) (λ p. Stands (with_passed b p)) (progress_in b) b.passed count state s
 
     k : Stands b n s1
     k = stands_arrived b (lines_at arrivals count) state s kernel.fits.few_tasks (owned_at (setting_of b view arrivals) setting count) stands
 
     -- one instruction outside the stretches
-    outside : GoesOutside b view arrivals (progress_in b) count state s → Goes
+    outside : GoesOutside b view arrivals (progress_in b) count state s → NextAdvance
     outside h = outside_advances (setting_of b view arrivals) setting (λ p. Stands (with_passed b p)) (progress_in b) b.passed count state s h.0 h.1
 
     -- a stretch
-    stretch : HasStretch b view arrivals count state s → Goes
+    stretch : HasStretch b view arrivals count state s → NextAdvance
     stretch h =
         stretch_advances (setting_of b view arrivals) setting (λ p. Stands (with_passed b p)) (progress_in b) b.passed b.passed count after_boot state s h.0 h.1 h.2 h.3 stands.tidy.booted
         (sym (booted_admits (late_arrivals h.1) h.3.after) ∙ h.3.related.tidy.booted) (measured b state s stands view arrivals)
@@ -253,7 +253,7 @@ module _ (b : Build) (image : Image) (kernel : Kernel b image) where
           numbers = record { words = bounded.core.registers; sizes = valid_sizes b.config b.app s1 steady.valid }
 
           -- the last one, or one before it
-          item_goes : (e : InExpansion b (task s1 t) p.frame (thread_of n)) → IsComputingItem b p.frame.func p.frame.item → Goes
+          item_goes : (e : InExpansion b (task s1 t) p.frame (thread_of n)) → IsComputingItem b p.frame.func p.frame.item → NextAdvance
           item_goes e h =
               let placed = kernel.items p.frame.func p.frame.item p.inside in
               ⊎_elim
@@ -265,13 +265,13 @@ module _ (b : Build) (image : Image) (kernel : Kernel b image) where
               (cases_lt (e.done + 1) size)
 
           -- a call
-          call_goes : InExpansion b (task s1 t) p.frame (thread_of n) → IsCallItem b p.frame.func p.frame.item → Goes
+          call_goes : InExpansion b (task s1 t) p.frame (thread_of n) → IsCallItem b p.frame.func p.frame.item → NextAdvance
           call_goes e h =
               outside (call_begins b view arrivals count state s here t (at_item e) h.callee
               (is_call b image kernel t p.frame p.outer chain p.inside h.callee h.is) chain)
 
           -- a return
-          return_goes : InExpansion b (task s1 t) p.frame (thread_of n) → operation b.app p.frame.func p.frame.item ≡ op.Return → Goes
+          return_goes : InExpansion b (task s1 t) p.frame (thread_of n) → operation b.app p.frame.func p.frame.item ≡ op.Return → NextAdvance
           return_goes e is =
               let c = has_caller b image kernel t active.declared p.frame p.outer chain p.inside is in
               outside (return_begins b view arrivals count state s here t c.caller c.rest (at_item e) c.called_by c.back)
@@ -281,7 +281,7 @@ module _ (b : Build) (image : Image) (kernel : Kernel b image) where
           mask_small call is = is_word b (rules b image kernel t) p.frame.func p.frame.item call (record { known = chain.0.known; inside = p.inside; is = is })
 
           -- the call of a service, with a mask of events or without
-          serve_goes : InExpansion b (task s1 t) p.frame (thread_of n) → IsServiceItem b view p.frame.func p.frame.item → Goes
+          serve_goes : InExpansion b (task s1 t) p.frame (thread_of n) → IsServiceItem b view p.frame.func p.frame.item → NextAdvance
           serve_goes e h =
               let placed = kernel.items p.frame.func p.frame.item p.inside in
               ⊎_elim
@@ -289,7 +289,7 @@ module _ (b : Build) (image : Image) (kernel : Kernel b image) where
               (λ (j : JumpsWithMask b p.frame.func p.frame.item). outside (masked_outside b view arrivals count state s here t (at_item e) placed j))
               (call_jumps b view p.frame.func p.frame.item h (mask_small h.call h.is))
 
-          in_item : InExpansion b (task s1 t) p.frame (thread_of n) → IsKnownItem b view p.frame.func p.frame.item → Goes
+          in_item : InExpansion b (task s1 t) p.frame (thread_of n) → IsKnownItem b view p.frame.func p.frame.item → NextAdvance
           in_item e (computes h) = item_goes e h
           in_item e (flows h) = outside (flow_outside b view arrivals count state s here t (at_item e) h.flow (kernel.items p.frame.func))
           in_item e (invokes h) = call_goes e h
@@ -367,7 +367,7 @@ module _ (b : Build) (image : Image) (kernel : Kernel b image) where
             }
 
             served : (levels : Levels) → AreLevels b.config levels → (called : Service) → a.call.service ≡ called
-                → StandsAtBlock b view called object (IsAnyServiceBlock b.config called object levels) → Goes
+                → StandsAtBlock b view called object (IsAnyServiceBlock b.config called object levels) → NextAdvance
             served levels are service.TerminateTask is block =
                 stretch (terminate_stretches b view arrivals count state s t kernel.fits setting after_boot stands (record {
                   opens = opens service.TerminateTask (λ o. IsTerminateTaskCode) is block;
@@ -432,7 +432,7 @@ module _ (b : Build) (image : Image) (kernel : Kernel b image) where
             served levels are service.GetAlarm is block =
                 stretch (told_stretches b view arrivals count state s t kernel.fits setting after_boot stands (opens_alarm service.GetAlarm is refl block))
 
-          at_block : AtBlock b p.frame (thread_of n) → IsKnownItem b view p.frame.func p.frame.item → Goes
+          at_block : AtBlock b p.frame (thread_of n) → IsKnownItem b view p.frame.func p.frame.item → NextAdvance
           at_block a (computes h) = absurd (subst (IsStraight b.app p.frame.func) a.is h.straight)
           at_block a (flows h) = absurd (subst (IsFlow b.app p.frame.func p.frame.item) a.is h.flow)
           at_block a (invokes h) = let e : op.Invoke h.callee ≡ op.Serve a.call = sym h.is ∙ a.is in cc
@@ -443,11 +443,11 @@ module _ (b : Build) (image : Image) (kernel : Kernel b image) where
               served a h.levels h.are_levels a.call.service refl
               (subst (λ (c : Call). StandsAtBlock b view c.service c.object (IsAnyServiceBlock b.config c.service c.object h.levels)) call h.block)
 
-          standing : Goes
+          standing : NextAdvance
           standing = ⊎_elim (λ (e : InExpansion b (task s1 t) p.frame (thread_of n)). in_item e known) (λ (a : AtBlock b p.frame (thread_of n)). at_block a known) q.here
 
         -- behind Schedule
-        owing : IsOwing b n.core.ram t (task s1 t) p.frame p.outer (thread_of n) run.place → Goes
+        owing : IsOwing b n.core.ram t (task s1 t) p.frame p.outer (thread_of n) run.place → NextAdvance
         owing w =
             let calls = steady.owing t w.owes in
             let state_is = subst (InState b.config t (task s1 t)) active.active (steady.valid.each t active.declared).in_state in
@@ -461,7 +461,7 @@ module _ (b : Build) (image : Image) (kernel : Kernel b image) where
             }))
 
         -- inside a call, and inside a return
-        calling : IsCalling b n.core.ram (b.top t) (task s1 t) p.frame p.outer (thread_of n) run.place → Goes
+        calling : IsCalling b n.core.ram (b.top t) (task s1 t) p.frame p.outer (thread_of n) run.place → NextAdvance
         calling c =
             outside (call_goes_on b view arrivals count state s here t (record {
               current = run.current;
@@ -474,7 +474,7 @@ module _ (b : Build) (image : Image) (kernel : Kernel b image) where
               calling = c;
             }) (is_call b image kernel t p.frame p.outer chain p.inside c.callee c.is))
 
-        returning : IsReturning b n.core.ram (b.top t) (task s1 t) p.frame p.outer (thread_of n) run.place → Goes
+        returning : IsReturning b n.core.ram (b.top t) (task s1 t) p.frame p.outer (thread_of n) run.place → NextAdvance
         returning r =
             outside (return_goes_on b view arrivals count state s here t (record {
               current = run.current;
@@ -487,12 +487,12 @@ module _ (b : Build) (image : Image) (kernel : Kernel b image) where
               returning = r;
             }) (is_return b image kernel t p.frame r.caller r.rest (subst (λ o. AreCalls b.app t (p.frame ∷ o)) r.called_by chain) p.inside r.is))
 
-        task_goes : Goes
+        task_goes : NextAdvance
         task_goes =
-            position_elim b n.core.ram t (task s1 t) p.frame p.outer (thread_of n) run.place Goes
+            position_elim b n.core.ram t (task s1 t) p.frame p.outer (thread_of n) run.place NextAdvance
             standing owing calling returning p.here
 
-      by_stack : (stack : List ℕ) → k.stack ≡ stack → Goes
+      by_stack : (stack : List ℕ) → k.stack ≡ stack → NextAdvance
       by_stack [] e =
           let r : RunsIdle b n = subst (RunsFirst b n s1) e k.running in
           outside (idle_outside b view arrivals (progress_in b) count state s here r.current kernel.idle (none_passed b state s r.current))
@@ -517,12 +517,12 @@ module _ (b : Build) (image : Image) (kernel : Kernel b image) where
         (λ u other. let same = ap (λ x. cond x (progress_in b state s) (b.passed u)) (ne_eqb (word_at state.core.ram cur) (u + 1) other) in omega (arith, same)) stands
 
     -- a task's line is taken
-    enters : (t : ℕ) → t < length b.config.tasks → choose n.core ≡ Some t → Goes
+    enters : (t : ℕ) → t < length b.config.tasks → choose n.core ≡ Some t → NextAdvance
     enters t l chosen =
         enters_behind (with_passed b bound_behind) image (kernel_as b bound_behind image kernel) b.passed arrivals setting count after_boot state s stands_so bounded steady is_bound t l chosen
 
     -- a counter's line is taken: the counter ticks
-    ticks : (c : ℕ) → c < length b.config.counters → choose n.core ≡ Some (counter_line c) → Goes
+    ticks : (c : ℕ) → c < length b.config.counters → choose n.core ≡ Some (counter_line c) → NextAdvance
     ticks c l chosen =
         tick_advances b view arrivals setting kernel.fits count after_boot state s stands c chosen
         (record {
@@ -534,7 +534,7 @@ module _ (b : Build) (image : Image) (kernel : Kernel b image) where
         })
         (kernel.ticks c l) (measured b state s stands view arrivals)
 
-    takes : (line : ℕ) → choose n.core ≡ Some line → Goes
+    takes : (line : ℕ) → choose n.core ≡ Some line → NextAdvance
     takes line chosen =
         ⊎_elim (λ (l : line < length b.config.tasks). enters line l chosen)
         (λ (found : (c : ℕ) × IsCounterLine (owners_in b.config) line c).
@@ -544,6 +544,6 @@ module _ (b : Build) (image : Image) (kernel : Kernel b image) where
     pub advance : Advances (setting_of b view arrivals) (λ p. Stands (with_passed b p)) (progress_in b) b.passed count state s
     advance = by (choose n.core) refl
       where
-        by : (o : Option ℕ) → choose n.core ≡ o → Goes
+        by : (o : Option ℕ) → choose n.core ≡ o → NextAdvance
         by (Some line) e = takes line e
         by None e = by_stack e k.stack refl

@@ -1,4 +1,5 @@
 pub mod Choosing
+pub mod Mapping
 pub mod Services
 pub mod Owners
 pub mod Stretches

@@ -11,14 +11,14 @@ pub struct Arrival {
 }
 
 /// The counts of the first and the last instruction of an event.
-#[derive(Clone, Copy, PartialEq, Eq)]
+#[derive(Clone, Copy)]
 pub struct Stamp {
     pub from: u32,
     pub at: u32,
 }
 
 /// What is observed. A task or counter number of 4,294,967,295 is that of none.
-#[derive(Clone, Copy, PartialEq, Eq)]
+#[derive(Clone, Copy)]
 pub enum Event {
     Boot,
     Admit(u32),
@@ -48,7 +48,7 @@ pub enum Event {
 }
 
 /// An event and its counts.
-#[derive(Clone, Copy, PartialEq, Eq)]
+#[derive(Clone, Copy)]
 pub struct Stamped {
     pub stamp: Stamp,
     pub event: Event,

@@ -1,7 +1,7 @@
 //! Plain data of `sloth`: names and numbers, configurations, task code, images, states of the machine, and what is observed of a run.
 //!
-//! A copy equals what it is of, a list holds its items, a service has its number (`List`, `Name`, `is_name`, `TryCopy`, `Service::code`,
-//! `from_code`).
+//! A copy equals what it is of, a list holds its items, a service has its number (`Config::copy`, `App::copy`, `List`, `Name`, `is_name`,
+//! `Service::code`, `from_code`).
 //!
 //! What many crates speak of is defined here: what is in range (`specs/ConfigRange`, `specs/ImageRange`, `specs/Arrivals`); the machine's state, its
 //! controller and the taking of a line (`specs/Machine`, `specs/Lines`, `specs/Choose`, `specs/Take`, `specs/Arrive`); words of 32 bits
@@ -13,7 +13,7 @@
 
 pub mod app;
 pub mod config;
-pub mod copy;
+mod copy;
 pub mod declared_names;
 pub mod event;
 pub mod image;

@@ -21,7 +21,7 @@ impl Model for TaskId {
 pub const RES_SCHEDULER: u32 = RESOURCE_LIMIT as u32;
 
 /// A resource: its place among the RESOURCE objects of the configuration, from 0, or `RES_SCHEDULER`.
-#[derive(Clone, Copy, PartialEq, Eq)]
+#[derive(Clone, Copy)]
 pub struct ResId(pub u32);
 
 impl Model for ResId {

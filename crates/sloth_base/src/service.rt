@@ -18,7 +18,7 @@ pub const E_OS_STATE: u32 = 7;
 pub const E_OS_VALUE: u32 = 8;
 
 /// A service, in the order of the codes 0 to 15.
-#[derive(Clone, Copy, PartialEq, Eq)]
+#[derive(Clone, Copy)]
 pub enum Service {
     ActivateTask,
     TerminateTask,

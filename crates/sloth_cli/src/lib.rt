@@ -7,9 +7,10 @@
 //!
 //! Clause `answers`: each answer has its cause, the sink took exactly the text that is due, and the files hold what it says. The other clauses say
 //! which answer comes: `usage`, `overwrite`, `refused` and `complete`; of image files `fault`, `no_image`, `exec_refused`, `executed` and `listed`; of `sample`
-//! `sample_refused` and `sampled`; of tools `tool` and `tool_done`. Each line of a tool's text is one put (`lines`). All of them are defined in
-//! `core_commands` (`Top`, `ImageAnswers`, `SampleAnswers`), for a program with any tools, and in `sloth_commands` (`ToolAnswers`, `ToolLines`), whose
-//! `IsToolAnswer` says what the tools of this one answer. Words of no tool go to the top call of the commands that build and run (`core_top`).
+//! `sample_refused` and `sampled`; of tools `tool` and `tool_done`. Each line of a tool's text is one put (`lines`). Of every image that is built, and so of
+//! each that an answer requires, two say what all its runs do: they keep the blocking bounds (`bounds`), and `check` answers yes to what they print (`checked`).
+//! All of them are defined in `core_commands` (`Top`, `ImageAnswers`, `SampleAnswers`), for a program with any tools, and in `sloth_commands` (`ToolAnswers`,
+//! `ToolLines`, `BuiltRuns`), whose `IsToolAnswer` says what the tools of this one answer. Words of no tool go to the top call of the commands that build and run (`core_top`).
 #![tactic(auto)]
 
 pub mod program;

@@ -12,7 +12,7 @@ use crate::top::sloth_top;
 use core_commands::program::words_given;
 use debug_command::debug_words;
 use debug_command::program::debug_over;
-use sloth_io::byte_reader::ByteReader;
+use debug_session::byte_reader::ByteReader;
 use sloth_io::file_store::FileStore;
 use sloth_io::out_sink::OutSink;
 use std::alloc::Global;

@@ -7,6 +7,7 @@ ghost use Rattle.core_commands.specs.CommandFiles.{ReadsInOrder};
 ghost use Rattle.core_commands.specs.Top.{world, IsTopAnswer, HasUsageAnswer, HasOverwriteAnswer, HasRefusalAnswer, IsComplete};
 ghost use Rattle.core_commands.specs.ImageAnswers.{HasImageFaultAnswer, HasNoImageAnswer, HasExecRefusedAnswer, HasExecutedAnswer, HasListedAnswer};
 ghost use Rattle.core_commands.specs.SampleAnswers.{HasSampleRefusedAnswer, HasSampledAnswer};
+ghost use Rattle.sloth_commands.specs.BuiltRuns.{BuiltRunsAreChecked, BuiltRunsKeepBlockingBounds};
 ghost use Rattle.sloth_commands.specs.ToolAnswers.{HasToolAnswer, HasToolDoneAnswer};
 ghost use Rattle.sloth_commands.specs.ToolFiles.{IsToolAnswer};
 ghost use Rattle.sloth_commands.specs.ToolLines.{HasToolLines};
@@ -104,6 +105,8 @@ pub fn sloth_top<F: Store, S: Sink>(
     ensures lines { HasToolLines (words_of words.now)
         (world (call_files (F.seen files.old) (F.seen files.new)) (S.seen out.old)) (world (F.seen files.new) (S.seen out.new))
         (S.pieces out.old) (S.pieces out.new) result }
+    ensures bounds { BuiltRunsKeepBlockingBounds }
+    ensures checked { BuiltRunsAreChecked }
 {
     answer(alloc, words, files, out)
 }

@@ -2,3 +2,7 @@ pub mod ToolCauses
 pub mod ToolComplete
 pub mod ToolLines
 mod PrintedMap
+mod TaskDeclared
+mod Registers
+mod Printed
+pub mod BuiltRuns

@@ -2,3 +2,5 @@ pub mod ToolFiles
 pub mod ToolAnswers
 pub mod ToolLines
 pub mod PrintedMap
+pub mod CheckedRuns
+pub mod BuiltRuns

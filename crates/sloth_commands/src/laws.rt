@@ -1,7 +1,27 @@
 //! Laws of the definitions.
+ghost use Rattle.sloth_commands.specs.BuiltRuns.{BuiltRunsAreChecked, BuiltRunsKeepBlockingBounds};
+ghost use Rattle.sloth_commands.specs.CheckedRuns.{SoundRunsAreChecked};
 ghost use Rattle.sloth_commands.specs.PrintedMap.{PrintsMapOfImage};
 
 /// The map that `map` prints of texts is that by which each piece of their image stands.
 pub fn prints_map_of_image()
     ensures { PrintsMapOfImage }
+{}
+
+/// Every run of an image that is built keeps the blocking bounds: from becoming Ready up to its entry a task waits for at most as many `run` and `call`
+/// events of lower tasks as its bound, and 200 counts for each; and the task of highest priority is entered within its latency and the time of the ticks
+/// on the way.
+pub fn built_runs_keep_blocking_bounds()
+    ensures { BuiltRunsKeepBlockingBounds }
+{}
+
+/// The text of a run of a sound image, in the counted form, is that of a run of the abstract scheduler in which the arrivals are admitted in
+/// time: the checker of texts answers yes.
+pub fn runs_are_checked()
+    ensures { SoundRunsAreChecked }
+{}
+
+/// The same of every run of an image that is built.
+pub fn built_runs_are_checked()
+    ensures { BuiltRunsAreChecked }
 {}

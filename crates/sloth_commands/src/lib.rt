@@ -2,10 +2,15 @@
 //!
 //! A tool is performed as its answer requires, or is not for one of the causes of `core_commands` (`Failures`), and then its last line is put (`use_tool`).
 //! An answer and its cause hold for exactly what the reads of the call delivered, in their order, and nothing is written but the file that the answer names.
-//! Each line of its text is one put. And the map that `map` prints of texts is that by which each piece of their image stands (`prints_map_of_image`).
+//! Each line of its text is one put.
+//!
+//! Laws of every image that is built tell of its runs what tools print or judge (`laws`). Each run keeps the blocking bounds
+//! (`built_runs_keep_blocking_bounds`), and its text is that of a run of the abstract scheduler with the arrivals in time, so `check` answers yes
+//! (`built_runs_are_checked`; of any sound image with its items in place `runs_are_checked`): `specs/BuiltRuns`, `specs/CheckedRuns`. And the map that `map`
+//! prints of texts is that by which each piece of their image stands (`prints_map_of_image`; `specs/PrintedMap`).
 //!
 //! What the top call promises of tools: `specs/ToolFiles` (`IsToolAnswer`, the table of tools that the definitions of `core_commands` take), `specs/ToolAnswers`,
-//! `specs/ToolLines`; of the map `specs/PrintedMap`. What a tool answers: `tool_commands` (`Answers`). The other commands: `core_commands`.
+//! `specs/ToolLines`. What a tool answers: `tool_commands` (`Answers`). The other commands: `core_commands`.
 #![tactic(auto)]
 
 pub mod laws;

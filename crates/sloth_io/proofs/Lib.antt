@@ -5,5 +5,3 @@ pub mod Passing
 pub mod Files
 pub mod Reading
 pub mod Delivering
-pub mod Giving
-mod NoGivenFields

@@ -8,6 +8,3 @@ pub mod FileStore
 pub mod OutSink
 pub mod Buffered
 pub mod Slots
-pub mod ByteReader
-pub mod Input
-pub mod MemInput

@@ -19,25 +19,14 @@
 //! write of nothing is a fault. The buffers: bytes in a space that is reserved, which takes all of a piece or none, bytes that are held back, and
 //! files in memory, where a write reaches the first file of its name alone, if there is space (`Buffer`, `Backlog`, `slots_of`, `bytes_of`,
 //! `replace`, `specs/Slots`).
-//!
-//! Bytes of a session, one by one as they come: a trait, in memory and at the system.
-//!
-//! Each byte is given once, in its order; behind the last one stands the end or a fault, which comes again and again (`Input`, `specs/Input`). The
-//! form in memory gives exactly its bytes and then what it was made with (`MemInput`). The form over a reader gives, of any reader that tells its bytes, the
-//! next one, and the end where there is none; it asks the reader for more only where it holds none, so no byte that came waits for another
-//! (`ByteReader`, `specs/ByteReader`). Every input tells the bytes that it gave (`Given`). Where output goes: `specs/Sink`; files: `specs/Store`.
 #![tactic(auto)]
 
 pub mod backlog;
 pub mod buffer;
 pub mod buffered;
-pub mod byte_reader;
 pub mod file_store;
-pub mod given;
 mod history;
-pub mod input;
 pub mod lines;
-pub mod mem_input;
 pub mod mem_sink;
 pub mod mem_store;
 pub mod out_sink;

@@ -10,7 +10,7 @@ use Rattle.trace_text.specs.declared.printing.Form.{Form}
 use Rattle.trace_text.specs.declared.printing.Form.TheVariants as form
 use Rattle.trace_text.proofs.Appends.{text_after-append}
 use Rattle.observe.specs.declared.observing.Observer.{Observer}
-use Rattle.observe.specs.Progress.{Fed, remaining, view_of, arrivals_of, expected_count}
+use Rattle.observe.specs.Progress.{HasProgress, remaining, view_of, arrivals_of, expected_count}
 use Rattle.sloth_runner.proofs.Handing.{handing-init, handing-more}
 use Rattle.sloth_runner.proofs.RunInvariants.{IsDraining}
 
@@ -26,7 +26,7 @@ draining-init image form idle o t = record {
 -- one more line was put, where its event needs one
 pub draining-more : (image : Image) (form : Form) (idle : Bool) (o0 : Observer) (last : Bool) (o p : Observer) (t0 t u : Output) (e : Stamped)
     → IsDraining image form idle o0 last o t0 t → remaining o ≡ e ∷ remaining p → view_of p ≡ view_of o → arrivals_of p ≡ arrivals_of o → expected_count p ≡ expected_count o
-    → ((steps : List Step) (events : List Stamped) → Fed o steps events → Fed p steps (events ++ e ∷ []))
+    → ((steps : List Step) (events : List Stamped) → HasProgress o steps events → HasProgress p steps (events ++ e ∷ []))
     → u ≡ output_with t (text_after image form last (e ∷ []))
     → IsDraining image form idle o0 (is_idle e.event) p t0 u
 draining-more image form idle o0 last o p t0 t u e d head view arrivals expected fed put =
@@ -70,7 +70,7 @@ draining-ends image form idle o0 last o t0 t d none = sym (d.ends ∙ ap (ends_i
 pub draining-put : (image i : Image) (form f : Form) (idle : Bool) (o0 : Observer) (last next : Bool) (o p : Observer) (t0 t u : Output) (e : Stamped)
     → IsDraining image form idle o0 last o t0 t → i ≡ image → f ≡ form → next ≡ is_idle e.event
     → remaining o ≡ e ∷ remaining p → view_of p ≡ view_of o → arrivals_of p ≡ arrivals_of o → expected_count p ≡ expected_count o
-    → ((steps : List Step) (events : List Stamped) → Fed o steps events → Fed p steps (events ++ e ∷ []))
+    → ((steps : List Step) (events : List Stamped) → HasProgress o steps events → HasProgress p steps (events ++ e ∷ []))
     → u ≡ output_with t (text_after i f last (e ∷ []))
     → IsDraining image form idle o0 next p t0 u
 draining-put image i form f idle o0 last next o p t0 t u e d ei ef en head view arrivals expected fed put =

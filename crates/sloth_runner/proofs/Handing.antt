@@ -7,7 +7,7 @@ use Rattle.std.proofs.lemmas.Bool.Decides.{eqb_tells}
 use Rattle.sloth_base.specs.declared.step.Step.{Step}
 use Rattle.sloth_base.specs.declared.event.Stamped.{Stamped}
 use Rattle.observe.specs.declared.observing.Observer.{Observer}
-use Rattle.observe.specs.Progress.{Fed, remaining, view_of, arrivals_of, expected_count}
+use Rattle.observe.specs.Progress.{HasProgress, remaining, view_of, arrivals_of, expected_count}
 use Rattle.sloth_runner.specs.Moments.{IsHandedOut}
 use Rattle.sloth_runner.proofs.RunInvariants.{IsHandingOut}
 
@@ -16,7 +16,7 @@ handing-init o = record { view = refl; arrivals = refl; expected = refl; fed = �
 
 -- one event more was handed out
 pub handing-more : (o0 o p : Observer) (e : Stamped) → IsHandingOut o0 o → remaining o ≡ e ∷ remaining p → view_of p ≡ view_of o → arrivals_of p ≡ arrivals_of o
-    → expected_count p ≡ expected_count o → ((steps : List Step) (events : List Stamped) → Fed o steps events → Fed p steps (events ++ e ∷ [])) → IsHandingOut o0 p
+    → expected_count p ≡ expected_count o → ((steps : List Step) (events : List Stamped) → HasProgress o steps events → HasProgress p steps (events ++ e ∷ [])) → IsHandingOut o0 p
 handing-more o0 o p e h head view arrivals expected fed = record {
   view = view ∙ h.view;
   arrivals = arrivals ∙ h.arrivals;
@@ -30,7 +30,7 @@ pub handed-out : (o0 o : Observer) → IsHandingOut o0 o → remaining o ≡ [] 
 handed-out o0 o h none steps events f =
     let q = h.fed steps events f in
     let same : q.0 ≡ events ++ remaining o0 = sym (append-nil q.0) ∙ ap (λ es. q.0 ++ es) (sym none) ∙ q.2 in
-    let P : List Stamped → Type 0 = λ es. Fed o steps es in
+    let P : List Stamped → Type 0 = λ es. HasProgress o steps es in
     subst P same q.1
 
 -- one number grows by one, and one event less is left

@@ -2,7 +2,7 @@
 use Rattle.std.specs.Prelude.{ℕ, ◌≡◌, ◌+◌, List, ◌++◌, Bool, false}
 use Rattle.sloth_base.specs.declared.event.Stamped.{Stamped}
 use Rattle.sloth_base.specs.declared.step.Step.{Step}
-use Rattle.observe.specs.Progress.{Fed, remaining, view_of, arrivals_of, expected_count}
+use Rattle.observe.specs.Progress.{HasProgress, remaining, view_of, arrivals_of, expected_count}
 use Rattle.observe.specs.declared.observing.Observer.{Observer}
 use Rattle.sloth_base.specs.declared.image.Image.{Image}
 use Rattle.sloth_io.specs.Sink.{Output, output_with}
@@ -19,8 +19,8 @@ pub record IsHandingOut (o0 o : Observer) : Type 0 where
   pub view : view_of o ≡ view_of o0
   pub arrivals : arrivals_of o ≡ arrivals_of o0
   pub expected : expected_count o ≡ expected_count o0
-  pub fed : (steps : List Step) (events : List Stamped) → Fed o0 steps events
-      → (front : List Stamped) × Fed o steps front × (front ++ remaining o ≡ events ++ remaining o0)
+  pub fed : (steps : List Step) (events : List Stamped) → HasProgress o0 steps events
+      → (front : List Stamped) × HasProgress o steps front × (front ++ remaining o ≡ events ++ remaining o0)
 
 -- and their lines were put
 pub record IsDraining (image : Image) (form : Form) (idle : Bool) (o0 : Observer) (last : Bool) (o : Observer) (t0 t : Output) : Type 0 where

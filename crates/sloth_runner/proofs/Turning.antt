@@ -14,7 +14,7 @@ use Rattle.sloth_base.specs.Limits.{task_limit, counter_limit}
 use Rattle.sloth_base.specs.MemoryMap.{line_count}
 use Rattle.sloth_base.proofs.Owners.{owned_below}
 use Rattle.observe.specs.Observe.{observe, view_of_image}
-use Rattle.observe.specs.Progress.{Fed, remaining, view_of, arrivals_of, expected_count, arrivals_from, arrivals_due, arrivals_behind}
+use Rattle.observe.specs.Progress.{HasProgress, remaining, view_of, arrivals_of, expected_count, arrivals_from, arrivals_due, arrivals_behind}
 use Rattle.observe.specs.declared.observing.Observer.{Observer}
 use Rattle.observe.proofs.Moments.{here-from, behind-from}
 use Rattle.observe.proofs.Growing.{observe-nothing}
@@ -95,7 +95,7 @@ machine-more r a q image step ran arrived executed same coming =
 -- the events that an instruction adds
 pub adds-is : (r : Runner) (image : Image) (k : ℕ) (s : Step) (n : State) (o : Observer) → HasDone r image k
     → moment (given_arrivals r) k (sloth_state r.machine) ≡ Goes s n
-    → ((steps : List Step) (events : List Stamped) → Fed r.observer steps events → Fed o (steps ++ s ∷ []) events) → view_of o ≡ view_of r.observer → arrivals_of o ≡ given_arrivals r
+    → ((steps : List Step) (events : List Stamped) → HasProgress r.observer steps events → HasProgress o (steps ++ s ∷ []) events) → view_of o ≡ view_of r.observer → arrivals_of o ≡ given_arrivals r
     → AreAddedEvents image (given_arrivals r) k (remaining o)
 adds-is r image k s n o st g fed view arrivals =
     let F : List Step = run_steps image (given_arrivals r) k in
@@ -133,9 +133,9 @@ done-more r p q st a arrivals hands view same expected none ran =
     let more = steps-more k A (start image) (sloth_state r.machine) (sloth_state p.machine) a.step st.ran.after a.goes in
     let adds = advanced-adds r p st a arrivals in
     let fed = hands (F ++ a.step ∷ []) E (a.fed F E st.fed) in
-    let G : List Step → Type 0 = λ K. Fed q.observer K (E ++ remaining p.observer) in
-    let H : List Stamped → Type 0 = λ es. Fed q.observer (run_steps image A (k + 1)) es in
-    let P : List Arrival → Type 0 = λ B. Fed q.observer (run_steps image B (k + 1)) (events_of image B (k + 1)) in
+    let G : List Step → Type 0 = λ K. HasProgress q.observer K (E ++ remaining p.observer) in
+    let H : List Stamped → Type 0 = λ es. HasProgress q.observer (run_steps image A (k + 1)) es in
+    let P : List Arrival → Type 0 = λ B. HasProgress q.observer (run_steps image B (k + 1)) (events_of image B (k + 1)) in
     record {
       format = st.format;
       ran = ran;
@@ -166,8 +166,8 @@ pub controller-lines : (owners : Owners) (A : List Arrival) → owners.tasks ≤
 controller-lines owners A few counters h k d l = owned_below owners _ few counters (h k d l)
 
 -- an observer that was fed nothing
-pub first-fed : (o : Observer) (image : Image) → Fed o [] [] → Fed o (run_steps image (arrivals_of o) 0) (events_of image (arrivals_of o) 0)
+pub first-fed : (o : Observer) (image : Image) → HasProgress o [] [] → HasProgress o (run_steps image (arrivals_of o) 0) (events_of image (arrivals_of o) 0)
 unfolding run_from
 first-fed o image f =
-    let P : List Stamped → Type 0 = λ es. Fed o [] es in
+    let P : List Stamped → Type 0 = λ es. HasProgress o [] es in
     subst P (sym (observe-nothing (view_of_image image) (arrivals_of o))) f

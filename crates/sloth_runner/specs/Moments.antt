@@ -1,19 +1,16 @@
 -- What a runner does with its machine and its observer at a moment of a run.
-use Rattle.std.specs.Prelude.{ℕ, ◌+◌, ◌<◌, List, All, [], ◌∷◌, ◌++◌, slice_index, slice_set, Option, Some, None, if◌then◌else◌}
+use Rattle.std.specs.Prelude.{ℕ, ◌+◌, ◌<◌, List, All, [], ◌∷◌, ◌++◌, slice_index, slice_set}
 use Rattle.sloth_base.specs.Machine.{State}
 use Rattle.sloth_base.specs.declared.event.Arrival.{Arrival}
 use Rattle.sloth_base.specs.declared.event.Stamped.{Stamped}
 use Rattle.sloth_base.specs.declared.step.Step.{Step}
 use Rattle.sloth_base.specs.MemoryMap.{line_count}
-use Rattle.rv32_instr.specs.Memory.{memory_of}
 use Rattle.rv32_machine.specs.State.{state}
 use Rattle.rv32_machine.specs.declared.machine.Machine.{Machine}
 use Rattle.machine_memory.specs.declared.sloth.SlothBus.{SlothBus}
-use Rattle.sloth_inspect.specs.States.{states_in, running_number_in}
-use Rattle.observe.specs.Progress.{Fed, remaining}
+use Rattle.observe.specs.Progress.{HasProgress, remaining}
 use Rattle.observe.specs.declared.observing.Observer.{Observer}
 use Rattle.trace_text.specs.EventWords.{kind_of}
-use Rattle.sloth_runner.specs.declared.machine_states.Seen.{Seen}
 
 -- the state of a machine
 abbrev pub sloth_state : Machine SlothBus → State
@@ -23,18 +20,11 @@ sloth_state machine = state (λ bus. bus) machine
 abbrev pub AreLines : List Arrival → Type 0
 AreLines arrivals = All (λ arrival. arrival.line < line_count) arrivals
 
--- what a state shows of so many tasks at a count, where it finds MIE 1
-abbrev pub open_states : (tasks count : ℕ) → State → Option Seen
-open_states tasks count now =
-    if now.core.mie
-    then Some (record { count = count; tasks = states_in (memory_of now.core) tasks; running = running_number_in (memory_of now.core) })
-    else None
-
 -- ---- finished events
 
 -- all finished events were handed out
 abbrev pub IsHandedOut : Observer → Observer → Type 0
-IsHandedOut old new = (steps : List Step) (events : List Stamped) → Fed old steps events → Fed new steps (events ++ remaining old)
+IsHandedOut old new = (steps : List Step) (events : List Stamped) → HasProgress old steps events → HasProgress new steps (events ++ remaining old)
 
 -- these numbers of events of each kind, with one event more
 abbrev pub counts_with_one : List ℕ → Stamped → List ℕ

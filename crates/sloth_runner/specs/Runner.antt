@@ -10,7 +10,7 @@ use Rattle.sloth_io.specs.Sink.{Output, output_with, GainsPart}
 use Rattle.trace_text.specs.Texts.{text_after, text_in, ends_idle}
 use Rattle.trace_text.specs.declared.printing.Form.{Form}
 use Rattle.observe.specs.Observe.{view_of_image}
-use Rattle.observe.specs.Progress.{Fed, remaining, view_of, arrivals_of, expected_count, arrivals_from, arrivals_behind}
+use Rattle.observe.specs.Progress.{HasProgress, remaining, view_of, arrivals_of, expected_count, arrivals_from, arrivals_behind}
 use Rattle.sim_induction.specs.Sound.{events_of}
 use Rattle.rv32_machine.specs.Start.{start}
 use Rattle.rv32_machine.specs.Advance.{Goes, Halts, advance}
@@ -77,7 +77,7 @@ pub record HasDone (runner : Runner) (image : Image) (k : ℕ) : Type 0 where
   pub format : InFormat image
   pub ran : HasRun runner image k
   pub view : view_of runner.observer ≡ view_of_image image
-  pub fed : Fed runner.observer (run_steps image (given_arrivals runner) k) (events_of image (given_arrivals runner) k)
+  pub fed : HasProgress runner.observer (run_steps image (given_arrivals runner) k) (events_of image (given_arrivals runner) k)
   pub drained : remaining runner.observer ≡ []
   pub expected : expected_count runner.observer ≡ k
 
@@ -115,7 +115,7 @@ pub record HasHalt (old : Runner) (halt : Halt) : Type 0 where
 pub record IsAdvance (old new : Runner) : Type 0 where
   pub step : Step
   pub goes : moment (given_arrivals old) (count_of old) (sloth_state old.machine) ≡ Goes step (sloth_state new.machine)
-  pub fed : (steps : List Step) (events : List Stamped) → Fed old.observer steps events → Fed new.observer (steps ++ step ∷ []) events
+  pub fed : (steps : List Step) (events : List Stamped) → HasProgress old.observer steps events → HasProgress new.observer (steps ++ step ∷ []) events
   pub view : view_of new.observer ≡ view_of old.observer
   pub expected : expected_count new.observer ≡ expected_count old.observer + 1
   pub ran : HasRun new (image_of old) (count_of old + 1)

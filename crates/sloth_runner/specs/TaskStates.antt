@@ -67,6 +67,13 @@ AreStatesAt image arrivals k (sights.At seen) = (run_end image arrivals (k + 1) 
 
 -- ---- on the way
 
+-- what a state shows of so many tasks at a count, where it finds MIE 1
+abbrev pub open_states : (tasks count : ℕ) → State → Option Seen
+open_states tasks count now =
+    if now.core.mie
+    then Some (record { count = count; tasks = states_in (memory_of now.core) tasks; running = running_number_in (memory_of now.core) })
+    else None
+
 -- what is seen of a state at a count: the tasks' states, where it finds MIE 1
 abbrev pub image_states : Image → ℕ → State → Option Seen
 image_states image count state =

@@ -2,7 +2,8 @@
 ghost use Rattle.std.specs.Prelude.{◌≡◌, ◌+◌, ◌<◌, ◌≤◌};
 ghost use Rattle.sloth_base.specs.Limits.{task_limit};
 ghost use Rattle.sloth_inspect.specs.States.{states_in, running_number_in};
-ghost use Rattle.sloth_runner.specs.Moments.{open_states, sloth_state};
+ghost use Rattle.sloth_runner.specs.TaskStates.{open_states};
+ghost use Rattle.sloth_runner.specs.Moments.{sloth_state};
 
 use osek_scheduler::state::TaskState;
 use rv32_machine::{Machine, SlothBus};

@@ -6,7 +6,7 @@ ghost use Rattle.sloth_base.specs.Owners.{owners_named};
 ghost use Rattle.sloth_base.specs.Limits.{count_limit};
 ghost use Rattle.sloth_io.specs.Sink.{output_with, GainsPart};
 ghost use Rattle.trace_text.specs.Texts.{ends_idle, is_idle};
-ghost use Rattle.observe.specs.Progress.{Fed, remaining, view_of, arrivals_of, expected_count, arrivals_due};
+ghost use Rattle.observe.specs.Progress.{HasProgress, remaining, view_of, arrivals_of, expected_count, arrivals_due};
 ghost use Rattle.rv32_machine.specs.Advance.{step_of};
 ghost use Rattle.sloth_base.specs.declared.step.Step.{Step as AnyStep};
 ghost use Rattle.sloth_base.specs.declared.event.Stamped.{Stamped as AnyStamped};
@@ -96,11 +96,11 @@ impl<'a> Printer<'a> {
 
 /// An image in its run. It keeps the image and the arrivals, lent.
 pub struct Runner<'a> {
-    pub(crate) image: &'a Image,
-    pub(crate) machine: Machine<SlothBus>,
+    pub image: &'a Image,
+    pub machine: Machine<SlothBus>,
     pub(crate) observer: Observer<'a>,
-    // The arrivals of the next moment and of later ones. The observer keeps its own place among them, since it may be fed no step.
-    pub(crate) coming: &'a [Arrival],
+    /// The arrivals of the next moment and of later ones. The observer keeps its own place among them, since it may be fed no step.
+    pub coming: &'a [Arrival],
     // The record of the last instruction.
     pub(crate) shown: Step,
 }
@@ -232,8 +232,8 @@ impl<'a> Runner<'a> {
     fn tell(&mut self, front: &StepFront)
         requires expected { front.now.count ≡ expected_count self.old.observer }
         requires drained { remaining self.old.observer ≡ [] }
-        ensures fed { (steps : List AnyStep) (events : List AnyStamped) → Fed self.old.observer steps events
-            → Fed self.new.observer (steps ++ step_of front.now (sloth_state self.old.machine) ∷ []) events }
+        ensures fed { (steps : List AnyStep) (events : List AnyStamped) → HasProgress self.old.observer steps events
+            → HasProgress self.new.observer (steps ++ step_of front.now (sloth_state self.old.machine) ∷ []) events }
         ensures view { view_of self.new.observer ≡ view_of self.old.observer }
         ensures arrivals { arrivals_of self.new.observer ≡ arrivals_of self.old.observer }
         ensures expected { expected_count self.new.observer ≡ expected_count self.old.observer + 1 }
@@ -262,8 +262,8 @@ impl<'a> Runner<'a> {
     fn feed(&mut self, front: &StepFront)
         requires expected { front.now.count ≡ expected_count self.old.observer }
         requires drained { remaining self.old.observer ≡ [] }
-        ensures fed { (steps : List AnyStep) (events : List AnyStamped) → Fed self.old.observer steps events
-            → Fed self.new.observer (steps ++ step_of front.now (sloth_state self.old.machine) ∷ []) events }
+        ensures fed { (steps : List AnyStep) (events : List AnyStamped) → HasProgress self.old.observer steps events
+            → HasProgress self.new.observer (steps ++ step_of front.now (sloth_state self.old.machine) ∷ []) events }
         ensures view { view_of self.new.observer ≡ view_of self.old.observer }
         ensures arrivals { arrivals_of self.new.observer ≡ arrivals_of self.old.observer }
         ensures expected { expected_count self.new.observer ≡ expected_count self.old.observer + 1 }

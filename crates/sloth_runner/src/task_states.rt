@@ -2,6 +2,7 @@
 ghost use Rattle.std.specs.Prelude.{◌≡◌, ◌<◌, ◌≤◌, length};
 ghost use Rattle.sloth_base.specs.Limits.{task_limit, count_limit};
 ghost use Rattle.sloth_runner.specs.Moments.{sloth_state};
+ghost use Rattle.sloth_runner.specs.Runner.{image_of, count_of};
 ghost use Rattle.sloth_runner.specs.TaskStates.{image_states, pending_counters_in, interrupts_in, task_levels};
 
 pub use crate::machine_states::Seen;
@@ -47,45 +48,45 @@ fn counters_pending(bus: &SlothBus) -> [bool; COUNTER_LIMIT]
     ]
 }
 
+/// What the machine of a run shows of the tasks, where interrupts are open.
+pub fn tasks_seen(runner: &mut Runner) -> Option<Seen>
+    requires { length (image_of runner.old).tasks ≤ task_limit }
+    ensures seen { result ≡ image_states (image_of runner.old) (count_of runner.old) (sloth_state runner.old.machine) }
+    ensures same { runner.new ≡ runner.old }
+{
+    let tasks = runner.image.tasks.items().len() as u32;
+    let count = runner.machine.count;
+    look(&mut runner.machine, count, tasks)
+}
+
+/// What it shows of interrupts.
+pub fn interrupts_shown(runner: &mut Runner) -> Interrupts
+    requires { length (image_of runner.old).tasks ≤ task_limit }
+    ensures interrupts { result ≡ interrupts_in (image_of runner.old) (sloth_state runner.old.machine) }
+    ensures same { runner.new ≡ runner.old }
+{
+    let tasks = runner.image.tasks.items().len() as u32;
+    Interrupts {
+        pending: pending(runner.machine.bus_mut(), tasks),
+        counters_pending: counters_pending(runner.machine.bus_mut()),
+        level: runner.machine.level(),
+        masked: !runner.machine.enabled(),
+    }
+}
+
+/// The level byte of each task's line, in `TASK_LIMIT` places.
+pub fn level_bytes(runner: &mut Runner) -> [u8; TASK_LIMIT]
+    requires { length (image_of runner.old).tasks ≤ task_limit }
+    ensures levels { result ≡ task_levels (image_of runner.old) (sloth_state runner.old.machine) }
+    ensures same { runner.new ≡ runner.old }
+{
+    let tasks = runner.image.tasks.items().len() as u32;
+    levels(runner.machine.bus_mut(), tasks)
+}
+
 impl<'a> Runner<'a> {
-    ghost use Rattle.sloth_runner.specs.Runner.{IsFresh, image_of, given_arrivals, count_of};
+    ghost use Rattle.sloth_runner.specs.Runner.{IsFresh, image_of, given_arrivals};
     ghost use Rattle.sloth_runner.specs.TaskStates.{AreStatesAt};
-
-    /// What the machine shows of the tasks, where interrupts are open.
-    pub fn look(&mut self) -> Option<Seen>
-        requires { length (image_of self.old).tasks ≤ task_limit }
-        ensures seen { result ≡ image_states (image_of self.old) (count_of self.old) (sloth_state self.old.machine) }
-        ensures same { self.new ≡ self.old }
-    {
-        let tasks = self.image.tasks.items().len() as u32;
-        let count = self.machine.count;
-        look(&mut self.machine, count, tasks)
-    }
-
-    /// What the machine shows of interrupts.
-    pub fn interrupts(&mut self) -> Interrupts
-        requires { length (image_of self.old).tasks ≤ task_limit }
-        ensures interrupts { result ≡ interrupts_in (image_of self.old) (sloth_state self.old.machine) }
-        ensures same { self.new ≡ self.old }
-    {
-        let tasks = self.image.tasks.items().len() as u32;
-        Interrupts {
-            pending: pending(self.machine.bus_mut(), tasks),
-            counters_pending: counters_pending(self.machine.bus_mut()),
-            level: self.machine.level(),
-            masked: !self.machine.enabled(),
-        }
-    }
-
-    /// The level byte of each task's line, in `TASK_LIMIT` places.
-    pub fn levels(&mut self) -> [u8; TASK_LIMIT]
-        requires { length (image_of self.old).tasks ≤ task_limit }
-        ensures levels { result ≡ task_levels (image_of self.old) (sloth_state self.old.machine) }
-        ensures same { self.new ≡ self.old }
-    {
-        let tasks = self.image.tasks.items().len() as u32;
-        levels(self.machine.bus_mut(), tasks)
-    }
 
     /// Runs k + 1 instructions, and tells the states of the tasks at the last count that finds interrupts open.
     pub fn state_at(&mut self, k: u32) -> Sight
@@ -97,7 +98,7 @@ impl<'a> Runner<'a> {
         let mut last = None;
         while self.machine.count < n {
             self.arrive_now();
-            last = self.look().or(last);
+            last = tasks_seen(self).or(last);
             if let Err(halt) = self.execute() {
                 return Sight::Stopped {
                     pc: halt.pc,

@@ -8,7 +8,7 @@ use Rattle.oil_lex.specs.Tokens.{TextFault}
 use Rattle.oil_parse.specs.declared.tree.OilTree.{OilTree}
 use Rattle.oil_parse.specs.Text.{HasTree, HasGrammarFault}
 use Rattle.oil_parse.proofs.Judged.{judged}
-use Rattle.oil_alarms.specs.ModelFaults.{ModelFault}
+use Rattle.oil_rules.specs.ModelFaults.{ModelFault}
 use Rattle.oil_model.specs.Configs.{config_of}
 use Rattle.code_rules.specs.WellFormed.{CycleFault, RuleFault}
 use Rattle.asm_lines.specs.Faults.{source_lines}

@@ -24,10 +24,10 @@ use Rattle.oil_table.specs.declared.table.Place.{Place}
 use Rattle.oil_table.specs.declared.table.Place.TheVariants.{Alarm}
 use Rattle.oil_table.specs.Table.{place_of, block_place}
 use Rattle.oil_table.specs.declared.alarm_limits.Limits.{Limits}
-use Rattle.oil_alarms.specs.Limits.{limits_of}
-use Rattle.oil_alarms.specs.Blocks.{BlockText, blocks_of}
-use Rattle.oil_alarms.specs.AlarmFaults.{InsideFault, BlockFault, PartFault, AlarmFault}
-use Rattle.oil_alarms.specs.ModelFaults.{ModelFault}
+use Rattle.oil_table.specs.AlarmCounters.{limits_of}
+use Rattle.oil_rules.specs.Blocks.{BlockText, blocks_of}
+use Rattle.oil_rules.specs.AlarmFaults.{InsideFault, BlockFault, PartFault, AlarmFault}
+use Rattle.oil_rules.specs.ModelFaults.{ModelFault}
 use Rattle.sloth_source.proofs.Least.{of_some}
 
 by_meaning : (m : Meaning) (n : ℕ) (r : Refusal) → FaultBy m n r → r.part ≡ Oil

@@ -9,7 +9,7 @@ use Rattle.oil_lex.specs.Tokens.{TextFault}
 use Rattle.oil_parse.specs.declared.tree.OilTree.{OilTree}
 use Rattle.oil_parse.specs.Text.{HasGrammarFault}
 use Rattle.oil_parse.proofs.Texts.{one_tree, not_both}
-use Rattle.oil_alarms.specs.ModelFaults.{ModelFault}
+use Rattle.oil_rules.specs.ModelFaults.{ModelFault}
 use Rattle.code_rules.specs.WellFormed.{CycleFault, RuleFault}
 use Rattle.asm_parse.specs.AppTexts.{SourceTextFault}
 use Rattle.sloth_source.specs.OilText.{OilRefusal}

@@ -10,7 +10,7 @@ use Rattle.asm_lines.specs.Faults.{SourceCase, LineFault, FaultAt, SourceLinesFa
 use Rattle.asm_scopes.specs.declared.scope.Scope.{Scope}
 use Rattle.asm_scopes.specs.Bodies.{BodyText, bodies_of}
 use Rattle.asm_scopes.specs.Scopes.{scope_of}
-use Rattle.asm_scopes.specs.NameFaults.{DataFault, LineNameFault as NamedLineFault, BodyNameFault, NameFault}
+use Rattle.asm_parse.specs.NameFaults.{DataFault, LineNameFault as NamedLineFault, BodyNameFault, NameFault}
 use Rattle.asm_parse.specs.AppTexts.{SourceTextFault}
 use Rattle.code_rules.specs.WellFormed.{CycleFault, RuleFault, BodyFault as RuleBodyFault}
 use Rattle.code_rules.specs.WellFormed.CycleFault.{on_cycle}

@@ -8,7 +8,7 @@ use Rattle.least_fault.specs.Order.{IsLeast, NoFault}
 use Rattle.oil_lex.specs.Tokens.{TextFault}
 use Rattle.oil_parse.specs.declared.tree.OilTree.{OilTree}
 use Rattle.oil_parse.specs.Text.{HasTree, HasGrammarFault}
-use Rattle.oil_alarms.specs.ModelFaults.{ModelFault}
+use Rattle.oil_rules.specs.ModelFaults.{ModelFault}
 use Rattle.oil_model.specs.Configs.{IsConfig}
 
 -- the text has no fault, and declares this configuration

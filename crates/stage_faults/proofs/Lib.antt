@@ -3,3 +3,4 @@ pub mod Misplaced
 pub mod Places
 pub mod ToldOnce
 pub mod Guarded
+pub mod Filtering

@@ -56,6 +56,35 @@ adds_both part F G a b c f g = record {
   all = all_of_both part F G f.more g.more f.all g.all;
 }
 
+-- Three, told as the second, the first and the third.
+pub adds_turned : (part : Part) (F G H : Refusal → Type 0) (a b c d : List Note) → Adds part F a b → Adds part G b c → Adds part H c d → Adds part (λ r. G r ⊎ (F r ⊎ H r)) a d
+adds_turned part F G H a b c d f g h =
+    adds_same part (λ r. F r ⊎ (G r ⊎ H r)) (λ r. G r ⊎ (F r ⊎ H r)) a d
+    (λ r x. ⊎_elim (λ p. inr (inl p)) (λ q. ⊎_elim (λ p. inl p) (λ p. inr (inr p)) q) x)
+    (λ r x. ⊎_elim (λ p. inr (inl p)) (λ q. ⊎_elim (λ p. inl p) (λ p. inr (inr p)) q) x)
+    (adds_both part F (λ r. G r ⊎ H r) a b d f (adds_both part G H b c d g h))
+
+is_it : (note x : Note) → Contains (note ∷ []) x → note ≡ x
+is_it note x h = first h.0 h.1 h.2
+  where
+    first : (k : ℕ) → k < 1 → get_or (note ∷ []) k x ≡ x → note ≡ x
+    first zero b e = e
+    first (suc k) b e = absurd (omega (arith, b))
+
+-- One that follows from another tells nothing.
+pub adds_follower : (part : Part) (old new : List Note) (note : Note) → new ≡ old ++ note ∷ [] → note.follows ≡ true → Adds part (λ r. ⊥) old new
+adds_follower part old new note e follows = record {
+  more = note ∷ [];
+  are = e;
+  all = record {
+    each = λ r f. absurd f;
+    only = λ line code t. absurd (untrue t.note.follows t.own (sym (ap (λ (x : Note). x.follows) (is_it note t.note t.stands)) ∙ follows));
+  };
+}
+  where
+    untrue : (b : Bool) → b ≡ false → b ≡ true → ⊥
+    untrue b f t = cc
+
 pub adds_one : (part : Part) (old : List Note) (note : Note) → note.follows ≡ false → Adds part (λ r. r ≡ fault_at part note.line note.code) old (old ++ note ∷ [])
 adds_one part old note own = record {
   more = note ∷ [];
@@ -66,16 +95,9 @@ adds_one part old note own = record {
   };
 }
   where
-    is_it : (x : Note) → Contains (note ∷ []) x → note ≡ x
-    is_it x h = first h.0 h.1 h.2
-      where
-        first : (k : ℕ) → k < 1 → get_or (note ∷ []) k x ≡ x → note ≡ x
-        first zero b e = e
-        first (suc k) b e = absurd (omega (arith, b))
-
     one : (line : ℕ) (code : Code) → IsTold (note ∷ []) line code → fault_at part line code ≡ fault_at part note.line note.code
     one line code t =
-        let e = is_it t.note t.stands in
+        let e = is_it note t.note t.stands in
         sym (ap (λ (l : ℕ). fault_at part l note.code) (ap (λ (x : Note). x.line) e ∙ t.line_is) ∙ ap (fault_at part line) (ap (λ (x : Note). x.code) e ∙ t.code_is))
 
 -- A case, where its test says so and where not.

@@ -22,8 +22,8 @@ use Rattle.oil_table.specs.Uses.{is_second}
 use Rattle.oil_rules.specs.AttributeFaults.{opened_place, place_by, refers_to_none, is_refused}
 use Rattle.oil_rules.specs.ObjectFaults.{is_known, is_doubled, lacks_attribute, is_strange_mode, is_above, KindFault}
 use Rattle.oil_rules.specs.TreeFaults.{TaskFaults, lacks_os}
-use Rattle.oil_alarms.specs.AlarmFaults.{AlarmFault}
-use Rattle.oil_alarms.specs.Limits.{limits_of}
+use Rattle.oil_rules.specs.AlarmFaults.{AlarmFault}
+use Rattle.oil_table.specs.AlarmCounters.{limits_of}
 
 -- ---- attributes
 

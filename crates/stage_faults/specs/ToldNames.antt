@@ -13,7 +13,7 @@ use Rattle.asm_scopes.specs.declared.scope.Scope.{Scope}
 use Rattle.asm_scopes.specs.Statements.{is_data, is_item, name_of, symbol_names, label_names}
 use Rattle.asm_scopes.specs.Bodies.{BodyText, bodies_of, function_names}
 use Rattle.asm_scopes.specs.Scopes.{scope_of}
-use Rattle.asm_scopes.specs.NameFaults.{bytes_of, is_taken, is_too_much, is_too_great, is_strange, is_misnamed, is_beyond, items_in, is_body_missing}
+use Rattle.asm_parse.specs.NameFaults.{bytes_of, is_taken, is_too_much, is_too_great, is_strange, is_misnamed, is_beyond, items_in, is_body_missing}
 
 -- ---- symbols
 

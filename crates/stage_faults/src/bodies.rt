@@ -9,9 +9,10 @@ ghost use Rattle.stage_faults.specs.Told.{Adds};
 
 use crate::earlier_lines::{line_of_first, push_if};
 use crate::notes::{Note, add_if, add_named};
-use asm_lines::{Mnemonic, Operand, SourceLine};
-use asm_scopes::body_faults::{is_beyond, is_misnamed, is_strange, is_too_great};
-use asm_scopes::limits::{count_item, count_items, count_label};
+use asm_forms::Mnemonic;
+use asm_lines::{Operand, SourceLine};
+use asm_parse::body_faults::{is_beyond, is_misnamed, is_strange, is_too_great};
+use asm_parse::limits::{count_item, count_items, count_label};
 use asm_scopes::{Body, Scope, is_item, is_label, kind_of, label_names, name_of, written};
 use sloth_base::limits::{BODY_LIMIT, ITEM_LIMIT};
 use sloth_base::memory::NoMemory;

@@ -21,5 +21,5 @@ pub mod told_list;
 
 pub use forms::line_notes;
 pub use names::name_notes;
-pub use notes::Note;
+pub use notes::{Note, Position};
 pub use oil_stage::model_notes;

@@ -10,7 +10,7 @@ use crate::bodies::body_notes;
 use crate::notes::{Note, add_named};
 use crate::symbols::symbol_notes;
 use asm_lines::SourceLine;
-use asm_scopes::judging::is_body_missing;
+use asm_parse::judging::is_body_missing;
 use asm_scopes::{Body, Scope, scope_of, task_body_names};
 use sloth_base::config::Config;
 use sloth_base::memory::NoMemory;

@@ -8,6 +8,33 @@ use sloth_base::memory::NoMemory;
 use sloth_base::refusal::Code;
 use text_pieces::growth::push;
 
+/// Where in an OIL tree a fault stands.
+#[derive(Clone, Copy)]
+pub struct Position {
+    /// The number of its object.
+    pub object: usize,
+    /// The number of its attribute there, from 1; 0 for the object itself.
+    pub attribute: usize,
+}
+
+impl Position {
+    /// That of an object itself.
+    pub fn of(object: usize) -> Position {
+        Position {
+            object,
+            attribute: 0,
+        }
+    }
+
+    /// So many attributes behind, in the same object.
+    pub fn behind(self, count: usize) -> Position {
+        Position {
+            object: self.object,
+            attribute: self.attribute.saturating_add(count),
+        }
+    }
+}
+
 /// A fault of a text: its line and code, and the name that it concerns, empty where there is none.
 #[derive(Clone, Copy)]
 pub struct Note<'t> {
@@ -18,15 +45,18 @@ pub struct Note<'t> {
     pub first: Option<u32>,
     /// Whether it follows from another fault.
     pub follows: bool,
+    /// Of O9, O10 and O12 in an OIL tree, by which names of one line and code are in order.
+    pub position: Position,
 }
 
-/// One fault more, with the name that it concerns and the line of an earlier thing.
+// One fault more.
 fn add<'t>(
     notes: &mut Vec<Note<'t>>,
     line: u32,
     code: Code,
     name: &'t [u8],
     first: Option<u32>,
+    position: Position,
 ) -> Result<(), NoMemory>
     ensures { OnOk result ((part : Part) → Adds part (λ r. r ≡ fault_at part line code) notes.old.items notes.new.items) }
 {
@@ -38,6 +68,7 @@ fn add<'t>(
             name,
             first,
             follows: false,
+            position,
         },
     )
 }
@@ -54,7 +85,48 @@ pub fn add_named<'t>(
     ensures { OnOk result ((part : Part) → Adds part (CaseOf part test line code) notes.old.items notes.new.items) }
 {
     if test {
-        return add(notes, line, code, name, first);
+        return add(notes, line, code, name, first, Position::of(0));
+    }
+    Ok(())
+}
+
+/// One fault more at a position where a test says so, with the name that it concerns.
+pub fn add_at<'t>(
+    notes: &mut Vec<Note<'t>>,
+    test: bool,
+    line: u32,
+    code: Code,
+    name: &'t [u8],
+    position: Position,
+) -> Result<(), NoMemory>
+    ensures { OnOk result ((part : Part) → Adds part (CaseOf part test line code) notes.old.items notes.new.items) }
+{
+    if test {
+        return add(notes, line, code, name, None, position);
+    }
+    Ok(())
+}
+
+/// A fault more that follows from another, so is not told, where a test says so.
+pub fn add_following<'t>(
+    notes: &mut Vec<Note<'t>>,
+    test: bool,
+    line: u32,
+    code: Code,
+    name: &'t [u8],
+) -> Result<(), NoMemory>
+    ensures { OnOk result ((part : Part) → Adds part (λ r. ⊥) notes.old.items notes.new.items) }
+{
+    if test {
+        let note = Note {
+            line,
+            code,
+            name,
+            first: None,
+            follows: true,
+            position: Position::of(0),
+        };
+        return push(notes, note);
     }
     Ok(())
 }

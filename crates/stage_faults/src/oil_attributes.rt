@@ -1,18 +1,28 @@
 //! The faults of the attributes of an object (O8, O9, O10, O12).
 ghost use Rattle.std.specs.Prelude.{◌≡◌, ◌&&◌, not, is_none, OnOk};
+ghost use Rattle.sloth_base.specs.declared.refusal.Code.TheVariants.{O8};
 ghost use Rattle.sloth_base.specs.declared.refusal.Part.TheVariants.{Oil};
 ghost use Rattle.least_fault.specs.Search.{Somewhere};
+ghost use Rattle.oil_table.specs.Cases.{OilCase};
 ghost use Rattle.stage_faults.specs.Told.{Adds};
 ghost use Rattle.stage_faults.specs.ToldModel.{is_at_fault, is_inside, fault_behind, ToldRow, ToldAttribute};
 
-use crate::notes::{Note, add_if};
-use oil_parse::tree::OilAttr;
+use crate::notes::{Note, Position, add_at, add_following, add_named};
+use oil_parse::tree::{OilAttr, OilValue};
 use oil_rules::Front;
 use oil_rules::attribute_faults::{is_refused, is_unlisted, opened, place_by, refers_to_none};
 use oil_table::{Attribute, EarlierUses, Limits, Place, attribute_of, is_beyond, is_second};
 use sloth_base::memory::NoMemory;
 use sloth_base::refusal::Code;
 use std::alloc::Global;
+
+/// The word that a value is; none where it is no word.
+pub fn word_of(value: &OilValue) -> &[u8] {
+    match value {
+        OilValue::Word(word) => word.bytes(),
+        _ => b"",
+    }
+}
 
 // O8, O10 or O12 of the attribute itself.
 fn is_at_fault(
@@ -51,10 +61,21 @@ fn fault_behind(fault: Option<u32>, at_fault: bool, attr: &OilAttr) -> Option<u3
     None
 }
 
-fn is_told_unlisted(row: Option<Attribute>, follows: bool) -> bool
-    ensures { result ≡ (is_none row && not follows) }
+// O8 of an attribute, in the block of one at fault or not.
+fn add_unlisted<'t>(
+    notes: &mut Vec<Note<'t>>,
+    row: Option<Attribute>,
+    follows: bool,
+    attr: &'t OilAttr,
+) -> Result<(), NoMemory>
+    ensures { OnOk result (Adds Oil (OilCase (is_none row && not follows) attr.now.line O8) notes.old.items notes.new.items) }
 {
-    is_unlisted(row) && !follows
+    let name = attr.name.bytes();
+    let unlisted = is_unlisted(row);
+    if follows {
+        return add_following(notes, unlisted, attr.line, Code::O8, name);
+    }
+    add_named(notes, unlisted, attr.line, Code::O8, name, None)
 }
 
 fn add_row_faults<'t>(
@@ -64,20 +85,31 @@ fn add_row_faults<'t>(
     row: Option<Attribute>,
     follows: bool,
     before: &EarlierUses,
-    attr: &OilAttr,
+    position: Position,
+    attr: &'t OilAttr,
 ) -> Result<(), NoMemory>
     requires { before.now.depth ≡ 0 }
     ensures { OnOk result (Adds Oil (ToldRow objects.now scheduler row follows before.now.attrs attr.now) notes.old.items notes.new.items) }
 {
     let line = attr.line;
-    add_if(notes, is_told_unlisted(row, follows), line, Code::O8)?;
-    add_if(notes, is_second(row, before, attr), line, Code::O9)?;
+    let name = attr.name.bytes();
+    add_unlisted(notes, row, follows, attr)?;
+    let second = is_second(row, before, attr);
+    add_at(notes, second, line, Code::O9, name, position)?;
     let missing = refers_to_none(objects, scheduler, row, &attr.value);
-    add_if(notes, missing, line, Code::O10)?;
-    add_if(notes, is_refused(row, &attr.value), line, Code::O12)
+    add_at(
+        notes,
+        missing,
+        line,
+        Code::O10,
+        word_of(&attr.value),
+        position,
+    )?;
+    let refused = is_refused(row, &attr.value);
+    add_at(notes, refused, line, Code::O12, name, position)
 }
 
-/// O8, O9, O10 and O12 of the attributes of an object, but O8 in the block of one that is at fault itself.
+/// O8, O9, O10 and O12 of the attributes of an object with this position; O8 in the block of one that is at fault itself follows from that.
 pub fn add_attributes<'t>(
     alloc: Global,
     notes: &mut Vec<Note<'t>>,
@@ -85,7 +117,8 @@ pub fn add_attributes<'t>(
     scheduler: bool,
     limits: Limits,
     place: Place,
-    attrs: &[OilAttr],
+    own: Position,
+    attrs: &'t [OilAttr],
 ) -> Result<(), NoMemory>
     ensures { OnOk result (Adds Oil (Somewhere (ToldAttribute objects.now scheduler limits place) attrs.now) notes.old.items notes.new.items) }
 {
@@ -95,7 +128,10 @@ pub fn add_attributes<'t>(
     for (number, attr) in attrs.iter().enumerate() {
         let row = attribute_of(place_by(place, inner, attr), attr.name.bytes());
         let follows = is_inside(fault, attr);
-        add_row_faults(notes, objects, scheduler, row, follows, &before, attr)?;
+        let position = own.behind(number + 1);
+        add_row_faults(
+            notes, objects, scheduler, row, follows, &before, position, attr,
+        )?;
         let at_fault = is_at_fault(objects, scheduler, limits, row, attr);
         fault = fault_behind(fault, at_fault, attr);
         inner = opened(place, inner, attr);

@@ -2,19 +2,20 @@
 ghost use Rattle.std.specs.Prelude.{◌≡◌, [], OnOk};
 ghost use Rattle.sloth_base.specs.declared.refusal.Part.TheVariants.{Oil};
 ghost use Rattle.least_fault.specs.Search.{Somewhere};
-ghost use Rattle.oil_alarms.specs.Blocks.{blocks_of};
-ghost use Rattle.oil_alarms.specs.Limits.{limits_of};
-ghost use Rattle.oil_alarms.specs.AlarmFaults.{InsideFault, BlockFault, PartFault, AlarmFault};
+ghost use Rattle.oil_rules.specs.Blocks.{blocks_of};
+ghost use Rattle.oil_table.specs.AlarmCounters.{limits_of};
+ghost use Rattle.oil_rules.specs.AlarmFaults.{InsideFault, BlockFault, PartFault, AlarmFault};
 ghost use Rattle.stage_faults.specs.Told.{Adds};
 
-use crate::notes::{Note, add_if};
-use oil_alarms::alarm_faults::{is_unlisted, lacks_part};
-use oil_alarms::blocks::{Block, blocks_of};
-use oil_alarms::limits::CounterLimits;
-use oil_alarms::task_events::{NamedTask, TaskEvents};
+use crate::notes::{Note, Position, add_at, add_if};
+use crate::oil_attributes::word_of;
 use oil_parse::tree::{OilAttr, OilObject};
+use oil_rules::alarm_faults::{is_unlisted, lacks_part};
+use oil_rules::blocks::{Block, blocks_of};
+use oil_rules::named_task::NamedTask;
 use oil_table::{
-    EarlierUses, Limits, Place, attribute_of, block_place, is_beyond, is_of_kind, is_second,
+    CounterLimits, EarlierUses, Limits, Place, TaskEvents, attribute_of, block_place, is_beyond,
+    is_of_kind, is_second,
 };
 use sloth_base::memory::NoMemory;
 use sloth_base::refusal::Code;
@@ -22,22 +23,29 @@ use std::alloc::Global;
 
 // ---- a block
 
+// O10 stands at the end of its block, behind what is O10 by itself.
 fn add_inner_fault<'t>(
     notes: &mut Vec<Note<'t>>,
     limits: Limits,
     place: Place,
     block: &NamedTask,
     before: &EarlierUses,
-    attr: &OilAttr,
+    position: Position,
+    end: Position,
+    attr: &'t OilAttr,
 ) -> Result<(), NoMemory>
     requires { before.now.depth ≡ 1 }
     ensures { OnOk result (Adds Oil (InsideFault block.now.objects limits place block.now.inner before.now.attrs attr.now) notes.old.items notes.new.items) }
 {
     let line = attr.line;
-    let row = attribute_of(place, attr.name.bytes());
-    add_if(notes, is_second(row, before, attr), line, Code::O9)?;
-    add_if(notes, is_unlisted(place, block, attr), line, Code::O10)?;
-    add_if(notes, is_beyond(limits, row, attr), line, Code::O12)
+    let name = attr.name.bytes();
+    let row = attribute_of(place, name);
+    let second = is_second(row, before, attr);
+    add_at(notes, second, line, Code::O9, name, position)?;
+    let unlisted = is_unlisted(place, block, attr);
+    add_at(notes, unlisted, line, Code::O10, word_of(&attr.value), end)?;
+    let beyond = is_beyond(limits, row, attr);
+    add_at(notes, beyond, line, Code::O12, name, position)
 }
 
 fn add_inner_faults<'t>(
@@ -46,13 +54,17 @@ fn add_inner_faults<'t>(
     limits: Limits,
     place: Place,
     block: &NamedTask,
+    head: Position,
+    attrs: &'t [OilAttr],
 ) -> Result<(), NoMemory>
+    requires { attrs.now ≡ block.now.inner }
     ensures { OnOk result (Adds Oil (Somewhere (InsideFault block.now.objects limits place block.now.inner) block.now.inner) notes.old.items notes.new.items) }
 {
-    let attrs = block.inner();
+    let end = head.behind(attrs.len());
     let mut before = EarlierUses::new(alloc, 1);
     for (number, attr) in attrs.iter().enumerate() {
-        add_inner_fault(notes, limits, place, block, &before, attr)?;
+        let position = head.behind(number + 1);
+        add_inner_fault(notes, limits, place, block, &before, position, end, attr)?;
         before = before.with(&attrs[..=number], attr)?;
     }
     Ok(())
@@ -63,17 +75,21 @@ fn add_block<'t>(
     notes: &mut Vec<Note<'t>>,
     tasks: &TaskEvents,
     limits: Limits,
-    block: &Block,
+    head: Position,
+    block: &Block<'t>,
 ) -> Result<(), NoMemory>
     ensures { OnOk result (Adds Oil (BlockFault tasks.now limits [] block.now) notes.old.items notes.new.items) }
 {
     let place = block_place(Place::Alarm, block.head());
+    let inner = block.inner();
     add_inner_faults(
         alloc,
         notes,
         limits,
         place,
-        &NamedTask::new(tasks, block.inner()),
+        &NamedTask::new(tasks, inner),
+        head,
+        inner,
     )
 }
 
@@ -82,12 +98,15 @@ fn add_blocks<'t>(
     notes: &mut Vec<Note<'t>>,
     tasks: &TaskEvents,
     limits: Limits,
-    blocks: &[Block],
+    own: Position,
+    blocks: &[Block<'t>],
 ) -> Result<(), NoMemory>
     ensures { OnOk result (Adds Oil (Somewhere (BlockFault tasks.now limits) blocks.now) notes.old.items notes.new.items) }
 {
+    let mut head = own.behind(1);
     for block in blocks {
-        add_block(alloc, notes, tasks, limits, block)?;
+        add_block(alloc, notes, tasks, limits, head, block)?;
+        head = head.behind(block.inner().len()).behind(1);
     }
     Ok(())
 }
@@ -99,7 +118,8 @@ fn add_in_blocks<'t>(
     notes: &mut Vec<Note<'t>>,
     tasks: &TaskEvents,
     counters: &CounterLimits,
-    alarm: &OilObject,
+    own: Position,
+    alarm: &'t OilObject,
 ) -> Result<(), NoMemory>
     requires { counters.now ≡ tasks.now }
     ensures { OnOk result (Adds Oil (Somewhere (BlockFault tasks.now (limits_of tasks.now alarm.now.attrs)) (blocks_of alarm.now.attrs)) notes.old.items notes.new.items) }
@@ -107,7 +127,7 @@ fn add_in_blocks<'t>(
     let attrs = alarm.attrs.items();
     let limits = counters.limits_of(attrs);
     let blocks = blocks_of(alloc, attrs)?;
-    add_blocks(alloc, notes, tasks, limits, blocks.as_slice())
+    add_blocks(alloc, notes, tasks, limits, own, blocks.as_slice())
 }
 
 fn add_part<'t>(
@@ -115,14 +135,15 @@ fn add_part<'t>(
     notes: &mut Vec<Note<'t>>,
     tasks: &TaskEvents,
     counters: &CounterLimits,
-    alarm: &OilObject,
+    own: Position,
+    alarm: &'t OilObject,
 ) -> Result<(), NoMemory>
     requires { counters.now ≡ tasks.now }
     ensures { OnOk result (Adds Oil (PartFault tasks.now alarm.now) notes.old.items notes.new.items) }
 {
     let lacking = lacks_part(alarm.attrs.items());
     add_if(notes, lacking, alarm.line, Code::O11)?;
-    add_in_blocks(alloc, notes, tasks, counters, alarm)
+    add_in_blocks(alloc, notes, tasks, counters, own, alarm)
 }
 
 fn add_alarm<'t>(
@@ -130,13 +151,14 @@ fn add_alarm<'t>(
     notes: &mut Vec<Note<'t>>,
     tasks: &TaskEvents,
     counters: &CounterLimits,
-    object: &OilObject,
+    own: Position,
+    object: &'t OilObject,
 ) -> Result<(), NoMemory>
     requires { counters.now ≡ tasks.now }
     ensures { OnOk result (Adds Oil (AlarmFault tasks.now [] object.now) notes.old.items notes.new.items) }
 {
     if is_of_kind(object, b"ALARM") {
-        return add_part(alloc, notes, tasks, counters, object);
+        return add_part(alloc, notes, tasks, counters, own, object);
     }
     Ok(())
 }
@@ -147,13 +169,14 @@ pub fn add_alarms<'t>(
     notes: &mut Vec<Note<'t>>,
     tasks: &TaskEvents,
     counters: &CounterLimits,
-    objects: &[OilObject],
+    objects: &'t [OilObject],
 ) -> Result<(), NoMemory>
     requires { counters.now ≡ tasks.now }
     ensures { OnOk result (Adds Oil (Somewhere (AlarmFault tasks.now) objects.now) notes.old.items notes.new.items) }
 {
-    for object in objects {
-        add_alarm(alloc, notes, tasks, counters, object)?;
+    for (number, object) in objects.iter().enumerate() {
+        let own = Position::of(number);
+        add_alarm(alloc, notes, tasks, counters, own, object)?;
     }
     Ok(())
 }

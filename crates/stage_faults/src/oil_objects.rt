@@ -8,15 +8,14 @@ ghost use Rattle.oil_rules.specs.ObjectFaults.{is_known, KindFault};
 ghost use Rattle.stage_faults.specs.Told.{Adds};
 ghost use Rattle.stage_faults.specs.ToldModel.{is_far_above, is_told_above, ToldKnown, ToldInner, ToldObject, ToldTree};
 
-use crate::notes::{Note, add_if};
+use crate::notes::{Note, Position, add_at, add_if, add_named};
 use crate::oil_attributes::add_attributes;
 use crate::oil_tasks::{add_events, add_of_task};
-use oil_alarms::limits::CounterLimits;
 use oil_parse::tree::{OilObject, OilTree};
 use oil_rules::Front;
 use oil_rules::object_faults::{is_above, is_doubled, is_strange_mode, lacks_attribute};
 use oil_table::table::{is_nowhere, place_of};
-use oil_table::{EventTable, is_of_kind};
+use oil_table::{CounterLimits, EventTable, is_of_kind};
 use sloth_base::limits::{ALARM_LIMIT, COUNTER_LIMIT, EVENT_LIMIT, RESOURCE_LIMIT, TASK_LIMIT};
 use sloth_base::memory::NoMemory;
 use sloth_base::refusal::Code;
@@ -50,15 +49,19 @@ fn add_known<'t>(
     notes: &mut Vec<Note<'t>>,
     scheduler: bool,
     front: &Front,
-    object: &OilObject,
+    own: Position,
+    object: &'t OilObject,
 ) -> Result<(), NoMemory>
     ensures { OnOk result (Adds Oil (ToldKnown scheduler front.now object.now) notes.old.items notes.new.items) }
 {
     let line = object.line;
-    add_if(notes, is_doubled(scheduler, front, object), line, Code::O9)?;
+    let name = object.name.bytes();
+    let doubled = is_doubled(scheduler, front, object);
+    add_at(notes, doubled, line, Code::O9, name, own)?;
     add_if(notes, lacks_attribute(object), line, Code::O11)?;
-    add_if(notes, is_strange_mode(object), line, Code::O12)?;
-    add_if(notes, is_told_above(front, object), line, Code::O14)
+    add_at(notes, is_strange_mode(object), line, Code::O12, name, own)?;
+    let above = is_told_above(front, object);
+    add_named(notes, above, line, Code::O14, name, None)
 }
 
 fn add_inner<'t>(
@@ -69,16 +72,17 @@ fn add_inner<'t>(
     scheduler: bool,
     events: &EventTable,
     front: &Front,
-    object: &OilObject,
+    own: Position,
+    object: &'t OilObject,
 ) -> Result<(), NoMemory>
     requires { counters.now ≡ table.now }
     ensures { OnOk result (Adds Oil (ToldInner table.now scheduler events.now front.now object.now) notes.old.items notes.new.items) }
 {
-    add_known(notes, scheduler, front, object)?;
+    add_known(notes, scheduler, front, own, object)?;
     let attrs = object.attrs.items();
     let limits = counters.limits_of(attrs);
     let place = place_of(object.kind.bytes());
-    add_attributes(alloc, notes, table, scheduler, limits, place, attrs)?;
+    add_attributes(alloc, notes, table, scheduler, limits, place, own, attrs)?;
     add_of_task(alloc, notes, events, front, object)
 }
 
@@ -90,7 +94,8 @@ fn add_known_object<'t>(
     scheduler: bool,
     events: &EventTable,
     front: &Front,
-    object: &OilObject,
+    own: Position,
+    object: &'t OilObject,
 ) -> Result<(), NoMemory>
     requires { counters.now ≡ table.now }
     ensures { OnOk result (Adds Oil (λ r. (is_known object.now ≡ true) × ToldInner table.now scheduler events.now front.now object.now r) notes.old.items notes.new.items) }
@@ -99,15 +104,16 @@ fn add_known_object<'t>(
         return Ok(());
     }
     add_inner(
-        alloc, notes, table, counters, scheduler, events, front, object,
+        alloc, notes, table, counters, scheduler, events, front, own, object,
     )
 }
 
-fn add_kind<'t>(notes: &mut Vec<Note<'t>>, object: &OilObject) -> Result<(), NoMemory>
+fn add_kind<'t>(notes: &mut Vec<Note<'t>>, object: &'t OilObject) -> Result<(), NoMemory>
     ensures { OnOk result (Adds Oil (KindFault object.now) notes.old.items notes.new.items) }
 {
-    let is_strange = is_nowhere(place_of(object.kind.bytes()));
-    add_if(notes, is_strange, object.line, Code::O7)
+    let kind = object.kind.bytes();
+    let is_strange = is_nowhere(place_of(kind));
+    add_named(notes, is_strange, object.line, Code::O7, kind, None)
 }
 
 // ---- all
@@ -115,7 +121,7 @@ fn add_kind<'t>(notes: &mut Vec<Note<'t>>, object: &OilObject) -> Result<(), NoM
 fn add_objects<'t>(
     alloc: Global,
     notes: &mut Vec<Note<'t>>,
-    objects: &[OilObject],
+    objects: &'t [OilObject],
     table: &Front,
     counters: &CounterLimits,
     scheduler: bool,
@@ -126,9 +132,10 @@ fn add_objects<'t>(
 {
     let mut front = Front::new(alloc);
     for (number, object) in objects.iter().enumerate() {
+        let own = Position::of(number);
         add_kind(notes, object)?;
         add_known_object(
-            alloc, notes, table, counters, scheduler, events, &front, object,
+            alloc, notes, table, counters, scheduler, events, &front, own, object,
         )?;
         front = front.with(&objects[..=number], object)?;
     }
@@ -139,7 +146,7 @@ fn add_objects<'t>(
 pub fn add_tree<'t>(
     alloc: Global,
     notes: &mut Vec<Note<'t>>,
-    tree: &OilTree,
+    tree: &'t OilTree,
     table: &Front,
     counters: &CounterLimits,
     scheduler: bool,
@@ -152,7 +159,14 @@ pub fn add_tree<'t>(
     ensures { OnOk result (Adds Oil (ToldTree tree.now) notes.old.items notes.new.items) }
 {
     let objects = tree.objects.items();
-    add_objects(alloc, notes, objects, table, counters, scheduler, events)?;
     add_events(notes, objects)?;
-    add_if(notes, !table.has_os(), tree.cpu_line, Code::O11)
+    add_objects(alloc, notes, objects, table, counters, scheduler, events)?;
+    add_named(
+        notes,
+        !table.has_os(),
+        tree.cpu_line,
+        Code::O11,
+        b"OS",
+        None,
+    )
 }

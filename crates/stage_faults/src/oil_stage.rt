@@ -9,12 +9,10 @@ ghost use Rattle.stage_faults.specs.ToldModel.{ToldModel};
 use crate::notes::Note;
 use crate::oil_blocks::add_alarms;
 use crate::oil_objects::add_tree;
-use oil_alarms::limits::CounterLimits;
-use oil_alarms::task_events::TaskEvents;
 use oil_parse::tree::OilTree;
 use oil_rules::Front;
 use oil_table::events::events_of;
-use oil_table::{EventTable, has_scheduler, names_of};
+use oil_table::{CounterLimits, EventTable, TaskEvents, has_scheduler, names_of};
 use sloth_base::config::EventDecl;
 use sloth_base::memory::NoMemory;
 use std::alloc::Global;
@@ -22,7 +20,7 @@ use text_pieces::names::Names;
 
 fn notes_by<'t>(
     alloc: Global,
-    tree: &OilTree,
+    tree: &'t OilTree,
     table: &Front,
     counters: &CounterLimits,
     tasks: &TaskEvents,
@@ -44,7 +42,7 @@ fn notes_by<'t>(
 
 fn notes_with_events<'t>(
     alloc: Global,
-    tree: &OilTree,
+    tree: &'t OilTree,
     event_names: &Names,
     events: &[EventDecl],
 ) -> Result<Vec<Note<'t>>, NoMemory>
@@ -61,8 +59,8 @@ fn notes_with_events<'t>(
     notes_by(alloc, tree, &table, &counters, &tasks, scheduler, &events)
 }
 
-/// The faults that are told of a tree, without names.
-pub fn model_notes<'t>(alloc: Global, tree: &OilTree) -> Result<Vec<Note<'t>>, NoMemory>
+/// The faults that are told of a tree. O11 of an object and O13 are without names.
+pub fn model_notes<'t>(alloc: Global, tree: &'t OilTree) -> Result<Vec<Note<'t>>, NoMemory>
     ensures { IfOk result (λ notes. AreAll Oil (ToldModel tree.now) notes.items) }
 {
     let objects = tree.objects.items();

@@ -8,7 +8,8 @@ ghost use Rattle.oil_rules.specs.TaskFaults.{TaskFault};
 ghost use Rattle.oil_rules.specs.TreeFaults.{TaskFaults};
 ghost use Rattle.stage_faults.specs.Told.{Adds};
 
-use crate::notes::{Note, add_if};
+use crate::notes::{Note, add_if, add_named};
+use crate::oil_attributes::word_of;
 use oil_parse::tree::{OilAttr, OilObject};
 use oil_rules::Front;
 use oil_rules::references::References;
@@ -24,22 +25,24 @@ fn add_task_faults<'t>(
     front: &Front,
     given: bool,
     before: &References,
-    attr: &OilAttr,
+    attr: &'t OilAttr,
 ) -> Result<(), NoMemory>
     requires { given ≡ is_used before.now.attrs (codes "PRIORITY") }
     ensures { OnOk result (Adds Oil (TaskFault before.now.events front.now before.now.attrs attr.now) notes.old.items notes.new.items) }
 {
+    let line = attr.line;
     let repeated = repeats_priority(front, given, attr);
-    add_if(notes, repeated, attr.line, Code::O13)?;
-    add_if(notes, before.shares_bit(attr), attr.line, Code::O15)
+    add_if(notes, repeated, line, Code::O13)?;
+    let shared = before.shares_bit(attr);
+    add_named(notes, shared, line, Code::O15, word_of(&attr.value), None)
 }
 
-fn add_of_attributes<'e, 't>(
+fn add_of_attributes<'e, 't: 'e>(
     alloc: Global,
     notes: &mut Vec<Note<'t>>,
     events: &'e EventTable<'e>,
     front: &Front,
-    attrs: &'e [OilAttr],
+    attrs: &'t [OilAttr],
 ) -> Result<(), NoMemory>
     ensures { OnOk result (Adds Oil (Somewhere (TaskFault events.now front.now) attrs.now) notes.old.items notes.new.items) }
 {
@@ -54,12 +57,12 @@ fn add_of_attributes<'e, 't>(
 }
 
 /// O13 and O15 of the attributes of an object, if it is a task.
-pub fn add_of_task<'e, 't>(
+pub fn add_of_task<'e, 't: 'e>(
     alloc: Global,
     notes: &mut Vec<Note<'t>>,
     events: &'e EventTable<'e>,
     front: &Front,
-    object: &'e OilObject,
+    object: &'t OilObject,
 ) -> Result<(), NoMemory>
     ensures { OnOk result (Adds Oil (TaskFaults events.now front.now object.now) notes.old.items notes.new.items) }
 {
@@ -70,12 +73,14 @@ pub fn add_of_task<'e, 't>(
 }
 
 /// O15 of the events that find no free bit.
-pub fn add_events<'t>(notes: &mut Vec<Note<'t>>, objects: &[OilObject]) -> Result<(), NoMemory>
+pub fn add_events<'t>(notes: &mut Vec<Note<'t>>, objects: &'t [OilObject]) -> Result<(), NoMemory>
     ensures { OnOk result (Adds Oil (Somewhere (BitFault objects.now) objects.now) notes.old.items notes.new.items) }
 {
     let mut taken = number_masks(objects);
     for object in objects {
-        add_if(notes, lacks_bit(taken, object), object.line, Code::O15)?;
+        let name = object.name.bytes();
+        let lacks = lacks_bit(taken, object);
+        add_named(notes, lacks, object.line, Code::O15, name, None)?;
         taken = taken_more(taken, object);
     }
     Ok(())

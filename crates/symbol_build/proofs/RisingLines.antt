@@ -12,9 +12,9 @@ use Rattle.sloth_base.specs.declared.refusal.Part.TheVariants as part
 use Rattle.sloth_base.specs.declared.refusal.Refusal.{Refusal}
 use Rattle.least_fault.specs.Cases.{fault_at}
 use Rattle.least_fault.specs.Search.{SomeFrom}
-use Rattle.asm_lines.specs.Forms.{is_body_end, is_body_start, is_outer}
-use Rattle.asm_lines.specs.declared.forms.Mnemonic.{Mnemonic}
-use Rattle.asm_lines.specs.declared.forms.Mnemonic.TheVariants as m
+use Rattle.asm_forms.specs.Forms.{is_body_end, is_body_start, is_outer}
+use Rattle.asm_forms.specs.declared.forms.Mnemonic.{Mnemonic}
+use Rattle.asm_forms.specs.declared.forms.Mnemonic.TheVariants as m
 use Rattle.asm_lines.specs.Faults.{FaultAt, after_line, is_a1, is_end_inside, same_bool}
 use Rattle.asm_lines.specs.declared.source_line.SourceLine.{SourceLine}
 use Rattle.asm_lines.specs.declared.source_line.SourceLine.TheVariants.{Empty, Shapeless, Statement, Unknown}

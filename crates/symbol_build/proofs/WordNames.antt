@@ -7,7 +7,7 @@ use Rattle.sloth_base.specs.declared.config.Config.{Config}
 use Rattle.sloth_base.specs.declared.config.CounterDecl.{CounterDecl}
 use Rattle.sloth_base.specs.declared.config.TaskDecl.{TaskDecl}
 use Rattle.map_text.specs.PieceNames.{joined}
-use Rattle.symbol_image.specs.Symbols.{alarm_words, context_symbol, counter_words, last_words, resume_words, saved_words, scheduler_words, state_words, word_symbols}
+use Rattle.symbol_image.specs.Symbols.{alarm_words, context_symbol, counter_words, context_and_level_symbols, resume_words, saved_words, scheduler_words, state_words, word_symbols}
 use Rattle.symbol_image.specs.declared.symbol.Symbol.{Symbol}
 use Rattle.symbol_build.proofs.LocalNames.{Active, Cycle, Events, Front, IsLocal, IsThere, Kernel, Left, Resume, Saved, Value, Wait, front_text, object_name, place, resource_is, sort_of}
 use Rattle.symbol_build.proofs.RisingNames.{Rises, rise_both, rise_from}
@@ -153,6 +153,6 @@ module _ (config : Config) (range : InRange config) where
         above = omega arith;
         is = local Kernel 0 _ (omega arith) refl;
         rest =
-            rise_both config 1 300 700 (state_words 0 config.tasks ++ (counter_words 0 config.counters ++ alarm_words 0 config.alarms)) (last_words config) first
+            rise_both config 1 300 700 (state_words 0 config.tasks ++ (counter_words 0 config.counters ++ alarm_words 0 config.alarms)) (context_and_level_symbols config) first
             (record { key = 300; above = omega arith; is = local Kernel 1 _ (omega arith) refl; rest = rise_from config 301 400 700 _ (omega arith) last });
       }

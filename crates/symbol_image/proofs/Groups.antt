@@ -5,11 +5,11 @@ use Rattle.symbol_image.specs.Fields.{groups, signed_leb, unsigned_leb}
 use Rattle.image_file.proofs.Unique.{Splits}
 
 -- so many groups before the last are enough
-abbrev pub Fits : (limit left number : ℕ) → Type 0
-Fits limit zero number = number < limit
-Fits limit (suc left) number = Fits limit left (number / 128)
+abbrev pub FitsGroups : (limit left number : ℕ) → Type 0
+FitsGroups limit zero number = number < limit
+FitsGroups limit (suc left) number = FitsGroups limit left (number / 128)
 
-pub fits-word : (limit number : ℕ) → 16 ≤ limit → number < 2 ^ 32 → Fits limit 4 number
+pub fits-word : (limit number : ℕ) → 16 ≤ limit → number < 2 ^ 32 → FitsGroups limit 4 number
 fits-word limit number h n = omega arith
 
 -- ---- writing
@@ -17,10 +17,10 @@ fits-word limit number h n = omega arith
 -- what is written so far, and the groups of the rest behind it
 pub record IsBegun (limit : ℕ) (old new : List ℕ) (number rest : ℕ) : Type 0 where
   pub left : ℕ
-  pub fits : Fits limit left rest
+  pub fits : FitsGroups limit left rest
   pub are : new ++ groups limit left rest ≡ old ++ groups limit 4 number
 
-begun-by : (limit : ℕ) (old new next : List ℕ) (number rest left : ℕ) → Fits limit left rest
+begun-by : (limit : ℕ) (old new next : List ℕ) (number rest left : ℕ) → FitsGroups limit left rest
     → new ++ groups limit left rest ≡ old ++ groups limit 4 number → limit ≤ rest → next ≡ new ++ (rest % 128 + 128) ∷ []
     → IsBegun limit old next number (rest / 128)
 begun-by limit old new next number rest zero f e h n = let g : rest < limit = f in absurd (omega arith)
@@ -79,7 +79,7 @@ either number rest further false h r =
       ap (λ t. cond t (further ++ rest) (behind (further ++ rest))) e ∙ r.1,
     )
 
-reads : (limit left number : ℕ) (rest : List ℕ) → limit ≤ 128 → Fits limit left number → Reads (groups limit left number) rest number
+reads : (limit left number : ℕ) (rest : List ℕ) → limit ≤ 128 → FitsGroups limit left number → Reads (groups limit left number) rest number
 reads limit zero number rest h f = let g : number < limit = f in last number rest (omega arith)
 reads limit (suc left) number rest h f =
     either number rest (groups limit left (number / 128)) (ltb number limit)

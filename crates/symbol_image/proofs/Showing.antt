@@ -15,14 +15,14 @@ use Rattle.symbol_image.specs.declared.types.Shape.TheVariants as shape
 use Rattle.symbol_image.specs.declared.types.Types.{Types}
 use Rattle.symbol_image.specs.Abbreviations.{abbreviations, array_kind, index_kind}
 use Rattle.symbol_image.specs.Entries.{all_body_bytes, all_symbol_bytes, array_entries, base_type, body_entries, body_entry, byte_name, end_entries, frame_entries, frame_type_entries, frame_variable_entry, front_bytes, has_below, info_section, inner_labels, label_entry, place_behind, shape_of, symbol_entries, symbols_behind, type_entries, type_place, types_of, unit_bytes, unit_entry, unit_header, variable_entry, word_name}
-use Rattle.symbol_image.specs.EntryBytes.{End, Entry, HasForms, Of, Reference, Word, entries_bytes, entry_bytes}
+use Rattle.symbol_image.specs.EntryBytes.{End, DwarfEntry, HasForms, Of, Reference, Word, entries_bytes, entry_bytes}
 use Rattle.symbol_image.specs.EntryTree.{HasBodyEntry, HasCodeEntries, HasKindIn, HasSymbolEntry, IsByteType, IsTypeOf, IsWordType}
 use Rattle.symbol_image.specs.Fields.{sized}
 use Rattle.map_text.specs.LineRows.{item_address, item_count}
 
 -- ---- the entries behind the types
 
-abbrev symbols_of : Types → (lines addresses : List ℕ) → (at number : ℕ) → List Symbol → List Entry
+abbrev symbols_of : Types → (lines addresses : List ℕ) → (at number : ℕ) → List Symbol → List DwarfEntry
 symbols_of types lines addresses at number [] = []
 symbols_of types lines addresses at number (symbol ∷ symbols) =
     symbol_entries types at symbol (get_or lines number 0) (get_or addresses number 0)
@@ -33,11 +33,11 @@ symbols-bytes : (types : Types) (lines addresses : List ℕ) (at number : ℕ) (
     → entries_bytes (symbols_of types lines addresses at number symbols) ≡ all_symbol_bytes types lines addresses at number symbols
 symbols-bytes types lines addresses at number [] = refl
 symbols-bytes types lines addresses at number (symbol ∷ symbols) =
-    let first : List Entry = symbol_entries types at symbol (get_or lines number 0) (get_or addresses number 0) in
+    let first : List DwarfEntry = symbol_entries types at symbol (get_or lines number 0) (get_or addresses number 0) in
     flat_map-append entry_bytes first (symbols_of types lines addresses (at + length (entries_bytes first)) (number + 1) symbols)
     ∙ ap (λ b. entries_bytes first ++ b) (symbols-bytes types lines addresses (at + length (entries_bytes first)) (number + 1) symbols)
 
-abbrev bodies_of : Types → Places → (end at number : ℕ) → List Func → List Entry
+abbrev bodies_of : Types → Places → (end at number : ℕ) → List Func → List DwarfEntry
 bodies_of types places end at number [] = []
 bodies_of types places end at number (func ∷ funcs) =
     body_entries types places end at number func
@@ -47,13 +47,13 @@ bodies-bytes : (types : Types) (places : Places) (end at number : ℕ) (funcs : 
     → entries_bytes (bodies_of types places end at number funcs) ≡ all_body_bytes types places end at number funcs
 bodies-bytes types places end at number [] = refl
 bodies-bytes types places end at number (func ∷ funcs) =
-    let first : List Entry = body_entries types places end at number func in
+    let first : List DwarfEntry = body_entries types places end at number func in
     flat_map-append entry_bytes first (bodies_of types places end (at + length (entries_bytes first)) (number + length func.items) funcs)
     ∙ ap (λ b. entries_bytes first ++ b) (bodies-bytes types places end (at + length (entries_bytes first)) (number + length func.items) funcs)
 
 -- ---- each is of a kind of the table, with values in its forms
 
-abbrev IsRight : Entry → Type 0
+abbrev IsRight : DwarfEntry → Type 0
 IsRight entry = HasKindIn abbreviations entry × HasForms entry
 
 right-last : All IsRight (End ∷ [])
@@ -81,7 +81,7 @@ right-symbols : (types : Types) (lines addresses : List ℕ) (at number : ℕ) (
     → All IsRight (symbols_of types lines addresses at number symbols)
 right-symbols types lines addresses at number [] = All-nil IsRight
 right-symbols types lines addresses at number (symbol ∷ symbols) =
-    let first : List Entry = symbol_entries types at symbol (get_or lines number 0) (get_or addresses number 0) in
+    let first : List DwarfEntry = symbol_entries types at symbol (get_or lines number 0) (get_or addresses number 0) in
     All-append IsRight first (symbols_of types lines addresses (at + length (entries_bytes first)) (number + 1) symbols)
     (right-symbol types at symbol (get_or lines number 0) (get_or addresses number 0))
     (right-symbols types lines addresses (at + length (entries_bytes first)) (number + 1) symbols)
@@ -110,9 +110,9 @@ right-body-alone func low high false e = rw e ((8, omega arith, refl), refl)
 
 right-body : (types : Types) (places : Places) (end at number : ℕ) (func : Func) → All IsRight (body_entries types places end at number func)
 right-body types places end at number func =
-    let body : Entry = body_entry func (item_address places end number) (item_address places end (number + length func.items)) in
-    let labels : List Entry = map (label_entry places end number) (inner_labels func) in
-    let last : List Entry = end_entries (has_below func) in
+    let body : DwarfEntry = body_entry func (item_address places end number) (item_address places end (number + length func.items)) in
+    let labels : List DwarfEntry = map (label_entry places end number) (inner_labels func) in
+    let last : List DwarfEntry = end_entries (has_below func) in
     All-append IsRight (frame_type_entries types func.frame_words) (body ∷ (frame_entries at func.frame_words ++ (labels ++ last)))
     (right-frame-type types func.frame_words)
     (All-cons IsRight body (frame_entries at func.frame_words ++ (labels ++ last))
@@ -123,7 +123,7 @@ right-body types places end at number func =
 right-bodies : (types : Types) (places : Places) (end at number : ℕ) (funcs : List Func) → All IsRight (bodies_of types places end at number funcs)
 right-bodies types places end at number [] = All-nil IsRight
 right-bodies types places end at number (func ∷ funcs) =
-    let first : List Entry = body_entries types places end at number func in
+    let first : List DwarfEntry = body_entries types places end at number func in
     All-append IsRight first (bodies_of types places end (at + length (entries_bytes first)) (number + length func.items) funcs)
     (right-body types places end at number func)
     (right-bodies types places end (at + length (entries_bytes first)) (number + length func.items) funcs)
@@ -131,20 +131,20 @@ right-bodies types places end at number (func ∷ funcs) =
 -- ---- where they stand
 
 -- one of a group, between what stands before the group and behind it
-regrouped : (before first : List Entry) (e : Entry) (later behind : List Entry)
+regrouped : (before first : List DwarfEntry) (e : DwarfEntry) (later behind : List DwarfEntry)
     → before ++ ((first ++ (e ∷ later)) ++ behind) ≡ (before ++ first) ++ (e ∷ (later ++ behind))
 regrouped before first e later behind =
     ap (λ l. before ++ l) (append_assoc first (e ∷ later) behind) ∙ sym (append_assoc before first (e ∷ (later ++ behind)))
 
 -- the place behind a group
-place-behind : (before group : List Entry) (at : ℕ) → at ≡ 11 + length (entries_bytes before)
+place-behind : (before group : List DwarfEntry) (at : ℕ) → at ≡ 11 + length (entries_bytes before)
     → at + length (entries_bytes group) ≡ 11 + length (entries_bytes (before ++ group))
 place-behind before group at e =
     let a : length (entries_bytes (before ++ group)) ≡ length (entries_bytes before) + length (entries_bytes group) =
     ap length (flat_map-append entry_bytes before group) ∙ length-append (entries_bytes before) (entries_bytes group) in
     omega arith
 
-type-stands : (entries : List Entry) (types : Types) (at : ℕ) (s : Shape) (before behind : List Entry) → at ≡ 11 + length (entries_bytes before)
+type-stands : (entries : List DwarfEntry) (types : Types) (at : ℕ) (s : Shape) (before behind : List DwarfEntry) → at ≡ 11 + length (entries_bytes before)
     → entries ≡ before ++ (type_entries types s ++ behind) → IsWordType entries types.word → IsByteType entries types.byte
     → IsTypeOf entries (type_place types s at) s
 type-stands entries types at shape.OneWord before behind p e w b = w
@@ -171,12 +171,12 @@ type-stands entries types at (shape.Bytes count) before behind p e w b = record 
 }
 
 -- the entries of a symbol show it
-symbol-stands : (entries : List Entry) (types : Types) (at : ℕ) (symbol : Symbol) (line address : ℕ) (before behind : List Entry)
+symbol-stands : (entries : List DwarfEntry) (types : Types) (at : ℕ) (symbol : Symbol) (line address : ℕ) (before behind : List DwarfEntry)
     → at ≡ 11 + length (entries_bytes before) → entries ≡ before ++ (symbol_entries types at symbol line address ++ behind)
     → IsWordType entries types.word → IsByteType entries types.byte → HasSymbolEntry entries symbol line address
 symbol-stands entries types at symbol line address before behind p e w b =
     let s : Shape = shape_of (length symbol.bytes) in
-    let variable : Entry = variable_entry symbol line (type_place types s at) address in
+    let variable : DwarfEntry = variable_entry symbol line (type_place types s at) address in
     record {
       place = 11 + length (entries_bytes (before ++ type_entries types s));
       kind = type_place types s at;
@@ -190,36 +190,36 @@ symbol-stands entries types at symbol line address before behind p e w b =
       };
     }
 
-symbols-stand : (entries : List Entry) (types : Types) (lines addresses : List ℕ) (at number : ℕ) (symbols : List Symbol) (before behind : List Entry)
+symbols-stand : (entries : List DwarfEntry) (types : Types) (lines addresses : List ℕ) (at number : ℕ) (symbols : List Symbol) (before behind : List DwarfEntry)
     → IsWordType entries types.word → IsByteType entries types.byte
     → at ≡ 11 + length (entries_bytes before) → entries ≡ before ++ (symbols_of types lines addresses at number symbols ++ behind)
     → (k n : ℕ) → n ≡ number + k → k < length symbols → HasSymbolEntry entries (get_or symbols k no_symbol) (get_or lines n 0) (get_or addresses n 0)
 symbols-stand entries types lines addresses at number [] before behind w b p e k n is h = absurd (omega arith)
 symbols-stand entries types lines addresses at number (symbol ∷ symbols) before behind w b p e zero n is h =
-    let first : List Entry = symbol_entries types at symbol (get_or lines number 0) (get_or addresses number 0) in
-    let rest : List Entry = symbols_of types lines addresses (at + length (entries_bytes first)) (number + 1) symbols in
+    let first : List DwarfEntry = symbol_entries types at symbol (get_or lines number 0) (get_or addresses number 0) in
+    let rest : List DwarfEntry = symbols_of types lines addresses (at + length (entries_bytes first)) (number + 1) symbols in
     let same : number ≡ n = omega arith in
     subst (λ m. HasSymbolEntry entries symbol (get_or lines m 0) (get_or addresses m 0)) same
     (symbol-stands entries types at symbol (get_or lines number 0) (get_or addresses number 0) before (rest ++ behind) p
     (e ∙ ap (λ l. before ++ l) (append_assoc first rest behind)) w b)
 symbols-stand entries types lines addresses at number (symbol ∷ symbols) before behind w b p e (suc k) n is h =
-    let first : List Entry = symbol_entries types at symbol (get_or lines number 0) (get_or addresses number 0) in
-    let rest : List Entry = symbols_of types lines addresses (at + length (entries_bytes first)) (number + 1) symbols in
+    let first : List DwarfEntry = symbol_entries types at symbol (get_or lines number 0) (get_or addresses number 0) in
+    let rest : List DwarfEntry = symbols_of types lines addresses (at + length (entries_bytes first)) (number + 1) symbols in
     symbols-stand entries types lines addresses (at + length (entries_bytes first)) (number + 1) symbols (before ++ first) behind w b
     (place-behind before first at p)
     (e ∙ (ap (λ l. before ++ l) (append_assoc first rest behind) ∙ sym (append_assoc before first (rest ++ behind))))
     k n (omega arith) (omega arith)
 
-bodies-stand : (entries : List Entry) (types : Types) (places : Places) (end at number : ℕ) (funcs : List Func) (before behind : List Entry)
+bodies-stand : (entries : List DwarfEntry) (types : Types) (places : Places) (end at number : ℕ) (funcs : List Func) (before behind : List DwarfEntry)
     → entries ≡ before ++ (bodies_of types places end at number funcs ++ behind)
     → (f n : ℕ) → n ≡ number + item_count (take f funcs) → f < length funcs → HasBodyEntry entries places end n (get_or funcs f no_function)
 bodies-stand entries types places end at number [] before behind e f n is h = absurd (omega arith)
 bodies-stand entries types places end at number (func ∷ funcs) before behind e zero n is h =
-    let body : Entry = body_entry func (item_address places end number) (item_address places end (number + length func.items)) in
-    let first : List Entry = frame_type_entries types func.frame_words in
-    let later : List Entry = frame_entries at func.frame_words ++ (map (label_entry places end number) (inner_labels func) ++ end_entries (has_below func)) in
-    let group : List Entry = first ++ (body ∷ later) in
-    let rest : List Entry = bodies_of types places end (at + length (entries_bytes group)) (number + length func.items) funcs in
+    let body : DwarfEntry = body_entry func (item_address places end number) (item_address places end (number + length func.items)) in
+    let first : List DwarfEntry = frame_type_entries types func.frame_words in
+    let later : List DwarfEntry = frame_entries at func.frame_words ++ (map (label_entry places end number) (inner_labels func) ++ end_entries (has_below func)) in
+    let group : List DwarfEntry = first ++ (body ∷ later) in
+    let rest : List DwarfEntry = bodies_of types places end (at + length (entries_bytes group)) (number + length func.items) funcs in
     let same : number ≡ n = omega arith in
     subst (λ m. HasBodyEntry entries places end m func) same (record {
       place = 11 + length (entries_bytes (before ++ first));
@@ -231,8 +231,8 @@ bodies-stand entries types places end at number (func ∷ funcs) before behind e
       };
     })
 bodies-stand entries types places end at number (func ∷ funcs) before behind e (suc f) n is h =
-    let group : List Entry = body_entries types places end at number func in
-    let rest : List Entry = bodies_of types places end (at + length (entries_bytes group)) (number + length func.items) funcs in
+    let group : List DwarfEntry = body_entries types places end at number func in
+    let rest : List DwarfEntry = bodies_of types places end (at + length (entries_bytes group)) (number + length func.items) funcs in
     bodies-stand entries types places end (at + length (entries_bytes group)) (number + length func.items) funcs (before ++ group) behind
     (e ∙ (ap (λ l. before ++ l) (append_assoc group rest behind) ∙ sym (append_assoc before group (rest ++ behind))))
     f n (omega arith) (omega arith)
@@ -263,7 +263,7 @@ symbols-place : (source : List ℕ) (low high : ℕ)
     → place_behind (front_bytes source low high)
     ≡ 11 + length (entries_bytes (unit_entry source low high ∷ base_type word_name 4 ∷ base_type byte_name 1 ∷ []))
 symbols-place source low high =
-    let both : List Entry = base_type word_name 4 ∷ base_type byte_name 1 ∷ [] in
+    let both : List DwarfEntry = base_type word_name 4 ∷ base_type byte_name 1 ∷ [] in
     let a : length (front_bytes source low high) ≡ length (unit_bytes source low high) + length (entries_bytes both) =
     length-append (unit_bytes source low high) (entries_bytes both) in
     let b : place_behind (unit_bytes source low high) + length (entries_bytes both)
@@ -278,16 +278,16 @@ module _ (source : List ℕ) (app : App) (places : Places) (end : ℕ) (lines : 
   abbrev types : Types
   types = types_of source low end
 
-  abbrev front : List Entry
+  abbrev front : List DwarfEntry
   front = unit_entry source low end ∷ base_type word_name 4 ∷ base_type byte_name 1 ∷ []
 
-  abbrev symbol-list : List Entry
+  abbrev symbol-list : List DwarfEntry
   symbol-list = symbols_of types lines places.symbols (place_behind (front_bytes source low end)) 0 app.symbols
 
-  abbrev body-list : List Entry
+  abbrev body-list : List DwarfEntry
   body-list = bodies_of types places end (place_behind (symbols_behind (front_bytes source low end) types app places lines)) 0 app.funcs
 
-  abbrev whole : List Entry
+  abbrev whole : List DwarfEntry
   whole = front ++ (symbol-list ++ (body-list ++ End ∷ []))
 
   right : All IsRight whole

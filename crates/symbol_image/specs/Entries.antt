@@ -8,7 +8,7 @@ use Rattle.sloth_base.specs.declared.app.Label.{Label}
 use Rattle.sloth_base.specs.declared.app.Symbol.{Symbol}
 use Rattle.sloth_base.specs.declared.places.Places.{Places}
 use Rattle.symbol_image.specs.Abbreviations.{array_kind, base_type_kind, body_kind, frame_kind, index_kind, label_kind, plain_body_kind, unit_kind, variable_kind}
-use Rattle.symbol_image.specs.EntryBytes.{Address, Byte, End, Entry, Location, Of, Offset, Present, Reference, Text, Value, Word, entries_bytes}
+use Rattle.symbol_image.specs.EntryBytes.{Address, Byte, End, DwarfEntry, Location, Of, Offset, Present, Reference, Text, Value, Word, entries_bytes}
 use Rattle.symbol_image.specs.Fields.{sized}
 use Rattle.map_text.specs.LineRows.{item_address}
 use Rattle.symbol_image.specs.declared.types.Shape.{Shape}
@@ -31,12 +31,12 @@ unit_places low high = Address low ∷ Address high ∷ Offset 0 ∷ []
 
 -- the unit: the code from its first item to the data. Its language is C99, since debuggers take two rows of one address for an empty prologue
 -- where it is none of assembly; its directory is the one where the debugger is started.
-abbrev pub unit_entry : (source : List ℕ) → (low high : ℕ) → Entry
+abbrev pub unit_entry : (source : List ℕ) → (low high : ℕ) → DwarfEntry
 unit_entry source low high =
     Of unit_kind (unit_names source ++ unit_places low high)
 
 -- an unsigned base type (encoding 7)
-abbrev pub base_type : (name : List ℕ) → (bytes : ℕ) → Entry
+abbrev pub base_type : (name : List ℕ) → (bytes : ℕ) → DwarfEntry
 base_type name bytes = Of base_type_kind (Text name ∷ Byte 7 ∷ Byte bytes ∷ [])
 
 -- the names of the two types, which no word of a source is
@@ -69,12 +69,12 @@ shape_of size =
     if size == 4 then shape.OneWord else if size == 1 then shape.OneByte else if size % 4 == 0 then shape.Words (size / 4) else shape.Bytes size
 
 -- the type of arrays of so many of a type
-abbrev pub array_entries : Types → (element count : ℕ) → List Entry
+abbrev pub array_entries : Types → (element count : ℕ) → List DwarfEntry
 array_entries types element count =
     Of array_kind (Reference element ∷ []) ∷ Of index_kind (Reference types.word ∷ Word (count - 1) ∷ []) ∷ End ∷ []
 
 -- the type of a shape, where it is not one of the two
-abbrev pub type_entries : Types → Shape → List Entry
+abbrev pub type_entries : Types → Shape → List DwarfEntry
 type_entries types shape.OneWord = []
 type_entries types shape.OneByte = []
 type_entries types (shape.Words count) = array_entries types types.word count
@@ -92,12 +92,12 @@ abbrev pub at_address : ℕ → List ℕ
 at_address address = 3 ∷ four_bytes address
 
 -- a symbol of this line and address, whose type stands at a place
-abbrev pub variable_entry : Symbol → (line kind address : ℕ) → Entry
+abbrev pub variable_entry : Symbol → (line kind address : ℕ) → DwarfEntry
 variable_entry symbol line kind address =
     Of variable_kind (Text symbol.name ∷ Present ∷ Byte 1 ∷ Word line ∷ Reference kind ∷ Location (at_address address) ∷ [])
 
 -- and with the entries of its type, which stand at a place
-abbrev pub symbol_entries : Types → (at : ℕ) → Symbol → (line address : ℕ) → List Entry
+abbrev pub symbol_entries : Types → (at : ℕ) → Symbol → (line address : ℕ) → List DwarfEntry
 symbol_entries types at symbol line address =
     type_entries types (shape_of (length symbol.bytes))
     ++ variable_entry symbol line (type_place types (shape_of (length symbol.bytes)) at) address ∷ []
@@ -113,16 +113,16 @@ all_symbol_bytes types lines addresses at number (symbol ∷ symbols) =
 -- ---- bodies
 
 -- a body's frame, whose type stands at a place: words at x2 (DW_OP_breg2 0)
-abbrev pub frame_variable_entry : (at : ℕ) → Entry
+abbrev pub frame_variable_entry : (at : ℕ) → DwarfEntry
 frame_variable_entry at = Of frame_kind (Text (codes "frame") ∷ Reference at ∷ Location (114 ∷ 0 ∷ []) ∷ [])
 
 -- it, if it has words
-abbrev pub frame_entries : (at words : ℕ) → List Entry
+abbrev pub frame_entries : (at words : ℕ) → List DwarfEntry
 frame_entries at zero = []
 frame_entries at (suc words) = frame_variable_entry at ∷ []
 
 -- the type of the words of a frame, if it has any
-abbrev pub frame_type_entries : Types → (words : ℕ) → List Entry
+abbrev pub frame_type_entries : Types → (words : ℕ) → List DwarfEntry
 frame_type_entries types zero = []
 frame_type_entries types (suc words) = array_entries types types.word (suc words)
 
@@ -135,7 +135,7 @@ abbrev pub inner_labels : Func → List Label
 inner_labels func = filter (stands_before (length func.items)) func.labels
 
 -- a label of a body, the first item of which has this place
-abbrev pub label_entry : Places → (end number : ℕ) → Label → Entry
+abbrev pub label_entry : Places → (end number : ℕ) → Label → DwarfEntry
 label_entry places end number label =
     Of label_kind (Text label.name ∷ Byte 1 ∷ Word label.line ∷ Address (item_address places end (number + label.item)) ∷ [])
 
@@ -144,17 +144,17 @@ abbrev pub has_below : Func → Bool
 has_below func = if func.frame_words == 0 then list_any (stands_before (length func.items)) func.labels else true
 
 -- the values of a body, from an address to another
-abbrev pub body_entry : Func → (low high : ℕ) → Entry
+abbrev pub body_entry : Func → (low high : ℕ) → DwarfEntry
 body_entry func low high =
     Of (cond (has_below func) body_kind plain_body_kind)
     (Text func.name ∷ Present ∷ Byte 1 ∷ Word func.line ∷ Address low ∷ Address high ∷ [])
 
 -- the end of what stands below it, if something does
-abbrev pub end_entries : Bool → List Entry
+abbrev pub end_entries : Bool → List DwarfEntry
 end_entries below = cond below (End ∷ []) []
 
 -- a body, whose entries stand at a place, and the first item of which has this place among all
-abbrev pub body_entries : Types → Places → (end at number : ℕ) → Func → List Entry
+abbrev pub body_entries : Types → Places → (end at number : ℕ) → Func → List DwarfEntry
 body_entries types places end at number func =
     frame_type_entries types func.frame_words
     ++ (body_entry func (item_address places end number) (item_address places end (number + length func.items))

@@ -40,20 +40,20 @@ value_bytes (Location bytes) = unsigned_leb (length bytes) ++ bytes
 value_bytes (Offset n) = four_bytes n
 
 -- an entry of a kind with the values of its attributes, or the end of the entries below one
-pub data Entry : Type 0 where
-  Of : Abbreviation → List Value → Entry
-  End : Entry
+pub data DwarfEntry : Type 0 where
+  Of : Abbreviation → List Value → DwarfEntry
+  End : DwarfEntry
 
 -- its bytes: the kind's code and the values, or a zero
-abbrev pub entry_bytes : Entry → List ℕ
+abbrev pub entry_bytes : DwarfEntry → List ℕ
 entry_bytes (Of kind values) = kind.code ∷ flat_map value_bytes values
 entry_bytes End = 0 ∷ []
 
 -- those of entries
-abbrev pub entries_bytes : List Entry → List ℕ
+abbrev pub entries_bytes : List DwarfEntry → List ℕ
 entries_bytes entries = flat_map entry_bytes entries
 
 -- the values have the forms that the kind asks for
-abbrev pub HasForms : Entry → Type 0
+abbrev pub HasForms : DwarfEntry → Type 0
 HasForms (Of kind values) = map form_of values ≡ map (λ (a : Attribute). a.form) kind.attributes
 HasForms End = Unit {0}

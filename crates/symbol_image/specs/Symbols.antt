@@ -71,19 +71,19 @@ abbrev pub context_symbol : Symbol
 context_symbol = object_at (codes "kernel$idle_context") idle_context context_bytes
 
 -- the words that say what runs, those of the states of tasks, and those of the clock
-abbrev pub first_words : Config → List Symbol
-first_words config =
+abbrev pub state_and_clock_symbols : Config → List Symbol
+state_and_clock_symbols config =
     word_symbol (codes "kernel$cur") cur ∷ (state_words 0 config.tasks ++ (counter_words 0 config.counters ++ alarm_words 0 config.alarms))
 
 -- those of what was preempted, of contexts and of levels, and the context of the idle loop
-abbrev pub last_words : Config → List Symbol
-last_words config =
+abbrev pub context_and_level_symbols : Config → List Symbol
+context_and_level_symbols config =
     word_symbol (codes "kernel$below") below_word
     ∷ (resume_words 0 config.tasks ++ (saved_words 0 config.resources ++ (scheduler_words config.res_scheduler ++ context_symbol ∷ [])))
 
 -- all service words, by their uses, and the context of the idle loop
 unfoldable pub word_symbols : Config → List Symbol
-word_symbols config = first_words config ++ last_words config
+word_symbols config = state_and_clock_symbols config ++ context_and_level_symbols config
 
 -- ---- pieces
 

@@ -4,7 +4,7 @@ ghost use Rattle.sloth_base.specs.Limits.{alarm_limit, counter_limit, resource_l
 ghost use Rattle.sloth_base.specs.ConfigRange.{scheduler_number};
 ghost use Rattle.sloth_region.specs.Layout.{saved_level};
 ghost use Rattle.map_text.specs.PieceNames.{joined};
-ghost use Rattle.symbol_image.specs.Symbols.{alarm_words, context_symbol, counter_words, first_words, last_words, object_at, resume_words, saved_words, scheduler_word, scheduler_words, state_words, word_symbol, word_symbols};
+ghost use Rattle.symbol_image.specs.Symbols.{alarm_words, context_symbol, counter_words, state_and_clock_symbols, context_and_level_symbols, object_at, resume_words, saved_words, scheduler_word, scheduler_words, state_words, word_symbol, word_symbols};
 ghost use Rattle.symbol_image.specs.WordSymbols.{HasWords};
 
 use crate::symbol::{Binding, Symbol, SymbolKind};
@@ -186,7 +186,7 @@ fn push_scheduler(alloc: Global, symbols: &mut Vec<Symbol>, exists: bool) -> Res
 // Appends those of the words that say what runs, of the states of tasks, and of the clock.
 fn push_first(alloc: Global, symbols: &mut Vec<Symbol>, config: &Config) -> Result<(), NoMemory>
     requires { HasWords config.now }
-    ensures { OnOk result (symbols.new.items ≡ symbols.old.items ++ first_words config.now) }
+    ensures { OnOk result (symbols.new.items ≡ symbols.old.items ++ state_and_clock_symbols config.now) }
 {
     push_object(alloc, symbols, b"kernel$cur", CUR as u32, BYTES)?;
     push_states(alloc, symbols, config.tasks.items())?;
@@ -210,7 +210,7 @@ fn push_context(alloc: Global, symbols: &mut Vec<Symbol>) -> Result<(), NoMemory
 // Appends those of the words behind them.
 fn push_last(alloc: Global, symbols: &mut Vec<Symbol>, config: &Config) -> Result<(), NoMemory>
     requires { HasWords config.now }
-    ensures { OnOk result (symbols.new.items ≡ symbols.old.items ++ last_words config.now) }
+    ensures { OnOk result (symbols.new.items ≡ symbols.old.items ++ context_and_level_symbols config.now) }
 {
     push_object(alloc, symbols, b"kernel$below", BELOW_WORD as u32, BYTES)?;
     push_resumes(alloc, symbols, config.tasks.items())?;

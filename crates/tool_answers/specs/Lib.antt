@@ -1,5 +1,3 @@
-pub mod CheckAnswers
 pub mod ImageReaders
 pub mod Lines
-pub mod RunInputs
 pub mod Statuses

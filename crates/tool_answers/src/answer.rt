@@ -2,7 +2,7 @@
 ghost use Rattle.std.specs.Prelude.{◌≡◌};
 
 use crate::status::{Explanation, Status};
-use elf_image::fault::ElfFault;
+use image_file::elf_fault::ElfFault;
 use image_file::fault::ImageFault;
 use rv32_instr::Stop;
 use sloth_base::list::List;

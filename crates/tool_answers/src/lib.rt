@@ -1,12 +1,10 @@
-//! What tools answer, what `check` answers, and the statuses of answers.
+//! What tools answer, the texts of answers, and their statuses.
 //!
-//! `check` has exactly the answer that its row of the table says (`specs/CheckAnswers`); an answer has its status, and a status its number
-//! (`ToolAnswer::status`, `Status::code`; `specs/Statuses`). Texts of events: `trace_check` (`TraceAnswers`).
+//! An answer has its status, and a status its number (`ToolAnswer::status`, `Status::code`; `specs/Statuses`). Texts: `specs/Lines`. Which tools read an
+//! image file: `specs/ImageReaders`.
 #![tactic(auto)]
 
 pub mod answer;
-pub mod check_command;
-pub mod run_inputs;
 pub mod status;
 pub mod text_answer;
 

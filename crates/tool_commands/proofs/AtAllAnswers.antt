@@ -15,7 +15,7 @@ use Rattle.trace_text.specs.ArrivalsText.{ArrivalsFault, arrivals_in}
 use Rattle.sloth_source.proofs.Least.{one_least}
 use Rattle.rv32_instr.specs.declared.stop.Stop.{Stop}
 use Rattle.sloth_inspect.specs.declared.service_words.ServiceWords.{ServiceWords}
-use Rattle.sloth_runner.specs.ServiceWords.{StopsBefore, words_behind}
+use Rattle.run_samples.specs.ServiceWords.{StopsBefore, words_behind}
 use Rattle.sloth_runner.specs.TaskStates.{AreStatesAt}
 use Rattle.sloth_runner.specs.declared.machine_states.Seen.{Seen}
 use Rattle.sloth_runner.specs.declared.runner.Halt.{Halt}
@@ -23,12 +23,12 @@ use Rattle.sloth_runner.specs.declared.task_states.Sight.{Sight}
 use Rattle.sloth_runner.specs.declared.task_states.Sight.TheVariants as sight
 use Rattle.sloth_runner.proofs.RunStates.{one_sight}
 use Rattle.tool_commands.specs.AtAllAnswers.{IsAllAnswer, IsAtAllAnswer, all_answer, all_text, done}
-use Rattle.tool_answers.specs.RunInputs.{IsRunRefused}
+use Rattle.run_inputs.specs.RunInputs.{IsRunRefused}
 use Rattle.tool_commands.proofs.AtAnswers.{one-refused}
-use Rattle.tool_answers.specs.RunInputs.{AreRunInputs}
+use Rattle.run_inputs.specs.RunInputs.{AreRunInputs}
 use Rattle.tool_answers.specs.declared.answer.ToolAnswer.{ToolAnswer}
 use Rattle.tool_answers.specs.declared.answer.ToolAnswer.TheVariants as answer
-use Rattle.trace_check.proofs.Refused.{of-arrivals}
+use Rattle.run_inputs.proofs.Refused.{of-arrivals}
 
 -- what an answer of `at` is
 pub data AllView (img arr : List ℕ) (k : ℕ) (a : ToolAnswer) : Type 0 where

@@ -17,11 +17,11 @@ use Rattle.sloth_runner.specs.declared.task_states.Sight.{Sight}
 use Rattle.sloth_runner.specs.declared.task_states.Sight.TheVariants as sight
 use Rattle.sloth_runner.proofs.RunStates.{one_sight}
 use Rattle.tool_commands.specs.AtAnswers.{IsStatesAnswer, IsAtAnswer, states_answer}
-use Rattle.tool_answers.specs.RunInputs.{IsRunRefused}
-use Rattle.tool_answers.specs.RunInputs.{AreRunInputs}
+use Rattle.run_inputs.specs.RunInputs.{IsRunRefused}
+use Rattle.run_inputs.specs.RunInputs.{AreRunInputs}
 use Rattle.tool_answers.specs.declared.answer.ToolAnswer.{ToolAnswer}
 use Rattle.tool_answers.specs.declared.answer.ToolAnswer.TheVariants as answer
-use Rattle.trace_check.proofs.Refused.{of-arrivals}
+use Rattle.run_inputs.proofs.Refused.{of-arrivals}
 
 -- what an answer of `at` is
 pub data AtView (img arr : List ℕ) (k : ℕ) (a : ToolAnswer) : Type 0 where

@@ -4,10 +4,10 @@ use Rattle.sloth_base.specs.declared.refusal.Refusal.{Refusal}
 use Rattle.trace_check.specs.declared.verdict.Verdict.{Verdict}
 use Rattle.trace_check.specs.declared.verdict.Verdict.TheVariants as verdict
 use Rattle.trace_check.specs.TraceAnswers.{IsJudged}
-use Rattle.trace_check.specs.Inputs.{IsRefusal}
+use Rattle.run_inputs.specs.Inputs.{IsRefusal}
 use Rattle.trace_check.proofs.OneAnswer.{one_judged}
-use Rattle.trace_check.proofs.Refused.{not-refused, one-way}
-use Rattle.tool_answers.specs.CheckAnswers.{IsCheckAnswer, verdict_of}
+use Rattle.run_inputs.proofs.Refused.{not-refused, one-way}
+use Rattle.trace_check.specs.CheckAnswers.{IsCheckAnswer, verdict_of}
 use Rattle.tool_answers.specs.declared.answer.ToolAnswer.{ToolAnswer}
 use Rattle.tool_answers.specs.declared.answer.ToolAnswer.TheVariants as answer
 use Rattle.tool_answers.specs.declared.answer.TraceFault.{TraceFault}

@@ -10,15 +10,15 @@ use Rattle.image_file.proofs.Faulted.{fault_is_one, none_is_both}
 use Rattle.rv32_instr.specs.declared.stop.Stop.{Stop}
 use Rattle.sloth_runner.specs.Runner.{run_end}
 use Rattle.sloth_runner.specs.declared.runner.RunEnd.TheVariants as ends
-use Rattle.sloth_runner.specs.Admissions.{AreAdmissions, run_admissions}
-use Rattle.sloth_runner.specs.declared.admissions.Admission.{Admission}
-use Rattle.sloth_runner.specs.declared.samples.Sample.{Sample}
-use Rattle.sloth_runner.proofs.OneSample.{one-samples}
-use Rattle.tool_answers.specs.RunInputs.{IsRunRefused}
+use Rattle.run_samples.specs.Admissions.{AreAdmissions, run_admissions}
+use Rattle.run_samples.specs.declared.admissions.Admission.{Admission}
+use Rattle.run_samples.specs.declared.samples.Sample.{Sample}
+use Rattle.run_samples.proofs.OneSample.{one-samples}
+use Rattle.run_inputs.specs.RunInputs.{IsRunRefused}
 use Rattle.tool_commands.specs.LossesAnswers.{IsLossesShown, IsLossesAnswer}
 use Rattle.tool_commands.specs.LossesText.{losses_text}
 use Rattle.tool_commands.specs.RunAnswers.{IsHalted}
-use Rattle.tool_answers.specs.RunInputs.{AreRunInputs}
+use Rattle.run_inputs.specs.RunInputs.{AreRunInputs}
 use Rattle.tool_answers.specs.declared.answer.Outcome.{Outcome}
 use Rattle.tool_answers.specs.declared.answer.ToolAnswer.{ToolAnswer}
 use Rattle.tool_answers.specs.declared.answer.ToolAnswer.TheVariants as answer

@@ -3,7 +3,7 @@ use Rattle.std.proofs.Common.{◌≡◌, ◌+◌, ℕ, List, [], ◌++◌, get_o
 use Rattle.std.proofs.Math.Numerals.{add-one}
 use Rattle.sloth_base.specs.Owners.{counter_line}
 use Rattle.sloth_base.specs.declared.image.Image.{Image}
-use Rattle.sloth_runner.specs.declared.admissions.Admission.{Admission}
+use Rattle.run_samples.specs.declared.admissions.Admission.{Admission}
 use Rattle.tool_commands.specs.LossesText.{count_line, task_counts, counter_counts}
 
 pub no-tasks : (image : Image) (all : List Admission) → task_counts image all 0 ≡ []

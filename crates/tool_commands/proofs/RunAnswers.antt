@@ -13,10 +13,10 @@ use Rattle.rv32_instr.specs.declared.stop.Stop.{Stop}
 use Rattle.trace_text.specs.ArrivalsText.{ArrivalsFault, arrivals_in}
 use Rattle.sloth_runner.specs.Runner.{run_end}
 use Rattle.sloth_runner.specs.declared.runner.RunEnd.TheVariants as ends
-use Rattle.tool_answers.specs.RunInputs.{IsRunRefused}
+use Rattle.run_inputs.specs.RunInputs.{IsRunRefused}
 use Rattle.tool_commands.specs.Lines.{written_line}
 use Rattle.tool_commands.specs.RunAnswers.{IsDrawn, IsHalted, IsRunAnswer}
-use Rattle.tool_answers.specs.RunInputs.{AreRunInputs}
+use Rattle.run_inputs.specs.RunInputs.{AreRunInputs}
 use Rattle.tool_answers.specs.declared.answer.Outcome.{Outcome}
 use Rattle.tool_answers.specs.declared.answer.ToolAnswer.{ToolAnswer}
 use Rattle.tool_answers.specs.declared.answer.ToolAnswer.TheVariants as answer

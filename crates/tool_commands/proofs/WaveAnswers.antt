@@ -2,7 +2,7 @@
 use Rattle.std.proofs.Common.{◌∙◌, ℕ, List, sym, ap}
 use Rattle.sloth_base.specs.declared.event.Arrival.{Arrival}
 use Rattle.sloth_base.specs.declared.image.Image.{Image}
-use Rattle.sloth_runner.proofs.OneSample.{one-samples}
+use Rattle.run_samples.proofs.OneSample.{one-samples}
 use Rattle.wave_text.specs.Moments.{moments_of}
 use Rattle.wave_text.specs.Waves.{AreWavesOf, waves_text}
 use Rattle.tool_commands.proofs.RunAnswers.{IsOneText}

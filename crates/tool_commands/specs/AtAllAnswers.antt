@@ -6,15 +6,15 @@ use Rattle.least_fault.specs.Order.{NoFault}
 use Rattle.image_file.specs.ImageText.{ImageText}
 use Rattle.image_file.specs.Faults.{IsFirstImageFault}
 use Rattle.trace_text.specs.ArrivalsText.{ArrivalsFault, arrivals_in}
-use Rattle.sloth_runner.specs.ServiceWords.{words_behind}
+use Rattle.run_samples.specs.ServiceWords.{words_behind}
 use Rattle.sloth_inspect.specs.declared.service_words.ServiceWords.{ServiceWords}
 use Rattle.sloth_runner.specs.TaskStates.{AreStatesAt}
 use Rattle.sloth_runner.specs.declared.machine_states.Seen.{Seen}
 use Rattle.sloth_runner.specs.declared.task_states.Sight.{Sight}
 use Rattle.sloth_runner.specs.declared.task_states.Sight.TheVariants as sight
-use Rattle.system_text.specs.SystemText.{system_text}
+use Rattle.run_samples.specs.SystemText.{system_text}
 use Rattle.tool_commands.specs.StatesText.{count_line}
-use Rattle.tool_answers.specs.RunInputs.{IsRunRefused}
+use Rattle.run_inputs.specs.RunInputs.{IsRunRefused}
 use Rattle.tool_answers.specs.declared.answer.ToolAnswer.{ToolAnswer}
 use Rattle.tool_answers.specs.declared.answer.ToolAnswer.TheVariants as answer
 

@@ -10,7 +10,7 @@ use Rattle.sloth_runner.specs.TaskStates.{AreStatesAt}
 use Rattle.sloth_runner.specs.declared.task_states.Sight.{Sight}
 use Rattle.sloth_runner.specs.declared.task_states.Sight.TheVariants as sight
 use Rattle.tool_commands.specs.StatesText.{states_text}
-use Rattle.tool_answers.specs.RunInputs.{IsRunRefused}
+use Rattle.run_inputs.specs.RunInputs.{IsRunRefused}
 use Rattle.tool_answers.specs.declared.answer.ToolAnswer.{ToolAnswer}
 use Rattle.tool_answers.specs.declared.answer.ToolAnswer.TheVariants as answer
 

@@ -3,12 +3,12 @@ use Rattle.std.specs.Prelude.{ℕ, ◌≡◌, List, []}
 use Rattle.sloth_base.specs.declared.event.Arrival.{Arrival}
 use Rattle.sloth_base.specs.declared.image.Image.{Image}
 use Rattle.image_file.specs.Faults.{IsFirstImageFault}
-use Rattle.sloth_runner.specs.Admissions.{AreAdmissions}
-use Rattle.sloth_runner.specs.declared.admissions.Admission.{Admission}
-use Rattle.tool_answers.specs.RunInputs.{IsRunRefused}
+use Rattle.run_samples.specs.Admissions.{AreAdmissions}
+use Rattle.run_samples.specs.declared.admissions.Admission.{Admission}
+use Rattle.run_inputs.specs.RunInputs.{IsRunRefused}
 use Rattle.tool_commands.specs.LossesText.{losses_text}
 use Rattle.tool_commands.specs.RunAnswers.{IsHalted}
-use Rattle.tool_answers.specs.RunInputs.{AreRunInputs}
+use Rattle.run_inputs.specs.RunInputs.{AreRunInputs}
 use Rattle.tool_answers.specs.declared.answer.Outcome.{Outcome}
 use Rattle.tool_answers.specs.declared.answer.ToolAnswer.{ToolAnswer}
 use Rattle.tool_answers.specs.declared.answer.ToolAnswer.TheVariants as answer

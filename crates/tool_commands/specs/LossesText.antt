@@ -2,8 +2,8 @@
 use Rattle.std.specs.Prelude.{ℕ, zero, suc, List, [], ◌++◌, codes, decimal, get_or, length, Option, Some, None}
 use Rattle.sloth_base.specs.Owners.{counter_line}
 use Rattle.sloth_base.specs.declared.image.Image.{Image}
-use Rattle.sloth_runner.specs.Admissions.{came_count, kept_count, lost_count, first_lost}
-use Rattle.sloth_runner.specs.declared.admissions.Admission.{Admission}
+use Rattle.run_samples.specs.Admissions.{came_count, kept_count, lost_count, first_lost}
+use Rattle.run_samples.specs.declared.admissions.Admission.{Admission}
 
 -- the moment of the first arrival that is lost, behind one space, if one is
 abbrev pub first_text : Option Admission → List ℕ

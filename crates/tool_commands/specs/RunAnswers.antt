@@ -6,7 +6,7 @@ use Rattle.image_file.specs.Faults.{IsFirstImageFault}
 use Rattle.rv32_instr.specs.declared.stop.Stop.{Stop}
 use Rattle.sloth_runner.specs.Runner.{run_end}
 use Rattle.sloth_runner.specs.declared.runner.RunEnd.TheVariants as ends
-use Rattle.tool_answers.specs.RunInputs.{AreRunInputs, IsRunRefused}
+use Rattle.run_inputs.specs.RunInputs.{AreRunInputs, IsRunRefused}
 use Rattle.tool_commands.specs.Lines.{written_line}
 use Rattle.tool_answers.specs.declared.answer.Outcome.{Outcome}
 use Rattle.tool_answers.specs.declared.answer.ToolAnswer.{ToolAnswer}

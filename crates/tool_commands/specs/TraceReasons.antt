@@ -2,7 +2,7 @@
 use Rattle.std.specs.Prelude.{ℕ, ◌≡◌, List, [], codes}
 use Rattle.trace_check.specs.declared.verdict.Verdict.TheVariants as verdict
 use Rattle.trace_check.specs.TraceAnswers.{IsJudged}
-use Rattle.trace_check.specs.Inputs.{IsRefusal}
+use Rattle.run_inputs.specs.Inputs.{IsRefusal}
 use Rattle.trace_check.specs.Reasons.{IsNo}
 use Rattle.tool_answers.specs.declared.answer.ToolAnswer.{ToolAnswer}
 use Rattle.tool_answers.specs.declared.answer.ToolAnswer.TheVariants as answer

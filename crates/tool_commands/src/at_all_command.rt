@@ -7,20 +7,19 @@ ghost use Rattle.sloth_base.specs.Limits.{file_limit};
 ghost use Rattle.sloth_runner.specs.TaskStates.{AreStatesAt};
 ghost use Rattle.sloth_runner.specs.declared.task_states.Sight.TheVariants.{At};
 ghost use Rattle.tool_commands.specs.AtAllAnswers.{IsAtAllAnswer, all_text, done};
-ghost use Rattle.tool_answers.specs.RunInputs.{AreRunInputs};
+ghost use Rattle.run_inputs.specs.RunInputs.{AreRunInputs};
 
 use crate::at_command::sight_of;
 use crate::at_lines::count_line;
+use run_inputs::{RunInputs, Unread, read_run};
+use run_samples::service_words::{WordsRead, words_at};
+use run_samples::{ServiceWords, push_system};
 use sloth_base::image::Image;
 use sloth_base::list::List;
 use sloth_base::memory::NoMemory;
-use sloth_runner::ServiceWords;
-use sloth_runner::service_words::{WordsRead, words_at};
 use sloth_runner::task_states::{Seen, Sight};
 use std::alloc::Global;
-use system_text::push_system;
 use tool_answers::answer::{Outcome, ToolAnswer};
-use tool_answers::run_inputs::{RunInputs, Unread, read_run};
 
 // The answer that is this text.
 fn text_answer(alloc: Global, text: Vec<u8>) -> ToolAnswer

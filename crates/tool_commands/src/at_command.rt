@@ -6,9 +6,10 @@ ghost use Rattle.sloth_base.specs.Owners.{owners_named};
 ghost use Rattle.sloth_base.specs.Limits.{file_limit};
 ghost use Rattle.sloth_runner.specs.TaskStates.{AreStatesAt};
 ghost use Rattle.tool_commands.specs.AtAnswers.{IsAtAnswer, states_answer};
-ghost use Rattle.tool_answers.specs.RunInputs.{AreRunInputs};
+ghost use Rattle.run_inputs.specs.RunInputs.{AreRunInputs};
 
 use crate::at_lines::states_text;
+use run_inputs::{RunInputs, Unread, read_run};
 use sloth_base::event::Arrival;
 use sloth_base::image::Image;
 use sloth_base::list::List;
@@ -17,7 +18,6 @@ use sloth_runner::runner::Runner;
 use sloth_runner::task_states::Sight;
 use std::alloc::Global;
 use tool_answers::answer::{Outcome, ToolAnswer};
-use tool_answers::run_inputs::{RunInputs, Unread, read_run};
 
 // The answer to what a run of an image shows of its tasks.
 fn states_answer(alloc: Global, image: &Image, sight: &Sight) -> Result<ToolAnswer, NoMemory>

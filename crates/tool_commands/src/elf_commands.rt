@@ -7,8 +7,8 @@ ghost use Rattle.tool_commands.specs.Lines.{written_line};
 ghost use Rattle.tool_commands.specs.ElfAnswers.{IsElfAnswer, IsUnelfAnswer};
 
 use crate::lines::written_line;
-use elf_image::fault::ElfError;
 use elf_image::{read_elf, write_elf};
+use image_file::elf_fault::ElfError;
 use image_file::fault::ImageError;
 use image_file::{read_image, write_image};
 use sloth_base::image::Image;

@@ -27,7 +27,7 @@ use sloth_base::list::List;
 use sloth_base::memory::NoMemory;
 use std::alloc::Global;
 use tool_answers::answer::ToolAnswer;
-use tool_answers::check_command::check;
+use trace_check::check_command::check;
 
 // A name, by its place in the order of the words.
 fn name_of(names: &[String], place: usize) -> &[u8]

@@ -6,7 +6,7 @@
 //! the longest windows. The table:
 //! `specs/Answers`, with a row for each in `specs/ElfAnswers`, `specs/InferAnswers`, `specs/AtAnswers`, `specs/AtAllAnswers`, `specs/LossesAnswers`, `specs/BoundsAnswers`, `specs/MapAnswers`,
 //! `specs/WaveAnswers`, `specs/PictureAnswers`, `specs/SymbolsAnswers`, `specs/SharesAnswers`, `specs/ResponseAnswers`, `specs/UnusedAnswers`, `specs/WhyAnswers`, `specs/LabelsAnswers`, `specs/TraceReasons`; what some of them share: `specs/SourceAnswers` (`bounds`, `map` and `shares`), `specs/RunAnswers` (`wave` and
-//! `picture`); `specs/Lines`. The lines of task states: `specs/StatesText`; of a whole system: `system_text`; of arrivals: `specs/LossesText`. Words: `command_line` (`Tools`); the answer of `check`: `tool_answers`
+//! `picture`); `specs/Lines`. The lines of task states: `specs/StatesText`; of a whole system: `run_samples`; of arrivals: `specs/LossesText`. Words: `command_line` (`Tools`); the answer of `check`: `tool_answers`
 //! (`CheckAnswers`).
 #![tactic(auto)]
 

@@ -3,7 +3,7 @@ ghost use Rattle.std.specs.Prelude.{◌≡◌, ◌≤◌, length};
 ghost use Rattle.tool_commands.specs.Lines.{written_line};
 ghost use Rattle.tool_answers.specs.Lines.{elf_fault_text, no_elf_line, bad_trace_line};
 
-use elf_image::fault::ElfFault;
+use image_file::elf_fault::ElfFault;
 use itoa::Buffer;
 use tool_answers::answer::TraceFault;
 use trace_text::line_text::LineText;

@@ -5,15 +5,15 @@ ghost use Rattle.sloth_base.specs.Arrivals.{AreArrivals};
 ghost use Rattle.sloth_base.specs.Owners.{owners_named};
 ghost use Rattle.sloth_base.specs.Limits.{file_limit, count_limit};
 ghost use Rattle.tool_commands.specs.LossesAnswers.{IsLossesAnswer};
-ghost use Rattle.tool_answers.specs.RunInputs.{AreRunInputs};
+ghost use Rattle.run_inputs.specs.RunInputs.{AreRunInputs};
 
 use crate::losses_lines::losses_text;
+use run_inputs::{RunInputs, Unread, read_run};
+use run_samples::telling::{Told, told_run};
 use sloth_base::list::List;
 use sloth_base::memory::NoMemory;
-use sloth_runner::telling::{Told, told_run};
 use std::alloc::Global;
 use tool_answers::answer::{Outcome, ToolAnswer};
-use tool_answers::run_inputs::{RunInputs, Unread, read_run};
 
 // The answer to an image and arrivals that were read.
 fn losses_of(alloc: Global, run: &RunInputs, n: u32) -> Result<ToolAnswer, NoMemory>

@@ -6,15 +6,15 @@ ghost use Rattle.sloth_base.specs.Owners.{owners_named};
 ghost use Rattle.sloth_base.specs.Limits.{file_limit, picture_limit, count_limit};
 ghost use Rattle.command_line.specs.Tools.{IsWindow};
 ghost use Rattle.tool_commands.specs.PictureAnswers.{IsPictureAnswer};
-ghost use Rattle.tool_answers.specs.RunInputs.{AreRunInputs};
+ghost use Rattle.run_inputs.specs.RunInputs.{AreRunInputs};
 
 use crate::elf_commands::written;
 use command_line::counts::Window;
+use run_inputs::{RunInputs, Unread, read_run};
 use schedule_picture::{Picture, draw};
 use sloth_base::memory::NoMemory;
 use std::alloc::Global;
 use tool_answers::answer::ToolAnswer;
-use tool_answers::run_inputs::{RunInputs, Unread, read_run};
 
 // The answer to an image and arrivals that were read.
 fn picture_of(alloc: Global, run: &RunInputs, window: Window) -> Result<ToolAnswer, NoMemory>

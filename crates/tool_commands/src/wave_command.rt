@@ -4,14 +4,14 @@ ghost use Rattle.sloth_base.specs.Arrivals.{AreArrivals};
 ghost use Rattle.sloth_base.specs.ImageRange.{InFormat};
 ghost use Rattle.sloth_base.specs.Owners.{owners_named};
 ghost use Rattle.sloth_base.specs.Limits.{file_limit, count_limit};
-ghost use Rattle.tool_answers.specs.RunInputs.{AreRunInputs};
+ghost use Rattle.run_inputs.specs.RunInputs.{AreRunInputs};
 ghost use Rattle.tool_commands.specs.WaveAnswers.{IsWaveAnswer};
 
 use crate::elf_commands::written;
+use run_inputs::{RunInputs, Unread, read_run};
 use sloth_base::memory::NoMemory;
 use std::alloc::Global;
 use tool_answers::answer::ToolAnswer;
-use tool_answers::run_inputs::{RunInputs, Unread, read_run};
 use wave_text::{Recorded, waves};
 
 // The answer to an image and arrivals that were read.

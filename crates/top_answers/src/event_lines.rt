@@ -1,44 +1,15 @@
 //! Lines of events and of summaries.
 ghost use Rattle.sloth_base.specs.ImageRange.{InFormat};
 
+use crate::events::{EVENTS, NONE, put_event};
 use crate::rows::{Piece, Rows};
 use crate::syntax::shown;
 use sloth_base::event::{Event, Stamp, Stamped};
 use sloth_base::image::Image;
-use sloth_base::service::Service;
+use std::alloc::Global;
 use trace_text::printing::Form;
 use trace_text::summary::kind_line;
 use trace_text::{print, read_line};
-
-/// The task, function and counter number of none.
-const NONE: u32 = 4_294_967_295;
-
-const EVENTS: [Event; 12] = [
-    Event::Boot,
-    Event::Admit(0),
-    Event::Enter(NONE),
-    Event::Run {
-        task: 0,
-        func: 0,
-        item: 12,
-        result: NONE,
-    },
-    Event::Call {
-        task: 0,
-        service: Service::ActivateTask,
-        status: 4,
-    },
-    Event::Left {
-        task: 0,
-        service: Service::WaitEvent,
-    },
-    Event::Back(0),
-    Event::Idle,
-    Event::Stray,
-    Event::Due(0),
-    Event::Tick(0),
-    Event::Tick(NONE),
-];
 
 // The line of an event.
 fn list_line(rows: &mut Rows, event: &Stamped, form: Form, image: &Image)
@@ -48,8 +19,22 @@ fn list_line(rows: &mut Rows, event: &Stamped, form: Form, image: &Image)
     rows.row(Piece::Bytes(line.bytes()), &[])
 }
 
+// All that an event with its counts is.
+fn told(alloc: Global, event: &Stamped) -> String {
+    let mut rows = Rows::new(alloc);
+    put_event(&mut rows, &event.event);
+    rows.numbers("", &[event.stamp.from, event.stamp.at]);
+    rows.into_text()
+}
+
+fn is_same(alloc: Global, one: &Stamped, other: &Stamped) -> bool {
+    let one = told(alloc, one);
+    let other = told(alloc, other);
+    one.as_bytes() == other.as_bytes()
+}
+
 // Whether an event is read back from its line with its counts.
-fn is_read_back(event: &Stamped, image: &Image) -> bool
+fn is_read_back(alloc: Global, event: &Stamped, image: &Image) -> bool
     requires { InFormat image.now }
 {
     let line = print(event, Form::Counted, image);
@@ -59,7 +44,10 @@ fn is_read_back(event: &Stamped, image: &Image) -> bool
         image.funcs.items(),
         image.counters.items(),
     );
-    read == Some(*event)
+    match read {
+        Some(again) => is_same(alloc, &again, event),
+        None => false,
+    }
 }
 
 // Both lines of an event, and whether it is read back.
@@ -73,7 +61,7 @@ fn list_event(rows: &mut Rows, event: Event, image: &Image)
     let event = Stamped { stamp, event };
     list_line(rows, &event, Form::Bare, image);
     list_line(rows, &event, Form::Counted, image);
-    let again = is_read_back(&event, image);
+    let again = is_read_back(rows.alloc(), &event, image);
     rows.row(Piece::Text("read back"), &[Piece::Flag(again)])
 }
 

@@ -37,6 +37,7 @@
 mod commands;
 mod configuration;
 mod event_lines;
+mod events;
 mod faults;
 mod file_commands;
 mod generated;

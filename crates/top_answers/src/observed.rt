@@ -3,7 +3,7 @@ ghost use Rattle.std.specs.Prelude.{◌≡◌, ◌<◌, ◌^◌, [], length};
 ghost use Rattle.sloth_base.specs.ImageRange.{InFormat};
 ghost use Rattle.observe.specs.Progress.{expected_count, remaining};
 
-use crate::plain_values::put_event;
+use crate::events::put_event;
 use crate::rows::Rows;
 use observe::Observer;
 use sloth_base::event::{Arrival, Stamped};

@@ -1,8 +1,7 @@
-//! Items, events, kinds of marks and rules as rows show them: a name, and behind it in braces or parentheses what it holds.
+//! Items, kinds of marks and rules as rows show them: a name, and behind it in braces or parentheses what it holds.
 use crate::rows::Rows;
 use crate::syntax::shown;
 use sloth_base::app::{AluKind, BranchKind, Call, ImmKind, Op, Width};
-use sloth_base::event::Event;
 use sloth_base::image::MarkKind;
 use sloth_base::numbers::{Reg, SymId};
 use sloth_base::refusal::Code;
@@ -117,14 +116,15 @@ pub fn code_name(code: &Code) -> &'static str {
     }
 }
 
-// A number between two texts.
-fn put_between(rows: &mut Rows, before: &str, number: u32, behind: &str) {
+/// Appends a number between two texts.
+pub fn put_between(rows: &mut Rows, before: &str, number: u32, behind: &str) {
     rows.text(before);
     rows.value(number);
     rows.text(behind);
 }
 
-fn put_number(rows: &mut Rows, label: &str, number: u32) {
+/// Appends a number behind its label.
+pub fn put_number(rows: &mut Rows, label: &str, number: u32) {
     put_between(rows, label, number, "")
 }
 
@@ -133,7 +133,8 @@ fn put_register(rows: &mut Rows, label: &str, reg: &Reg) {
     put_between(rows, "Reg(", u32::from(reg.0), ")")
 }
 
-fn put_service(rows: &mut Rows, label: &str, service: Service) {
+/// Appends the name of a service behind its label.
+pub fn put_service(rows: &mut Rows, label: &str, service: Service) {
     rows.text(label);
     rows.text(shown(service.name()));
 }
@@ -257,50 +258,5 @@ pub fn put_op(rows: &mut Rows, op: &Op) {
         Op::Return => rows.text("Return"),
         Op::Serve(call) => put_call(rows, call),
         _ => put_data(rows, op),
-    }
-}
-
-fn put_run(rows: &mut Rows, task: u32, func: u32, item: u32, answer: u32) {
-    put_number(rows, "Run { task: ", task);
-    put_number(rows, ", func: ", func);
-    put_number(rows, ", item: ", item);
-    put_between(rows, ", result: ", answer, " }")
-}
-
-fn put_answer(rows: &mut Rows, task: u32, service: Service, status: u32) {
-    put_number(rows, "Call { task: ", task);
-    put_service(rows, ", service: ", service);
-    put_between(rows, ", status: ", status, " }")
-}
-
-fn put_left(rows: &mut Rows, task: u32, service: Service) {
-    put_number(rows, "Left { task: ", task);
-    put_service(rows, ", service: ", service);
-    rows.text(" }");
-}
-
-/// Appends an event.
-pub fn put_event(rows: &mut Rows, event: &Event) {
-    match event {
-        Event::Boot => rows.text("Boot"),
-        Event::Admit(task) => put_between(rows, "Admit(", *task, ")"),
-        Event::Enter(task) => put_between(rows, "Enter(", *task, ")"),
-        Event::Run {
-            task,
-            func,
-            item,
-            result,
-        } => put_run(rows, *task, *func, *item, *result),
-        Event::Call {
-            task,
-            service,
-            status,
-        } => put_answer(rows, *task, *service, *status),
-        Event::Left { task, service } => put_left(rows, *task, *service),
-        Event::Back(task) => put_between(rows, "Back(", *task, ")"),
-        Event::Idle => rows.text("Idle"),
-        Event::Stray => rows.text("Stray"),
-        Event::Due(counter) => put_between(rows, "Due(", *counter, ")"),
-        Event::Tick(counter) => put_between(rows, "Tick(", *counter, ")"),
     }
 }

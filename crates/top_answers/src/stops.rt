@@ -4,6 +4,7 @@ ghost use Rattle.sloth_base.specs.ImageRange.{InFormat};
 ghost use Rattle.sloth_base.specs.Limits.{count_limit};
 
 use crate::machine::is_stored;
+use crate::plain_values::put_between;
 use crate::rows::{Piece, Rows};
 use rv32_machine::{Bus, FlatBus, Machine, SlothBus, Step, Stop};
 use sloth_base::app::Width;
@@ -62,8 +63,13 @@ fn list_line(rows: &mut Rows, line: Option<Line>) {
 }
 
 fn list_stop(rows: &mut Rows, stop: Stop) {
-    rows.debug(&stop);
-    rows.text("\n");
+    match stop {
+        Stop::Fetch(pc) => put_between(rows, "Fetch(", pc, ")\n"),
+        Stop::Illegal(word) => put_between(rows, "Illegal(", word, ")\n"),
+        Stop::Environment => rows.line("Environment"),
+        Stop::Misaligned(address) => put_between(rows, "Misaligned(", address, ")\n"),
+        Stop::Access(address) => put_between(rows, "Access(", address, ")\n"),
+    }
 }
 
 fn list_step(rows: &mut Rows, step: Result<Step, Stop>) {

@@ -1,6 +1,6 @@
 //! The listings of tokens and trees.
 use crate::rows::{Piece, Rows};
-use oil_lex::Token;
+use oil_lex::{Token, TokenKind};
 use oil_parse::tree::{OilAttr, OilObject, OilTree, OilValue};
 
 /// Bytes as text, or `?` where they are none.
@@ -8,12 +8,25 @@ pub fn shown(bytes: &[u8]) -> &str {
     str::from_utf8(bytes).unwrap_or("?")
 }
 
+fn put_kind(rows: &mut Rows, kind: TokenKind) {
+    match kind {
+        TokenKind::Word => rows.text("Word"),
+        TokenKind::Number(number) => {
+            rows.text("Number(");
+            rows.value(number);
+            rows.text(")")
+        }
+        TokenKind::Text => rows.text("Text"),
+        TokenKind::Sign => rows.text("Sign"),
+    }
+}
+
 /// Prints the line, the kind and the bytes of each token.
 pub fn list_tokens(rows: &mut Rows, tokens: &[Token]) {
     for token in tokens {
         rows.value(token.line);
         rows.text(" ");
-        rows.debug(&token.kind);
+        put_kind(rows, token.kind);
         rows.end(&[Piece::Bytes(token.span)]);
     }
 }

@@ -13,8 +13,11 @@ use std::rt::Files;
 fn list_fault(rows: &mut Rows, name: &str, fault: StoreFault) {
     rows.text(name);
     rows.text(" ");
-    rows.debug(&fault);
-    rows.text("\n");
+    rows.line(match fault {
+        StoreFault::Failed => "Failed",
+        StoreFault::TooLong => "TooLong",
+        StoreFault::Memory => "Memory",
+    });
 }
 
 // What is read of a file of at most this length, or why it is not read.

@@ -2,7 +2,7 @@
 use Rattle.std.proofs.Common.{◌≡◌, ◌∙◌, ◌+◌, ℕ, List, [], ◌++◌, false, get_or, refl, sym, ap, append_assoc, append-nil}
 use Rattle.std.proofs.Math.Numerals.{add-one}
 use Rattle.osek_scheduler.specs.State.{System, task}
-use Rattle.system_text.specs.SystemText.{state_line}
+use Rattle.run_samples.specs.SystemText.{state_line}
 use Rattle.trace_check.specs.ReasonLines.{state_lines}
 use Rattle.trace_check.specs.Rows.{rows_below}
 use Rattle.trace_check.specs.declared.next_event.NextEvent.{NextEvent}

@@ -10,15 +10,15 @@ use Rattle.sloth_base.specs.declared.event.Arrival.{Arrival}
 use Rattle.sloth_base.specs.declared.event.Stamped.{Stamped}
 use Rattle.osek_scheduler.specs.Runs.{OsekRun}
 use Rattle.osek_scheduler.specs.InTime.{InTime}
-use Rattle.walked_events.specs.TraceText.{IsEventText, IsFirstBad}
-use Rattle.walked_events.specs.Walk.{HasStrayAt}
+use Rattle.trace_check.specs.TraceText.{IsEventText, IsFirstBad}
+use Rattle.trace_check.specs.Walk.{HasStrayAt}
 use Rattle.sloth_base.specs.DeclaredNames.{task_names, counter_names, function_names}
 use Rattle.trace_check.specs.Verdicts.{Checked, IsFirstStray, IsLate}
 use Rattle.trace_check.specs.Answer.{IsVerdict}
 use Rattle.trace_check.specs.declared.verdict.Verdict.{Verdict}
 use Rattle.trace_check.specs.declared.verdict.Verdict.TheVariants as verdict
-use Rattle.walked_events.proofs.TraceText.{shows_one, bad_shows_none, one_bad}
-use Rattle.walked_events.proofs.Walking.{run_front}
+use Rattle.trace_check.proofs.TraceText.{shows_one, bad_shows_none, one_bad}
+use Rattle.trace_check.proofs.Walking.{run_front}
 
 take_front : (j m : ℕ) (events : List Stamped) → j ≤ m → take j (take m events) ≡ take j events
 take_front zero m events le = refl

@@ -1,5 +1,5 @@
 -- The rows tell of each event with which there is a run still, and of no other.
-use Rattle.std.proofs.Common.{ℕ, ◌<◌, ◌≡◌, ◌∙◌, List, [], ◌∷◌, ◌++◌, Bool, true, false, length, Option, Some, None, All, refl, sym, ap, subst, is_some, inl, arith}
+use Rattle.std.proofs.Common.{ℕ, ◌<◌, ◌≡◌, ◌∙◌, ◌⊎◌, List, [], ◌∷◌, ◌++◌, Bool, true, false, length, Option, Some, None, All, refl, sym, ap, subst, is_some, inl, inr, arith}
 use Rattle.std.specs.Prelude.{◌&&◌, option_to_list}
 use Rattle.std.proofs.lemmas.Bool.{and_from, and_parts, false≢true}
 use Rattle.std.proofs.lemmas.Option.{none-some}
@@ -15,16 +15,16 @@ use Rattle.osek_scheduler.specs.Next.{next_state}
 use Rattle.osek_scheduler.specs.Runs.{OsekRun}
 use Rattle.osek_scheduler.proofs.Next.{step_of, step_is}
 use Rattle.osek_machine.specs.Steps.{IsSound}
-use Rattle.walked_events.specs.Moments.{noted_moments}
-use Rattle.walked_events.specs.Walk.{Walk, IsWalked, event_passes}
-use Rattle.walked_events.proofs.Walking.{walked_more, walked_stops}
+use Rattle.trace_check.specs.Moments.{noted_moments}
+use Rattle.trace_check.specs.Walk.{Walk, IsWalked, event_passes}
+use Rattle.trace_check.proofs.Walking.{walked_more, walked_stops}
 use Rattle.trace_check.specs.MachineEvents.{item_event, service_event}
 use Rattle.trace_check.specs.NextEvents.{AreNextEvents, IsTold, IsToldBy, IsWithin}
 use Rattle.trace_check.specs.Rows.{all_rows, event_limit, leaves_count, rows_below, rows_of, task_rows}
 use Rattle.trace_check.specs.declared.next_event.NextEvent.{NextEvent}
 use Rattle.trace_check.proofs.Told.{Each, each_both, each_below, teller, told_left, told_right, told_below}
 use Rattle.trace_check.proofs.Within.{leaves_within, passes_within, within_leaves, within_passes}
-use Rattle.trace_check.proofs.Items.{item_is, call_is, leave_is}
+use Rattle.trace_check.proofs.Items.{HasTask, has_task}
 
 some_of : {A : Type 0} (o : Option A) → is_some o ≡ true → (a : A) × (o ≡ Some a)
 some_of None e = absurd (false≢true e)
@@ -205,6 +205,16 @@ module _ (config : Config) (app : App) (past : List Stamped) (w : Walk) (h : IsW
       in_tasks e t lt
       (told_right (entry t) (back t ++ (item t ++ service t)) e (told_right (back t) (item t ++ service t) e (told_right (item t) (service t) e told)))
 
+  in_own : (e : Stamped) (v : Event) → HasTask w.machine.config w.machine.app s v → IsTold (rows_of w (Some v)) e → IsTold (all_rows w) e
+  in_own e v own told = by own.is
+    where
+      P : Option Event → Type 0
+      P o = IsTold (rows_of w o) e
+
+      by : (item_event w.machine.app own.owner s ≡ Some v) ⊎ (service_event w.machine.config w.machine.app own.owner s ≡ Some v) → IsTold (all_rows w) e
+      by (inl is) = in_item e own.owner own.declared (subst P (sym is) told)
+      by (inr is) = in_service e own.owner own.declared (subst P (sym is) told)
+
   told_at : (e : Stamped) (v : Event) (next : System) → next_of v ≡ Some next → IsTold (rows_of w (Some v)) e → IsTold (all_rows w) e
   told_at e event.Boot next is told = told_left starts (of_tasks ++ from_ticks) e told
   told_at e (event.Admit t) next is told =
@@ -212,28 +222,16 @@ module _ (config : Config) (app : App) (past : List Stamped) (w : Walk) (h : IsW
       in_admits e (told_left (rows_below tasks admit_rows) (rows_below counters due_rows) e (told_below tasks t admit_rows e step.1 told))
   told_at e (event.Enter t) next is told =
       let step = step_of w.machine.config w.machine.app s next (event.Enter t) is in in_entry e t step.1.declared told
-  told_at e (event.Run t f i r) next is told =
-      let step = step_of w.machine.config w.machine.app s next (event.Run t f i r) is in
-      let P : Option Event → Type 0 = λ o. IsTold (rows_of w o) e in
-      in_item e t step.1.top.declared (subst P (sym (item_is w.machine.config w.machine.app s sound t f i r next is)) told)
-  told_at e (event.Call t served status) next is told =
-      let step = step_of w.machine.config w.machine.app s next (event.Call t served status) is in
-      let P : Option Event → Type 0 = λ o. IsTold (rows_of w o) e in
-      in_service e t step.1.1.top.declared (subst P (sym (call_is w.machine.config w.machine.app s sound t served status next is)) told)
-  told_at e (event.Left t served) next is told =
-      let step = step_of w.machine.config w.machine.app s next (event.Left t served) is in
-      let P : Option Event → Type 0 = λ o. IsTold (rows_of w o) e in
-      in_service e t step.1.1.top.declared (subst P (sym (leave_is w.machine.config w.machine.app s sound t served next is)) told)
   told_at e (event.Back t) next is told =
       let step = step_of w.machine.config w.machine.app s next (event.Back t) is in in_back e t step.1.declared told
   told_at e event.Idle next is told = in_idle e (told_left (rows_of w (Some event.Idle)) admits e told)
-  told_at e event.Stray next is told = absurd (step_of w.machine.config w.machine.app s next event.Stray is)
   told_at e (event.Due c) next is told =
       let step = step_of w.machine.config w.machine.app s next (event.Due c) is in
       in_admits e (told_right (rows_below tasks admit_rows) (rows_below counters due_rows) e (told_below counters c due_rows e step.1 told))
   told_at e (event.Tick c) next is told =
       let step = step_of w.machine.config w.machine.app s next (event.Tick c) is in
       in_ticks e (told_left (rows_below counters tick_rows) from_idle e (told_below counters c tick_rows e step.1.declared told))
+  told_at e v next is told = in_own e v (has_task w.machine.config w.machine.app s sound v next refl is) told
 
   -- ---- both
 

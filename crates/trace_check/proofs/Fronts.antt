@@ -11,11 +11,11 @@ use Rattle.sloth_base.specs.declared.event.Stamped.{Stamped}
 use Rattle.asm_lines.specs.Operands.{behind}
 use Rattle.osek_scheduler.specs.Runs.{OsekRun}
 use Rattle.trace_text.specs.EventLines.{counted_line}
-use Rattle.walked_events.specs.TraceText.{HasLine, HasNoFirstLine, IsEventText, text_of}
-use Rattle.walked_events.specs.Walk.{IsWalked, Walk}
-use Rattle.walked_events.proofs.ReadEvents.{HasRead}
-use Rattle.walked_events.proofs.TraceText.{reads_more, text_front}
-use Rattle.walked_events.proofs.Walking.{run_front, walked_stops}
+use Rattle.trace_check.specs.TraceText.{HasLine, HasNoFirstLine, IsEventText, text_of}
+use Rattle.trace_check.specs.Walk.{IsWalked, Walk}
+use Rattle.trace_check.proofs.ReadEvents.{HasRead}
+use Rattle.trace_check.proofs.TraceText.{reads_more, text_front}
+use Rattle.trace_check.proofs.Walking.{run_front, walked_stops}
 use Rattle.trace_check.specs.Verdicts.{IsFirstStray}
 use Rattle.trace_check.specs.Front.{IsFront, IsLineEnd}
 

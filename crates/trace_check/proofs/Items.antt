@@ -1,5 +1,5 @@
 -- The event of an item or of a service of a task that has a next state is the one that the task's next item is.
-use Rattle.std.proofs.Common.{ℕ, ◌≡◌, ◌∙◌, List, [], ◌∷◌, Bool, true, false, Option, Some, None, refl, sym, ap, subst, is_some}
+use Rattle.std.proofs.Common.{ℕ, ◌<◌, ◌≡◌, ◌∙◌, ◌⊎◌, List, [], ◌∷◌, Bool, true, false, length, Option, Some, None, inl, inr, refl, sym, ap, subst, is_some}
 use Rattle.std.specs.Prelude.{◌&&◌, ◌==◌, not, slice_get}
 use Rattle.std.proofs.lemmas.Bool.{and_parts, eqb-true, false≢true}
 use Rattle.sloth_base.specs.Options.{is_number}
@@ -17,6 +17,7 @@ use Rattle.osek_scheduler.specs.State.{Frame, System, task}
 use Rattle.osek_scheduler.specs.Meaning.{on_some, if_true}
 use Rattle.osek_scheduler.specs.Next.{is_position, is_top, next_state}
 use Rattle.osek_scheduler.specs.Services.{is_there}
+use Rattle.osek_scheduler.proofs.Next.{step_of}
 use Rattle.osek_scheduler.proofs.Tests.{if_true_some, on_some_from, on_some_is}
 use Rattle.osek_machine.specs.Running.{own_operation, run_plan, call_in, call_plan, serving_plan, running_plan}
 use Rattle.osek_machine.specs.PlanSteps.{answer_plan, leave_plan, followed_state}
@@ -135,6 +136,34 @@ module _ (config : Config) (app : App) (s : System) (sound : IsSound config app 
       let p = followed t s next (leave_plan config app t served s) (sym leads ∙ e) in
       let planned = passes (serving_plan config app t served s) (λ x. not (is_some x.answer)) p.0 p.1 in
       service_of served p.0 planned.0 ∙ ap (λ (o : Option ℕ). Some (served_event t served o)) (none_is p.0.answer planned.1)
+
+-- an event of a task's next item, or of nothing
+abbrev pub is_of_item : Event → Bool
+is_of_item (event.Run t func item result) = true
+is_of_item (event.Call t served status) = true
+is_of_item (event.Left t served) = true
+is_of_item event.Stray = true
+is_of_item _ = false
+
+-- a task of the configuration whose next item it is
+pub record HasTask (config : Config) (app : App) (s : System) (e : Event) : Type 0 where
+  pub owner : ℕ
+  pub declared : owner < length config.tasks
+  pub is : (item_event app owner s ≡ Some e) ⊎ (service_event config app owner s ≡ Some e)
+
+pub has_task : (config : Config) (app : App) (s : System) → IsSound config app s → (e : Event) (next : System) → is_of_item e ≡ true
+    → next_state config app e s ≡ Some next → HasTask config app s e
+has_task config app s sound (event.Run t func item result) next of_item is =
+    let step = step_of config app s next (event.Run t func item result) is in
+    record { owner = t; declared = step.1.top.declared; is = inl (item_is config app s sound t func item result next is) }
+has_task config app s sound (event.Call t served status) next of_item is =
+    let step = step_of config app s next (event.Call t served status) is in
+    record { owner = t; declared = step.1.1.top.declared; is = inr (call_is config app s sound t served status next is) }
+has_task config app s sound (event.Left t served) next of_item is =
+    let step = step_of config app s next (event.Left t served) is in
+    record { owner = t; declared = step.1.1.top.declared; is = inr (leave_is config app s sound t served next is) }
+has_task config app s sound event.Stray next of_item is = absurd (step_of config app s next event.Stray is)
+has_task config app s sound e next of_item is = absurd (false≢true of_item)
 
 -- what is sound by other names
 pub sound_at : (c d : Config) (a b : App) (s z : System) → d ≡ c → b ≡ a → z ≡ s → IsSound c a s → IsSound d b z

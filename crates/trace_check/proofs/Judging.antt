@@ -20,12 +20,12 @@ use Rattle.sloth_base.proofs.Owners.{IsCounterLine, owned_cases}
 use Rattle.osek_scheduler.specs.InTime.{InTime}
 use Rattle.trace_text.specs.EventNumbers.{HasEventNumbers}
 use Rattle.trace_check.specs.Counts.{AreLinesInRange, IsLineInRange}
-use Rattle.walked_events.specs.TraceText.{HasNoFirstLine, HasLine, IsFirstBad, IsEventText}
+use Rattle.trace_check.specs.TraceText.{HasNoFirstLine, HasLine, IsFirstBad, IsEventText}
 use Rattle.sloth_base.specs.DeclaredNames.{AreNamesOf, task_names, counter_names, function_names}
 use Rattle.sloth_base.specs.declared.declared_names.DeclaredNames.{DeclaredNames}
-use Rattle.walked_events.proofs.ReadEvents.{HasRead}
-use Rattle.walked_events.specs.Walk.{HasStrayAt, IsWalked, IsWalkOrStray, Walk}
-use Rattle.walked_events.proofs.TraceText.{reads_all}
+use Rattle.trace_check.proofs.ReadEvents.{HasRead}
+use Rattle.trace_check.specs.Walk.{HasStrayAt, IsWalked, IsWalkOrStray, Walk}
+use Rattle.trace_check.proofs.TraceText.{reads_all}
 
 -- the admissions of events that have lines are of numbers of 32 bits
 line_small : (tasks functions counters : ℕ) → counters ≤ counter_limit → (e : Event) → HasEventNumbers tasks functions counters e → IsLineInRange (admitted_line e)

@@ -1,7 +1,5 @@
-pub mod Unread
 pub mod Exact
 pub mod Judging
-pub mod Refused
 pub mod OneAnswer
 pub mod Subsequences
 pub mod Scan
@@ -22,3 +20,8 @@ pub mod FirstDifferences
 pub mod InPlace
 pub mod ReadBack
 pub mod Explained
+pub mod Moments
+pub mod Walking
+pub mod OneLine
+pub mod TraceText
+pub mod ReadEvents

@@ -12,7 +12,7 @@ use Rattle.sloth_base.specs.DeclaredNames.{task_names, counter_names}
 use Rattle.trace_check.specs.TraceAnswers.{IsJudged, IsTraceAnswer}
 use Rattle.trace_check.specs.declared.answer.TraceAnswer.{TraceAnswer}
 use Rattle.trace_check.specs.declared.answer.TraceAnswer.TheVariants as answer
-use Rattle.trace_check.proofs.Refused.{not-refused, one-way}
+use Rattle.run_inputs.proofs.Refused.{not-refused, one-way}
 
 module _ (oil src arr trace : List ℕ) (n : ℕ) where
   -- two verdicts on one text are the same

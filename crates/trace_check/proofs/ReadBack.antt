@@ -3,9 +3,9 @@ use Rattle.std.proofs.Common.{ℕ, ◌+◌, ◌≡◌, List, true, false, length
 use Rattle.std.specs.Prelude.{◌==◌}
 use Rattle.sloth_base.specs.ImageRange.{AreNamesApart, AreNames}
 use Rattle.sloth_base.specs.declared.event.Stamped.{Stamped}
-use Rattle.walked_events.specs.TraceText.{HasNoFirstLine, IsEventText}
-use Rattle.walked_events.proofs.ReadEvents.{HasRead}
-use Rattle.walked_events.proofs.TraceText.{shows_one, bad_shows_none, reads_bad}
+use Rattle.trace_check.specs.TraceText.{HasNoFirstLine, IsEventText}
+use Rattle.trace_check.proofs.ReadEvents.{HasRead}
+use Rattle.trace_check.proofs.TraceText.{shows_one, bad_shows_none, reads_bad}
 use Rattle.trace_check.proofs.Judging.{is_left, shows_all}
 
 module _ (tasks functions counters : List (List ℕ)) (named : AreNames tasks) (called : AreNames functions) (counted : AreNames counters) (apart : AreNamesApart counters tasks)

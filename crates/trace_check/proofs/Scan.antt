@@ -240,15 +240,15 @@ module _ (n : ℕ) where
     keeps_before s s1 None is h k = keeps_other s s1 is (other_step s e.stamp.from e.stamp.at s1 h) k
 
     -- where the pass goes on
-    record Goes (s : Scan) : Type 0 where
+    record NextScan (s : Scan) : Type 0 where
       next : Scan
       steps : scan_after_line s (admitted_line e.event) e.stamp.from e.stamp.at ≡ Some next
       keeps : (All (MayFollow next) events) → IsOrderKept next.base next.rest events
 
-    goes : (s : Scan) → MayFollow s e → IsOrderKept s.base s.rest (e ∷ events) → Goes s
+    goes : (s : Scan) → MayFollow s e → IsOrderKept s.base s.rest (e ∷ events) → NextScan s
     goes s f k = by (admitted_line e.event) refl f
       where
-        admits : (t : ℕ) → admitted_line e.event ≡ Some t → s.begins ≤ e.stamp.at → Goes s
+        admits : (t : ℕ) → admitted_line e.event ≡ Some t → s.begins ≤ e.stamp.at → NextScan s
         admits t is begins =
             let F : Bool → Type 0 = λ c. IsSubsequence (map key_of (cond c (e ∷ front_admits events) [])) (map arrival_key s.rest) in
             let H : Option ℕ → Type 0 = λ o. IsSubsequence ((e.stamp.at, o) ∷ map key_of (front_admits events)) (map arrival_key s.rest) in
@@ -264,7 +264,7 @@ module _ (n : ℕ) where
               keeps = λ _. record { front = found.others; behind = k.behind.1 };
             }
 
-        passes : admitted_line e.event ≡ None → (s.ends ≤ e.stamp.from) × (s.latest ≤ e.stamp.at) → Goes s
+        passes : admitted_line e.event ≡ None → (s.ends ≤ e.stamp.from) × (s.latest ≤ e.stamp.at) → NextScan s
         passes is f =
             let G : Bool → Type 0 = λ c. cond c (Unit {0}) (IsSubsequence (map key_of (front_admits events)) (map arrival_key s.base)) in
             let next = other_scan s e.stamp.from e.stamp.at in
@@ -279,7 +279,7 @@ module _ (n : ℕ) where
                   (record { front = subst G (ap is_some is) k.behind.0; behind = k.behind.1 });
             }
 
-        by : (o : Option ℕ) → admitted_line e.event ≡ o → IsBehindScan s o e.stamp.from e.stamp.at → Goes s
+        by : (o : Option ℕ) → admitted_line e.event ≡ o → IsBehindScan s o e.stamp.from e.stamp.at → NextScan s
         by (Some t) is f = admits t is f
         by None is f = passes is f
 

@@ -11,8 +11,8 @@ use Rattle.osek_scheduler.specs.State.{task}
 use Rattle.osek_scheduler.specs.Priority.{is_active}
 use Rattle.osek_scheduler.specs.Next.{all_below}
 use Rattle.osek_machine.specs.Above.{is_line_above}
-use Rattle.walked_events.specs.Moments.{all_later}
-use Rattle.walked_events.specs.Walk.{Walk, event_passes, served_passes}
+use Rattle.trace_check.specs.Moments.{all_later}
+use Rattle.trace_check.specs.Walk.{Walk, event_passes, served_passes}
 use Rattle.trace_check.specs.NextEvents.{IsWithin}
 use Rattle.trace_check.specs.Rows.{lesser_limit, least_moment, event_limit, served_limit, leaves_count}
 

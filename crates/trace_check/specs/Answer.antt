@@ -3,7 +3,7 @@ use Rattle.std.specs.Prelude.{ℕ, List}
 use Rattle.sloth_base.specs.declared.config.Config.{Config}
 use Rattle.sloth_base.specs.declared.app.App.{App}
 use Rattle.sloth_base.specs.declared.event.Arrival.{Arrival}
-use Rattle.walked_events.specs.TraceText.{IsFirstBad}
+use Rattle.trace_check.specs.TraceText.{IsFirstBad}
 use Rattle.sloth_base.specs.DeclaredNames.{task_names, counter_names, function_names}
 use Rattle.trace_check.specs.Verdicts.{Checked, IsFirstStray, IsLate}
 use Rattle.trace_check.specs.declared.verdict.Verdict.{Verdict}

@@ -4,7 +4,7 @@ use Rattle.sloth_base.specs.declared.config.Config.{Config}
 use Rattle.sloth_base.specs.declared.app.App.{App}
 use Rattle.sloth_base.specs.Limits.{counter_limit}
 use Rattle.trace_check.specs.Timed.{KeptPass, TimedBy}
-use Rattle.walked_events.specs.Walk.{IsWalked, Walk}
+use Rattle.trace_check.specs.Walk.{IsWalked, Walk}
 use Rattle.sloth_base.specs.DeclaredNames.{AreNamesOf}
 use Rattle.sloth_base.specs.declared.declared_names.DeclaredNames.{DeclaredNames}
 

@@ -5,8 +5,8 @@ use Rattle.sloth_base.specs.declared.declared_names.DeclaredNames.{DeclaredNames
 use Rattle.sloth_base.specs.declared.config.Config.{Config}
 use Rattle.sloth_base.specs.declared.app.App.{App}
 use Rattle.sloth_base.specs.declared.event.Stamped.{Stamped}
-use Rattle.walked_events.specs.TraceText.{HasFirstLine, HasLine, HasNoFirstLine, text_of}
-use Rattle.walked_events.specs.Walk.{IsWalked, IsWalkEnd, IsWalkStep, Walk}
+use Rattle.trace_check.specs.TraceText.{HasFirstLine, HasLine, HasNoFirstLine, text_of}
+use Rattle.trace_check.specs.Walk.{IsWalked, IsWalkEnd, IsWalkStep, Walk}
 
 -- these are the events of the lines in front of line k
 pub record AreEventsBefore (config : Config) (app : App) (names : DeclaredNames) (trace : List ℕ) (k : ℕ) (past : List Stamped) : Type 0 where

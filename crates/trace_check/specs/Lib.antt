@@ -1,7 +1,6 @@
 pub mod Verdicts
 pub mod Answer
 pub mod Begun
-pub mod Inputs
 pub mod TraceAnswers
 pub mod Counts
 pub mod Timed
@@ -14,3 +13,7 @@ pub mod Lateness
 pub mod LatenessLines
 pub mod Front
 pub mod Reasons
+pub mod Moments
+pub mod Walk
+pub mod TraceText
+pub mod CheckAnswers

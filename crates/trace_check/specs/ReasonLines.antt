@@ -4,7 +4,7 @@ use Rattle.std.specs.List.{flat_map}
 use Rattle.sloth_base.specs.declared.declared_names.DeclaredNames.{DeclaredNames}
 use Rattle.osek_scheduler.specs.State.{System, task}
 use Rattle.trace_text.specs.EventWords.{event_text}
-use Rattle.system_text.specs.SystemText.{state_line}
+use Rattle.run_samples.specs.SystemText.{state_line}
 use Rattle.trace_check.specs.declared.verdict.Verdict.{Verdict}
 use Rattle.trace_check.specs.declared.verdict.Verdict.TheVariants as verdict
 use Rattle.trace_check.specs.declared.next_event.NextEvent.{NextEvent}

@@ -8,8 +8,8 @@ use Rattle.sloth_base.specs.declared.event.Stamped.{Stamped}
 use Rattle.sloth_base.specs.DeclaredNames.{AreNamesOf, counter_names, function_names, task_names}
 use Rattle.osek_scheduler.specs.State.{System, opening}
 use Rattle.osek_scheduler.specs.Runs.{AreStepsTo}
-use Rattle.walked_events.specs.TraceText.{IsEventText}
-use Rattle.trace_check.specs.Inputs.{IsRefusal}
+use Rattle.trace_check.specs.TraceText.{IsEventText}
+use Rattle.run_inputs.specs.Inputs.{IsRefusal}
 use Rattle.trace_check.specs.TraceAnswers.{IsJudged}
 use Rattle.trace_check.specs.declared.verdict.Verdict.{Verdict}
 use Rattle.trace_check.specs.declared.verdict.Verdict.TheVariants as verdict

@@ -7,7 +7,7 @@ use Rattle.code_rules.specs.WellFormed.{WellFormed}
 use Rattle.sloth_source.specs.Texts.{AreAccepted}
 use Rattle.trace_check.specs.Answer.{IsVerdict}
 use Rattle.trace_check.specs.declared.verdict.Verdict.{Verdict}
-use Rattle.trace_check.specs.Inputs.{AreArrivalsOf, IsRefusal}
+use Rattle.run_inputs.specs.Inputs.{AreArrivalsOf, IsRefusal}
 use Rattle.sloth_base.specs.DeclaredNames.{task_names, counter_names}
 use Rattle.trace_check.specs.declared.answer.TraceAnswer.{TraceAnswer}
 use Rattle.trace_check.specs.declared.answer.TraceAnswer.TheVariants as answer

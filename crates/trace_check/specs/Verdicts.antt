@@ -7,8 +7,8 @@ use Rattle.sloth_base.specs.declared.event.Arrival.{Arrival}
 use Rattle.sloth_base.specs.declared.event.Stamped.{Stamped}
 use Rattle.osek_scheduler.specs.Runs.{OsekRun}
 use Rattle.osek_scheduler.specs.InTime.{InTime}
-use Rattle.walked_events.specs.TraceText.{IsEventText}
-use Rattle.walked_events.specs.Walk.{HasStrayAt}
+use Rattle.trace_check.specs.TraceText.{IsEventText}
+use Rattle.trace_check.specs.Walk.{HasStrayAt}
 
 -- the text is that of a run of n instructions with these arrivals
 pub record Checked (config : Config) (app : App) (arrivals : List Arrival) (text : List ℕ) (n : ℕ) : Type 0 where

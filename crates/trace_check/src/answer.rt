@@ -2,8 +2,8 @@
 ghost use Rattle.std.specs.Prelude.{◌<◌, IfOk, length};
 ghost use Rattle.trace_check.specs.TraceAnswers.{IsTraceAnswer};
 
-use crate::inputs::read_inputs;
 use crate::verdict::{Verdict, check};
+use run_inputs::read_inputs;
 use sloth_base::memory::NoMemory;
 use sloth_base::refusal::{BuildError, Refusal};
 use std::alloc::Global;

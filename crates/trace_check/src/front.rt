@@ -8,11 +8,12 @@ ghost use Rattle.code_rules.specs.WellFormed.{WellFormed};
 ghost use Rattle.trace_check.specs.Verdicts.{IsFirstStray};
 ghost use Rattle.trace_check.specs.Reasons.{IsStepReason};
 ghost use Rattle.trace_check.specs.Front.{IsFront, IsLineEnd, IsLineStep};
-ghost use Rattle.walked_events.specs.Walk.{IsWalked};
+ghost use Rattle.trace_check.specs.Walk.{IsWalked};
 
 use crate::lines::{push_rows, push_states};
 use crate::rows::next_events;
 use crate::verdict::next_event;
+use crate::walk::Walk;
 use osek_machine::NotARun;
 use sloth_base::app::App;
 use sloth_base::config::Config;
@@ -20,7 +21,6 @@ use sloth_base::declared_names::{DeclaredNames, declared_names};
 use sloth_base::memory::NoMemory;
 use std::alloc::Global;
 use text_pieces::bytes::behind;
-use walked_events::walk::Walk;
 
 // Walks along the first line of a text, if that is possible.
 fn walk_line(names: &DeclaredNames, walk: &mut Walk, text: &[u8]) -> bool

@@ -12,7 +12,7 @@ ghost use Rattle.trace_check.specs.Lateness.{AreInPlace, IsLateness};
 ghost use Rattle.trace_check.specs.LatenessLines.{admission_at, lateness_lines, missing_line, place_line};
 ghost use Rattle.trace_check.specs.Reasons.{AreLatenessLines, IsTimeReason};
 ghost use Rattle.trace_check.specs.Verdicts.{IsLate};
-ghost use Rattle.walked_events.specs.TraceText.{IsEventText};
+ghost use Rattle.trace_check.specs.TraceText.{IsEventText};
 
 use crate::lateness::{Lateness, reason_of};
 use crate::verdict::next_event;

@@ -3,8 +3,12 @@
 //! A text in the counted form is that of a run of the abstract scheduler in which arrivals are admitted in time: *Yes* exactly there (`check`, clause
 //! `exact`); *Line* with the first line that is no event's or has no LF; *Step* with the first line with which the events are no run; *Time* where
 //! only the arrivals do not fit. Each text has one verdict (`one_verdict`; `specs/Verdicts`, `specs/Answer`, `specs/Begun`). The same from the texts
-//! of a configuration, its task source and arrivals, or their first refusal (`judge_trace`, `one_answer`; `specs/Inputs`, `specs/TraceAnswers`).
-//! Runs: `osek_scheduler` (`Runs`, `InTime`); what a text shows: `walked_events` (`TraceText`, `Walk`).
+//! of a configuration, its task source and arrivals, or their first refusal (`judge_trace`, `one_answer`; `specs/TraceAnswers`; `run_inputs`, `Inputs`), which
+//! is the answer of the command `check` (`check_command::check`; `specs/CheckAnswers`). Runs: `osek_scheduler` (`Runs`, `InTime`).
+//!
+//! What a text shows: `specs/TraceText`; the event of its first line, exactly where it is an event's and an LF ends it: `first_line`. Fed the events one after
+//! the other: the walk of those that are a run, and the line of the first with which they are none (`Walk::new`, `step`, `follow`; `specs/Walk`); which
+//! Ready tasks a service may pass over, by one number a line: `specs/Moments`. Who stands above: `osek_machine` (`Above`).
 //!
 //! Where arrivals allow events (`timing`): fed the events one after the other, with no memory for events: whether they stand where the arrivals allow, exactly (`Timing::new`, `take`,
 //! `in_time`; `specs/Counts`, `specs/Timed`). One pass over events with the arrivals says whether each may stand there, by its stamp, the events
@@ -17,14 +21,15 @@
 //! the states of the tasks in front of it, and each event that may stand there: exactly those with which there is a run still, each with the count before
 //! which it must begin, if there is one (`next_events`; `specs/NextEvents`, `specs/Reasons`). Behind events that are not in time it tells the line with which they
 //! are not, and the first arrival that lacks its admit (`lateness`; `specs/Lateness`). Lines: `specs/ReasonLines`, `specs/LatenessLines`. How they are found: `specs/Rows`,
-//! `specs/MachineEvents`. Runs: `osek_scheduler` (`Runs`); walks: `walked_events` (`Walk`).
+//! `specs/MachineEvents`.
 #![tactic(auto)]
 
 pub mod answer;
 pub mod answer_laws;
+pub mod check_command;
 mod differences;
+mod first_line;
 mod front;
-mod inputs;
 mod late;
 pub mod lateness;
 pub mod laws;
@@ -39,6 +44,7 @@ mod rows;
 pub mod stretches;
 pub mod timing;
 pub mod verdict;
+pub mod walk;
 
 pub use answer::{TraceAnswer, judge_trace};
 pub use next_event::NextEvent;

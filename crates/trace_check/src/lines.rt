@@ -6,13 +6,13 @@ ghost use Rattle.trace_check.specs.ReasonLines.{limit_text, row_line, row_lines,
 use crate::Verdict;
 use crate::next_event::NextEvent;
 use osek_machine::Osek;
+use run_samples::lines::state_line;
 use sloth_base::declared_names::DeclaredNames;
 use sloth_base::list::List;
 use sloth_base::memory::NoMemory;
 use sloth_base::name::Name;
 use sloth_base::numbers::TaskId;
 use std::alloc::Global;
-use system_text::lines::state_line;
 use trace_text::events::push_event;
 use trace_text::line_words::LineText;
 

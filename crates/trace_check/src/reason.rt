@@ -6,16 +6,16 @@ ghost use Rattle.sloth_base.specs.DeclaredNames.{counter_names, task_names};
 ghost use Rattle.sloth_base.specs.Owners.{owners_in};
 ghost use Rattle.code_rules.specs.WellFormed.{WellFormed};
 ghost use Rattle.sloth_source.specs.Texts.{AreAccepted};
-ghost use Rattle.trace_check.specs.Inputs.{AreArrivalsOf};
+ghost use Rattle.run_inputs.specs.Inputs.{AreArrivalsOf};
 ghost use Rattle.trace_check.specs.Verdicts.{IsFirstStray, IsLate};
 ghost use Rattle.trace_check.specs.declared.verdict.Verdict.TheVariants as verdict_is;
 ghost use Rattle.trace_check.specs.Reasons.{AreReasons, IsTraceReason};
 
 use crate::front::step_lines;
-use crate::inputs::{Inputs, read_inputs};
 use crate::late::time_lines;
 use crate::lines::verdict_text;
 use crate::{Verdict, check};
+use run_inputs::{Inputs, read_inputs};
 use sloth_base::app::App;
 use sloth_base::config::Config;
 use sloth_base::event::Arrival;

@@ -6,18 +6,18 @@ ghost use Rattle.sloth_base.specs.declared.event.Event.TheVariants as event_is;
 ghost use Rattle.sloth_base.specs.declared.event.Stamped.{Stamped as AnyEvent};
 ghost use Rattle.sloth_base.specs.Limits.{counter_limit, task_limit};
 ghost use Rattle.osek_scheduler.specs.Meaning.{on_some};
-ghost use Rattle.walked_events.specs.Walk.{IsWalked};
+ghost use Rattle.trace_check.specs.Walk.{IsWalked};
 ghost use Rattle.trace_check.specs.NextEvents.{AreNextEvents};
 ghost use Rattle.trace_check.specs.Rows.{all_rows, next_event, rows_below, rows_of, task_rows};
 
 use crate::limits::{event_limit, leaves_count};
 use crate::machine_events::{has_next, item_event, service_event};
 use crate::next_event::NextEvent;
+use crate::walk::Walk;
 use sloth_base::event::Event;
 use sloth_base::memory::NoMemory;
 use std::alloc::Global;
 use text_pieces::growth::push;
-use walked_events::walk::Walk;
 
 // The row of an event, if it may come next.
 fn next_event(walk: &Walk, event: Event) -> Option<NextEvent>

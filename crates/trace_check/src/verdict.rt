@@ -6,12 +6,14 @@ ghost use Rattle.sloth_base.specs.Owners.{owners_in};
 ghost use Rattle.sloth_base.specs.declared.app.App.{App as AnyApp};
 ghost use Rattle.sloth_base.specs.declared.config.Config.{Config as AnyConfig};
 ghost use Rattle.code_rules.specs.WellFormed.{WellFormed};
-ghost use Rattle.walked_events.specs.TraceText.{HasFirstLine, HasNoFirstLine};
+ghost use Rattle.trace_check.specs.TraceText.{HasFirstLine, HasNoFirstLine};
 ghost use Rattle.trace_check.specs.Verdicts.{Checked};
 ghost use Rattle.trace_check.specs.Answer.{IsVerdict};
 ghost use Rattle.trace_check.specs.Begun.{IsBegun};
 
 use crate::Timing;
+use crate::first_line::first_event;
+use crate::walk::Walk;
 use sloth_base::app::App;
 use sloth_base::config::Config;
 use sloth_base::declared_names::{DeclaredNames, declared_names};
@@ -19,8 +21,6 @@ use sloth_base::event::{Arrival, Stamped};
 use sloth_base::memory::NoMemory;
 use std::alloc::Global;
 use text_pieces::bytes::behind;
-use walked_events::lines::first_event;
-use walked_events::walk::Walk;
 
 /// What is said of a text of events.
 #[derive(Clone, Copy)]

@@ -31,7 +31,7 @@ use Rattle.walk_sums.specs.Kinds.{clears, stops}
 use Rattle.walk_sums.specs.Counted.{one_if, awaits, counted_weights}
 use Rattle.walk_sums.specs.Clears.{ClearsBit}
 use Rattle.walk_sums.proofs.CountedWeights.{ending_is, waits_weightless}
-use Rattle.walk_sums.proofs.Standing.{walked_to}
+use Rattle.walk_sums.proofs.Callers.{walked_to}
 
 -- ---- one bit
 

@@ -16,7 +16,7 @@ use Rattle.bound_rules.specs.Weights.{going_weight, ending_weight}
 use Rattle.walk_sums.specs.Weights.{going_at, sum_of}
 use Rattle.walk_sums.specs.Activations.{is_raised, called_level, IsRaisedCall, level_behind}
 use Rattle.walk_sums.proofs.LevelsAt.{leads_cases}
-use Rattle.walk_sums.proofs.Standing.{step_of, AreCallers, Walked, stands_on, item_at, walked_to}
+use Rattle.walk_sums.proofs.Callers.{step_of, AreCallers, Walked, stands_on, item_at, walked_to}
 use Rattle.walk_sums.specs.declared.kinds.Kind.{Kind}
 use Rattle.walk_sums.specs.declared.kinds.Kind.TheVariants as kinds
 use Rattle.walk_sums.specs.Rounds.{OnlyLast, IsPart, IsFirst, IsBehindWait, is_wait}

@@ -8,7 +8,7 @@ use Rattle.raised_sections.specs.Walks.{Position, AreConsecutive}
 use Rattle.raised_sections.specs.Sections.{is_counted, IsSection, size_of_section}
 use Rattle.walk_sums.specs.Weights.{item_weights, sum_of}
 use Rattle.walk_sums.proofs.ItemWeights.{going_is, ending_is}
-use Rattle.walk_sums.proofs.Standing.{Walked, stands_on, item_at, walked_to}
+use Rattle.walk_sums.proofs.Callers.{Walked, stands_on, item_at, walked_to}
 
 module _ (config : Config) (app : App) (h t : ℕ) (w : Facts config app) where
   summed : (at : Position) (further : List Position) → AreConsecutive app (at ∷ further) → Walked app t at → sum_of (item_weights app) (at ∷ further) ≡ size_of_section app (at ∷ further)

@@ -16,7 +16,7 @@ mod Ranked
 mod Shaped
 mod Stopping
 pub mod LevelsAt
-pub mod Standing
+pub mod Callers
 mod KnownRaised
 mod Beginning
 mod Measured
@@ -30,6 +30,7 @@ mod Mapping
 mod OrderSummaries
 mod Summaries
 mod Climbing
+pub mod PlainSteps
 mod Walking
 mod ItemWeights
 mod CountedWeights
@@ -42,3 +43,4 @@ mod Clearing
 mod CleanTasks
 mod Reaching
 mod SteadyTasks
+pub mod Positions

@@ -25,7 +25,7 @@ use Rattle.walk_sums.specs.Parts.{SumsOn}
 use Rattle.walk_sums.specs.Known.{IsExact, IsEndless, AreSums}
 use Rattle.walk_sums.proofs.CountedWeights.{counted_fit, ending_is, ends_weightless}
 use Rattle.walk_sums.proofs.Covering.{any_little}
-use Rattle.walk_sums.proofs.Standing.{walked_to}
+use Rattle.walk_sums.proofs.Callers.{walked_to}
 use Rattle.walk_sums.proofs.Clearing.{split, only_last, sum_is, anywhere}
 use Rattle.walk_sums.proofs.Telling.{AreParts, first_parts, all_stand}
 

@@ -13,19 +13,20 @@ use Rattle.sloth_base.specs.Options.{is_number}
 use Rattle.sloth_base.specs.ServiceCodes.{is_service}
 use Rattle.code_rules.specs.Code.{IsItem, is_followed, ends_for_good}
 use Rattle.std.proofs.lemmas.Bool.{false≢true}
-use Rattle.raised_sections.specs.Walks.{Position, place, GoesOnInside, LeadsTo, IsPositionStep, AreConsecutive, IsWalk, chains_itself}
+use Rattle.raised_sections.specs.Walks.{Position, place, IsPositionStep, AreConsecutive, IsWalk, chains_itself}
 use Rattle.std.proofs.lemmas.List.{append_assoc}
 use Rattle.raised_sections.specs.Sections.{operation_at}
 use Rattle.raised_sections.proofs.Reached.{IsReached, walk_on, reached_next, reached_first}
 use Rattle.bound_rules.specs.declared.weights.BodyWeights.{BodyWeights}
 use Rattle.bound_rules.specs.Weights.{going_weight}
 use Rattle.walk_sums.specs.Weights.{going_at, ending_at, sum_of, AreWeights}
-use Rattle.walk_sums.specs.Activations.{is_raised, called_level, is_plain, IsInnerStep, ReachesItem, reaches_first, reaches_inside, reaches_behind, IsRaisedCall, ReachesCall, level_behind}
+use Rattle.walk_sums.specs.Activations.{is_raised, called_level, is_plain, ReachesItem, reaches_first, reaches_inside, reaches_behind, IsRaisedCall, ReachesCall, level_behind}
 use Rattle.walk_sums.specs.declared.kinds.Kind.{Kind}
 use Rattle.walk_sums.specs.declared.kinds.Kind.TheVariants as kinds
 use Rattle.walk_sums.specs.Rounds.{OnlyLast, IsPart, IsFirst, IsBehindWait, is_wait}
 use Rattle.walk_sums.specs.Kinds.{stops, StandsBehindWait, MayBegin, MayFollow}
 use Rattle.walk_sums.specs.Parts.{IsOpenStep, SumsBack, SumsOn, SumsOut, SumsWithin, back_returns, back_inside, back_passes, on_ends, on_inside, on_enters, on_passes, out_here, out_behind, within_here, within_called, within_behind}
+use Rattle.walk_sums.proofs.PlainSteps.{plain_leads, step_inside}
 use Rattle.walk_sums.proofs.Stopping.{call_free, return_free}
 use Rattle.walk_sums.proofs.Climbing.{IsStanding}
 
@@ -49,29 +50,6 @@ no_chain _ h = refl
 wait_stays : (f : Func) (o : Op) → is_wait o ≡ true → chains_itself f o ≡ false
 wait_stays f (op.Serve call) e = ap (λ b. b && is_number call.object f.task) (no_chain call.service e)
 wait_stays f _ e = absurd (false≢true e)
-
--- a plain operation leads to where a path of its function goes on
-plain_leads : (app : App) (o : Op) (f i : ℕ) (outer next : Position) → is_plain o ≡ true → GoesOnInside app f i outer next → LeadsTo app o f i outer next
-plain_leads app (op.Invoke g) f i outer next p l = absurd cc
-plain_leads app op.Return f i outer next p l = absurd cc
-plain_leads app (op.Alu kind rd a b) f i outer next p l = l
-plain_leads app (op.AluImm kind rd a n) f i outer next p l = l
-plain_leads app (op.Lui rd n) f i outer next p l = l
-plain_leads app (op.Li rd v) f i outer next p l = l
-plain_leads app (op.FrameLoad rd word) f i outer next p l = l
-plain_leads app (op.FrameStore rs word) f i outer next p l = l
-plain_leads app (op.Load w rd y offset) f i outer next p l = l
-plain_leads app (op.Store w rs y offset) f i outer next p l = l
-plain_leads app (op.LoadAt w rd y index mask) f i outer next p l = l
-plain_leads app (op.StoreAt w rs y index mask) f i outer next p l = l
-plain_leads app (op.Branch kind a b k) f i outer next p l = l
-plain_leads app (op.Jump k) f i outer next p l = l
-plain_leads app (op.Serve call) f i outer next p l = l
-
--- one step inside a function
-step_inside : (app : App) (f i j : ℕ) (outer : Position) → IsInnerStep app f i j → IsPositionStep app (place f i ∷ outer) (place f j ∷ outer)
-step_inside app f i j outer s =
-    (s.operation, s.item, plain_leads app s.operation f i outer (place f j ∷ outer) s.plain (j, s.goes_on, ap (chains_itself (function app f)) s.item.is ∙ s.stays, refl))
 
 module _ (config : Config) (app : App) (weights : List BodyWeights) (kind : Kind) (fit : AreWeights app weights) (t : ℕ) (Level : Position → Option ℕ)
     (IsRaisedAt : Position → Type 0) (standing : IsStanding config app Level IsRaisedAt) where

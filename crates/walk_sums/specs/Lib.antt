@@ -19,3 +19,4 @@ pub mod Counted
 pub mod Clears
 pub mod Told
 pub mod Sections
+pub mod Positions

@@ -3,8 +3,8 @@ ghost use Rattle.std.specs.Prelude.{◌≡◌, ◌||◌, map, IfOk};
 ghost use Rattle.walk_sums.specs.Weights.{AreWeights};
 ghost use Rattle.walk_sums.specs.Counted.{one_if, calls, calls_for, awaits, is_going_counted, is_ending_counted, body_counts, counted_weights};
 ghost use Rattle.sloth_base.specs.declared.service.Service.TheVariants as service;
-ghost use Rattle.raised_sections.specs.Sections.{is_schedule};
 
+use bound_rules::items::is_schedule;
 use bound_rules::weights::BodyWeights;
 use sloth_base::app::{App, Func, Item, Op};
 use sloth_base::list::List;
@@ -73,15 +73,6 @@ fn awaits(events: u32, op: Op) -> bool
         Op::Serve(call) => {
             call.service.code() == Service::WaitEvent.code() && call.mask & events != 0
         }
-        _ => false,
-    }
-}
-
-fn is_schedule(op: Op) -> bool
-    ensures { result ≡ is_schedule op }
-{
-    match op {
-        Op::Serve(call) => call.service.code() == Service::Schedule.code(),
         _ => false,
     }
 }

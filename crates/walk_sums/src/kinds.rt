@@ -1,11 +1,11 @@
 //! Which parts of walks are summed.
 ghost use Rattle.std.specs.Prelude.{◌≡◌, ◌<◌, ◌||◌, length};
-ghost use Rattle.raised_sections.specs.Sections.{is_schedule};
 ghost use Rattle.walk_sums.specs.Rounds.{is_wait};
 ghost use Rattle.walk_sums.specs.Kinds.{clears, stops, is_behind_wait, may_begin, is_going};
 
-use bound_rules::items::chains_itself;
+use bound_rules::items::is_schedule;
 use bound_rules::marks::is_marked;
+use raised_sections::chaining::chains_itself;
 use sloth_base::app::{Func, Op};
 use sloth_base::service::Service;
 
@@ -20,15 +20,6 @@ pub enum Kind {
     Sections,
     /// Between two WaitEvents, as long as none of these events is cleared.
     Uncleared(u32),
-}
-
-fn is_schedule(op: Op) -> bool
-    ensures { result ≡ is_schedule op }
-{
-    match op {
-        Op::Serve(call) => call.service.code() == Service::Schedule.code(),
-        _ => false,
-    }
 }
 
 /// Whether an operation is a WaitEvent.

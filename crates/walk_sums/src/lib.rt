@@ -10,7 +10,8 @@
 //! Rounds and clean tasks: `specs/Rounds`; what is told: `specs/Told`, `specs/Sections`; parts of walks, built item by item: `specs/Activations`,
 //! `specs/Kinds`, `specs/Parts`; weights, and sums of positions: `specs/Weights`, `specs/Counted`; when the sums of functions are right: `specs/Known`. The
 //! search of bodies: `specs/Graph`, `specs/Trails`, `specs/Search`, `specs/Loops`, `specs/Shapes`, `specs/CallOrder`; what is made and computed of a body:
-//! `specs/KnownBodies`, `specs/Links`, `specs/Lists`, `specs/Computed`. Walks and sections: `raised_sections`.
+//! `specs/KnownBodies`, `specs/Links`, `specs/Lists`, `specs/Computed`. Stacks that are one position: `is_standing`, `specs/Positions`. Walks and sections:
+//! `raised_sections`.
 #![tactic(auto)]
 
 pub mod bodies;
@@ -21,7 +22,7 @@ mod graph;
 mod items;
 pub mod kinds;
 pub mod levels;
-mod links;
+pub mod links;
 mod longest;
 mod loops;
 pub mod order;
@@ -31,6 +32,7 @@ mod search;
 pub mod sections;
 mod settle;
 mod shape;
+pub mod standing;
 pub mod steady;
 pub mod sum;
 mod summary;

@@ -1,6 +1,7 @@
 //! The ways between the items of a body.
-ghost use Rattle.std.specs.Prelude.{◌≡◌, ℕ, ◌<◌, length, IfOk};
+ghost use Rattle.std.specs.Prelude.{◌≡◌, ℕ, ◌<◌, ◌+◌, length, true, IfOk};
 ghost use Rattle.sloth_base.specs.Named.{item_of};
+ghost use Rattle.code_rules.specs.Code.{is_followed};
 ghost use Rattle.task_verify.specs.Ways.{HasBodyLabel};
 ghost use Rattle.walk_sums.specs.Graph.{ways_of};
 ghost use Rattle.walk_sums.specs.Links.{open_way, goes_past, next_way, label_way, item_ways};
@@ -12,6 +13,14 @@ use sloth_base::memory::NoMemory;
 use std::alloc::Global;
 use task_verify::ways::{falls, way};
 use text_pieces::growth::push;
+
+/// Whether a path goes on to the next item, which is this one.
+pub fn falls_to(op: Op, from: usize, to: usize) -> bool
+    ensures goes { result ≡ true → is_followed op ≡ true }
+    ensures next { result ≡ true → to ≡ from + 1 }
+{
+    falls(op) && 0 < to && to - 1 == from
+}
 
 /// The item, where it is open.
 fn open_way(open_items: &[bool], place: usize) -> Option<usize>

@@ -13,13 +13,13 @@ use Rattle.rv32_machine.proofs.Runs.{stop_none}
 use Rattle.sloth_runner.specs.Runner.{HasRun, run_end, end_of}
 use Rattle.sloth_runner.specs.Moments.{sloth_state}
 use Rattle.sloth_runner.specs.declared.runner.RunEnd.TheVariants as ends
-use Rattle.sloth_runner.specs.declared.samples.Sample.{Sample}
-use Rattle.sloth_runner.specs.declared.samples.Sampler.{Sampler}
-use Rattle.sloth_runner.specs.Samples.{AreSamples, IsSample, IsSampling, sampled_image, sampled_arrivals, sampled_count}
+use Rattle.run_samples.specs.declared.samples.Sample.{Sample}
+use Rattle.run_samples.specs.declared.samples.Sampler.{Sampler}
+use Rattle.run_samples.specs.Samples.{AreSamples, IsSample, IsSampling, sampled_image, sampled_arrivals, sampled_count}
 use Rattle.sloth_runner.specs.TaskStates.{AreMasked, AreLastStates, IsLast}
-use Rattle.sloth_runner.specs.ServiceWords.{words_behind}
+use Rattle.run_samples.specs.ServiceWords.{words_behind}
 use Rattle.sloth_runner.specs.declared.machine_states.Seen.{Seen}
-use Rattle.sloth_runner.proofs.OneSample.{samples-more}
+use Rattle.run_samples.proofs.OneSample.{samples-more}
 use Rattle.sloth_runner.proofs.RunStates.{one-last}
 use Rattle.sloth_inspect.specs.declared.service_words.ServiceWords.{ServiceWords}
 use Rattle.wave_text.specs.declared.dump.Dump.{Dump}

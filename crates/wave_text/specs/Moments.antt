@@ -4,9 +4,9 @@ use Rattle.sloth_base.specs.Limits.{task_limit, counter_limit, alarm_limit}
 use Rattle.sloth_base.specs.declared.event.Arrival.{Arrival}
 use Rattle.sloth_base.specs.declared.image.Image.{Image}
 use Rattle.sloth_inspect.specs.declared.service_words.ServiceWords.{ServiceWords}
-use Rattle.sloth_runner.specs.ServiceWords.{words_behind}
+use Rattle.run_samples.specs.ServiceWords.{words_behind}
 use Rattle.sloth_runner.specs.declared.machine_states.Seen.{Seen}
-use Rattle.sloth_runner.specs.declared.samples.Sample.{Sample}
+use Rattle.run_samples.specs.declared.samples.Sample.{Sample}
 use Rattle.wave_text.specs.declared.moments.Moment.{Moment}
 
 -- words that say 0

@@ -3,8 +3,8 @@ use Rattle.std.specs.Prelude.{ℕ, ◌≡◌, List, ◌++◌, length}
 use Rattle.sloth_base.specs.declared.event.Arrival.{Arrival}
 use Rattle.sloth_base.specs.declared.image.Image.{Image}
 use Rattle.sloth_base.specs.Owners.{owners_named}
-use Rattle.sloth_runner.specs.declared.samples.Sample.{Sample}
-use Rattle.sloth_runner.specs.Samples.{AreSamples}
+use Rattle.run_samples.specs.declared.samples.Sample.{Sample}
+use Rattle.run_samples.specs.Samples.{AreSamples}
 use Rattle.sloth_runner.specs.Runner.{run_end}
 use Rattle.sloth_runner.specs.declared.runner.RunEnd.TheVariants as ends
 use Rattle.wave_text.specs.declared.dump.Dump.{Dump}

@@ -9,11 +9,11 @@ ghost use Rattle.wave_text.specs.Waves.{AreWaves};
 use crate::dump::Dump;
 use crate::header::header;
 use crate::moments::{Moment, no_words, words_behind_look};
+use run_samples::Sampler;
 use sloth_base::event::Arrival;
 use sloth_base::image::Image;
 use sloth_base::lines::Owners;
 use sloth_base::memory::NoMemory;
-use sloth_runner::Sampler;
 use sloth_runner::runner::Halt;
 use std::alloc::Global;
 

@@ -110,7 +110,7 @@ names_more xs i d old new lt order g all =
 
 -- what a loop reads behind the last fault
 abbrev pub no_note : Note
-no_note = record { line = 0; code = code.O1; name = record { ref_ptr = (0, 0); now = [] }; first = None; follows = false }
+no_note = record { line = 0; code = code.O1; name = record { ref_ptr = (0, 0); now = [] }; first = None; follows = false; position = record { object = 0; attribute = 0 } }
 
 pub names_end : (xs : List Note) (i : ℕ) (list : List Note) → i ≡ length xs → NamesAll (take i xs) list → NamesAll xs list
 names_end xs i list e all = subst (λ (ys : List Note). NamesAll ys list) (ap (λ k. take k xs) e ∙ take-length xs) all

@@ -6,22 +6,20 @@
 #![tactic(auto)]
 
 mod among_lines;
-mod attribute_notes;
 mod call_lines;
-mod declared;
+mod earlier;
 mod explaining;
 mod item_lines;
+mod lacking;
 mod meaning;
 mod named_events;
 mod named_faults;
 mod naming;
-mod notes;
 mod numbered;
-mod object_notes;
-mod oil_notes;
+mod oil_names;
 mod pieces;
+mod priorities;
 mod rule_lines;
-mod task_notes;
 mod way_lines;
 pub mod why;
 

@@ -10,7 +10,7 @@ ghost use Rattle.why_text.specs.WhyLines.{LacksTree, TellsMeaning};
 use crate::among_lines::push_told;
 use crate::named_faults::with_names;
 use crate::naming::refusal_name;
-use crate::oil_notes::oil_notes;
+use crate::oil_names::oil_names;
 use oil_lex::tokens;
 use oil_parse::parse;
 use oil_parse::tree::OilTree;
@@ -51,10 +51,10 @@ fn named_text(
 fn tree_text(alloc: Global, tree: &OilTree, refusal: Refusal) -> Result<List<u8>, NoMemory>
     ensures { IfOk result (AreNamedLines Oil (ToldModel tree.now)) }
 {
-    let mut faults = model_notes(alloc, tree)?;
-    let faults = told_list(alloc, &mut faults)?;
-    let mut notes = oil_notes(alloc, tree)?;
-    named_text(alloc, faults.as_slice(), &mut notes, refusal)
+    let mut notes = model_notes(alloc, tree)?;
+    let faults = told_list(alloc, &mut notes)?;
+    let mut named = oil_names(alloc, tree, &notes, refusal)?;
+    named_text(alloc, faults.as_slice(), &mut named, refusal)
 }
 
 /// The lines behind a refusal of O7 to O15.

@@ -1,6 +1,7 @@
 //! The events that a statement names.
 
-use asm_lines::{Mnemonic, Operand, SourceLine};
+use asm_forms::Mnemonic;
+use asm_lines::{Operand, SourceLine};
 use asm_scopes::{Kind, kind_of, written};
 use sloth_base::config::Config;
 use sloth_base::memory::NoMemory;

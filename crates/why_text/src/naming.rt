@@ -8,7 +8,7 @@ ghost use Rattle.why_text.specs.NameLines.{first_lines, HasName, IsNamed, TellsN
 ghost use Rattle.why_text.specs.WhyLines.{TellsForms, TellsNamesFor};
 
 use crate::among_lines::push_told;
-use crate::notes::is_of;
+use crate::oil_names::is_of;
 use crate::pieces::{push_name, push_number_line};
 use asm_lines::{SourceLine, read};
 use asm_scopes::bodies_of;

@@ -3,7 +3,7 @@ use Rattle.std.proofs.Common.{◌∙◌, ap, subst, length, List, arith}
 use Rattle.least_fault.specs.Order.{NoFault, IsLeast}
 use Rattle.asm_lines.specs.declared.source_line.SourceLine.{SourceLine}
 use Rattle.asm_lines.proofs.Counts.{lines_few}
-use Rattle.asm_scopes.specs.NameFaults.{NameFault}
+use Rattle.asm_parse.specs.NameFaults.{NameFault}
 use Rattle.asm_items.specs.Apps.{app_of}
 use Rattle.asm_parse.proofs.Range.{text_in_range}
 use Rattle.asm_parse.proofs.Stages.{earlier_error, later, none}

@@ -1,6 +1,6 @@
 use Rattle.std.proofs.Common.{◌∙◌, None, get_or, sym, subst}
 use Rattle.holds_infer.specs.WayLists.{IsWayList}
-use Rattle.asm_lines.specs.Places.{list_at}
+use Rattle.holds_infer.specs.Places.{list_at}
 use Rattle.holds_infer.proofs.Spreading.{listed}
 use Rattle.holds_infer.proofs.body_ways.held_behind.Goals as goal
 

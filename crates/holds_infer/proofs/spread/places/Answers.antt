@@ -1,6 +1,6 @@
 use Rattle.std.proofs.Common.{◌≡◌, [], length, drop, arith, sym, subst, ap, ◌∙◌}
 use Rattle.std.proofs.lemmas.List.{take_at}
-use Rattle.asm_lines.specs.Places.{PlaceLists}
+use Rattle.holds_infer.specs.Places.{PlaceLists}
 use Rattle.holds_infer.specs.Spread.{IsListVisit, AreSpreading}
 use Rattle.holds_infer.proofs.Spreading.{spread_begun}
 use Rattle.holds_infer.proofs.spread.places.Goals as goal

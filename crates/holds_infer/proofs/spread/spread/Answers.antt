@@ -1,7 +1,7 @@
 use Rattle.std.proofs.Common.{◌≡◌, ℕ, List, length, subst, sym, ap, ◌∙◌, arith}
 use Rattle.std.proofs.lemmas.List.{length-map, length_push}
 use Rattle.std.specs.Prelude.{is_some}
-use Rattle.asm_lines.specs.Places.{list_at}
+use Rattle.holds_infer.specs.Places.{list_at}
 use Rattle.holds_infer.specs.Spread.{marks, list_after, IsListVisit}
 use Rattle.task_verify.proofs.Searches.{next_inside, jump_inside}
 use Rattle.holds_infer.proofs.Spreading.{taken_inside, turned, visits, visit_costs, spread_done}

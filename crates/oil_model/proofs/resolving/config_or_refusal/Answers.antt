@@ -13,7 +13,7 @@ use Rattle.oil_parse.specs.Words.{IsObjectOfWords}
 use Rattle.oil_parse.proofs.Words.{tree_words}
 use Rattle.oil_table.specs.Objects.{names_of}
 use Rattle.oil_model.specs.Configs.{resource_names, config_of}
-use Rattle.oil_alarms.specs.ModelFaults.{ModelFault}
+use Rattle.oil_rules.specs.ModelFaults.{ModelFault}
 use Rattle.oil_model.proofs.NoFaults.{few_tasks, few_counters, few_names, number_of_names}
 use Rattle.oil_model.proofs.Range.{in_range}
 use Rattle.oil_model.proofs.resolving.config_or_refusal.Goals as goal

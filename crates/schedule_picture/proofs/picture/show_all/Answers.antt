@@ -1,8 +1,8 @@
 use Rattle.std.proofs.Common.{◌+◌, ◌≡◌, ◌∙◌, ℕ, sym, subst, arith}
-use Rattle.sloth_runner.specs.Samples.{sampled_image, sampled_arrivals, sampled_count}
-use Rattle.sloth_runner.specs.Addresses.{address_behind}
-use Rattle.sloth_runner.specs.ServiceWords.{words_behind}
-use Rattle.sloth_runner.specs.declared.samples.Sampler.{Sampler}
+use Rattle.run_samples.specs.Samples.{sampled_image, sampled_arrivals, sampled_count}
+use Rattle.run_samples.specs.Addresses.{address_behind}
+use Rattle.run_samples.specs.ServiceWords.{words_behind}
+use Rattle.run_samples.specs.declared.samples.Sampler.{Sampler}
 use Rattle.schedule_picture.specs.Samples.{HasBars}
 use Rattle.schedule_picture.proofs.Sampling.{shown_none, shown_more, shown_all}
 use Rattle.schedule_picture.proofs.Shown.{HasShown}

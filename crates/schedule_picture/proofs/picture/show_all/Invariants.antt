@@ -1,4 +1,4 @@
-use Rattle.sloth_runner.specs.Samples.{sampled_image, sampled_arrivals}
+use Rattle.run_samples.specs.Samples.{sampled_image, sampled_arrivals}
 use Rattle.schedule_picture.proofs.Shown.{HasShown}
 use Rattle.schedule_picture.proofs.picture.show_all.Given as goal
 

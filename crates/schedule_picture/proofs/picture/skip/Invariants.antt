@@ -1,4 +1,4 @@
-use Rattle.sloth_runner.specs.Samples.{sampled_image, sampled_arrivals}
+use Rattle.run_samples.specs.Samples.{sampled_image, sampled_arrivals}
 use Rattle.schedule_picture.specs.Samples.{HasGivenFirst}
 use Rattle.schedule_picture.proofs.picture.skip.Given as goal
 

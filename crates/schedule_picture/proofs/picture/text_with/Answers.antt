@@ -1,5 +1,5 @@
 use Rattle.std.proofs.Common.{◌≡◌, ◌+◌, ◌∙◌, ℕ, All, List, length, get_or, sym, ap, subst}
-use Rattle.sloth_runner.specs.declared.admissions.Admission.{Admission}
+use Rattle.run_samples.specs.declared.admissions.Admission.{Admission}
 use Rattle.lane_drawing.specs.declared.scale.Scale.{Scale}
 use Rattle.schedule_picture.specs.declared.marks.Mark.{Mark}
 use Rattle.lane_drawing.specs.Bars.{IsBarInside}

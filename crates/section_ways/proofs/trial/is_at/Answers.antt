@@ -1,6 +1,6 @@
 use Rattle.std.proofs.Common.{List, ◌∙◌, sym, subst}
 use Rattle.std.proofs.lemmas.Result.{IfOk-weaker}
-use Rattle.section_ways.specs.declared.steps.Standing.{Standing}
+use Rattle.walk_sums.specs.declared.standing.Standing.{Standing}
 use Rattle.section_ways.specs.Standings.{IsRaisedAt}
 use Rattle.section_ways.proofs.Advances.{told_parts}
 use Rattle.section_ways.proofs.trial.is_at.Goals as goal

@@ -1,7 +1,7 @@
 use Rattle.std.proofs.Common.{List, get_or, sym, subst}
 use Rattle.std.proofs.lemmas.Result.{IfOk-weaker}
-use Rattle.section_ways.specs.declared.steps.Standing.{Standing}
-use Rattle.section_ways.specs.SectionWays.{no_point}
+use Rattle.walk_sums.specs.declared.standing.Standing.{Standing}
+use Rattle.walk_sums.specs.Positions.{no_point}
 use Rattle.section_ways.specs.Standings.{AreTold, IsRaisedAt, IsStretch}
 use Rattle.section_ways.proofs.trial.is_section.Goals as goal
 

@@ -1,5 +1,5 @@
 use Rattle.std.proofs.Common.{List, ◌∷◌, ◌++◌, [], ◌∙◌, ap, sym, subst}
-use Rattle.section_ways.specs.declared.steps.Standing.{Standing}
+use Rattle.walk_sums.specs.declared.standing.Standing.{Standing}
 use Rattle.section_ways.specs.Standings.{IsStart}
 use Rattle.section_ways.proofs.Advances.{begun}
 use Rattle.section_ways.proofs.trial.stack_of.Goals as goal

@@ -1,6 +1,6 @@
 use Rattle.std.proofs.Common.{List, ap, sym, ◌∙◌}
-use Rattle.section_ways.specs.declared.steps.Standing.{Standing}
-use Rattle.section_ways.specs.Standings.{position_of}
+use Rattle.walk_sums.specs.declared.standing.Standing.{Standing}
+use Rattle.walk_sums.specs.Positions.{position_of}
 use Rattle.section_ways.proofs.Closing.{closed}
 use Rattle.section_ways.proofs.tried.is_closed_from.Goals as goal
 

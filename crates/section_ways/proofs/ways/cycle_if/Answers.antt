@@ -1,5 +1,5 @@
 use Rattle.std.proofs.Common.{List, subst}
-use Rattle.section_ways.specs.declared.points.Point.{Point}
+use Rattle.walk_sums.specs.declared.standing.Point.{Point}
 use Rattle.section_ways.specs.Standings.{IsClosedWay}
 use Rattle.section_ways.proofs.Closing.{cycle_of}
 use Rattle.section_ways.proofs.ways.cycle_if.Goals as goal

@@ -1,5 +1,5 @@
 use Rattle.std.proofs.Common.{List, length, ap, sym, subst, ◌∙◌}
-use Rattle.section_ways.specs.declared.points.Point.{Point}
+use Rattle.walk_sums.specs.declared.standing.Point.{Point}
 use Rattle.section_ways.specs.SectionWays.{IsSectionWay}
 use Rattle.section_ways.proofs.ways.section_if.Goals as goal
 

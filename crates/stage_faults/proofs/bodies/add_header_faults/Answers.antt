@@ -6,7 +6,7 @@ use Rattle.sloth_base.specs.declared.refusal.Code.TheVariants.{A5, A6, A7}
 use Rattle.sloth_base.specs.declared.refusal.Part.TheVariants.{Src}
 use Rattle.asm_lines.specs.Faults.{SourceCase}
 use Rattle.asm_scopes.specs.Statements.{name_of}
-use Rattle.asm_scopes.specs.NameFaults.{is_strange}
+use Rattle.asm_parse.specs.NameFaults.{is_strange}
 use Rattle.stage_faults.specs.ToldNames.{is_header_beyond}
 use Rattle.stage_faults.proofs.Telling.{case_is, adds_both}
 use Rattle.stage_faults.proofs.bodies.add_header_faults.Goals as goal

@@ -6,9 +6,9 @@ use Rattle.asm_lines.specs.declared.source_line.SourceLine.{SourceLine}
 use Rattle.least_fault.specs.Search.{Somewhere}
 use Rattle.asm_scopes.specs.Statements.{is_item, label_names}
 use Rattle.asm_scopes.specs.Bodies.{BodyText, body_name, function_names}
-use Rattle.asm_scopes.specs.NameFaults.{items_in}
+use Rattle.asm_parse.specs.NameFaults.{items_in}
 use Rattle.stage_faults.specs.ToldNames.{ToldHeader, ToldLineName, ToldBody}
-use Rattle.asm_scopes.proofs.Fronts.{sum_more, take_map}
+use Rattle.asm_parse.proofs.Fronts.{sum_more, take_map}
 use Rattle.stage_faults.specs.Told.{Adds}
 use Rattle.stage_faults.proofs.Telling.{adds_nowhere, adds_more, adds_end}
 use Rattle.stage_faults.proofs.bodies.body_notes.Goals as goal

@@ -5,7 +5,7 @@ use Rattle.std.proofs.lemmas.List.{length-take-le}
 use Rattle.sloth_base.specs.declared.refusal.Part.TheVariants.{Src}
 use Rattle.asm_scopes.specs.Statements.{is_label, is_item, name_of, label_names}
 use Rattle.stage_faults.specs.ToldNames.{ToldBodyLine, ToldLineName}
-use Rattle.asm_scopes.proofs.Fronts.{count_more, kept_front}
+use Rattle.asm_parse.proofs.Fronts.{count_more, kept_front}
 use Rattle.stage_faults.specs.Told.{Adds}
 use Rattle.stage_faults.proofs.Telling.{adds_nowhere, adds_more, adds_end}
 use Rattle.stage_faults.proofs.bodies.line_faults.Goals as goal

@@ -8,7 +8,7 @@ use Rattle.asm_lines.specs.Faults.{SourceCase}
 use Rattle.asm_scopes.specs.declared.scope.Scope.{Scope}
 use Rattle.asm_scopes.specs.Bodies.{BodyText, bodies_of}
 use Rattle.asm_scopes.specs.Scopes.{scope_of}
-use Rattle.asm_scopes.specs.NameFaults.{is_body_missing}
+use Rattle.asm_parse.specs.NameFaults.{is_body_missing}
 use Rattle.stage_faults.specs.ToldNames.{ToldData, ToldBody, ToldName}
 use Rattle.asm_scopes.proofs.Short.{few_bodies, short_bodies, EndsBefore}
 use Rattle.stage_faults.specs.Told.{Adds}

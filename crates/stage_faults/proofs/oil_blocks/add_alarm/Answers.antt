@@ -3,7 +3,7 @@ use Rattle.std.specs.Prelude.{codes}
 use Rattle.std.proofs.lemmas.Result.{on_ok_weaker}
 use Rattle.sloth_base.specs.declared.refusal.Part.TheVariants.{Oil}
 use Rattle.oil_table.specs.Objects.{is_of_kind}
-use Rattle.oil_alarms.specs.AlarmFaults.{PartFault}
+use Rattle.oil_rules.specs.AlarmFaults.{PartFault}
 use Rattle.stage_faults.proofs.Guarded.{adds_guarded, adds_unguarded}
 use Rattle.stage_faults.proofs.oil_blocks.add_alarm.Goals as goal
 

@@ -1,14 +1,17 @@
-use Rattle.std.proofs.Common.{◌∙◌, ap, subst}
+use Rattle.std.proofs.Common.{◌∙◌, ap, subst, sym}
 use Rattle.std.proofs.lemmas.Result.{on_ok_weaker}
 use Rattle.sloth_base.specs.declared.refusal.Part.TheVariants.{Oil}
 use Rattle.least_fault.specs.Search.{Somewhere}
 use Rattle.oil_table.specs.declared.table.Place.{Place}
 use Rattle.oil_table.specs.declared.table.Place.TheVariants as place
 use Rattle.oil_table.specs.Table.{block_place}
-use Rattle.oil_alarms.specs.Indexes.{ActionBlock}
-use Rattle.oil_alarms.specs.AlarmFaults.{InsideFault}
+use Rattle.oil_rules.specs.Blocks.{ActionBlock}
+use Rattle.oil_rules.specs.AlarmFaults.{InsideFault}
 use Rattle.stage_faults.specs.Told.{Adds}
 use Rattle.stage_faults.proofs.oil_blocks.add_block.Goals as goal
+
+pub add_inner_faults-requires : goal.add_inner_faults-requires
+add_inner_faults-requires c = sym (ap (λ (k : ActionBlock). k.inner) c.new.ensures)
 
 pub returns : goal.returns
 returns c =
@@ -22,5 +25,5 @@ returns c =
     (λ told.
     subst (λ (p : Place). Adds Oil (Somewhere (InsideFault objects limits p inner) inner) a b) (c.block_place-place.ensures ∙ ap (block_place place.Alarm) c.head.ensures)
     (subst (λ (k : ActionBlock). Adds Oil (Somewhere (InsideFault k.objects limits c.block_place-place.result k.inner) k.inner) a b)
-    (c.new.ensures ∙ ap (λ xs. let k : ActionBlock = record { objects = objects; inner = xs } in k) c.inner.ensures) told))
+    (c.new.ensures ∙ ap (λ xs. let k : ActionBlock = record { objects = objects; inner = xs } in k) c.inner-inner.ensures) told))
     c.add_inner_faults.ensures

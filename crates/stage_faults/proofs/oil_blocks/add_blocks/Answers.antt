@@ -1,6 +1,6 @@
 use Rattle.std.proofs.Common.{◌≡◌, length, arith}
 use Rattle.sloth_base.specs.declared.refusal.Part.TheVariants.{Oil}
-use Rattle.oil_alarms.specs.AlarmFaults.{BlockFault}
+use Rattle.oil_rules.specs.AlarmFaults.{BlockFault}
 use Rattle.stage_faults.proofs.Telling.{adds_nowhere, adds_more, adds_end}
 use Rattle.stage_faults.proofs.oil_blocks.add_blocks.Goals as goal
 

@@ -4,9 +4,9 @@ use Rattle.sloth_base.specs.declared.refusal.Part.TheVariants.{Oil}
 use Rattle.least_fault.specs.Search.{Somewhere}
 use Rattle.oil_parse.specs.declared.tree.OilObject.{OilObject}
 use Rattle.oil_table.specs.declared.alarm_limits.Limits.{Limits}
-use Rattle.oil_alarms.specs.Blocks.{BlockText, blocks_of}
-use Rattle.oil_alarms.specs.Limits.{limits_of}
-use Rattle.oil_alarms.specs.AlarmFaults.{BlockFault}
+use Rattle.oil_rules.specs.Blocks.{BlockText, blocks_of}
+use Rattle.oil_table.specs.AlarmCounters.{limits_of}
+use Rattle.oil_rules.specs.AlarmFaults.{BlockFault}
 use Rattle.stage_faults.specs.Told.{Adds}
 use Rattle.stage_faults.proofs.oil_blocks.add_in_blocks.Goals as goal
 

@@ -2,7 +2,7 @@ use Rattle.std.proofs.Common.{◌≡◌, ◌∙◌, List, subst, length, arith}
 use Rattle.sloth_base.specs.declared.refusal.Part.TheVariants.{Oil}
 use Rattle.least_fault.specs.Search.{Somewhere}
 use Rattle.oil_parse.specs.declared.tree.OilAttr.{OilAttr}
-use Rattle.oil_alarms.specs.AlarmFaults.{InsideFault}
+use Rattle.oil_rules.specs.AlarmFaults.{InsideFault}
 use Rattle.stage_faults.specs.Told.{Adds}
 use Rattle.stage_faults.proofs.Telling.{adds_nowhere, adds_more, adds_end}
 use Rattle.stage_faults.proofs.oil_blocks.add_inner_faults.Goals as goal
@@ -12,13 +12,13 @@ loop-number-init c = record {
   told = adds_nowhere Oil (InsideFault c.args.block.now.objects c.args.limits c.args.place c.args.block.now.inner) c.args.notes.now.items;
   depth = c.new-before.ensures.depth;
   behind = c.new-before.ensures.attrs;
-  own = c.inner-attrs.ensures;
+  own = c.requires;
 }
 
 pub loop-number-preserved : goal.loop-number-preserved
 loop-number-preserved c =
     let block = c.args.block.now in
-    let attrs = c.inner-attrs.result.now in
+    let attrs = c.args.attrs.now in
     let P = InsideFault block.objects c.args.limits c.args.place block.inner in
     let x = c.index-attrs-number.result in
     let i = c.loop-number.number in
@@ -36,7 +36,7 @@ loop-number-preserved c =
 pub returns : goal.returns
 returns c =
     let block = c.args.block.now in
-    let attrs = c.inner-attrs.result.now in
+    let attrs = c.args.attrs.now in
     let P = InsideFault block.objects c.args.limits c.args.place block.inner in
     let k = c.loop-number.invariant in
     let e : c.loop-number.number ≡ length attrs = omega arith in

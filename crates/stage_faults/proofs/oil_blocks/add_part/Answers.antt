@@ -4,9 +4,9 @@ use Rattle.sloth_base.specs.declared.refusal.Code.TheVariants.{O11}
 use Rattle.sloth_base.specs.declared.refusal.Part.TheVariants.{Oil}
 use Rattle.least_fault.specs.Search.{Somewhere}
 use Rattle.oil_table.specs.Cases.{OilCase}
-use Rattle.oil_alarms.specs.Blocks.{blocks_of}
-use Rattle.oil_alarms.specs.Limits.{limits_of}
-use Rattle.oil_alarms.specs.AlarmFaults.{lacks_part, BlockFault}
+use Rattle.oil_rules.specs.Blocks.{blocks_of}
+use Rattle.oil_table.specs.AlarmCounters.{limits_of}
+use Rattle.oil_rules.specs.AlarmFaults.{lacks_part, BlockFault}
 use Rattle.stage_faults.proofs.Telling.{case_is, adds_both}
 use Rattle.stage_faults.proofs.oil_blocks.add_part.Goals as goal
 

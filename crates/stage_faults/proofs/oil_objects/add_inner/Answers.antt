@@ -8,7 +8,7 @@ use Rattle.oil_table.specs.declared.alarm_limits.Limits.{Limits}
 use Rattle.oil_table.specs.declared.table.Place.{Place}
 use Rattle.oil_table.specs.Table.{place_of}
 use Rattle.oil_rules.specs.TreeFaults.{TaskFaults}
-use Rattle.oil_alarms.specs.Limits.{limits_of}
+use Rattle.oil_table.specs.AlarmCounters.{limits_of}
 use Rattle.stage_faults.specs.Told.{Adds}
 use Rattle.stage_faults.specs.ToldModel.{ToldKnown, ToldAttribute}
 use Rattle.stage_faults.proofs.Telling.{adds_both}

@@ -10,6 +10,6 @@ pub returns : goal.returns
 returns c =
     let o = c.args.object.now in
     let a = c.args.notes.now.items in
-    let b = c.add_if.new.notes.items in
-    let e = c.is_nowhere-is_strange.ensures ∙ ap is_nowhere (c.place_of.ensures ∙ ap place_of c.bytes.ensures) in
-    on_ok_weaker c.add_if.result (λ told. case_is Oil (is_nowhere (place_of o.kind)) c.is_nowhere-is_strange.result o.line O7 a b e (told Oil)) c.add_if.ensures
+    let b = c.add_named.new.notes.items in
+    let e = c.is_nowhere-is_strange.ensures ∙ ap is_nowhere (c.place_of.ensures ∙ ap place_of c.bytes-kind.ensures) in
+    on_ok_weaker c.add_named.result (λ told. case_is Oil (is_nowhere (place_of o.kind)) c.is_nowhere-is_strange.result o.line O7 a b e (told Oil)) c.add_named.ensures

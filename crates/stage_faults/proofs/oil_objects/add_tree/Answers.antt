@@ -1,4 +1,4 @@
-use Rattle.std.proofs.Common.{◌∙◌, ◌⊎◌, Bool, ap, subst, not, List}
+use Rattle.std.proofs.Common.{◌∙◌, Bool, ap, subst, not, List}
 use Rattle.std.proofs.lemmas.Result.{on_ok_weaker}
 use Rattle.sloth_base.specs.declared.config.EventDecl.{EventDecl}
 use Rattle.sloth_base.specs.declared.refusal.Code.TheVariants.{O11}
@@ -11,7 +11,7 @@ use Rattle.oil_table.specs.Events.{events_of, BitFault}
 use Rattle.oil_rules.specs.TreeFaults.{lacks_os}
 use Rattle.stage_faults.specs.Told.{Adds}
 use Rattle.stage_faults.specs.ToldModel.{ToldObject}
-use Rattle.stage_faults.proofs.Telling.{case_is, adds_both}
+use Rattle.stage_faults.proofs.Telling.{case_is, adds_turned}
 use Rattle.stage_faults.proofs.oil_objects.add_tree.Goals as goal
 
 pub returns : goal.returns
@@ -20,17 +20,17 @@ returns c =
     let objects = tree.objects in
     let own = c.items-objects.ensures in
     let a = c.args.notes.now.items in
-    let b = c.add_objects.new.notes.items in
-    let d = c.add_events.new.notes.items in
-    let e = c.add_if.new.notes.items in
-    let of_objects = subst (λ (x : List EventDecl). Adds Oil (Somewhere (ToldObject objects (has_scheduler objects) x) objects) a b) c.requires.events
-    (subst (λ (t : Bool). Adds Oil (Somewhere (ToldObject objects t c.args.events.now) objects) a b) c.requires.scheduler
-    (subst (λ (x : List OilObject). Adds Oil (Somewhere (ToldObject x c.args.scheduler c.args.events.now) objects) a b) c.requires.objects
-    (subst (λ (x : List OilObject). Adds Oil (Somewhere (ToldObject c.args.table.now c.args.scheduler c.args.events.now) x) a b) own c.in_ok-add_objects.ensures))) in
-    let bits = subst (λ (x : List OilObject). Adds Oil (Somewhere (BitFault x) x) b d) own c.in_ok-add_events.ensures in
+    let b = c.add_events.new.notes.items in
+    let d = c.add_objects.new.notes.items in
+    let e = c.add_named.new.notes.items in
+    let Objects = Somewhere (ToldObject objects (has_scheduler objects) (events_of objects)) objects in
+    let Bits = Somewhere (BitFault objects) objects in
+    let bits = subst (λ (x : List OilObject). Adds Oil (Somewhere (BitFault x) x) a b) own c.in_ok-add_events.ensures in
+    let of_objects = subst (λ (x : List EventDecl). Adds Oil (Somewhere (ToldObject objects (has_scheduler objects) x) objects) b d) c.requires.events
+    (subst (λ (t : Bool). Adds Oil (Somewhere (ToldObject objects t c.args.events.now) objects) b d) c.requires.scheduler
+    (subst (λ (x : List OilObject). Adds Oil (Somewhere (ToldObject x c.args.scheduler c.args.events.now) objects) b d) c.requires.objects
+    (subst (λ (x : List OilObject). Adds Oil (Somewhere (ToldObject c.args.table.now c.args.scheduler c.args.events.now) x) b d) own c.in_ok-add_objects.ensures))) in
     let without = ap not c.has_os.ensures ∙ ap lacks_os c.requires.objects in
-    on_ok_weaker c.add_if.result
-    (λ told.
-    adds_both Oil (Somewhere (ToldObject objects (has_scheduler objects) (events_of objects)) objects) (λ r. Somewhere (BitFault objects) objects r ⊎ OilCase (lacks_os objects) tree.cpu_line O11 r) a b e of_objects
-    (adds_both Oil (Somewhere (BitFault objects) objects) (OilCase (lacks_os objects) tree.cpu_line O11) b d e bits (case_is Oil (lacks_os objects) (not c.has_os.result) tree.cpu_line O11 d e without (told Oil))))
-    c.add_if.ensures
+    on_ok_weaker c.add_named.result
+    (λ told. adds_turned Oil Bits Objects (OilCase (lacks_os objects) tree.cpu_line O11) a b d e bits of_objects (case_is Oil (lacks_os objects) (not c.has_os.result) tree.cpu_line O11 d e without (told Oil)))
+    c.add_named.ensures

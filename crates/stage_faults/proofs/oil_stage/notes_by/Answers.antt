@@ -2,7 +2,7 @@ use Rattle.std.proofs.Common.{◌≡◌, ◌∙◌, List, sym, subst}
 use Rattle.sloth_base.specs.declared.refusal.Part.TheVariants.{Oil}
 use Rattle.least_fault.specs.Search.{Somewhere}
 use Rattle.oil_parse.specs.declared.tree.OilObject.{OilObject}
-use Rattle.oil_alarms.specs.AlarmFaults.{AlarmFault}
+use Rattle.oil_rules.specs.AlarmFaults.{AlarmFault}
 use Rattle.stage_faults.specs.Told.{Adds}
 use Rattle.stage_faults.specs.ToldModel.{ToldTree, ToldModel}
 use Rattle.stage_faults.proofs.Telling.{adds_both, all_made}

@@ -16,9 +16,9 @@ loop-object-preserved c =
     let k = c.loop-object.invariant in
     let i = c.loop-object.object-index in
     let a = c.loop-object.notes.items in
-    let b = c.add_if.new.notes.items in
+    let b = c.add_named.new.notes.items in
     let lacks = lacks_bit (taken_bits_before objects (take i objects)) x in
-    let found = case_is Oil lacks c.lacks_bit.result x.line O15 a b (c.lacks_bit.ensures ∙ ap (λ n. lacks_bit n x) k.taken) (c.in_ok-add_if.ensures Oil) in
+    let found = case_is Oil lacks c.lacks_bit-lacks.result x.line O15 a b (c.lacks_bit-lacks.ensures ∙ ap (λ n. lacks_bit n x) k.taken) (c.in_ok-add_named.ensures Oil) in
     record {
       told = adds_more Oil (BitFault objects) objects i x c.args.notes.now.items a b c.loop-object-test.true c.object-item.is k.told found;
       taken = c.taken_more-taken.ensures ∙ ap (λ n. taken_more n x) k.taken ∙ ap (taken_more (taken_bits_before objects (take i objects))) c.object-item.is

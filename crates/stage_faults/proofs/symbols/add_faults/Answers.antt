@@ -3,7 +3,7 @@ use Rattle.std.proofs.lemmas.Result.{on_ok_weaker}
 use Rattle.sloth_base.specs.declared.refusal.Code.TheVariants.{A5, A6}
 use Rattle.sloth_base.specs.declared.refusal.Part.TheVariants.{Src}
 use Rattle.asm_lines.specs.Faults.{SourceCase}
-use Rattle.asm_scopes.specs.NameFaults.{is_taken}
+use Rattle.asm_parse.specs.NameFaults.{is_taken}
 use Rattle.stage_faults.specs.ToldNames.{is_symbol_beyond}
 use Rattle.stage_faults.proofs.Telling.{case_is, adds_both}
 use Rattle.stage_faults.proofs.symbols.add_faults.Goals as goal

@@ -4,9 +4,9 @@ use Rattle.std.specs.List.{sum_by}
 use Rattle.std.proofs.lemmas.List.{length-take-le}
 use Rattle.sloth_base.specs.declared.refusal.Part.TheVariants.{Src}
 use Rattle.asm_scopes.specs.Statements.{is_data, name_of, symbol_names}
-use Rattle.asm_scopes.specs.NameFaults.{bytes_of}
+use Rattle.asm_parse.specs.NameFaults.{bytes_of}
 use Rattle.stage_faults.specs.ToldNames.{ToldSymbol, ToldData}
-use Rattle.asm_scopes.proofs.Fronts.{sum_more, count_more, kept_front}
+use Rattle.asm_parse.proofs.Fronts.{sum_more, count_more, kept_front}
 use Rattle.stage_faults.specs.Told.{Adds}
 use Rattle.stage_faults.proofs.Telling.{adds_nowhere, adds_more, adds_end}
 use Rattle.stage_faults.proofs.symbols.symbol_notes.Goals as goal

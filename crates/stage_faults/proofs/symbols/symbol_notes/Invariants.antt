@@ -4,7 +4,7 @@ use Rattle.sloth_base.specs.Limits.{operand_limit}
 use Rattle.sloth_base.specs.declared.refusal.Part.TheVariants.{Src}
 use Rattle.least_fault.specs.Search.{Somewhere}
 use Rattle.asm_scopes.specs.Statements.{is_data}
-use Rattle.asm_scopes.specs.NameFaults.{bytes_of}
+use Rattle.asm_parse.specs.NameFaults.{bytes_of}
 use Rattle.stage_faults.specs.ToldNames.{ToldData}
 use Rattle.stage_faults.specs.Told.{Adds}
 use Rattle.stage_faults.proofs.symbols.symbol_notes.Given as goal

@@ -1,6 +1,6 @@
 use Rattle.std.proofs.Common.{◌≡◌, ◌∙◌, ap, subst}
-use Rattle.sloth_runner.specs.ServiceWords.{AreWordsRead, words_behind}
-use Rattle.sloth_runner.specs.declared.service_words.WordsRead.{WordsRead}
+use Rattle.run_samples.specs.ServiceWords.{AreWordsRead, words_behind}
+use Rattle.run_samples.specs.declared.service_words.WordsRead.{WordsRead}
 use Rattle.tool_commands.proofs.AtAllAnswers.{seen_is_answer}
 use Rattle.tool_commands.proofs.at_all_command.seen_answer.Goals as goal
 

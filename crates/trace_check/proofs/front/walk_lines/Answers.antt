@@ -1,7 +1,7 @@
 use Rattle.std.proofs.Common.{ℕ, ◌+◌, ◌++◌, ◌∷◌, [], List, refl, sym, subst, arith, length-append}
-use Rattle.walked_events.proofs.ReadEvents.{HasRead}
-use Rattle.walked_events.proofs.TraceText.{reads_more, reads_nothing}
-use Rattle.walked_events.proofs.Walking.{walked_more}
+use Rattle.trace_check.proofs.ReadEvents.{HasRead}
+use Rattle.trace_check.proofs.TraceText.{reads_more, reads_nothing}
+use Rattle.trace_check.proofs.Walking.{walked_more}
 use Rattle.trace_check.proofs.Fronts.{leads_on}
 use Rattle.trace_check.proofs.front.walk_lines.Goals as goal
 

@@ -1,7 +1,7 @@
 use Rattle.std.proofs.Common.{◌∙◌, ◌++◌, ◌∷◌, [], List, ℕ, length, sym, ap, subst, arith}
 use Rattle.sloth_base.specs.declared.event.Stamped.{Stamped}
-use Rattle.walked_events.proofs.ReadEvents.{HasRead}
-use Rattle.walked_events.proofs.TraceText.{reads_more, reads_nothing, reads_shorter}
+use Rattle.trace_check.proofs.ReadEvents.{HasRead}
+use Rattle.trace_check.proofs.TraceText.{reads_more, reads_nothing, reads_shorter}
 use Rattle.trace_check.proofs.ReadBack.{all_shown, none_bad}
 use Rattle.trace_check.proofs.late.read_events.Goals as goal
 

@@ -1,5 +1,5 @@
 use Rattle.std.proofs.Common.{length}
-use Rattle.walked_events.proofs.ReadEvents.{HasRead}
+use Rattle.trace_check.proofs.ReadEvents.{HasRead}
 use Rattle.trace_check.proofs.late.read_events.Given as goal
 
 abbrev pub invariant-loop-rest : goal.invariant-loop-rest

@@ -1,7 +1,7 @@
 use Rattle.std.proofs.Common.{◌∙◌, ◌++◌, List, [], ℕ, false, get_or, ap}
 use Rattle.std.proofs.lemmas.List.{get_or_read}
 use Rattle.osek_scheduler.specs.declared.state.TaskState.{TaskState}
-use Rattle.system_text.specs.SystemText.{state_line}
+use Rattle.run_samples.specs.SystemText.{state_line}
 use Rattle.trace_check.proofs.Below.{states_begin, states_go_on}
 use Rattle.trace_check.proofs.lines.push_states.Goals as goal
 

@@ -1,7 +1,7 @@
 use Rattle.std.proofs.Common.{◌∙◌, ℕ, ◌+◌, ◌++◌, ◌∷◌, [], List, true, false, refl, sym, ap, subst, arith, length, length-append}
 use Rattle.std.proofs.lemmas.Bool.{false≢true}
-use Rattle.walked_events.proofs.ReadEvents.{HasRead}
-use Rattle.walked_events.proofs.TraceText.{reads_more, reads_nothing, reads_shorter}
+use Rattle.trace_check.proofs.ReadEvents.{HasRead}
+use Rattle.trace_check.proofs.TraceText.{reads_more, reads_nothing, reads_shorter}
 use Rattle.trace_check.proofs.Judging.{all_read, bad_line, few_names, in_time_at, lines_small, none_strays, shows_all, stray_at}
 use Rattle.trace_check.proofs.verdict.judge_lines.Goals as goal
 

@@ -3,8 +3,8 @@ use Rattle.sloth_base.specs.declared.app.App.{App}
 use Rattle.sloth_base.specs.declared.config.Config.{Config}
 use Rattle.sloth_base.specs.declared.event.Stamped.{Stamped}
 use Rattle.trace_check.specs.Timed.{TimedBy}
-use Rattle.walked_events.proofs.ReadEvents.{HasRead}
-use Rattle.walked_events.specs.Walk.{IsWalked, IsWalkOrStray}
+use Rattle.trace_check.proofs.ReadEvents.{HasRead}
+use Rattle.trace_check.specs.Walk.{IsWalked, IsWalkOrStray}
 use Rattle.trace_check.proofs.verdict.judge_lines.Given as goal
 
 abbrev pub invariant-loop-rest : goal.invariant-loop-rest

@@ -1,6 +1,6 @@
 use Rattle.std.proofs.Common.{List, ℕ, subst}
 use Rattle.std.specs.Prelude.{IfSome, IfNone}
-use Rattle.walked_events.specs.TraceText.{HasFirstLine, HasNoFirstLine}
+use Rattle.trace_check.specs.TraceText.{HasFirstLine, HasNoFirstLine}
 use Rattle.trace_check.proofs.verdict.next_event.Goals as goal
 
 pub returns-clause-some : goal.returns-clause-some

@@ -1,7 +1,7 @@
 use Rattle.std.proofs.Common.{ℕ, ap, ◌∙◌}
 use Rattle.sloth_base.specs.declared.app.Item.{Item}
 use Rattle.walk_sums.specs.Counted.{one_if, is_going_counted}
-use Rattle.walk_sums.proofs.Mapping.{mapped_more, mapped_all}
+use Rattle.sloth_base.proofs.Mapping.{mapped_more, mapped_all}
 use Rattle.walk_sums.proofs.counted.going.Goals as goal
 
 pub loop-item-preserved : goal.loop-item-preserved

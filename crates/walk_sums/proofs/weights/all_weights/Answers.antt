@@ -2,7 +2,7 @@ use Rattle.std.proofs.Common.{ap, ◌∙◌}
 use Rattle.sloth_base.specs.declared.app.Func.{Func}
 use Rattle.bound_rules.specs.declared.weights.BodyWeights.{BodyWeights}
 use Rattle.walk_sums.specs.Weights.{body_weights}
-use Rattle.walk_sums.proofs.Mapping.{mapped_more, mapped_all}
+use Rattle.sloth_base.proofs.Mapping.{mapped_more, mapped_all}
 use Rattle.walk_sums.proofs.weights.all_weights.Goals as goal
 
 pub loop-func-preserved : goal.loop-func-preserved

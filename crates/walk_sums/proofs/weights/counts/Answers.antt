@@ -1,7 +1,7 @@
 use Rattle.std.proofs.Common.{ℕ, ap, ◌∙◌}
 use Rattle.sloth_base.specs.declared.app.Item.{Item}
 use Rattle.walk_sums.specs.Weights.{item_weight}
-use Rattle.walk_sums.proofs.Mapping.{mapped_more, mapped_all}
+use Rattle.sloth_base.proofs.Mapping.{mapped_more, mapped_all}
 use Rattle.walk_sums.proofs.weights.counts.Goals as goal
 
 pub loop-item-preserved : goal.loop-item-preserved

@@ -10,8 +10,8 @@ use Rattle.why_text.proofs.meaning.tree_text.Goals as goal
 pub returns : goal.returns
 returns c =
     let F = ToldModel c.args.tree.now in
-    let notes = c.in_ok-faults.faults.items in
+    let notes = c.in_ok-notes.notes.items in
     let told = c.as_slice.result.now in
-    let same = subst (TellSame notes) (sym c.as_slice.ensures.value) c.in_ok-faults-2.ensures.same in
+    let same = subst (TellSame notes) (sym c.as_slice.ensures.value) c.in_ok-faults.ensures.same in
     IfOk-weaker c.named_text.result (λ lines. TellsNamed told lines) (AreNamedLines Oil F)
-    (λ lines t. named_lines_of Oil F notes told lines c.in_ok-faults.ensures same t) c.named_text.ensures
+    (λ lines t. named_lines_of Oil F notes told lines c.in_ok-notes.ensures same t) c.named_text.ensures

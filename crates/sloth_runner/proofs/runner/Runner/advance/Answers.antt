@@ -3,7 +3,7 @@ use Rattle.sloth_base.specs.Machine.{State}
 use Rattle.sloth_base.specs.Take.{execution_state}
 use Rattle.sloth_base.specs.declared.event.Stamped.{Stamped}
 use Rattle.sloth_base.specs.declared.step.Step.{Step}
-use Rattle.observe.specs.Progress.{Fed, view_of, arrivals_of, expected_count}
+use Rattle.observe.specs.Progress.{HasProgress, view_of, arrivals_of, expected_count}
 use Rattle.observe.specs.declared.observing.Observer.{Observer}
 use Rattle.rv32_machine.specs.Advance.{Goes, Halts, step_of}
 use Rattle.sloth_runner.specs.Runner.{HasExecuted, image_of}
@@ -20,7 +20,7 @@ returns-in-Ok-clause-went c =
     let q = c.tell.new.self in
     let step : Step = step_of c.in-Ok.front (sloth_state m) in
     let observer : a.observer ≡ r.observer = c.arrive_now.ensures.observer in
-    let F : Observer → Type 0 = λ o. (steps : List Step) (events : List Stamped) → Fed o steps events → Fed q.observer (steps ++ step ∷ []) events in
+    let F : Observer → Type 0 = λ o. (steps : List Step) (events : List Stamped) → HasProgress o steps events → HasProgress q.observer (steps ++ step ∷ []) events in
     let executed : HasExecuted a q step = record {
       goes = c.in-Ok.ensures.ok ∙ ap (λ (s : State). Goes step s) (sym c.tell.ensures.state);
       shown = c.in-Ok.ensures.shown;

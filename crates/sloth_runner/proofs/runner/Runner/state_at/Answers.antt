@@ -33,39 +33,39 @@ returns-in-Err c =
     let h = c.loop-self.invariant in
     let k : ℕ = count_of r in
     let m : State = sloth_state r.machine in
-    let looked = subst (HasArrived r) (sym c.look.ensures.same) c.arrive_now.ensures.arrived in
+    let looked = subst (HasArrived r) (sym c.tasks_seen.ensures.same) c.arrive_now.ensures.arrived in
     let halt = c.in-Err.ensures.err in
     sight-stopped (image_of c.args.self.now) (given_arrivals c.args.self.now) k c.args.k c.in-Err.halt.pc m c.in-Err.halt.stop (omega arith)
     (ap (λ A. state_after k A (start (image_of c.args.self.now))) (sym h.arrivals) ∙ h.ran.after)
-    (ap (λ A. moment A k m) (sym h.arrivals) ∙ moment-is r c.look.new.self (Halts c.in-Err.halt.stop) looked halt.halts)
+    (ap (λ A. moment A k m) (sym h.arrivals) ∙ moment-is r c.tasks_seen.new.runner (Halts c.in-Err.halt.stop) looked halt.halts)
     (halt.pc ∙ ap (λ (x : State). (execution_state x).pc) looked.state ∙ ap (λ A. (execution_state (state_with_arrivals A k m)).pc) h.arrivals)
 
 pub loop-self-preserved : goal.loop-self-preserved
 loop-self-preserved c =
     let r = c.loop-self.self in
-    let a = c.look.new.self in
+    let a = c.tasks_seen.new.runner in
     let q = c.execute.new.self in
     let h = c.loop-self.invariant in
     let image : Image = image_of c.args.self.now in
     let A = given_arrivals c.args.self.now in
     let k : ℕ = count_of r in
     let m : State = sloth_state r.machine in
-    let looked = subst (HasArrived r) (sym c.look.ensures.same) c.arrive_now.ensures.arrived in
+    let looked = subst (HasArrived r) (sym c.tasks_seen.ensures.same) c.arrive_now.ensures.arrived in
     let executed : HasExecuted a q c.in_default.field-0 = c.in_default.ensures.ok in
-    let observer = c.execute.ensures.observer ∙ ap (λ (x : Runner). x.observer) c.look.ensures.same ∙ c.arrive_now.ensures.observer in
+    let observer = c.execute.ensures.observer ∙ ap (λ (x : Runner). x.observer) c.tasks_seen.ensures.same ∙ c.arrive_now.ensures.observer in
     let shown : image_of c.arrive_now.new.self ≡ image = c.arrive_now.ensures.image ∙ h.image in
     let after : state_after k A (start image) ≡ Some m = ap (λ B. state_after k B (start image)) (sym h.arrivals) ∙ h.ran.after in
     let there : sloth_state c.arrive_now.new.self.machine ≡ state_with_arrivals A k m =
     c.arrive_now.ensures.arrived.state ∙ ap (λ B. state_with_arrivals B k m) h.arrivals in
-    let seen = c.look.ensures.seen ∙ ap (λ n. image_states (image_of c.arrive_now.new.self) n (sloth_state c.arrive_now.new.self.machine)) c.arrive_now.ensures.arrived.count in
-    let last = last-behind image A k m (sloth_state c.arrive_now.new.self.machine) (image_of c.arrive_now.new.self) c.look.result c.loop-self.last after h.last shown there seen in
+    let seen = c.tasks_seen.ensures.seen ∙ ap (λ n. image_states (image_of c.arrive_now.new.self) n (sloth_state c.arrive_now.new.self.machine)) c.arrive_now.ensures.arrived.count in
+    let last = last-behind image A k m (sloth_state c.arrive_now.new.self.machine) (image_of c.arrive_now.new.self) c.tasks_seen.result c.loop-self.last after h.last shown there seen in
     let more : count_of q ≡ k + 1 = executed.count ∙ ap (λ n. n + 1) looked.count in
     let P : ℕ → Type 0 = λ n. HasRun q image n in
     let L : ℕ → Type 0 = λ n. IsLast image A n c.or-last.result in
     let O : Option Seen → Type 0 = IsLast image A (k + 1) in
     record {
       ran = subst P (sym more) (machine-more r a q image c.in_default.field-0 h.ran looked executed (ap arrivals_of observer) c.execute.ensures.coming);
-      image = c.execute.ensures.image ∙ ap image_of c.look.ensures.same ∙ shown;
+      image = c.execute.ensures.image ∙ ap image_of c.tasks_seen.ensures.same ∙ shown;
       arrivals = ap arrivals_of observer ∙ h.arrivals;
       last = subst L (sym more) (subst O (sym c.or-last.ensures) last);
       few = omega (arith, more);

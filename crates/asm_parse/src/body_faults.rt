@@ -1,0 +1,144 @@
+//! A5 to A7 of bodies.
+ghost use Rattle.std.specs.Prelude.{◌≡◌, ◌+◌, ◌<◌, ◌^◌, take, length, ◌⊎◌, All, IfOk};
+ghost use Rattle.least_fault.specs.Search.{IsSearchResult, Somewhere};
+ghost use Rattle.asm_scopes.specs.Statements.{label_names};
+ghost use Rattle.asm_scopes.specs.Bodies.{function_names};
+ghost use Rattle.asm_parse.specs.NameFaults.{is_too_great, is_strange, is_misnamed, is_beyond, HeaderFault, BodyLineFault, LineNameFault, BodyNameFault};
+
+use crate::limits::{count_item, count_items, count_label, has_long};
+use asm_lines::SourceLine;
+use asm_scopes::{Body, Scope, is_item, is_label, is_task, label_names, name_of, number_of};
+use least_fault::{fault_if, merge};
+use sloth_base::limits::{BODY_LIMIT, FRAME_LIMIT, ITEM_LIMIT};
+use sloth_base::memory::NoMemory;
+use sloth_base::refusal::{Code, Part, Refusal};
+use std::alloc::Global;
+use text_pieces::names::Names;
+
+/// A6 of a header behind so many bodies: one body too many, a frame of too many words, or a long name.
+pub fn is_too_great(count: usize, header: &SourceLine) -> bool
+    ensures { result ≡ is_too_great count header.now }
+{
+    count == BODY_LIMIT || number_of(header) > FRAME_LIMIT as u32 || has_long(header)
+}
+
+/// A7 of a header: the body of a task that the configuration has not.
+pub fn is_strange(scope: &Scope, header: &SourceLine) -> bool
+    ensures { result ≡ is_strange scope.now header.now }
+{
+    is_task(header) && !scope.tasks.has(name_of(header))
+}
+
+// The least fault of a header behind the first `count` bodies.
+fn header_fault(scope: &Scope, count: usize, number: u32, header: &SourceLine) -> Option<Refusal>
+    ensures { IsSearchResult (HeaderFault scope.now (take count scope.now.functions) count number header.now) result }
+{
+    let doubled = scope.functions.is_among_first(count, name_of(header));
+    let doubled = fault_if(doubled, Part::Src, number, Code::A5);
+    let great = fault_if(is_too_great(count, header), Part::Src, number, Code::A6);
+    let strange = fault_if(is_strange(scope, header), Part::Src, number, Code::A7);
+    merge(doubled, merge(great, strange))
+}
+
+/// A5 of a line: a label of the name of one of the first `count`, or a use of a name that nothing has.
+pub fn is_misnamed(scope: &Scope, labels: &Names, count: usize, line: &SourceLine) -> bool
+    ensures { result ≡ is_misnamed scope.now labels.now (take count labels.now) line.now }
+{
+    (is_label(line) && labels.is_among_first(count, name_of(line)))
+        || scope.has_unknown(labels, line)
+}
+
+/// A6 of a line behind so many items: one item too many, or a long name.
+pub fn is_beyond(items: usize, line: &SourceLine) -> bool
+    ensures { result ≡ is_beyond items line.now }
+{
+    (is_item(line) && items == ITEM_LIMIT) || has_long(line)
+}
+
+// The least fault of a line behind the first `count` labels.
+fn inner_fault(
+    scope: &Scope,
+    labels: &Names,
+    count: usize,
+    items: usize,
+    number: u32,
+    line: &SourceLine,
+) -> Option<Refusal>
+    ensures { IsSearchResult (BodyLineFault scope.now labels.now (take count labels.now) items number line.now) result }
+{
+    let misnamed = fault_if(
+        is_misnamed(scope, labels, count, line),
+        Part::Src,
+        number,
+        Code::A5,
+    );
+    let beyond = fault_if(is_beyond(items, line), Part::Src, number, Code::A6);
+    merge(misnamed, beyond)
+}
+
+// The least fault of the lines of a body, whose header stands on line `number` behind so many items.
+fn line_faults(
+    scope: &Scope,
+    labels: &Names,
+    items: usize,
+    number: u32,
+    lines: &[SourceLine],
+) -> Option<Refusal>
+    requires few { number + length lines.now < 2 ^ 32 }
+    requires items { items + length lines.now < 2 ^ 64 }
+    requires labels { labels.now ≡ label_names lines.now }
+    ensures { IsSearchResult (Somewhere (LineNameFault scope.now labels.now items number) lines.now) result }
+{
+    let mut least = None;
+    let mut count = 0;
+    let mut items = items;
+    for (n, line) in lines.iter().enumerate() {
+        let number = number + n as u32 + 1;
+        let found = inner_fault(scope, labels, count, items, number, line);
+        least = merge(least, found);
+        count += count_label(line);
+        items += count_item(line);
+    }
+    least
+}
+
+// The least fault of a body behind the first `count` bodies, which have so many items.
+fn body_fault(
+    alloc: Global,
+    scope: &Scope,
+    count: usize,
+    items: usize,
+    body: &Body,
+) -> Result<Option<Refusal>, NoMemory>
+    requires few { body.now.line + length body.now.lines < 2 ^ 32 }
+    requires items { items + length body.now.lines < 2 ^ 64 }
+    ensures { IfOk result (λ found. IsSearchResult (λ r.
+        HeaderFault scope.now (take count scope.now.functions) count body.now.line body.now.header r
+        ⊎ Somewhere (LineNameFault scope.now (label_names body.now.lines) items body.now.line) body.now.lines r) found) }
+{
+    let labels = label_names(alloc, body.lines())?;
+    let of_header = header_fault(scope, count, body.line(), body.header());
+    let of_lines = line_faults(scope, &labels, items, body.line(), body.lines());
+    Ok(merge(of_header, of_lines))
+}
+
+/// The least fault of these bodies.
+pub fn body_faults(
+    alloc: Global,
+    scope: &Scope,
+    bodies: &[Body],
+) -> Result<Option<Refusal>, NoMemory>
+    requires few { length bodies.now < 2 ^ 32 }
+    requires short { All (λ body. body.line + length body.lines < 2 ^ 32) bodies.now }
+    requires functions { scope.now.functions ≡ function_names bodies.now }
+    ensures { IfOk result (λ found. IsSearchResult (Somewhere (BodyNameFault scope.now) bodies.now) found) }
+{
+    let mut least = None;
+    let mut items = 0;
+    for (n, body) in bodies.iter().enumerate() {
+        let found = body_fault(alloc, scope, n, items, body)?;
+        least = merge(least, found);
+        items += count_items(body.lines());
+    }
+    Ok(least)
+}

@@ -1,6 +1,0 @@
-use Rattle.least_fault.proofs.Kept.{Loop}
-use Rattle.oil_alarms.specs.AlarmFaults.{BlockFault}
-use Rattle.oil_alarms.proofs.block_faults.block_faults.Given as goal
-
-abbrev pub invariant-loop-block : goal.invariant-loop-block
-invariant-loop-block l = Loop (BlockFault l.tasks l.limits) l.blocks l.block-index l.least

@@ -1,0 +1,139 @@
+//! The blocks of an object's attributes.
+ghost use Rattle.std.specs.Prelude.{◌≡◌, IfOk, take, option_copied};
+ghost use Rattle.std.specs.List.{take_while, prefix_len};
+ghost use Rattle.oil_rules.specs.Blocks.{is_inner, blocks_of, first_block, is_inner_use, is_used_in, first_in, number_in};
+
+use oil_parse::tree::OilAttr;
+use oil_table::{is_use, number_of};
+use sloth_base::memory::NoMemory;
+use std::alloc::Global;
+use std::marker::Model;
+use text_pieces::bytes::same;
+use text_pieces::growth::push;
+
+/// An attribute of an object's own block, and those in the block behind its value.
+#[derive(Drop)]
+pub struct Block<'t> {
+    head: &'t OilAttr,
+    inner: &'t [OilAttr],
+}
+
+impl<'t> Model for Block<'t> {
+    ghost use Rattle.oil_rules.specs.Blocks.{BlockText};
+
+    ghost Value = { BlockText };
+
+    ghost view = { λ block. record { head = block.head.now; inner = block.inner.now } };
+}
+
+impl<'t> Block<'t> {
+    /// The attribute in front.
+    pub fn head(&self) -> &'t OilAttr
+        ensures { result.now ≡ self.now.head }
+    {
+        self.head
+    }
+
+    /// The attributes behind its value.
+    pub fn inner(&self) -> &'t [OilAttr]
+        ensures { result.now ≡ self.now.inner }
+    {
+        self.inner
+    }
+}
+
+fn is_inner(attr: &OilAttr) -> bool
+    ensures { result ≡ is_inner attr.now }
+{
+    attr.depth != 0
+}
+
+// How many attributes stand before the next one of the object's own block, or all.
+fn count_inner(attrs: &[OilAttr]) -> usize
+    ensures { result ≡ prefix_len is_inner attrs.now }
+{
+    for (n, attr) in attrs.iter().enumerate() {
+        if !is_inner(attr) {
+            return n;
+        }
+    }
+    attrs.len()
+}
+
+// The first attributes, as many as there are.
+fn front(attrs: &[OilAttr], count: usize) -> &[OilAttr]
+    ensures { result.now ≡ take count attrs.now }
+{
+    if count < attrs.len() {
+        return &attrs[..count];
+    }
+    attrs
+}
+
+// The attributes before the next one of the object's own block.
+fn inner_of(attrs: &[OilAttr]) -> &[OilAttr]
+    ensures { result.now ≡ take_while is_inner attrs.now }
+{
+    front(attrs, count_inner(attrs))
+}
+
+/// The blocks of these attributes.
+pub fn blocks_of<'t>(alloc: Global, attrs: &'t [OilAttr]) -> Result<Vec<Block<'t>>, NoMemory>
+    ensures { IfOk result (λ blocks. blocks.items ≡ blocks_of attrs.now) }
+{
+    let mut blocks = Vec::new(alloc);
+    for (n, head) in attrs.iter().enumerate() {
+        if is_inner(head) {
+            continue;
+        }
+        let inner = inner_of(&attrs[n + 1..]);
+        push(&mut blocks, Block { head, inner })?;
+    }
+    Ok(blocks)
+}
+
+/// The block behind the first use of an attribute; empty where it is not used.
+pub fn first_block<'t>(attrs: &'t [OilAttr], name: &[u8]) -> &'t [OilAttr]
+    ensures { result.now ≡ first_block name.now attrs.now }
+{
+    for (n, attr) in attrs.iter().enumerate() {
+        if is_use(attr, name) {
+            return inner_of(&attrs[n + 1..]);
+        }
+    }
+    &[]
+}
+
+/// Whether this is a use of the attribute in a block itself.
+pub fn is_inner_use(attr: &OilAttr, name: &[u8]) -> bool
+    ensures { result ≡ is_inner_use name.now attr.now }
+{
+    attr.depth == 1 && same(attr.name.bytes(), name)
+}
+
+/// Whether the attribute is used in a block.
+pub fn is_used_in(inner: &[OilAttr], name: &[u8]) -> bool
+    ensures { result ≡ is_used_in inner.now name.now }
+{
+    match first_in(inner, name) {
+        Some(_) => true,
+        None => false,
+    }
+}
+
+/// The first use in a block.
+pub fn first_in<'t>(inner: &'t [OilAttr], name: &[u8]) -> Option<&'t OilAttr>
+    ensures { option_copied result ≡ first_in inner.now name.now }
+{
+    inner.iter().find(|attr| is_inner_use(attr, name))
+}
+
+/// The number of the first use in a block.
+pub fn number_in(inner: &[OilAttr], name: &[u8]) -> Option<u32>
+    ensures { result ≡ number_in inner.now name.now }
+{
+    match first_in(inner, name) {
+        Some(attr) => number_of(&attr.value),
+        None => None,
+    }
+}

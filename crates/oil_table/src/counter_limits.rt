@@ -1,0 +1,135 @@
+//! The limits of the counters of a tree.
+ghost use Rattle.std.specs.Prelude.{◌≡◌, IfOk, codes, find};
+ghost use Rattle.oil_table.specs.Objects.{is_declaration, object_of_value};
+ghost use Rattle.oil_table.specs.AlarmCounters.{limit_by, limits_in, limits_given, limits_of, limits_among};
+
+use crate::alarm_limits::Limits;
+use crate::numbers::names_of;
+use crate::objects::{first_number, first_use, is_of_kind};
+use oil_parse::tree::{OilAttr, OilObject, OilValue};
+use sloth_base::limits::TICK_LIMIT;
+use sloth_base::memory::NoMemory;
+use std::alloc::Global;
+use std::marker::Model;
+use text_pieces::growth::push;
+use text_pieces::names::Names;
+
+/// The limits in the place of those of a counter that is missing.
+const WIDEST: Limits = Limits {
+    least: 1,
+    greatest: TICK_LIMIT,
+};
+
+/// The counters among some objects, found by their names, and their limits.
+pub struct CounterLimits<'t> {
+    objects: &'t [OilObject],
+    names: Names<'t>,
+    limits: Vec<Limits>,
+}
+
+// Written out: what is derived is proved anew wherever a value is let go.
+impl Drop for CounterLimits<'_> {
+    fn drop(self) {
+        let CounterLimits {
+            objects: _,
+            names: _,
+            limits: _,
+        } = self;
+    }
+}
+
+impl<'t> Model for CounterLimits<'t> {
+    ghost use Rattle.std.specs.Prelude.{List};
+    ghost use Rattle.oil_parse.specs.declared.tree.OilObject.{OilObject};
+    ghost use Rattle.oil_table.specs.AlarmCounters.{AreCounters};
+
+    ghost Value = { List OilObject };
+
+    ghost view = { λ counters. counters.objects.now };
+
+    ghost invariant = { λ counters. AreCounters counters.objects.now counters.names counters.limits.items };
+}
+
+fn limit_by(number: Option<u32>, other: u32) -> u32
+    ensures { result ≡ limit_by number other }
+{
+    match number {
+        Some(number) => {
+            if 1 <= number && number <= TICK_LIMIT {
+                number
+            } else {
+                other
+            }
+        },
+        None => other,
+    }
+}
+
+fn limits_in(counter: &OilObject) -> Limits
+    ensures { result ≡ limits_in counter.now }
+{
+    let attrs = counter.attrs.items();
+    Limits {
+        least: limit_by(first_number(attrs, b"MINCYCLE"), 1),
+        greatest: limit_by(first_number(attrs, b"MAXALLOWEDVALUE"), TICK_LIMIT),
+    }
+}
+
+/// The limits of the counters among these objects, in the order of their numbers.
+fn limits_among(alloc: Global, objects: &[OilObject]) -> Result<Vec<Limits>, NoMemory>
+    ensures { IfOk result (λ limits. limits.items ≡ limits_among objects.now) }
+{
+    let mut limits = Vec::new(alloc);
+    for object in objects {
+        if !is_of_kind(object, b"COUNTER") {
+            continue;
+        }
+        push(&mut limits, limits_in(object))?;
+    }
+    Ok(limits)
+}
+
+impl<'t> CounterLimits<'t> {
+    /// The counters among these objects.
+    pub fn of(alloc: Global, objects: &'t [OilObject]) -> Result<CounterLimits<'t>, NoMemory>
+        ensures { IfOk result (λ counters. counters ≡ objects.now) }
+    {
+        let names = names_of(alloc, objects, b"COUNTER")?;
+        let limits = limits_among(alloc, objects)?;
+        Ok(CounterLimits {
+            objects,
+            names,
+            limits,
+        })
+    }
+
+    /// The limits of the first counter of this name; the widest, where there is none.
+    fn limits_of_word(&self, word: &[u8]) -> Limits
+        ensures { result ≡ limits_given (find (is_declaration (codes "COUNTER") word.now) self.now) }
+    {
+        match self.names.number(word) {
+            Some(number) => self.limits[number],
+            None => WIDEST,
+        }
+    }
+
+    /// The limits of the counter that a value names.
+    fn limits_of_value(&self, value: &OilValue) -> Limits
+        ensures { result ≡ limits_given (object_of_value self.now (codes "COUNTER") value.now) }
+    {
+        match value {
+            OilValue::Word(word) => self.limits_of_word(word.bytes()),
+            _ => WIDEST,
+        }
+    }
+
+    /// The limits of the counter that an alarm with these attributes names.
+    pub fn limits_of(&self, attrs: &[OilAttr]) -> Limits
+        ensures { result ≡ limits_of self.now attrs.now }
+    {
+        match first_use(attrs, b"COUNTER") {
+            Some(attr) => self.limits_of_value(&attr.value),
+            None => WIDEST,
+        }
+    }
+}

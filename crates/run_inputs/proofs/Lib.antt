@@ -1,0 +1,2 @@
+mod InputErrors
+pub mod Refused

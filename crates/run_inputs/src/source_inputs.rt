@@ -1,0 +1,69 @@
+//! What a configuration, its task source and arrivals mean.
+ghost use Rattle.std.specs.Prelude.{◌<◌, IfOk, IfErr, length};
+ghost use Rattle.sloth_base.specs.Arrivals.{AreArrivals};
+ghost use Rattle.sloth_base.specs.Owners.{owners_in};
+ghost use Rattle.code_rules.specs.WellFormed.{WellFormed};
+ghost use Rattle.least_fault.specs.Order.{ErrorIs};
+ghost use Rattle.trace_text.specs.ArrivalsText.{ArrivalsFault};
+ghost use Rattle.sloth_source.specs.Texts.{AreAccepted};
+ghost use Rattle.run_inputs.specs.Inputs.{AreArrivalsOf, InputsErrorIs};
+ghost use Rattle.sloth_base.specs.DeclaredNames.{task_names, counter_names};
+
+use sloth_base::app::App;
+use sloth_base::config::Config;
+use sloth_base::declared_names::{counter_names, task_names};
+use sloth_base::event::Arrival;
+use sloth_base::refusal::BuildError;
+use sloth_source::{Source, read};
+use std::alloc::Global;
+use trace_text::read_arrivals;
+
+/// A configuration, its task code and arrivals of its tasks and counters.
+pub struct Inputs {
+    pub config: Config,
+    pub app: App,
+    pub arrivals: Vec<Arrival>,
+}
+
+// Written out: what is derived is proved anew wherever a value is let go.
+impl Drop for Inputs {
+    fn drop(self) {
+        let Inputs {
+            config: _,
+            app: _,
+            arrivals: _,
+        } = self;
+    }
+}
+
+// The arrivals of a text, for a configuration.
+fn arrivals_of(alloc: Global, config: &Config, arr: &[u8]) -> Result<Vec<Arrival>, BuildError>
+    requires { length arr.now < 4294967295 }
+    ensures read { IfOk result (λ arrivals. AreArrivalsOf (task_names config.now) (counter_names config.now) arr.now arrivals.items) }
+    ensures in_range { IfOk result (λ arrivals. AreArrivals (owners_in config.now) arrivals.items) }
+    ensures refused { IfErr result (λ error. ErrorIs (ArrivalsFault (task_names config.now) (counter_names config.now) arr.now) error) }
+{
+    let names = task_names(alloc, config)?;
+    let counters = counter_names(alloc, config)?;
+    read_arrivals(alloc, arr, names.items(), counters.items())
+}
+
+/// What the texts mean, or their first refusal.
+pub fn read_inputs(alloc: Global, oil: &[u8], src: &[u8], arr: &[u8]) -> Result<Inputs, BuildError>
+    requires oil { length oil.now < 4294967295 }
+    requires src { length src.now < 4294967295 }
+    requires arr { length arr.now < 4294967295 }
+    ensures accepted { IfOk result (λ inputs. AreAccepted oil.now src.now inputs.config inputs.app) }
+    ensures well_formed { IfOk result (λ inputs. WellFormed inputs.config inputs.app) }
+    ensures read { IfOk result (λ inputs. AreArrivalsOf (task_names inputs.config) (counter_names inputs.config) arr.now inputs.arrivals.items) }
+    ensures in_range { IfOk result (λ inputs. AreArrivals (owners_in inputs.config) inputs.arrivals.items) }
+    ensures refused { IfErr result (InputsErrorIs oil.now src.now arr.now) }
+{
+    let Source { config, app, .. } = read(alloc, oil, src)?;
+    let arrivals = arrivals_of(alloc, &config, arr)?;
+    Ok(Inputs {
+        config,
+        app,
+        arrivals,
+    })
+}

@@ -1,0 +1,6 @@
+mod Rows
+pub mod NextSample
+pub mod OneSample
+mod DueArrivals
+pub mod Noted
+mod RunAdmissions

@@ -1,0 +1,301 @@
+//! What arrivals and masked code do with the pending bytes of lines.
+ghost use Rattle.std.specs.Prelude.{◌≡◌, ◌<◌, ◌≤◌, ◌∷◌, ◌++◌, [], OnOk, length, replicate, slice_set, take};
+ghost use Rattle.sloth_base.specs.MemoryMap.{line_count};
+ghost use Rattle.rv32_instr.specs.Execute.{pending_line};
+ghost use Rattle.rv32_instr.specs.Memory.{memory_of};
+ghost use Rattle.rv32_instr.specs.Range.{InRange};
+ghost use Rattle.rv32_machine.specs.Start.{start};
+ghost use Rattle.rv32_machine.specs.Run.{state_after};
+ghost use Rattle.run_samples.specs.Accesses.{is_waiting, is_waiting_line, can_raise, arrival_kind, arrival_access, arrival_accesses, accesses_at, fetched, stored_line, stored_line_of, access_of, code_access};
+ghost use Rattle.sloth_runner.specs.Moments.{AreLines, sloth_state};
+ghost use Rattle.sloth_runner.specs.Runner.{HasRun, image_of, count_of, given_arrivals};
+
+use observe::passing;
+use osek_scheduler::state::TaskState;
+use rv32_instr::{Instr, InstrKind};
+use rv32_machine::{Bus, SlothBus, Step};
+use sloth_base::event::Arrival;
+use sloth_base::limits::TASK_LIMIT;
+use sloth_base::lines::FIRST_COUNTER_LINE;
+use sloth_base::memory::NoMemory;
+use sloth_base::memory_map::{CONTROLLER_BASE, LINE_COUNT};
+use sloth_base::numbers::Line;
+use sloth_inspect::states;
+use sloth_runner::Runner;
+
+/// What is done with a line's pending byte.
+#[derive(Clone, Copy)]
+pub enum AccessKind {
+    /// An arrival makes it 1.
+    Raises,
+    /// An arrival finds that it is 1, or that the line's task waits.
+    Finds,
+    /// Masked code loads it.
+    Loads,
+    /// Masked code stores to it.
+    Stores,
+}
+
+/// An access to a line's pending byte: the moment of an arrival or the count of an instruction, and the line.
+#[derive(Clone, Copy)]
+pub struct Access {
+    pub arrival: Arrival,
+    pub kind: AccessKind,
+}
+
+fn is_waiting(state: TaskState) -> bool
+    ensures { result ≡ is_waiting state }
+{
+    match state {
+        TaskState::Suspended => false,
+        TaskState::Ready => false,
+        TaskState::Active => false,
+        TaskState::Waiting(mask) => mask != 0,
+    }
+}
+
+// Whether the line is that of a task that waits for events. The bus keeps its contents.
+fn is_waiting_line(bus: &mut SlothBus, line: Line) -> bool
+    requires { line < line_count }
+    ensures is { result ≡ is_waiting_line bus.old line }
+    ensures same { bus.new ≡ bus.old }
+{
+    if line.0 >= FIRST_COUNTER_LINE {
+        return false;
+    }
+    let tasks = states(bus, TASK_LIMIT as u32);
+    is_waiting(tasks[usize::from(line.0)])
+}
+
+// Whether the line can be raised. The bus keeps its contents.
+fn can_raise(bus: &mut SlothBus, line: Line) -> bool
+    requires { line < line_count }
+    ensures is { result ≡ can_raise bus.old line }
+    ensures same { bus.new ≡ bus.old }
+{
+    if bus.is_pending(line) {
+        return false;
+    }
+    !is_waiting_line(bus, line)
+}
+
+fn arrival_kind(raises: bool) -> AccessKind
+    ensures { result ≡ arrival_kind raises }
+{
+    if raises {
+        AccessKind::Raises
+    } else {
+        AccessKind::Finds
+    }
+}
+
+// What an arrival does behind others of its moment, which have raised these lines.
+fn arrival_access(bus: &mut SlothBus, raised: &[u8; 32], arrival: &Arrival) -> Access
+    requires { arrival.now.line < line_count }
+    ensures is { result ≡ arrival_access bus.old raised.now arrival.now }
+    ensures same { bus.new ≡ bus.old }
+{
+    let raises = raised[usize::from(arrival.line.0)] == 0 && can_raise(bus, arrival.line);
+    Access {
+        arrival: *arrival,
+        kind: arrival_kind(raises),
+    }
+}
+
+// Appends an access.
+fn push_access(noted: &mut Vec<Access>, access: &Access) -> Result<(), NoMemory>
+    ensures { OnOk result (noted.new.items ≡ noted.old.items ++ access.now ∷ []) }
+{
+    noted.push(*access).map_err(|_| NoMemory)
+}
+
+// Notes that an arrival of the moment has raised its line, or found it raised.
+fn set_raised(raised: &mut [u8; 32], arrival: &Arrival)
+    requires { arrival.now.line < line_count }
+    ensures { raised.new ≡ slice_set raised.old arrival.now.line 1 }
+{
+    raised[usize::from(arrival.line.0)] = 1;
+}
+
+// The same of all arrivals of a moment.
+fn push_arrivals(
+    bus: &mut SlothBus,
+    arrivals: &[Arrival],
+    noted: &mut Vec<Access>,
+) -> Result<(), NoMemory>
+    requires { AreLines arrivals.now }
+    ensures noted { OnOk result (noted.new.items ≡ noted.old.items ++ arrival_accesses bus.old (replicate line_count 0) arrivals.now) }
+    ensures same { bus.new ≡ bus.old }
+{
+    let mut raised = [0u8; 32];
+    for arrival in arrivals {
+        let found = arrival_access(bus, &raised, arrival);
+        push_access(noted, &found)?;
+        set_raised(&mut raised, arrival);
+    }
+    Ok(())
+}
+
+// The same of the first arrivals, so many of them.
+fn push_first(
+    bus: &mut SlothBus,
+    coming: &[Arrival],
+    due: usize,
+    noted: &mut Vec<Access>,
+) -> Result<(), NoMemory>
+    requires due { due ≤ length coming.now }
+    requires lines { AreLines coming.now }
+    ensures noted { OnOk result (noted.new.items ≡ noted.old.items ++ arrival_accesses bus.old (replicate line_count 0) (take due coming.now)) }
+    ensures same { bus.new ≡ bus.old }
+{
+    let (here, _) = coming.split_at(due);
+    push_arrivals(bus, here, noted)
+}
+
+// The line that an address is the pending byte of.
+#[tactic(auto, using(std::proofs::lemmas::Bool::Decides::nat_tests))]
+fn pending_line(address: u32) -> Option<Line>
+    ensures { result ≡ pending_line address }
+{
+    if CONTROLLER_BASE <= address && address < CONTROLLER_BASE + LINE_COUNT as u32 {
+        Some(Line((address - CONTROLLER_BASE) as u8))
+    } else {
+        None
+    }
+}
+
+// The line to whose pending byte an instruction stores.
+fn stored_line(kind: InstrKind, registers: &[u32; 32]) -> Option<Line>
+    requires { InRange kind }
+    ensures { result ≡ stored_line kind registers.now }
+{
+    match kind {
+        InstrKind::Sb { rs1, imm, .. } => {
+            pending_line(registers[usize::from(rs1.0)].wrapping_add(imm.cast_unsigned()))
+        }
+        InstrKind::Lui { .. }
+        | InstrKind::Auipc { .. }
+        | InstrKind::Jal { .. }
+        | InstrKind::Jalr { .. }
+        | InstrKind::Beq { .. }
+        | InstrKind::Bne { .. }
+        | InstrKind::Blt { .. }
+        | InstrKind::Bge { .. }
+        | InstrKind::Bltu { .. }
+        | InstrKind::Bgeu { .. }
+        | InstrKind::Lb { .. }
+        | InstrKind::Lh { .. }
+        | InstrKind::Lw { .. }
+        | InstrKind::Lbu { .. }
+        | InstrKind::Lhu { .. }
+        | InstrKind::Sh { .. }
+        | InstrKind::Sw { .. }
+        | InstrKind::Addi { .. }
+        | InstrKind::Slti { .. }
+        | InstrKind::Sltiu { .. }
+        | InstrKind::Xori { .. }
+        | InstrKind::Ori { .. }
+        | InstrKind::Andi { .. }
+        | InstrKind::Slli { .. }
+        | InstrKind::Srli { .. }
+        | InstrKind::Srai { .. }
+        | InstrKind::Add { .. }
+        | InstrKind::Sub { .. }
+        | InstrKind::Sll { .. }
+        | InstrKind::Slt { .. }
+        | InstrKind::Sltu { .. }
+        | InstrKind::Xor { .. }
+        | InstrKind::Srl { .. }
+        | InstrKind::Sra { .. }
+        | InstrKind::Or { .. }
+        | InstrKind::And { .. }
+        | InstrKind::Fence { .. }
+        | InstrKind::Csrrw { .. }
+        | InstrKind::Csrrs { .. }
+        | InstrKind::Csrrc { .. }
+        | InstrKind::Csrrwi { .. }
+        | InstrKind::Csrrsi { .. }
+        | InstrKind::Csrrci { .. }
+        | InstrKind::Ecall
+        | InstrKind::Ebreak
+        | InstrKind::Mret => None,
+    }
+}
+
+// The same of an instruction, if it is one.
+fn stored_line_of(instr: &Option<Instr>, registers: &[u32; 32]) -> Option<Line>
+    ensures { result ≡ stored_line_of instr.now registers.now }
+{
+    match instr {
+        Some(instr) => stored_line(instr.kind(), registers),
+        None => None,
+    }
+}
+
+// The instruction at an address. The bus keeps its contents.
+fn fetched(bus: &mut SlothBus, address: u32) -> Option<Instr>
+    ensures is { result ≡ fetched bus.old address }
+    ensures same { bus.new ≡ bus.old }
+{
+    match bus.fetch(address) {
+        Ok(instr) => instr,
+        Err(_) => None,
+    }
+}
+
+// A store, or else a load of what a step touched.
+fn access_of(count: u32, stored: &Option<Line>, touched: &Option<Line>) -> Option<Access>
+    ensures { result ≡ access_of count stored.now touched.now }
+{
+    match stored {
+        Some(line) => Some(Access {
+            arrival: Arrival {
+                at: count,
+                line: *line,
+            },
+            kind: AccessKind::Stores,
+        }),
+        None => match touched {
+            Some(line) => Some(Access {
+                arrival: Arrival {
+                    at: count,
+                    line: *line,
+                },
+                kind: AccessKind::Loads,
+            }),
+            None => None,
+        },
+    }
+}
+
+// What a step did with a pending byte. The bus keeps its contents.
+fn code_access(bus: &mut SlothBus, step: &Step) -> Option<Access>
+    ensures is { result ≡ code_access step.now bus.old }
+    ensures same { bus.new ≡ bus.old }
+{
+    if step.enabled_before {
+        return None;
+    }
+    let instr = fetched(bus, step.pc);
+    let stored = stored_line_of(&instr, &step.regs);
+    access_of(step.count, &stored, &step.touched)
+}
+
+/// Notes what the arrivals of the next moment of a run do. They do not come yet.
+pub fn note_arrivals(runner: &mut Runner, noted: &mut Vec<Access>) -> Result<(), NoMemory>
+    requires { HasRun runner.old (image_of runner.old) (count_of runner.old) }
+    ensures noted { OnOk result (noted.new.items ≡ noted.old.items
+        ++ accesses_at (given_arrivals runner.old) (count_of runner.old) (state_after (count_of runner.old) (given_arrivals runner.old) (start (image_of runner.old)))) }
+    ensures same { runner.new ≡ runner.old }
+{
+    let due = passing(runner.coming, runner.machine.count);
+    push_first(runner.machine.bus_mut(), runner.coming, due, noted)
+}
+
+/// What the last step of a run did with a pending byte.
+pub fn step_access(runner: &mut Runner, step: &Step) -> Option<Access>
+    ensures is { result ≡ code_access step.now (memory_of (sloth_state runner.old.machine).core) }
+    ensures same { runner.new ≡ runner.old }
+{
+    code_access(runner.machine.bus_mut(), step)
+}

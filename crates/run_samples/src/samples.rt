@@ -1,0 +1,121 @@
+//! Samples of a run: one at each count, after the arrivals of the count and before a line is taken.
+ghost use Rattle.std.specs.Prelude.{◌≡◌, ◌<◌, ◌+◌, ◌++◌, OnOk, IfOk, IfErr};
+ghost use Rattle.sloth_base.specs.ImageRange.{InFormat};
+ghost use Rattle.sloth_base.specs.Arrivals.{AreArrivals};
+ghost use Rattle.sloth_base.specs.Owners.{owners_named};
+ghost use Rattle.sloth_base.specs.Limits.{count_limit};
+ghost use Rattle.rv32_machine.specs.Start.{start};
+ghost use Rattle.rv32_machine.specs.Run.{state_after};
+ghost use Rattle.run_samples.specs.Accesses.{accesses_at};
+ghost use Rattle.run_samples.specs.Samples.{AreSampledLevels, IsSample, IsSampling, StopsAt, seen_behind, sampled_image, sampled_arrivals, sampled_count};
+
+use crate::accesses::{Access, note_arrivals, step_access};
+use sloth_base::event::Arrival;
+use sloth_base::image::Image;
+use sloth_base::limits::TASK_LIMIT;
+use sloth_base::memory::NoMemory;
+use sloth_base::numbers::Line;
+use sloth_runner::task_states::{Interrupts, Seen, interrupts_shown, level_bytes, tasks_seen};
+use sloth_runner::{Halt, Runner};
+use std::alloc::Global;
+
+/// What a run shows at a count.
+#[derive(Clone, Copy)]
+pub struct Sample {
+    /// The tasks, as of the last count up to this one that finds interrupts open, if one does.
+    pub seen: Option<Seen>,
+    pub interrupts: Interrupts,
+    /// The line that is taken before the count's instruction, if one is.
+    pub taken: Option<Line>,
+    /// What masked code does with a pending byte.
+    pub access: Option<Access>,
+}
+
+/// A run of an image, taken count by count. It keeps the image and the arrivals, lent, and no sample but the last one's tasks.
+pub struct Sampler<'a> {
+    pub(crate) runner: Runner<'a>,
+    pub(crate) last: Option<Seen>,
+}
+
+// Written out: what is derived is proved anew wherever a value is let go.
+impl Drop for Sampler<'_> {
+    fn drop(self) {
+        let Sampler { runner: _, last: _ } = self;
+    }
+}
+
+impl<'a> Sampler<'a> {
+    /// A sampler that has run nothing, with all memory of a run.
+    pub fn new(
+        alloc: Global,
+        image: &'a Image,
+        arrivals: &'a [Arrival],
+    ) -> Result<Sampler<'a>, NoMemory>
+        requires format { InFormat image.now }
+        requires arrivals { AreArrivals (owners_named image.now) arrivals.now }
+        ensures sampling { IfOk result IsSampling }
+        ensures image { IfOk result (λ sampler. sampled_image sampler ≡ image.now) }
+        ensures arrivals { IfOk result (λ sampler. sampled_arrivals sampler ≡ arrivals.now) }
+        ensures fresh { IfOk result (λ sampler. sampled_count sampler ≡ 0) }
+    {
+        let runner = Runner::new(alloc, image, arrivals)?;
+        Ok(Sampler { runner, last: None })
+    }
+
+    /// The sample of the next count, whose instruction is then executed, unless the machine stops at it.
+    pub fn next(&mut self) -> Result<Sample, Halt>
+        requires few { sampled_count self.old < count_limit }
+        requires sampling { IsSampling self.old }
+        ensures sample { IfOk result (IsSample (sampled_image self.old) (sampled_arrivals self.old) (sampled_count self.old)) }
+        ensures stops { IfErr result (StopsAt (sampled_image self.old) (sampled_arrivals self.old) (sampled_count self.old)) }
+        ensures sampling { OnOk result (IsSampling self.new) }
+        ensures count { OnOk result (sampled_count self.new ≡ sampled_count self.old + 1) }
+        ensures image { sampled_image self.new ≡ sampled_image self.old }
+        ensures arrivals { sampled_arrivals self.new ≡ sampled_arrivals self.old }
+    {
+        self.runner.arrive_now();
+        self.last = tasks_seen(&mut self.runner).or(self.last);
+        let interrupts = interrupts_shown(&mut self.runner);
+        match self.runner.execute() {
+            Ok(step) => {
+                let access = step_access(&mut self.runner, &step);
+                Ok(Sample {
+                    seen: self.last,
+                    interrupts,
+                    taken: step.entered,
+                    access,
+                })
+            }
+            Err(halt) => Err(halt),
+        }
+    }
+
+    /// Notes what the arrivals of the next count do. The sampler stays as it is.
+    pub(crate) fn note_arrivals(&mut self, noted: &mut Vec<Access>) -> Result<(), NoMemory>
+        requires sampling { IsSampling self.old }
+        ensures noted { OnOk result (noted.new.items ≡ noted.old.items
+            ++ accesses_at (sampled_arrivals self.old) (sampled_count self.old)
+            (state_after (sampled_count self.old) (sampled_arrivals self.old) (start (sampled_image self.old)))) }
+        ensures same { self.new ≡ self.old }
+    {
+        note_arrivals(&mut self.runner, noted)
+    }
+
+    /// What is seen of the tasks in front of the arrivals of the next count.
+    pub(crate) fn look(&mut self) -> Option<Seen>
+        requires sampling { IsSampling self.old }
+        ensures seen { result ≡ seen_behind (sampled_image self.old) (sampled_arrivals self.old) (sampled_count self.old) }
+        ensures same { self.new ≡ self.old }
+    {
+        tasks_seen(&mut self.runner)
+    }
+
+    /// The levels of the lines of the image's tasks, in `TASK_LIMIT` places.
+    pub fn levels(&mut self) -> [u8; TASK_LIMIT]
+        requires sampling { IsSampling self.old }
+        ensures levels { AreSampledLevels (sampled_image self.old) (sampled_arrivals self.old) (sampled_count self.old) result }
+        ensures same { self.new ≡ self.old }
+    {
+        level_bytes(&mut self.runner)
+    }
+}

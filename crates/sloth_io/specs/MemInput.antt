@@ -1,7 +1,0 @@
--- What comes of an input in memory.
-use Rattle.sloth_io.specs.Input.{Coming}
-use Rattle.sloth_io.specs.declared.mem_input.MemInput.{MemInput}
-
--- its bytes, and what stands behind them
-abbrev pub coming_of : MemInput → Coming
-coming_of input = record { bytes = input.bytes.now; broken = input.broken }

@@ -1,6 +1,0 @@
-use Rattle.std.proofs.Common.{◌≡◌, ◌++◌}
-use Rattle.system_text.specs.SystemText.{task_parts}
-use Rattle.system_text.proofs.lines.push_tasks.Given as goal
-
-abbrev pub invariant-loop-task : goal.invariant-loop-task
-invariant-loop-task l = l.text.items ≡ l.fn.text.items ++ task_parts l.image l.seen l.words l.task

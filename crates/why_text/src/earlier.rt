@@ -1,0 +1,82 @@
+//! The earlier thing with which one collides (O9).
+
+use oil_parse::tree::{OilAttr, OilObject};
+use oil_table::{declares, is_of_kind};
+use stage_faults::Position;
+use text_pieces::bytes::same;
+
+// The line of the first object of this kind and name.
+fn declared_on(objects: &[OilObject], kind: &[u8], name: &[u8]) -> Option<u32> {
+    for object in objects {
+        if declares(object, kind, name) {
+            return Some(object.line);
+        }
+    }
+    None
+}
+
+fn system_on(objects: &[OilObject]) -> Option<u32> {
+    for object in objects {
+        if is_of_kind(object, b"OS") {
+            return Some(object.line);
+        }
+    }
+    None
+}
+
+// The kind whose names the object may not have too.
+fn other_kind(object: &OilObject) -> &'static [u8] {
+    if is_of_kind(object, b"TASK") {
+        return b"COUNTER";
+    }
+    if is_of_kind(object, b"COUNTER") {
+        return b"TASK";
+    }
+    b""
+}
+
+// The line of the first of these objects that an object doubles.
+fn doubled_line(front: &[OilObject], object: &OilObject) -> Option<u32> {
+    if is_of_kind(object, b"OS") {
+        return system_on(front);
+    }
+    let name = object.name.bytes();
+    let first = declared_on(front, object.kind.bytes(), name);
+    if first.is_some() {
+        return first;
+    }
+    declared_on(front, other_kind(object), name)
+}
+
+fn is_same_use(earlier: &OilAttr, attr: &OilAttr) -> bool {
+    earlier.depth == attr.depth && same(earlier.name.bytes(), attr.name.bytes())
+}
+
+// The line of the first use of an attribute's name in its block.
+fn used_line(attrs: &[OilAttr], number: usize) -> Option<u32> {
+    if number >= attrs.len() {
+        return None;
+    }
+    let attr = &attrs[number];
+    let mut first = None;
+    for earlier in &attrs[..number] {
+        if earlier.depth < attr.depth {
+            first = None;
+        } else if first.is_none() && is_same_use(earlier, attr) {
+            first = Some(earlier.line);
+        }
+    }
+    first
+}
+
+/// The line of what O9 at this position collides with; none of a resource that needs no declaration.
+pub fn earlier_line(objects: &[OilObject], position: Position) -> Option<u32> {
+    if position.object >= objects.len() {
+        return None;
+    }
+    let object = &objects[position.object];
+    if position.attribute == 0 {
+        return doubled_line(&objects[..position.object], object);
+    }
+    used_line(object.attrs.items(), position.attribute - 1)
+}

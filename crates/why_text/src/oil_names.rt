@@ -1,0 +1,65 @@
+//! The names of the faults of an OIL tree's meaning (O7 to O15).
+
+use crate::earlier::earlier_line;
+use crate::lacking::add_lacking;
+use crate::priorities::add_priorities;
+use oil_parse::tree::{OilObject, OilTree};
+use sloth_base::memory::NoMemory;
+use sloth_base::refusal::{Code, Refusal};
+use stage_faults::Note;
+use std::alloc::Global;
+use text_pieces::growth::push;
+
+/// Whether the fault is that of the refusal.
+pub fn is_of(note: &Note, refusal: Refusal) -> bool {
+    note.line == refusal.line && note.code as u8 == refusal.code as u8
+}
+
+fn add_named<'t>(named: &mut Vec<Note<'t>>, notes: &[Note<'t>]) -> Result<(), NoMemory> {
+    for note in notes {
+        if !note.name.is_empty() {
+            push(named, *note)?;
+        }
+    }
+    Ok(())
+}
+
+// By object, and in one object by attribute.
+fn place_in_tree(note: &Note) -> u64 {
+    (note.position.object as u64) << 32 | note.position.attribute as u64
+}
+
+fn put_in_tree_order(named: &mut Vec<Note>) -> Result<(), NoMemory> {
+    named.sort_by_key(|note| place_in_tree(note))?;
+    Ok(())
+}
+
+// The line of the earlier thing, where the refusal is O9.
+fn add_first(named: &mut [Note], objects: &[OilObject], refusal: Refusal) {
+    if !matches!(refusal.code, Code::O9) {
+        return;
+    }
+    for number in 0..named.len() {
+        if is_of(&named[number], refusal) {
+            named[number].first = earlier_line(objects, named[number].position);
+            return;
+        }
+    }
+}
+
+/// The names of these faults of a tree, which the refusal is one of.
+pub fn oil_names<'t>(
+    alloc: Global,
+    tree: &'t OilTree,
+    notes: &[Note<'t>],
+    refusal: Refusal,
+) -> Result<Vec<Note<'t>>, NoMemory> {
+    let objects = tree.objects.items();
+    let mut named = Vec::new(alloc);
+    add_named(&mut named, notes)?;
+    add_lacking(&mut named, objects)?;
+    add_priorities(alloc, &mut named, objects)?;
+    put_in_tree_order(&mut named)?;
+    add_first(&mut named, objects, refusal);
+    Ok(named)
+}
