@@ -1,0 +1,6 @@
+#include "os.h"
+
+TASK(Main)
+{
+  TerminateTask();
+}
