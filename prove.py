@@ -8,6 +8,7 @@ import ctypes
 import errno
 import fcntl
 import functools
+import glob
 import hashlib
 import os
 import re
@@ -75,8 +76,21 @@ def place(crate):
 def key_of(crate):
     """Returns the sum of what the crate is proved from: the toolchain, its files, and the libraries that it names as they are built, each of which holds
     the sums of those below it."""
-    files = [f"{KIT}/WHAT", gate.__file__, kit.__file__, f"{ROOT}/HANDLES", *kit.files_of(crate.folder), *[f"{it.rlib}/format" for it in crate.deps]]
-    return hashlib.sha256(repr([crate.said, *[(os.path.relpath(it, ROOT), kit.sum_of(it)) for it in files]]).encode()).hexdigest()
+    files = [f"{ROOT}/HANDLES", *kit.files_of(crate.folder), *[f"{it.rlib}/format" for it in crate.deps]]
+    sums = [(os.path.relpath(it, ROOT), kit.sum_of(it)) for it in files]
+    # (the toolchain's by their names in it: so neither it nor the repository has a place of its own)
+    sums += [(os.path.relpath(it, KIT), kit.sum_of(it)) for it in (f"{KIT}/WHAT", gate.__file__, kit.__file__)]
+    return hashlib.sha256(repr([crate.said, *sums]).encode()).hexdigest()
+
+def sum_of_sources():
+    """Returns the sum of the contents of all sources, as the script `sloth` takes it."""
+    paths = [f"{ROOT}/crates.txt", f"{ROOT}/HANDLES"]
+    for part in ("src", "specs", "proofs"):
+        for top in glob.glob(f"{ROOT}/crates/*/{part}"):
+            paths += [f"{below}/{name}" for below, _, names in os.walk(top) for name in names]
+    names = sorted(os.path.relpath(it, ROOT) for it in paths if os.path.isfile(it) and not os.path.islink(it))
+    lines = [f"{hashlib.sha256(open(f'{ROOT}/{it}', 'rb').read()).hexdigest()}  {it}\n" for it in names]
+    return hashlib.sha256("".join(lines).encode()).hexdigest()
 
 def prove(crate, jobs):
     """Proves one crate as the gate does, and returns the status of that; what is said of it goes to the file log. A program is compiled and linked too."""
@@ -186,10 +200,15 @@ def main():
         held = kit.lock(crates)
         # (the hints of the gate's code are for those who write a crate)
         sys.stderr = open(f"{place(program)}/hints", "w", encoding="utf-8")
-        with open(f"{place(program)}/started", "w"):
-            pass
         prove_all(crates)
-        os.replace(f"{place(program)}/started", f"{place(program)}/ready")
+        # (where a source was changed meanwhile, a crate's key or the sum is another one now, and the next call proves what is left)
+        before = sum_of_sources()
+        if all(kit.text_of(f"{place(it)}/key") == key_of(it) for it in crates) and before == sum_of_sources():
+            with open(f"{place(program)}/started", "w", encoding="utf-8") as it:
+                it.write(before)
+            os.replace(f"{place(program)}/started", f"{place(program)}/ready")
+        else:
+            end(70, "a source was changed while it was proved: the next call proves what is left")
         for it in held:
             os.close(it)
 

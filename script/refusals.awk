@@ -64,12 +64,65 @@ function found(text,    i, registers, more) {
     return "; here stand" (count == 1 ? "s 1 operand" : " " count " operands") more
 }
 
-function fault(code, at, name, is_first,    key, text) {
+# Statements that a source may have.
+function statements() {
+    return "add sub sll slt sltu xor srl sra or and addi slti sltiu xori ori andi slli srli srai lui li mv nop lw lb lh lbu lhu " \
+        "sw sb sh beq bne blt bge bltu bgeu j call ret ActivateTask ChainTask GetTaskState GetEvent TerminateTask Schedule " \
+        "GetTaskID GetResource ReleaseResource SetEvent SetRelAlarm SetAbsAlarm CancelAlarm GetAlarm " \
+        "ClearEvent WaitEvent label end data task func"
+}
+
+# What stands at fault in the source, and what would be right there.
+function said_of_source(code, at, name, key,    i, kinds, known) {
+    cut(source[at])
+    if (code == "A1" && key == "byte")
+        for (i = 1; i <= length(source[at]); i++) if (substr(source[at], i, 1) ~ /[^\t -~\r]/) return ", here column " i
+    if (code == "A1" && key == "shape" && source[at] ~ /\/[\/*]/) return "; a comment begins with #"
+    if (code == "A1" && key == "shape") return "; here stands `" trimmed(source[at]) "`"
+    if (code == "A1" && key == "inside") return "; here stands " word ", so `end` lacks before it, or it belongs to another place"
+    if (code == "A1" && key == "outside") return "; here stands " word
+    if (code == "A2" && (code, word) in row) return ": " row[code, word]
+    if (code == "A2") {
+        known = nearest(word, statements())
+        return known == "" ? "; docs/REFERENCE.md, Items, has all of them" : "; is " known " meant?"
+    }
+    if (code ~ /^A[13]$/ && source[at] ~ /\/[\/*]/) return "; a comment begins with #"
+    if (code == "A6" && key == "frame") return "; here stands " operand[2]
+    if (code == "A4" && count > 0) return "; here stands " operand[(key == "size" || key == "bytes") && count > 1 ? 2 : count]
+    if (code == "A5" && name != "" && name != "frame" && key !~ /^(data|task|func|twice|GetResource)$/ && word != "end") {
+        kinds = word == "call" ? "func" : word ~ /^(lw|lb|lh|lbu|lhu|sw|sb|sh)$/ ? "data" : word ~ /^(j|beq|bne|blt|bge|bltu|bgeu)$/ ? "label" : ""
+        known = kinds != "" ? names_in_source(kinds, at) : names_of(object_of(name))
+        cut(source[at])
+        return "; there " list_text(known)
+    }
+    if (code == "A5" && key == "GetResource") return "; there " list_text(names_of("RESOURCE"))
+    if (code == "A7" && key == "none") return "; write `task " name "`, items and `end`"
+    if (code == "A7" && key == "task") return "; there " list_text(names_of("TASK"))
+    return ""
+}
+
+# The kind of object that a service names in an operand.
+function object_of(name) {
+    if (word ~ /^(ActivateTask|ChainTask|GetTaskState|GetEvent)$/ || word == "SetEvent" && operand[1] == name) return "TASK"
+    return word ~ /Alarm$/ ? "ALARM" : word ~ /Resource$/ || word == "label" ? "RESOURCE" : "EVENT"
+}
+function trimmed(text) { sub(/\r$/, "", text); sub(/#.*/, "", text); gsub(/^[ \t]+|[ \t]+$/, "", text); return text }
+
+# One fault: its code, the thing, and what would be right; the code's own words where this script finds no more.
+function fault(code, at, name, is_first,    key, text, said) {
     key = part == "src" ? cause(code, at, name, is_first) : ""
+    hint_key = ""
+    if (part == "oil") said = code ~ /^O[1-6]$/ ? said_of_token(code, at) : said_of_meaning(code, at, name)
+    if (part == "arr") said = said_of_arrival(code, at)
+    if (part == "load") said = said_of_load(code, at)
     text = (code, key) in row ? row[code, key] : row[code]
-    if (code == "A2") name = word
+    if (code == "A2") { name = word; text = row[code] }
     if (code == "A3" && (code, key) in row) text = text found(text)
-    say(at, "error", (code ~ /^[A-Z]/ ? code " " : "") text (name != "" && name != "frame" ? " (" name ")" : ""))
+    if (part == "src") said = said_of_source(code, at, name, key)
+    if (said != "" && part != "src") text = said
+    else text = text (name != "" && name != "frame" && code != "A2" ? " (" name ")" : code == "A2" ? " (" name ")" : "") said
+    if ((code, hint_key) in row && hint_key != "") text = text ". " row[code, hint_key]
+    say(at, "error", (code ~ /^[A-Z]/ ? code " " : "") text)
 }
 
 # Lines, with rows of neighbours and long lists made short.
@@ -92,6 +145,11 @@ BEGIN {
     }
 }
 NR == 1 && $1 == "refused" { part = $2; line = $3; code = $4; file = ENVIRON[toupper(part)] }
+NR == 1 && part != "" && ENVIRON["OIL"] != "" {
+    read_attributes(ENVIRON["ATTRIBUTES"])
+    read_tokens(ENVIRON["OIL"])
+    parse_oil()
+}
 NR == 1 && part == "src" { while ((getline text < file) > 0) source[++lines] = text }
 NR == 1 && /^not an / { file = ENVIRON["IMAGE"]; code = $4 }
 NR == 1 && /^no (time|holds)/ { file = ENVIRON[$2 == "time" ? "TRACE" : "SRC"]; code = $2; exit }
@@ -107,12 +165,16 @@ $1 == "wants" { keep(line, $2 " was taken last, so it has to be released first")
 $1 == "task" { task = $2 }
 $1 == "bytes" || $1 == "words" { keep(line, "the " ($1 == "bytes" ? "symbol" : "frame") " has " $2 " " ($2 == 1 ? substr($1, 1, 4) : $1)) }
 $1 == "calls" { calls = substr($0, 7); gsub(/ [0-9]+/, " (line&)", calls); keep($NF, "the calls: " calls) }
-$1 == "among" && $2 != "more" && !($2 == line && $3 == code && $4 == name) { others++; other_line[others] = $2; other_code[others] = $3; other_name[others] = $4 }
+$1 == "among" && $2 != "more" && !($2 == line && $3 == code && $4 == name) {
+    others++
+    other_line[others] = $2; other_code[others] = $3; other_name[others] = $4
+}
 END {
     if (code == "") exit
     if (task != "" && name == "") name = task
     else if (task != "") keep(line, "the task " task " does not list it")
     fault(code, line, name, 1)
+    if (code == "O6") for (i = depth; i > 0; i--) say(open_line[i], "note", "the block of " open_name[i] " is open")
     if (open) say(open, "note", "this body has no `end` yet")
     for (i = 1; i <= notes; i++) say(note_line[i], "note", note[i])
     for (i = 1; i <= others && i <= 20; i++) fault(other_code[i], other_line[i], other_name[i], 0)

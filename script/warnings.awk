@@ -1,7 +1,8 @@
 # Warnings of accepted texts, in the form that editors read: the lines of `unused`, then a line `-` and those of `shares`. Names of files are in the
-# environment; without ARR nothing is said of tasks, which arrivals may activate.
+# environment; without ARR nothing is said of tasks, which arrivals may activate. Nothing is said of a symbol that is meant to be shared without a resource:
+# a comment that begins with `open`, on its line or the one above. The status is 1 where something is said.
 
-function say(file, at, text) { print file (at ? ":" at : "") ": warning: " text }
+function say(file, at, text) { warned = 1; print file (at ? ":" at : "") ": warning: " text }
 function said(kind, name, text) { wanted[++count] = kind " " name; text_of[count] = text " " name }
 
 # The lines of objects by kind and name, two words in a row outside comments and strings.
@@ -23,11 +24,12 @@ function read_oil(    text, at, i, n, inside, rest, found, words, last, last_at)
         }
     }
 }
-function read_src(    text, at) {
+function read_src(    text, at, is_meant) {
     while ((getline text < ENVIRON["SRC"]) > 0) {
         at++
+        is_meant = (text ~ /#[ \t]*open([ \t:,.\r]|$)/) + (is_meant && text !~ /^[ \t]*#/ && text ~ /^[ \t]*data/)
         sub(/^[ \t]+/, "", text)
-        if (split(text, words, /[ \t,]+/) > 1 && words[1] == "data") data[words[2]] = at
+        if (split(text, words, /[ \t,]+/) > 1 && words[1] == "data") { data[words[2]] = at; meant[words[2]] = is_meant }
     }
 }
 $1 == "-" { shares = 1; next }
@@ -40,7 +42,8 @@ $1 == "alarm" { said("ALARM", $2, "nothing starts the alarm") }
 $1 == "symbol" { said("data", $2, "no task uses the symbol") }
 $1 == "function" { said("func " $3, $2, "no task reaches a call of the function") }
 END {
-    if (count) { read_oil(); read_src() }
+    if (count) read_oil()
+    if (count || opens) read_src()
     if (ENVIRON["ARR"] != "")
         while ((getline text < ENVIRON["ARR"]) > 0) { sub(/\r$/, "", text); sub(/^[0-9]+ /, "", text); arrives[text] = 1 }
     for (i = 1; i <= count; i++) {
@@ -49,5 +52,9 @@ END {
         else if (words[1] == "func") say(ENVIRON["SRC"], words[2], text_of[i])
         else if (words[1] != "TASK" || !(words[2] in arrives)) say(ENVIRON["OIL"], place[words[1], words[2]], text_of[i])
     }
-    for (i = 1; i <= opens; i++) { $0 = open[i]; say(ENVIRON["SRC"], $4, $1 ": " $5 " may preempt " $3 " here and do line " $6 "; one of the two stores") }
+    for (i = 1; i <= opens; i++) {
+        $0 = open[i]
+        if (!meant[$1]) say(ENVIRON["SRC"], $4, $1 ": " $5 " may preempt " $3 " here and do line " $6 "; one of the two stores")
+    }
+    exit warned
 }
