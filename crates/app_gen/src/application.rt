@@ -1,7 +1,6 @@
 //! What is generated.
 
-use sloth_base::event::Arrival;
-use sloth_base::list::List;
+use sloth_base::{Arrival, List};
 
 /// A generated application: its texts, and the arrivals of a run.
 #[derive(Drop)]

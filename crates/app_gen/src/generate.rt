@@ -6,13 +6,12 @@ ghost use Rattle.app_gen.specs.Oil.{oil_text};
 ghost use Rattle.app_gen.specs.Source.{source_text};
 ghost use Rattle.app_gen.specs.Load.{arrivals, owners_of};
 
-use crate::application::Sample;
+use crate::Sample;
 use crate::draws::Draws;
 use crate::load::arrivals;
 use crate::oil::oil_text;
 use crate::source::source_text;
-use sloth_base::list::List;
-use sloth_base::memory::NoMemory;
+use sloth_base::{List, NoMemory};
 use std::alloc::Global;
 
 /// The application of a seed with so many tasks, from 1 on: its texts, each no longer than a file may be, and 1,000 arrivals at

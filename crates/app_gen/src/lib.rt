@@ -13,4 +13,5 @@ mod oil;
 mod pieces;
 mod source;
 
+pub use application::Sample;
 pub use generate::sample;

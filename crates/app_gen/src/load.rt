@@ -4,11 +4,9 @@ ghost use Rattle.sloth_base.specs.Limits.{task_limit};
 ghost use Rattle.app_gen.specs.Load.{high_bits, first_arrivals};
 
 use crate::draws::Draws;
-use sloth_base::event::Arrival;
-use sloth_base::memory::NoMemory;
-use sloth_base::numbers::Line;
+use sloth_base::{Arrival, Line, NoMemory};
 use std::alloc::Global;
-use text_pieces::growth::push;
+use text_pieces::push;
 
 /// The number of arrivals.
 const ARRIVALS: usize = 1_000;

@@ -3,20 +3,21 @@ ghost use Rattle.std.specs.Prelude.{◌≡◌, ◌++◌, ◌<◌, ◌^◌, ◌-�
 ghost use Rattle.std.specs.List.{flat_map, range_with_len};
 ghost use Rattle.app_gen.specs.Oil.{event_object, resource_object, resource_objects, schedule_of, autostart_of, event_attribute, task_object, oil_text};
 
-use crate::pieces::{has_event, put};
-use sloth_base::memory::NoMemory;
+use crate::pieces::has_event;
+use sloth_base::NoMemory;
 use std::alloc::Global;
+use text_pieces::line;
+use text_pieces::pieces::Piece::{Number, Word};
 
 // Appends the event of a task that has one.
-#[tactic(auto, unfolding(crate::specs::Oil::event_object))]
+#[tactic(auto, unfolding(crate::specs::Oil::event_object, crate::specs::Pieces::number_behind))]
 fn put_event(text: &mut Vec<u8>, task: u32) -> Result<(), NoMemory>
     ensures { OnOk result (text.new.items ≡ text.old.items ++ event_object task) }
 {
-    if has_event(task) {
-        put(text, b"EVENT E", task)?;
-        text.extend_from_slice(b" { MASK = AUTO; };\n")?;
+    if !has_event(task) {
+        return Ok(());
     }
-    Ok(())
+    line!(text; Word(b"EVENT E"), Number(task), Word(b" { MASK = AUTO; };\n"))
 }
 
 // Appends the events of the tasks.
@@ -29,13 +30,11 @@ fn put_events(text: &mut Vec<u8>, tasks: u32) -> Result<(), NoMemory>
     Ok(())
 }
 
-#[tactic(auto, unfolding(crate::specs::Oil::resource_object))]
+#[tactic(auto, unfolding(crate::specs::Oil::resource_object, crate::specs::Pieces::number_behind))]
 fn put_resource(text: &mut Vec<u8>, resource: u32) -> Result<(), NoMemory>
     ensures { OnOk result (text.new.items ≡ text.old.items ++ resource_object resource) }
 {
-    put(text, b"RESOURCE R", resource)?;
-    text.extend_from_slice(b" { RESOURCEPROPERTY = STANDARD; };\n")?;
-    Ok(())
+    line!(text; Word(b"RESOURCE R"), Number(resource), Word(b" { RESOURCEPROPERTY = STANDARD; };\n"))
 }
 
 // Appends the four resources.
@@ -69,32 +68,26 @@ fn autostart_of(task: u32) -> &'static [u8]
 }
 
 // Appends the attribute EVENT of a task that has one.
-#[tactic(auto, unfolding(crate::specs::Oil::event_attribute))]
+#[tactic(auto, unfolding(crate::specs::Oil::event_attribute, crate::specs::Pieces::number_behind))]
 fn put_event_attribute(text: &mut Vec<u8>, task: u32) -> Result<(), NoMemory>
     ensures { OnOk result (text.new.items ≡ text.old.items ++ event_attribute task) }
 {
-    if has_event(task) {
-        put(text, b" EVENT = E", task)?;
-        text.extend_from_slice(b";")?;
+    if !has_event(task) {
+        return Ok(());
     }
-    Ok(())
+    line!(text; Word(b" EVENT = E"), Number(task), Word(b";"))
 }
 
 fn put_task(text: &mut Vec<u8>, task: u32) -> Result<(), NoMemory>
     requires { task < 2 ^ 32 - 1 }
     ensures { OnOk result (text.new.items ≡ text.old.items ++ task_object task) }
 {
-    put(text, b"TASK T", task)?;
-    put(text, b" { PRIORITY = ", task + 1)?;
-    text.extend_from_slice(b"; SCHEDULE = ")?;
-    text.extend_from_slice(schedule_of(task))?;
-    text.extend_from_slice(b"; ACTIVATION = 1; AUTOSTART = ")?;
-    text.extend_from_slice(autostart_of(task))?;
-    put(text, b"; RESOURCE = R", task % 4)?;
-    text.extend_from_slice(b";")?;
+    line!(text; Word(b"TASK T"), Number(task), Word(b" { PRIORITY = "), Number(task + 1),
+        Word(b"; SCHEDULE = "), Word(schedule_of(task)),
+        Word(b"; ACTIVATION = 1; AUTOSTART = "), Word(autostart_of(task)),
+        Word(b"; RESOURCE = R"), Number(task % 4), Word(b";"))?;
     put_event_attribute(text, task)?;
-    text.extend_from_slice(b" };\n")?;
-    Ok(())
+    line!(text; Word(b" };\n"))
 }
 
 // Appends the tasks.

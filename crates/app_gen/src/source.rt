@@ -6,31 +6,30 @@ ghost use Rattle.app_gen.specs.Draws.{draw};
 ghost use Rattle.app_gen.specs.Source.{setting_text, waking_text, first_body, body_head, adding_text, waiting_text, numbered_body, body, source_text};
 
 use crate::draws::Draws;
-use crate::pieces::{has_event, put};
-use sloth_base::memory::NoMemory;
+use crate::pieces::has_event;
+use sloth_base::NoMemory;
 use std::alloc::Global;
+use text_pieces::line;
+use text_pieces::pieces::Piece::{Number, Word};
 
 // Appends the setting of the event of a task that has one.
-#[tactic(auto, unfolding(crate::specs::Source::setting_text))]
+#[tactic(auto, unfolding(crate::specs::Source::setting_text, crate::specs::Pieces::number_behind))]
 fn put_sets(text: &mut Vec<u8>, task: u32) -> Result<(), NoMemory>
     ensures { OnOk result (text.new.items ≡ text.old.items ++ setting_text task) }
 {
-    if has_event(task) {
-        put(text, b"SetEvent T", task)?;
-        put(text, b", E", task)?;
-        text.extend_from_slice(b"\n")?;
+    if !has_event(task) {
+        return Ok(());
     }
-    Ok(())
+    line!(text; Word(b"SetEvent T"), Number(task), Word(b", E"), Number(task), Word(b"\n"))
 }
 
 // Appends what the first task does with another.
+#[tactic(auto, unfolding(crate::specs::Source::waking_text, crate::specs::Pieces::number_behind))]
 fn put_wake(text: &mut Vec<u8>, task: u32) -> Result<(), NoMemory>
     ensures { OnOk result (text.new.items ≡ text.old.items ++ waking_text task) }
 {
-    put(text, b"ActivateTask T", task)?;
-    text.extend_from_slice(b"\n")?;
-    put_sets(text, task)?;
-    Ok(())
+    line!(text; Word(b"ActivateTask T"), Number(task), Word(b"\n"))?;
+    put_sets(text, task)
 }
 
 // Appends the same for all others.
@@ -56,40 +55,33 @@ fn put_first_body(text: &mut Vec<u8>, tasks: u32) -> Result<(), NoMemory>
 }
 
 // Appends the waiting of a task that has an event.
-#[tactic(auto, unfolding(crate::specs::Source::waiting_text))]
+#[tactic(auto, unfolding(crate::specs::Source::waiting_text, crate::specs::Pieces::number_behind))]
 fn put_waits(text: &mut Vec<u8>, task: u32) -> Result<(), NoMemory>
     ensures { OnOk result (text.new.items ≡ text.old.items ++ waiting_text task) }
 {
-    if has_event(task) {
-        put(text, b"WaitEvent E", task)?;
-        put(text, b"\nClearEvent E", task)?;
-        text.extend_from_slice(b"\n")?;
+    if !has_event(task) {
+        return Ok(());
     }
-    Ok(())
+    line!(text; Word(b"WaitEvent E"), Number(task), Word(b"\nClearEvent E"), Number(task), Word(b"\n"))
 }
 
 // Appends how a body begins.
+#[tactic(auto, unfolding(crate::specs::Source::body_head, crate::specs::Pieces::number_behind))]
 fn put_begins(text: &mut Vec<u8>, task: u32, number: u32) -> Result<(), NoMemory>
     ensures { OnOk result (text.new.items ≡ text.old.items ++ body_head task number) }
 {
-    put(text, b"task T", task)?;
-    put(text, b", 2\nli t0, ", number)?;
-    text.extend_from_slice(b"\nsw t0, frame[1]\n")?;
-    Ok(())
+    line!(text; Word(b"task T"), Number(task), Word(b", 2\nli t0, "), Number(number), Word(b"\nsw t0, frame[1]\n"))
 }
 
 // Appends the work of a body.
+#[tactic(auto, unfolding(crate::specs::Source::adding_text, crate::specs::Pieces::number_behind))]
 fn put_adds(text: &mut Vec<u8>, task: u32) -> Result<(), NoMemory>
     requires { task < 2 ^ 30 }
     ensures { OnOk result (text.new.items ≡ text.old.items ++ adding_text task) }
 {
-    let resource = task % 4;
-    put(text, b"GetResource R", resource)?;
-    text.extend_from_slice(b"\nlw t1, tab[t0 & 252]\nadd t1, t1, t0\n")?;
-    put(text, b"sw t1, tab+", 4 * task)?;
-    put(text, b"\nReleaseResource R", resource)?;
-    text.extend_from_slice(b"\n")?;
-    Ok(())
+    line!(text; Word(b"GetResource R"), Number(task % 4),
+        Word(b"\nlw t1, tab[t0 & 252]\nadd t1, t1, t0\n"), Word(b"sw t1, tab+"), Number(4 * task),
+        Word(b"\nReleaseResource R"), Number(task % 4), Word(b"\n"))
 }
 
 // Appends the body of a task.

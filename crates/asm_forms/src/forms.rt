@@ -2,9 +2,7 @@
 ghost use Rattle.std.specs.Prelude.{◌≡◌};
 ghost use Rattle.asm_forms.specs.Forms.{object_operands, service_takes, is_operand_count, place_form, form_of, is_outer, is_body_start, is_body_end};
 
-use sloth_base::app::{AluKind, BranchKind, ImmKind, Width};
-use sloth_base::limits::OPERAND_LIMIT;
-use sloth_base::service::{ObjectKind, Service};
+use sloth_base::{AluKind, BranchKind, ImmKind, OPERAND_LIMIT, ObjectKind, Service, Width};
 
 /// A statement by its first word.
 #[derive(Clone, Copy)]

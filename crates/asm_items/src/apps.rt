@@ -9,13 +9,9 @@ ghost use Rattle.asm_items.specs.Apps.{third_bytes, first_bytes, bytes_with, sym
 use crate::bodies::func_of;
 use asm_lines::{Operand, SourceLine};
 use asm_scopes::{Body, Scope, is_data, name_of, number_of, scope_of};
-use sloth_base::app::{App, Func, Symbol};
-use sloth_base::config::Config;
-use sloth_base::list::List;
-use sloth_base::memory::NoMemory;
-use sloth_base::name::Name;
+use sloth_base::{App, Config, Func, List, Name, NoMemory, Symbol};
 use std::alloc::Global;
-use text_pieces::growth::push;
+use text_pieces::push;
 
 fn third_bytes(operands: &[Operand]) -> &[u8]
     ensures { result.now ≡ third_bytes operands.now }

@@ -8,15 +8,9 @@ use crate::operations::op_of;
 use crate::services::{behind_first, resource_number};
 use asm_lines::{Operand, SourceLine};
 use asm_scopes::{Body, Scope, is_label, label_names, name_of, number_of, written};
-use sloth_base::app::{Func, Item, Label, Op};
-use sloth_base::config::Config;
-use sloth_base::list::List;
-use sloth_base::memory::NoMemory;
-use sloth_base::name::Name;
-use sloth_base::numbers::{ResId, TaskId};
+use sloth_base::{Config, Func, Item, Label, List, Name, NoMemory, Op, ResId, TaskId};
 use std::alloc::Global;
-use text_pieces::growth::push;
-use text_pieces::names::Names;
+use text_pieces::{Names, push};
 
 // One item more, if there is an operation.
 fn add_item(items: &mut Vec<Item>, line: u32, op: Option<Op>) -> Result<(), NoMemory>

@@ -7,10 +7,8 @@ use crate::services::{call_of, number_of};
 use asm_forms::Mnemonic;
 use asm_lines::{Operand, SourceLine};
 use asm_scopes::Scope;
-use sloth_base::app::{ImmKind, Op, Width};
-use sloth_base::config::Config;
-use sloth_base::numbers::{FuncId, Reg, SymId};
-use text_pieces::names::Names;
+use sloth_base::{Config, FuncId, ImmKind, Op, Reg, SymId, Width};
+use text_pieces::Names;
 
 // The word of a number from -2,147,483,648 to 4,294,967,295.
 fn as_word(n: i64) -> u32

@@ -5,11 +5,8 @@ ghost use Rattle.asm_items.specs.Operations.{number_of, resource_number, mask_gi
 
 use asm_lines::Operand;
 use asm_scopes::{Scope, first_name, written};
-use sloth_base::app::Call;
-use sloth_base::config::{Config, EventDecl};
-use sloth_base::numbers::RES_SCHEDULER;
-use sloth_base::service::{ObjectKind, Service};
-use text_pieces::names::Names;
+use sloth_base::{Call, Config, EventDecl, ObjectKind, RES_SCHEDULER, Service};
+use text_pieces::Names;
 
 /// The number of a name: its place among those of its kind.
 pub fn number_of(names: &Names, name: &[u8]) -> u32

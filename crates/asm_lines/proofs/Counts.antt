@@ -1,22 +1,12 @@
--- How many lines a text has.
-use Rattle.std.proofs.Common.{◌≡◌, ℕ, ◌+◌, ◌≤◌, List, [], ◌∷◌, length, refl, ◌∙◌, arith, count_by}
+-- How many lines task source has.
+use Rattle.std.proofs.Common.{ℕ, ◌+◌, ◌≤◌, List, length, arith}
 use Rattle.std.specs.Prelude.{◌==◌}
-use Rattle.asm_lines.specs.Lines.{without_returns, lines}
-use Rattle.asm_lines.specs.SourceLines.{source_line}
-use Rattle.asm_lines.specs.Faults.{source_lines}
-use Rattle.std.specs.List.{slice_split}
 use Rattle.std.proofs.lemmas.List.Sums.{count_by-le-length}
 use Rattle.std.proofs.lemmas.List.{length-map}
-use Rattle.std.proofs.lemmas.List.Splits.{length-slice_split}
-
-length-without_returns : (ls : List (List ℕ)) → length (without_returns ls) ≡ length ls
-length-without_returns [] = refl
-length-without_returns (l ∷ ls) = let ih = length-without_returns ls in omega (arith, ih)
-
--- a text has one line more than it has LF bytes
-pub lines_count : (text : List ℕ) → length (lines text) ≡ count_by (λ b. b == 10) text + 1
-unfolding lines
-lines_count text = length-without_returns (slice_split (λ b. b == 10) text) ∙ length-slice_split (λ b. b == 10) text
+use Rattle.text_pieces.specs.Lines.{lines}
+use Rattle.text_pieces.proofs.LineCounts.{lines_count}
+use Rattle.asm_lines.specs.SourceLines.{source_line}
+use Rattle.asm_lines.specs.Faults.{source_lines}
 
 pub lines_few : (text : List ℕ) → length (source_lines text) ≤ length text + 1
 lines_few text =

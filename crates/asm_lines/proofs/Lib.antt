@@ -1,6 +1,5 @@
 pub mod Counts
 pub mod Trims
-pub mod Cuts
 pub mod Parts
 pub mod PlacesMade
 pub mod PlacesRead

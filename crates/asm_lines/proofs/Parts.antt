@@ -14,7 +14,7 @@ use Rattle.asm_lines.specs.Numbers.{number, magnitude, signed_number, is_hexadec
 use Rattle.asm_lines.specs.Registers.{register, small_number, lettered_register, lettered_register_by}
 use Rattle.asm_lines.specs.Grammar.{HasBareEnds, has_bare_start}
 use Rattle.asm_lines.proofs.Trims.{reversed_all}
-use Rattle.asm_lines.proofs.Cuts.{all_weaker}
+use Rattle.text_pieces.proofs.Cuts.{all_weaker}
 
 -- hexadecimal digits, x and -
 abbrev pub is_number_byte : ℕ → Bool

@@ -9,10 +9,11 @@ use Rattle.text_pieces.specs.Bytes.{is_name, is_byte_of}
 use Rattle.asm_lines.specs.Bytes.{is_blank, trim}
 use Rattle.asm_lines.specs.Numbers.{number}
 use Rattle.asm_lines.specs.Registers.{register}
-use Rattle.asm_lines.specs.Operands.{before, behind, small_of, direct_operand, direct_operand_at, indexed_operand, indexed_operand_at, frame_operand, in_brackets, bracketed_operand, place}
+use Rattle.text_pieces.specs.Bytes.{before, behind}
+use Rattle.asm_lines.specs.Operands.{small_of, direct_operand, direct_operand_at, indexed_operand, indexed_operand_at, frame_operand, in_brackets, bracketed_operand, place}
 use Rattle.asm_lines.specs.Grammar.{Blanks, has_bare_start, HasBareEnds, IsPlaceText, is_alone, is_offset, is_indexed, is_frame}
 use Rattle.asm_lines.proofs.Trims.{trim_is}
-use Rattle.asm_lines.proofs.Cuts.{lacks, has_here, has_in, before_is, behind_is, last_is, but_last}
+use Rattle.text_pieces.proofs.Cuts.{lacks, has_here, has_in, before_is, behind_is, last_is, but_last}
 use Rattle.asm_lines.proofs.Parts.{is_number_byte, name_bytes, number_bytes, number_some, register_bytes, register_some, bare_of}
 
 pub name_bare : (n : List ℕ) → is_name n ≡ true → HasBareEnds n

@@ -14,11 +14,12 @@ use Rattle.text_pieces.specs.Bytes.{is_name, is_byte_of}
 use Rattle.asm_lines.specs.Bytes.{is_blank, trim}
 use Rattle.asm_lines.specs.Numbers.{number}
 use Rattle.asm_lines.specs.Registers.{register}
-use Rattle.asm_lines.specs.Operands.{before, behind, small_of, direct_operand, direct_operand_at, indexed_operand, indexed_operand_at, frame_operand, in_brackets, bracketed_operand, place}
+use Rattle.text_pieces.specs.Bytes.{before, behind}
+use Rattle.asm_lines.specs.Operands.{small_of, direct_operand, direct_operand_at, indexed_operand, indexed_operand_at, frame_operand, in_brackets, bracketed_operand, place}
 use Rattle.asm_lines.specs.Faults.{is_wrong}
 use Rattle.asm_lines.specs.Grammar.{Blanks, has_bare_start, HasBareEnds, IsPlaceText, is_alone, is_offset, is_indexed, is_frame}
 use Rattle.asm_lines.proofs.Trims.{trimmed, reversed_all}
-use Rattle.asm_lines.proofs.Cuts.{cut_there, ends_there}
+use Rattle.text_pieces.proofs.Cuts.{cut_there, ends_there}
 
 blanks_both : (a b : List ℕ) → Blanks a → Blanks b → Blanks (a ++ b)
 blanks_both a b h g = list_all-append is_blank a b ∙ rw (h, g) refl

@@ -15,11 +15,12 @@ use Rattle.text_pieces.specs.Bytes.{is_byte_of}
 use Rattle.asm_lines.specs.Bytes.{is_blank, is_shown, is_letter, word_of, trim}
 use Rattle.asm_lines.specs.Lines.{operands_of}
 use Rattle.asm_lines.specs.Table.{mnemonic_of}
-use Rattle.asm_lines.specs.Operands.{before, behind}
+use Rattle.text_pieces.specs.Bytes.{before, behind}
 use Rattle.asm_lines.specs.SourceLines.{stands_apart, begins_statement, has_empty, known_statement, statement, statement_of}
 use Rattle.asm_lines.specs.Grammar.{IsRemains, is_whole, is_commented, IsOperands, is_last, is_more, IsTail, is_nothing, is_something, IsShape, is_shapeless}
-use Rattle.asm_lines.proofs.Trims.{stops, run_length, run_front, trim_is, trimmed}
-use Rattle.asm_lines.proofs.Cuts.{has_here, before_is, behind_is, cut_there, has_some}
+use Rattle.text_pieces.proofs.Cuts.{stops, run_length, run_front}
+use Rattle.asm_lines.proofs.Trims.{trim_is, trimmed}
+use Rattle.text_pieces.proofs.Cuts.{has_here, before_is, behind_is, cut_there, has_some}
 
 split_none : (t : List ℕ) → is_byte_of 44 t ≡ false → slice_split (λ b. b == 44) t ≡ t ∷ []
 unfolding is_byte_of

@@ -12,7 +12,7 @@ use Rattle.asm_lines.specs.declared.operands.Operand.TheVariants as o
 use Rattle.asm_lines.specs.declared.source_line.SourceLine.{SourceLine}
 use Rattle.asm_lines.specs.declared.source_line.SourceLine.TheVariants.{Empty, Shapeless, Unknown, Statement}
 use Rattle.asm_forms.specs.Forms.{is_operand_count, is_outer, is_body_start, is_body_end}
-use Rattle.asm_lines.specs.Lines.{lines}
+use Rattle.text_pieces.specs.Lines.{lines}
 use Rattle.asm_lines.specs.SourceLines.{source_line}
 
 -- The test says that there is a fault of this code on this line, and it is r.

@@ -1,6 +1,5 @@
 -- Operands by their forms.
 use Rattle.std.specs.Prelude.{ℕ, ℤ, pos, negsuc, ◌-◌, ◌==◌, Bool, true, false, ◌&&◌, nat_le, if◌then◌else◌, List, slice_index, take, length, codes, Option, Some, None, Result, Ok, Err}
-use Rattle.std.specs.List.{before_first, after_first}
 use Rattle.std.specs.Str.{bytes_eq}
 use Rattle.hex.specs.declared.error.FromHexError.{FromHexError}
 use Rattle.hex.specs.Hex.{decode_of}
@@ -11,18 +10,10 @@ use Rattle.asm_lines.specs.declared.operands.Small.{Small}
 use Rattle.asm_lines.specs.declared.operands.Small.TheVariants.{NoNumber, TooFar, Is}
 use Rattle.asm_forms.specs.declared.forms.Form.{Form}
 use Rattle.asm_forms.specs.declared.forms.Form.TheVariants as form
-use Rattle.text_pieces.specs.Bytes.{is_name, is_byte_of}
+use Rattle.text_pieces.specs.Bytes.{is_name, is_byte_of, before, behind}
 use Rattle.asm_lines.specs.Bytes.{trim}
 use Rattle.asm_lines.specs.Numbers.{number, is_within}
 use Rattle.asm_lines.specs.Registers.{register}
-
--- what stands before the first byte c, or all, and what stands behind it
-abbrev pub before : ℕ → List ℕ → List ℕ
-before c t = before_first (λ b. b == c) t
-
--- the text behind the first byte of this kind
-abbrev pub behind : ℕ → List ℕ → List ℕ
-behind c t = after_first (λ b. b == c) t
 
 -- a number from 0 to the limit of operands
 abbrev pub small_of : Option ℤ → Small

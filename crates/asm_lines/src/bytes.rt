@@ -4,7 +4,7 @@ ghost use Rattle.std.specs.List.{take_while, list_all};
 ghost use Rattle.sloth_base.specs.ImageRange.{continues_word};
 ghost use Rattle.asm_lines.specs.Bytes.{is_blank, is_shown, is_letter, trim, word_of};
 
-use text_pieces::bytes::{after, continues_word, front};
+use text_pieces::{after, continues_word, front};
 
 /// A space or a tab.
 pub fn is_blank(byte: u8) -> bool

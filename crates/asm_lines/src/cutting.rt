@@ -1,44 +1,13 @@
-//! A text cut at its line ends, and operands cut at their commas.
-ghost use Rattle.std.specs.Prelude.{◌≡◌, ◌==◌, IfOk, map};
-ghost use Rattle.std.specs.List.{slice_split};
-ghost use Rattle.std.specs.Str.Lines.{strip_carriage_return};
+//! Operands, cut at their commas.
+ghost use Rattle.std.specs.Prelude.{◌≡◌, IfOk, map};
 ghost use Rattle.text_pieces.specs.Names.{referent};
-ghost use Rattle.asm_lines.specs.Lines.{line_of, operands_of};
+ghost use Rattle.asm_lines.specs.Lines.{operands_of};
 ghost use Rattle.asm_lines.specs.Bytes.{trim};
 
 use crate::bytes::trim;
-use sloth_base::memory::NoMemory;
-use std::alloc::{AllocError, Global};
-use text_pieces::bytes::front;
-use text_pieces::growth::push;
-
-/// The parts between the bytes `stop`.
-pub fn split<'a>(alloc: Global, text: &'a [u8], stop: u8) -> Result<Vec<&'a [u8]>, AllocError>
-    ensures { IfOk result (λ parts. map referent parts.items ≡ slice_split (λ b. b == stop) text.now) }
-{
-    text.split(|b| *b == stop).collect(alloc)
-}
-
-fn strip_carriage_return(line: &[u8]) -> &[u8]
-    ensures { result.now ≡ strip_carriage_return line.now }
-{
-    if !line.is_empty() && line[line.len() - 1] == b'\r' {
-        front(line, line.len() - 1)
-    } else {
-        line
-    }
-}
-
-/// A line without the CR before its LF. The last one has no LF.
-pub fn line_of<'a>(part: &'a [u8], is_last: bool) -> &'a [u8]
-    ensures { result.now ≡ line_of is_last part.now }
-{
-    if is_last {
-        part
-    } else {
-        strip_carriage_return(part)
-    }
-}
+use sloth_base::NoMemory;
+use std::alloc::Global;
+use text_pieces::{push, split};
 
 fn trimmed<'a>(alloc: Global, parts: &[&'a [u8]]) -> Result<Vec<&'a [u8]>, NoMemory>
     ensures { IfOk result (λ operands. map referent operands.items ≡ map trim (map referent parts.now)) }

@@ -5,7 +5,7 @@
 #![tactic(auto)]
 
 mod bytes;
-pub mod cutting;
+mod cutting;
 mod laws;
 mod numerals;
 mod operands;
@@ -18,4 +18,5 @@ mod table;
 pub use laws::{lines_are_parts, one_number, one_place, one_remains, one_shape, register_rows};
 pub use operands::Operand;
 pub use reader::{read, read_lines};
+pub use rules::{after_line, is_a1, is_a2, is_a3, is_a4};
 pub use source_line::SourceLine;

@@ -8,13 +8,9 @@ use crate::numerals::{is_within, number};
 use crate::registers::register;
 use asm_forms::Form;
 use hex::{FromHexError, decode};
-use sloth_base::limits::OPERAND_LIMIT;
-use sloth_base::list::List;
-use sloth_base::memory::NoMemory;
-use sloth_base::name::Name;
-use sloth_base::numbers::Reg;
+use sloth_base::{List, Name, NoMemory, OPERAND_LIMIT, Reg};
 use std::alloc::Global;
-use text_pieces::bytes::{before, behind, front, has, is_name, same};
+use text_pieces::{before, behind, front, has, is_name, same};
 
 /// What an operand is.
 #[derive(Drop)]

@@ -2,18 +2,16 @@
 ghost use Rattle.std.specs.Prelude.{◌≡◌, ◌<◌, length, map, IfOk, IfErr, OnOk};
 ghost use Rattle.least_fault.specs.Order.{ErrorIs, NoFault};
 ghost use Rattle.text_pieces.specs.Names.{referent};
-ghost use Rattle.asm_lines.specs.Lines.{without_returns};
+ghost use Rattle.text_pieces.specs.Lines.{without_returns};
 ghost use Rattle.asm_lines.specs.SourceLines.{source_line};
 ghost use Rattle.asm_lines.specs.Faults.{source_lines, SourceLinesFault};
 
-use crate::cutting::{line_of, split};
+use crate::SourceLine;
 use crate::rules::source_fault;
-use crate::source_line::{SourceLine, source_line};
-use sloth_base::list::List;
-use sloth_base::memory::NoMemory;
-use sloth_base::refusal::BuildError;
+use crate::source_line::source_line;
+use sloth_base::{BuildError, List, NoMemory};
 use std::alloc::Global;
-use text_pieces::growth::push;
+use text_pieces::{line_of, push, split};
 
 // What the line of each part is.
 fn read_parts(alloc: Global, parts: &[&[u8]]) -> Result<Vec<SourceLine>, NoMemory>
@@ -29,7 +27,7 @@ fn read_parts(alloc: Global, parts: &[&[u8]]) -> Result<Vec<SourceLine>, NoMemor
 }
 
 /// What the lines of a text are, whatever their faults.
-#[tactic(auto, unfolding(crate::specs::Lines::lines))]
+#[tactic(auto, unfolding(text_pieces::specs::Lines::lines))]
 pub fn read_lines(alloc: Global, text: &[u8]) -> Result<List<SourceLine>, NoMemory>
     ensures { IfOk result (λ read. read ≡ source_lines text.now) }
 {

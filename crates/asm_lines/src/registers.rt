@@ -2,8 +2,8 @@
 ghost use Rattle.std.specs.Prelude.{◌≡◌, ◌<◌, IfSome};
 ghost use Rattle.asm_lines.specs.Registers.{lettered_register, small_number, register};
 
-use sloth_base::numbers::Reg;
-use text_pieces::bytes::{after, same};
+use sloth_base::Reg;
+use text_pieces::{after, same};
 
 // The number of one or two digits, as it is printed.
 #[tactic(auto, unfolding(crate::specs::Registers::small_number))]

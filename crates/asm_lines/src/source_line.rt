@@ -3,16 +3,15 @@ ghost use Rattle.std.specs.Prelude.{◌≡◌, IfOk, map};
 ghost use Rattle.text_pieces.specs.Names.{referent};
 ghost use Rattle.asm_lines.specs.SourceLines.{stands_apart, begins_statement, has_empty, read_operands, statement, statement_of, source_line};
 
+use crate::Operand;
 use crate::bytes::{are_shown, begins_with_letter, is_blank, trim, word_of};
 use crate::cutting::operands_of;
-use crate::operands::{Operand, read_operand};
+use crate::operands::read_operand;
 use crate::table::mnemonic_of;
 use asm_forms::{Mnemonic, form_of};
-use sloth_base::list::List;
-use sloth_base::memory::NoMemory;
+use sloth_base::{List, NoMemory};
 use std::alloc::Global;
-use text_pieces::bytes::{after, before};
-use text_pieces::growth::push;
+use text_pieces::{after, before, push};
 
 /// What a line of task source is.
 #[derive(Drop)]

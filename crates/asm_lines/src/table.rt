@@ -3,9 +3,8 @@ ghost use Rattle.std.specs.Prelude.{◌≡◌};
 ghost use Rattle.asm_lines.specs.Table.{alu_of, imm_of, shift_of, load_of, store_of, branch_of, plain_of, mnemonic_of};
 
 use asm_forms::Mnemonic;
-use sloth_base::app::{AluKind, BranchKind, ImmKind, Width};
-use sloth_base::service::service_named;
-use text_pieces::bytes::same;
+use sloth_base::{AluKind, BranchKind, ImmKind, Width, service_named};
+use text_pieces::same;
 
 #[tactic(auto, unfolding(crate::specs::Table::alu_of))]
 fn alu_of(word: &[u8]) -> Option<AluKind>

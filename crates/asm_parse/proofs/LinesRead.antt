@@ -12,10 +12,11 @@ use Rattle.asm_lines.specs.declared.source_line.SourceLine.{SourceLine}
 use Rattle.asm_lines.specs.declared.source_line.SourceLine.TheVariants.{Empty, Shapeless}
 use Rattle.asm_forms.specs.declared.forms.Mnemonic.{Mnemonic}
 use Rattle.asm_lines.specs.Bytes.{word_of, trim}
-use Rattle.asm_lines.specs.Lines.{lines, operands_of}
+use Rattle.text_pieces.specs.Lines.{lines}
+use Rattle.asm_lines.specs.Lines.{operands_of}
 use Rattle.asm_forms.specs.Forms.{is_operand_count}
 use Rattle.asm_lines.specs.Table.{mnemonic_of}
-use Rattle.asm_lines.specs.Operands.{before}
+use Rattle.text_pieces.specs.Bytes.{before}
 use Rattle.asm_lines.specs.SourceLines.{read_operands, known_statement, statement_of, source_line, has_empty, begins_statement}
 use Rattle.asm_lines.specs.Faults.{is_wrong, is_outside, is_long, is_a3, is_a4, FaultAt, source_lines, SourceLinesFault}
 use Rattle.asm_parse.proofs.Read.{IsRead}

@@ -23,7 +23,8 @@ use Rattle.asm_forms.specs.declared.forms.Form.TheVariants as form
 use Rattle.asm_lines.specs.Bytes.{trim}
 use Rattle.asm_lines.specs.Numbers.{number, is_within}
 use Rattle.asm_lines.specs.Registers.{register, lettered_register, lettered_register_by, small_number}
-use Rattle.asm_lines.specs.Operands.{before, behind, small_of, register_operand, number_operand, name_operand, frame_operand, direct_operand, indexed_operand, in_brackets, bracketed_operand, place, bytes_operand, read_operand}
+use Rattle.text_pieces.specs.Bytes.{before, behind}
+use Rattle.asm_lines.specs.Operands.{small_of, register_operand, number_operand, name_operand, frame_operand, direct_operand, indexed_operand, in_brackets, bracketed_operand, place, bytes_operand, read_operand}
 use Rattle.asm_lines.specs.Faults.{is_wrong, is_outside}
 use Rattle.code_rules.specs.AppRange.{IsRegister}
 use Rattle.asm_parse.proofs.Fit.{FitsPlace, FitsWord, FitsRegister, FitsName, FitsBytes, FitsForm, AllFit}

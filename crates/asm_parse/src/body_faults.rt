@@ -5,15 +5,14 @@ ghost use Rattle.asm_scopes.specs.Statements.{label_names};
 ghost use Rattle.asm_scopes.specs.Bodies.{function_names};
 ghost use Rattle.asm_parse.specs.NameFaults.{is_too_great, is_strange, is_misnamed, is_beyond, HeaderFault, BodyLineFault, LineNameFault, BodyNameFault};
 
-use crate::limits::{count_item, count_items, count_label, has_long};
+use crate::limits::has_long;
+use crate::{count_item, count_items, count_label};
 use asm_lines::SourceLine;
 use asm_scopes::{Body, Scope, is_item, is_label, is_task, label_names, name_of, number_of};
 use least_fault::{fault_if, merge};
-use sloth_base::limits::{BODY_LIMIT, FRAME_LIMIT, ITEM_LIMIT};
-use sloth_base::memory::NoMemory;
-use sloth_base::refusal::{Code, Part, Refusal};
+use sloth_base::{BODY_LIMIT, Code, FRAME_LIMIT, ITEM_LIMIT, NoMemory, Part, Refusal};
 use std::alloc::Global;
-use text_pieces::names::Names;
+use text_pieces::Names;
 
 /// A6 of a header behind so many bodies: one body too many, a frame of too many words, or a long name.
 pub fn is_too_great(count: usize, header: &SourceLine) -> bool

@@ -4,14 +4,13 @@ ghost use Rattle.least_fault.specs.Search.{IsSearchResult, Somewhere};
 ghost use Rattle.asm_scopes.specs.Statements.{symbol_names};
 ghost use Rattle.asm_parse.specs.NameFaults.{is_taken, is_too_much, SymbolFault, DataFault};
 
-use crate::limits::{bytes_of, count_data, has_long};
+use crate::limits::has_long;
+use crate::{bytes_of, count_data};
 use asm_lines::SourceLine;
 use asm_scopes::{is_data, name_of, number_of};
 use least_fault::{fault_if, merge};
-use sloth_base::limits::{DATA_LIMIT, SYMBOL_LIMIT};
-use sloth_base::refusal::{Code, Part, Refusal};
-use text_pieces::bytes::same;
-use text_pieces::names::Names;
+use sloth_base::{Code, DATA_LIMIT, Part, Refusal, SYMBOL_LIMIT};
+use text_pieces::{Names, same};
 
 /// A5 of a symbol: it takes the name of one of the first `count`, or `frame`.
 pub fn is_taken(symbols: &Names, count: usize, line: &SourceLine) -> bool

@@ -12,11 +12,9 @@ use crate::data_faults::data_faults;
 use asm_lines::SourceLine;
 use asm_scopes::{Body, Scope, scope_of, task_body_names};
 use least_fault::{fault_if, merge};
-use sloth_base::config::{Config, TaskDecl};
-use sloth_base::memory::NoMemory;
-use sloth_base::refusal::{Code, Part, Refusal};
+use sloth_base::{Code, Config, NoMemory, Part, Refusal, TaskDecl};
 use std::alloc::Global;
-use text_pieces::names::Names;
+use text_pieces::Names;
 
 fn any_without(names: &Names, tasks: &[TaskDecl]) -> bool
     ensures { result ≡ list_any (λ (t : TaskDecl). not (list_any (bytes_eq t.name) names.now)) tasks.now }

@@ -11,4 +11,8 @@ pub mod judging;
 pub mod limits;
 mod parsing;
 
+pub use body_faults::{is_beyond, is_misnamed, is_strange, is_too_great};
+pub use data_faults::{is_taken, is_too_much};
+pub use judging::is_body_missing;
+pub use limits::{bytes_of, count_data, count_item, count_items, count_label};
 pub use parsing::{one_app, parse_app};

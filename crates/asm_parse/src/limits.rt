@@ -7,7 +7,7 @@ ghost use Rattle.asm_parse.specs.NameFaults.{has_long_name, has_long, bytes_of};
 
 use asm_lines::{Operand, SourceLine};
 use asm_scopes::{is_data, is_item, is_label, number_of, written};
-use sloth_base::limits::NAME_LIMIT;
+use sloth_base::NAME_LIMIT;
 
 fn has_long_name(operand: &Operand) -> bool
     ensures { result ≡ has_long_name (written_name operand.now) }

@@ -14,10 +14,7 @@ use crate::judging::judge;
 use asm_items::app_of;
 use asm_lines::{SourceLine, read};
 use asm_scopes::{Body, bodies_of};
-use sloth_base::app::App;
-use sloth_base::config::Config;
-use sloth_base::memory::NoMemory;
-use sloth_base::refusal::{BuildError, Refusal};
+use sloth_base::{App, BuildError, Config, NoMemory, Refusal};
 use std::alloc::Global;
 
 // The task code of lines with these bodies, or the least fault of names and limits.

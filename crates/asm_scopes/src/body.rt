@@ -4,12 +4,12 @@ ghost use Rattle.std.specs.List.{take_while, prefix_len};
 ghost use Rattle.asm_scopes.specs.Statements.{closes_body};
 ghost use Rattle.asm_scopes.specs.Bodies.{bodies_of, body_name, is_task_body};
 
-use crate::statements::{closes_body, is_task, name_of, opens_body};
+use crate::{closes_body, is_task, name_of, opens_body};
 use asm_lines::SourceLine;
-use sloth_base::memory::NoMemory;
+use sloth_base::NoMemory;
 use std::alloc::Global;
 use std::marker::Model;
-use text_pieces::growth::push;
+use text_pieces::push;
 
 /// A body: the number of its header's line, the header, and the lines behind it up to the next `end`.
 #[derive(Drop)]

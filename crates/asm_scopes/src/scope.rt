@@ -3,12 +3,11 @@ ghost use Rattle.std.specs.Prelude.{◌≡◌};
 ghost use Rattle.asm_scopes.specs.Scopes.{object_name, service_kind, kind_of, is_scheduler, is_named, is_lacking, any_unknown, has_unknown};
 ghost use Rattle.asm_scopes.specs.Statements.{written_name};
 
-use crate::statements::written;
+use crate::written;
 use asm_forms::Mnemonic;
 use asm_lines::{Operand, SourceLine};
-use sloth_base::service::{ObjectKind, Service};
-use text_pieces::bytes::same;
-use text_pieces::names::Names;
+use sloth_base::{ObjectKind, Service};
+use text_pieces::{Names, same};
 
 /// What a name is the name of. A name in front of a declaration is used nowhere.
 #[derive(Clone, Copy)]

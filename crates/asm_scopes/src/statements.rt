@@ -5,10 +5,9 @@ ghost use Rattle.asm_scopes.specs.Statements.{is_data, opens_body, closes_body, 
 
 use asm_forms::{Mnemonic, closes, opens};
 use asm_lines::{Operand, SourceLine};
-use sloth_base::limits::OPERAND_LIMIT;
-use sloth_base::memory::NoMemory;
+use sloth_base::{NoMemory, OPERAND_LIMIT};
 use std::alloc::Global;
-use text_pieces::names::Names;
+use text_pieces::Names;
 
 /// Whether the line declares a symbol.
 pub fn is_data(line: &SourceLine) -> bool

@@ -5,14 +5,11 @@ ghost use Rattle.sloth_base.specs.DeclaredNames.{task_names, event_names, alarm_
 ghost use Rattle.asm_scopes.specs.Scopes.{scope_of};
 ghost use Rattle.asm_scopes.specs.Bodies.{body_name, is_body_of, function_names, called_names, task_body_names};
 
-use crate::body::Body;
-use crate::scope::Scope;
-use crate::statements::symbol_names;
+use crate::{Body, Scope, symbol_names};
 use asm_lines::SourceLine;
-use sloth_base::config::Config;
-use sloth_base::memory::NoMemory;
+use sloth_base::{Config, NoMemory};
 use std::alloc::Global;
-use text_pieces::names::Names;
+use text_pieces::Names;
 
 fn task_names<'t>(alloc: Global, config: &'t Config) -> Result<Names<'t>, NoMemory>
     ensures { IfOk result (λ names. names ≡ task_names config.now) }

@@ -3,10 +3,10 @@ ghost use Rattle.std.specs.Prelude.{◌≡◌, ◌<◌, ◌++◌, OnOk};
 ghost use Rattle.sloth_base.specs.Limits.{counter_limit};
 ghost use Rattle.block_parts.specs.Alarms.{finding_code};
 
-use masked_code::emit::{emit, past};
-use rv32_instr::Instr;
-use rv32_instr::asm::{A0, X1, X3, X4, addi, bltu, lui, lw, sub};
-use sloth_region::layout::{CONTROLLER_HIGH, counter_value};
+use masked_code::emit::emit;
+use masked_code::past;
+use rv32_instr::{A0, Instr, X1, X3, X4, addi, bltu, lui, lw, sub};
+use sloth_region::{CONTROLLER_HIGH, counter_value};
 use std::alloc::AllocError;
 
 /// a0 := the ticks to the value in a0. x1 holds the greatest value.

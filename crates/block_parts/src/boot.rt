@@ -6,10 +6,9 @@ ghost use Rattle.rv32_instr.specs.Range.{InRange};
 ghost use Rattle.block_parts.specs.Boot.{line_code, idle_code, IsJump};
 
 use masked_code::emit::emit;
-use rv32_instr::asm::{X3, X4, ZERO, jal, sb};
-use rv32_instr::{Instr, InstrKind};
-use sloth_base::places::Levels;
-use sloth_region::layout::pending_byte;
+use rv32_instr::{Instr, InstrKind, X3, X4, ZERO, jal, sb};
+use sloth_base::Levels;
+use sloth_region::pending_byte;
 use std::alloc::AllocError;
 
 /// The line is raised where its task is autostarted. x3 holds the controller's address, x4 holds 1.

@@ -3,14 +3,14 @@ ghost use Rattle.std.specs.Prelude.{◌≡◌, ◌<◌, ◌++◌, OnOk};
 ghost use Rattle.sloth_base.specs.Limits.{task_limit};
 ghost use Rattle.block_parts.specs.Events.{refusal_code, events_telling_code, own_clearing_code, awaited_mask_test, keeping_code};
 
-use crate::pieces::OWN_EVENTS;
-use masked_code::emit::{X5, emit, past};
-use rv32_instr::Instr;
-use rv32_instr::asm::{
-    A0, A1, X1, X4, X30, X31, ZERO, add, addi, and, beq, bne, lw, or, slli, sw, xor,
+use crate::OWN_EVENTS;
+use masked_code::emit::emit;
+use masked_code::{X5, past};
+use rv32_instr::{
+    A0, A1, Instr, X1, X4, X30, X31, ZERO, add, addi, and, beq, bne, lw, or, slli, sw, xor,
 };
-use sloth_base::service::{E_OK, E_OS_STATE};
-use sloth_region::layout::{CONTEXT_PC, CUR, RESUME_WORDS, events, wait};
+use sloth_base::{E_OK, E_OS_STATE};
+use sloth_region::{CONTEXT_PC, CUR, RESUME_WORDS, events, wait};
 use std::alloc::AllocError;
 
 /// How many instructions tell a task's events.

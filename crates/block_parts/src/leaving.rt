@@ -2,11 +2,10 @@
 ghost use Rattle.std.specs.Prelude.{◌≡◌, ◌++◌, OnOk};
 ghost use Rattle.masked_code.specs.Kernel.{leaving_code, taking_up_code, idle_loop_test};
 
-use masked_code::emit::{X5, emit, past, restore};
-use rv32_instr::Instr;
-use rv32_instr::asm::{X1, X2, X4, ZERO, addi, beq, csrrw, lw, mret, sw};
-use rv32_instr::csr::{MEPC, PLEVEL};
-use sloth_region::layout::{
+use masked_code::emit::emit;
+use masked_code::{X5, past, restore};
+use rv32_instr::{Instr, MEPC, PLEVEL, X1, X2, X4, ZERO, addi, beq, csrrw, lw, mret, sw};
+use sloth_region::{
     BELOW_WORD, CONTEXT_BELOW, CONTEXT_BYTES, CONTEXT_CUR, CONTEXT_LEVEL, CONTEXT_PC, CUR,
 };
 use std::alloc::AllocError;

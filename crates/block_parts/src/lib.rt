@@ -20,3 +20,13 @@ pub mod pieces;
 pub mod prologues;
 pub mod services;
 pub mod ticks;
+
+pub use alarms::find_ticks;
+pub use boot::{counter_level, jump, raise_autostarted, stay};
+pub use events::{WAKE, clear_own, keep, refuse, tell_events};
+pub use leaving::leave;
+pub use marks::{back_mark, opening};
+pub use pieces::{BACK, OWN_ACTIVE, OWN_EVENTS, end, go_back, look_at, open, raise};
+pub use prologues::{ask_preempted, start_level, take_own};
+pub use services::{ask, lower, release, take, tell_resting};
+pub use ticks::{ask_busy, ask_greatest, look_unless_later, start_again};

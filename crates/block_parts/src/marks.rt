@@ -3,8 +3,7 @@ ghost use Rattle.std.specs.Prelude.{◌≡◌};
 ghost use Rattle.sloth_base.specs.ServiceCodes.{code_of};
 ghost use Rattle.block_parts.specs.Marks.{opening, back_mark};
 
-use sloth_base::image::{Mark, MarkKind};
-use sloth_base::service::Service;
+use sloth_base::{Mark, MarkKind, Service};
 
 /// The mark on the instruction with which a service begins.
 pub fn opening(address: u32, service: Service) -> Mark

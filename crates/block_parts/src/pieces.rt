@@ -3,14 +3,14 @@ ghost use Rattle.std.specs.Prelude.{◌≡◌, ◌<◌, ◌++◌, OnOk};
 ghost use Rattle.sloth_base.specs.Limits.{task_limit};
 ghost use Rattle.block_parts.specs.Pieces.{opening_code, ending_code, looking_code, raising_code, level_back_code, back_code, ok_level_back_code};
 
-use masked_code::emit::{X5, emit};
-use rv32_instr::Instr;
-use rv32_instr::asm::{
-    A0, X1, X3, X4, X31, ZERO, add, addi, csrrci, csrrw, lbu, lw, mret, sb, slli, sltu, sw,
+use masked_code::X5;
+use masked_code::emit::emit;
+use rv32_instr::{
+    A0, Instr, MEPC, MIE, MSTATUS, PLEVEL, X1, X3, X4, X31, ZERO, add, addi, csrrci, csrrw, lbu,
+    lw, mret, sb, slli, sltu, sw,
 };
-use rv32_instr::csr::{MEPC, MIE, MSTATUS, PLEVEL};
-use sloth_base::service::E_OK;
-use sloth_region::layout::{CUR, active, enabled_byte, pending_byte};
+use sloth_base::E_OK;
+use sloth_region::{CUR, active, enabled_byte, pending_byte};
 use std::alloc::AllocError;
 
 /// The running task's pending byte, from `cur` behind the controller's address, as `cur` is its number and 1 more.

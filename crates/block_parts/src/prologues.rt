@@ -3,14 +3,11 @@ ghost use Rattle.std.specs.Prelude.{ℕ, ◌≡◌, ◌<◌, ◌++◌, OnOk, if�
 ghost use Rattle.sloth_base.specs.Limits.{task_limit, level_count};
 ghost use Rattle.block_parts.specs.Prologues.{preempted_test, own_taking_code};
 
-use masked_code::emit::{emit, past};
-use rv32_instr::Instr;
-use rv32_instr::asm::{X1, X2, X4, ZERO, addi, beq, csrrw, lw, sw};
-use rv32_instr::csr::MEPC;
-use sloth_base::config::TaskDecl;
-use sloth_base::numbers::TaskId;
-use sloth_base::places::Levels;
-use sloth_region::layout::{CONTEXT_BYTES, CONTEXT_PC, CUR, resume};
+use masked_code::emit::emit;
+use masked_code::past;
+use rv32_instr::{Instr, MEPC, X1, X2, X4, ZERO, addi, beq, csrrw, lw, sw};
+use sloth_base::{Levels, TaskDecl, TaskId};
+use sloth_region::{CONTEXT_BYTES, CONTEXT_PC, CUR, resume};
 use std::alloc::AllocError;
 
 /// The registers of a context: x5 to x31.

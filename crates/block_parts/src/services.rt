@@ -4,14 +4,14 @@ ghost use Rattle.sloth_base.specs.Limits.{task_limit};
 ghost use Rattle.sloth_base.specs.ConfigRange.{scheduler_number};
 ghost use Rattle.block_parts.specs.Services.{own_task_code, taking_code, resting_telling_code, releasing_code, level_code};
 
-use crate::pieces::{BACK, LOOK, go_on};
-use masked_code::emit::{emit, past};
-use rv32_instr::Instr;
-use rv32_instr::asm::{
-    A0, A1, X1, X3, X4, X30, ZERO, add, addi, beq, bgeu, csrrw, lbu, lw, sw, xori,
+use crate::BACK;
+use crate::pieces::{LOOK, go_on};
+use masked_code::emit::emit;
+use masked_code::past;
+use rv32_instr::{
+    A0, A1, Instr, PLEVEL, X1, X3, X4, X30, ZERO, add, addi, beq, bgeu, csrrw, lbu, lw, sw, xori,
 };
-use rv32_instr::csr::PLEVEL;
-use sloth_region::layout::{CUR, pending_byte, saved};
+use sloth_region::{CUR, pending_byte, saved};
 use std::alloc::AllocError;
 
 /// How many instructions ChainTask's refusal has before its way back.

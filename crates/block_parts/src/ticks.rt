@@ -3,13 +3,13 @@ ghost use Rattle.std.specs.Prelude.{◌≡◌, ◌<◌, ◌^◌, ◌++◌, [], O
 ghost use Rattle.sloth_base.specs.Limits.{task_limit, alarm_limit};
 ghost use Rattle.block_parts.specs.Ticks.{greatest_test, look_code, suspension_test, awaited_events_test, restarting_code};
 
-use masked_code::emit::{emit, past};
-use rv32_instr::Instr;
-use rv32_instr::asm::{
-    X1, X3, X4, ZERO, addi, and, andi, beq, bne, lbu, lui, lw, or, slli, srli, sw, xori,
+use masked_code::emit::emit;
+use masked_code::past;
+use rv32_instr::{
+    Instr, X1, X3, X4, ZERO, addi, and, andi, beq, bne, hi, lbu, lo, lui, lw, or, slli, srli, sw,
+    xori,
 };
-use rv32_instr::constant::{hi, lo};
-use sloth_region::layout::{
+use sloth_region::{
     CONTROLLER_HIGH, WORDS_HIGH, active, alarm_cycle, alarm_left, enabled_byte, pending_byte, wait,
 };
 use std::alloc::AllocError;

@@ -1,6 +1,6 @@
 //! What is known of a body before any level.
 
-use sloth_base::list::List;
+use sloth_base::List;
 
 /// The items of a body that walks reach, and the greatest ceiling of what the function itself holds before each, 0 where it holds nothing.
 #[derive(Drop)]

@@ -3,11 +3,9 @@ ghost use Rattle.std.specs.Prelude.{◌≡◌, ◌<◌, length};
 ghost use Rattle.call_graph.specs.Tables.{HasTaskBody};
 ghost use Rattle.bound_rules.specs.Tasks.{task_summary, told};
 
-use crate::sizes::Summary;
-use sloth_base::app::Func;
-use sloth_base::config::TaskDecl;
-use sloth_base::limits::COUNT_LIMIT;
-use stack_bounds::task_bodies::body_of;
+use crate::Summary;
+use sloth_base::{COUNT_LIMIT, Func, TaskDecl};
+use stack_bounds::body_of;
 
 /// How much work of lower tasks may stand between a task's becoming Ready and its entry.
 #[derive(Clone, Copy)]

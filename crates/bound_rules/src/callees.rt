@@ -3,11 +3,8 @@ ghost use Rattle.std.specs.Prelude.{◌≡◌};
 ghost use Rattle.bound_rules.specs.Items.{callee_of};
 ghost use Rattle.bound_rules.specs.Summaries.{summary_of, IsCountedUp, AreCountedUp};
 
-use crate::bodies::Body;
-use crate::items::reaches_level;
-use crate::marks::number_at;
-use crate::sizes::{Summary, UNKNOWN};
-use sloth_base::numbers::FuncId;
+use crate::{Body, Summary, UNKNOWN, number_at, reaches_level};
+use sloth_base::FuncId;
 
 /// The summary of a function.
 pub fn summary_of(table: &[Summary], func: FuncId) -> Summary

@@ -3,8 +3,7 @@ ghost use Rattle.std.specs.Prelude.{◌≡◌};
 ghost use Rattle.raised_sections.specs.Sections.{is_schedule};
 ghost use Rattle.bound_rules.specs.Items.{reaches_level};
 
-use sloth_base::app::Op;
-use sloth_base::service::Service;
+use sloth_base::{Op, Service};
 
 /// Whether what is held reaches a level.
 pub fn reaches_level(level: Option<u32>, ceiling: u32) -> bool

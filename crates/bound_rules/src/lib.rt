@@ -10,3 +10,11 @@ pub mod items;
 pub mod marks;
 pub mod sizes;
 pub mod weights;
+
+pub use bodies::Body;
+pub use bound::{Bound, task_summary, told};
+pub use callees::{callee, summary_of};
+pub use items::{is_schedule, reaches_level};
+pub use marks::{is_marked, number_at};
+pub use sizes::{ENDLESS, Summary, UNKNOWN};
+pub use weights::{BodyWeights, joined, size_behind, weights_at};

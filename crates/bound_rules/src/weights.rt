@@ -3,10 +3,8 @@ ghost use Rattle.std.specs.Prelude.{◌≡◌, ◌≤◌, ◌<◌, ◌+◌, leng
 ghost use Rattle.sloth_base.specs.Limits.{size_limit};
 ghost use Rattle.bound_rules.specs.Weights.{no_weights, joined};
 
-use crate::marks::number_at;
-use sloth_base::app::Item;
-use sloth_base::limits::SIZE_LIMIT;
-use sloth_base::list::List;
+use crate::number_at;
+use sloth_base::{Item, List, SIZE_LIMIT};
 
 /// What the items of a body weigh: where a part goes on behind an item, and where it ends with it.
 #[derive(Drop)]

@@ -113,7 +113,7 @@ sums_within config app weights sums h counts are some told =
 
 pub runs-keep-counts : (config : Config) (app : App) (weights : List BodyWeights) (table : List (List Sum)) → WellFormed config app → AreCounts app weights
     → AreAllSums config app weights table → RunsKeepCounts config app (heaviest weights) table
-runs-keep-counts config app weights table code counts are image arrivals n sound pace fit few h limit told before behind made found s is leads makes =
+runs-keep-counts config app weights table code counts are image arrivals n sound pace come h limit told before behind made found s is leads makes =
     by (cases_Bool (any_below (length config.tasks) (is_below config.tasks (task_at config.tasks h).priority)))
   where
     by : (any_below (length config.tasks) (is_below config.tasks (task_at config.tasks h).priority) ≡ true)
@@ -121,16 +121,16 @@ runs-keep-counts config app weights table code counts are image arrivals n sound
         → spent_counts config h (last_count 0 (before ++ made ∷ [])) (events_up_to_entry h behind) ≤ limit
     by (inl some) =
         let sums = sums_within config app weights (get_or table h []) h limit (are.each h makes.declared) some told in
-        let run = sound.each arrivals n fit few in
+        let run = sound.each arrivals n come in
         let lengths = counts.0 in
         let items_short = short app (config, code.in_range) lengths counts.1 in
-        let keeps = (pace.paced lengths counts.1).each arrivals n 36 fit few items_short in
+        let keeps = (pace.paced lengths counts.1).each arrivals n 36 come items_short in
         let spends = spends_on_lower config app (length_of lengths) 36 n (heaviest weights) weights (events_of image arrivals n) code run.osek keeps
         (counts_weigh app lengths counts.1 items_short weights counts.2) (none_heavier weights) before behind made h sums.0 found s is leads makes sums.1 in
         let sum_is = sums.2 in
         omega (arith, spends, sum_is)
     by (inr none) =
-        let run = sound.each arrivals n fit few in
+        let run = sound.each arrivals n come in
         let nothing = spends_nothing config app (events_of image arrivals n) code run.osek before behind made h found s is leads makes (none_below config h none) in
         omega (arith, nothing)
 

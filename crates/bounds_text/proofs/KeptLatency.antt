@@ -56,10 +56,10 @@ module _ (config : Config) (app : App) (events : List Stamped) (weighed : AreWit
   )
 
 pub runs-keep-ticks : (config : Config) (app : App) → RunsKeepTicks config app
-runs-keep-ticks config app image arrivals n sound weighed fit few =
-    let run = sound.each arrivals n fit few in
+runs-keep-ticks config app image arrivals n sound weighed come =
+    let run = sound.each arrivals n come in
     let events = events_of image arrivals n in
-    short_ticks config app events (weighed.each arrivals n fit few) [] events (opening config app) run.osek.0 refl refl
+    short_ticks config app events (weighed.each arrivals n come) [] events (opening config app) run.osek.0 refl refl
     (follows_leads config app [] (opening config app) events run.osek.0 run.osek.1)
 
 -- ---- the latency
@@ -119,17 +119,17 @@ pub runs-keep-latency : (config : Config) (app : App) (lengths : List (List ℕ)
     → RunsKeepLatency config app lengths weights table highest
 runs-keep-latency config app lengths weights table None code lens counts are is = tt
 runs-keep-latency config app lengths weights table (Some h) code lens counts are is =
-    λ image arrivals n sound pace weighed fit few limit told before behind made found s events_are leads makes admits ended many.
-    let run = sound.each arrivals n fit few in
+    λ image arrivals n sound pace weighed come limit told before behind made found s events_are leads makes admits ended many.
+    let run = sound.each arrivals n come in
     let items_short = short app (config, code.in_range) lengths lens in
-    let keeps = (pace.paced lengths lens).each arrivals n (longest_item lengths) fit few (none_longer lengths) in
+    let keeps = (pace.paced lengths lens).each arrivals n (longest_item lengths) come (none_longer lengths) in
     let weighs = counts_weigh app lengths lens items_short weights counts in
     let ends = counts_end app lengths weights counts in
     let enough = long config app weights h is.0 in
     let stretches : AreStretchesWithin config app (running_counts config app (heaviest_ending weights)) =
     stretches_within config app (length_of lengths) weights weighs ends (facts config app code) (running_counts config app (heaviest_ending weights)) (entries config app weights)
     (ticks config app weights) (items config app weights) (omega (arith, enough)) in
-    enters_by_weights config app (length_of lengths) (longest_item lengths) n weights arrivals (events_of image arrivals n) code run.osek run.in_time keeps (weighed.each arrivals n fit few)
+    enters_by_weights config app (length_of lengths) (longest_item lengths) n weights arrivals (events_of image arrivals n) code run.osek run.in_time keeps (weighed.each arrivals n come)
     weighs ends before behind made h (running_counts config app (heaviest_ending weights))
     (taken_counts (any_below (length config.tasks) (is_below config.tasks (task_at config.tasks h).priority)) (heaviest_ending weights) limit) (enter_counts config app false h)
     found s events_are leads makes admits is.1 ended (omega (arith, enough)) stretches (takes config app weights table h limit is.0 are told) (omega arith, omega arith) many

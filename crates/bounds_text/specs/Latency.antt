@@ -7,8 +7,6 @@ use Rattle.sloth_base.specs.declared.event.Arrival.{Arrival}
 use Rattle.sloth_base.specs.declared.event.Event.TheVariants as event
 use Rattle.sloth_base.specs.declared.event.Stamped.{Stamped}
 use Rattle.sloth_base.specs.declared.image.Image.{Image}
-use Rattle.sloth_base.specs.Arrivals.{AreArrivals}
-use Rattle.sloth_base.specs.Limits.{count_limit}
 use Rattle.sloth_base.specs.Named.{declaration, counter_declaration}
 use Rattle.sloth_base.specs.Owners.{owners_in}
 use Rattle.call_graph.specs.Reached.{any_below}
@@ -30,7 +28,7 @@ use Rattle.walk_sums.specs.declared.sum.Sum.TheVariants as sum
 use Rattle.run_counts.specs.Counts.{AreCountsBy}
 use Rattle.walk_sums.specs.Sections.{AreAllSums}
 use Rattle.sim_induction.specs.Paced.{InPace}
-use Rattle.sim_induction.specs.Sound.{Sound, events_of}
+use Rattle.sim_induction.specs.Sound.{AreComing, Sound, events_of}
 use Rattle.sim_induction.specs.Weighed.{Weighed}
 use Rattle.run_counts.specs.EntryLatency.{IsHighest, EntersBefore}
 use Rattle.run_counts.specs.Latency.{tick_weights, weighed_latency, IsBehindBoot}
@@ -127,8 +125,8 @@ EntersWithin config app h latency parts n events =
 abbrev pub RunsKeepLatency : Config → App → (lengths : List (List ℕ)) → (weights : List BodyWeights) → (table : List (List Sum)) → Option ℕ → Type 0
 RunsKeepLatency config app lengths weights table None = Unit {0}
 RunsKeepLatency config app lengths weights table (Some h) =
-    (image : Image) (arrivals : List Arrival) (n : ℕ) → Sound config app image → InPace config app image → Weighed config app image → AreArrivals (owners_in config) arrivals
-    → n ≤ count_limit → (counts : ℕ) → told_of config weights table h ≡ sum.Counts counts
+    (image : Image) (arrivals : List Arrival) (n : ℕ) → Sound config app image → InPace config app image → Weighed config app image → AreComing (owners_in config) arrivals
+    → (counts : ℕ) → told_of config weights table h ≡ sum.Counts counts
     → EntersWithin config app h (latency_counts (parts_of config app lengths weights h) counts) (parts_of config app lengths weights h) n (events_of image arrivals n)
 
 -- no tick takes more counts than its line tells
@@ -138,7 +136,7 @@ IsShortTick config e = (c : ℕ) → e.event ≡ event.Tick c → e.stamp.at < e
 -- in every run of an image whose builder promises that its runs are sound and keep the weights
 abbrev pub RunsKeepTicks : Config → App → Type 0
 RunsKeepTicks config app =
-    (image : Image) (arrivals : List Arrival) (n : ℕ) → Sound config app image → Weighed config app image → AreArrivals (owners_in config) arrivals → n ≤ count_limit
+    (image : Image) (arrivals : List Arrival) (n : ℕ) → Sound config app image → Weighed config app image → AreComing (owners_in config) arrivals
     → AllByRecursion (IsShortTick config) (events_of image arrivals n)
 
 -- ---- the texts

@@ -1,11 +1,10 @@
 -- The lines of the command `bounds OIL SRC counts`.
-use Rattle.std.specs.Prelude.{ℕ, zero, suc, ◌+◌, ◌-◌, ◌≤◌, ◌≡◌, ◌&&◌, leb, cond, List, [], ◌++◌, codes, decimal, length, get_or}
+use Rattle.std.specs.Prelude.{ℕ, zero, suc, ◌+◌, ◌-◌, ◌≡◌, ◌&&◌, leb, cond, List, [], ◌++◌, codes, decimal, length, get_or}
 use Rattle.sloth_base.specs.declared.config.Config.{Config}
 use Rattle.sloth_base.specs.declared.config.TaskDecl.{TaskDecl}
 use Rattle.sloth_base.specs.declared.app.App.{App}
 use Rattle.sloth_base.specs.declared.event.Arrival.{Arrival}
 use Rattle.sloth_base.specs.declared.image.Image.{Image}
-use Rattle.sloth_base.specs.Arrivals.{AreArrivals}
 use Rattle.sloth_base.specs.Owners.{owners_in}
 use Rattle.sloth_base.specs.Named.{undeclared_task}
 use Rattle.sloth_base.specs.Limits.{count_limit}
@@ -20,7 +19,7 @@ use Rattle.walk_sums.specs.declared.sum.Sum.TheVariants as sum
 use Rattle.run_counts.specs.Counts.{AreCounts}
 use Rattle.walk_sums.specs.Sections.{AreAllSums, greatest_of}
 use Rattle.sim_induction.specs.Paced.{InPace}
-use Rattle.sim_induction.specs.Sound.{Sound, events_of}
+use Rattle.sim_induction.specs.Sound.{AreComing, Sound, events_of}
 use Rattle.bounds_text.specs.Bounds.{is_below}
 use Rattle.bounds_text.specs.KeptRuns.{WaitsForCounts}
 
@@ -69,7 +68,7 @@ count_lines tasks weight table (suc k) = count_lines tasks weight table k ++ cou
 -- Ready up to its `enter` at most so many counts are spent on lower tasks.
 abbrev pub RunsKeepCounts : Config → App → (weight : ℕ) → List (List Sum) → Type 0
 RunsKeepCounts config app weight table =
-    (image : Image) (arrivals : List Arrival) (n : ℕ) → Sound config app image → InPace config app image → AreArrivals (owners_in config) arrivals → n ≤ count_limit
+    (image : Image) (arrivals : List Arrival) (n : ℕ) → Sound config app image → InPace config app image → AreComing (owners_in config) arrivals
     → (h counts : ℕ) → lower_counts config.tasks weight (get_or table h []) h ≡ sum.Counts counts → WaitsForCounts config app h counts (events_of image arrivals n)
 
 -- these are the lines of all tasks, by the exact sums of all sections in counts, and runs keep them

@@ -8,19 +8,14 @@ ghost use Rattle.walk_sums.specs.Sections.{AreToldSums, AreAllSums};
 ghost use Rattle.bounds_text.specs.Kept.{RunsKeepTold};
 ghost use Rattle.bounds_text.specs.Bounds.{IsTold, AreToldBounds, is_below, bound_by, bound_of};
 
-pub use bound_rules::bound::Bound;
-use bound_rules::bound::told;
-use call_graph::ranking::Ranks;
-use sloth_base::app::App;
-use sloth_base::config::{Config, TaskDecl};
-use sloth_base::list::List;
-use sloth_base::memory::NoMemory;
+pub use bound_rules::Bound;
+use bound_rules::told;
+use call_graph::Ranks;
+use sloth_base::{App, Config, List, NoMemory, TaskDecl};
 use std::alloc::Global;
-use task_verify::verified::Verified;
-use text_pieces::growth::push;
-use walk_sums::sections::{greatest_of, section_sums};
-use walk_sums::sum::Sum;
-use walk_sums::weights::item_weights;
+use task_verify::Verified;
+use text_pieces::push;
+use walk_sums::{Sum, Walks, greatest_of, item_weights, known_code};
 
 /// Whether the task is lower than this priority.
 fn is_below(tasks: &[TaskDecl], priority: u32, task: usize) -> bool
@@ -95,20 +90,15 @@ fn bounds_by(
     Ok(bounds)
 }
 
-/// Those of well-formed task code.
-fn bounds_of(
-    alloc: Global,
-    config: &Config,
-    app: &App,
-    ranks: &Ranks,
-) -> Result<Vec<Bound>, NoMemory>
-    requires well_formed { WellFormed config.now app.now }
-    requires belong { RanksOf app.now ranks.now }
-    ensures { IfOk result (λ bounds. AreToldBounds config.now app.now bounds.items) }
+/// Those of walked task code.
+pub fn walked_bounds(walks: &Walks) -> Result<Vec<Bound>, NoMemory>
+    ensures { IfOk result (λ bounds. AreToldBounds walks.now.config walks.now.app bounds.items) }
 {
-    let weights = item_weights(alloc, app)?;
-    let table = section_sums(alloc, config, app, ranks, &weights)?;
-    bounds_by(alloc, config, app, &table)
+    let app = walks.app();
+    let weights = item_weights(walks.alloc(), app)?;
+    let table = walks.section_sums(&weights)?;
+    let bounds = bounds_by(walks.alloc(), walks.config(), app, &table)?;
+    Ok(bounds)
 }
 
 /// The blocking bound of each task in items, or that it is above the greatest that is told, or that there is none.
@@ -117,6 +107,10 @@ pub fn bounds(alloc: Global, verified: &Verified, ranks: &Ranks) -> Result<List<
     ensures exact { IfOk result (AreToldBounds verified.now.config verified.now.app) }
     ensures kept { IfOk result (RunsKeepTold verified.now.config verified.now.app) }
 {
-    let bounds = bounds_of(alloc, verified.config(), verified.app(), ranks)?;
+    let config = verified.config();
+    let app = verified.app();
+    let known = known_code(alloc, config, app, ranks)?;
+    let walks = Walks::of(alloc, config, app, &known);
+    let bounds = walked_bounds(&walks)?;
     Ok(List::from_vec(bounds))
 }

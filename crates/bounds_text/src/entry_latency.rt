@@ -3,7 +3,7 @@ ghost use Rattle.std.specs.Prelude.{◌≡◌, length, IfSome, IfNone};
 ghost use Rattle.run_counts.specs.Latency.{weighed_latency};
 ghost use Rattle.bounds_text.specs.Highest.{IsHighestAmong};
 
-use sloth_base::config::TaskDecl;
+use sloth_base::TaskDecl;
 
 /// A task of highest priority, if there is a task.
 pub fn highest_among(tasks: &[TaskDecl]) -> Option<usize>

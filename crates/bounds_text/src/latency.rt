@@ -6,7 +6,7 @@ ghost use Rattle.code_rules.specs.WellFormed.{WellFormed};
 ghost use Rattle.call_graph.specs.Ranks.{RanksOf};
 ghost use Rattle.call_graph.specs.Tables.{HasTaskBody};
 ghost use Rattle.sloth_source.specs.Texts.{SourcesErrorIs};
-ghost use Rattle.event_weights.specs.Items.{length_of, AreLengths};
+ghost use Rattle.event_weights.specs.Items.{AreLengths};
 ghost use Rattle.walk_sums.specs.Weights.{AreWeights};
 ghost use Rattle.run_counts.specs.Counts.{AreCountsBy};
 ghost use Rattle.bounds_text.specs.Bounds.{AreToldBounds};
@@ -14,27 +14,24 @@ ghost use Rattle.bounds_text.specs.BoundsText.{AreTellable};
 ghost use Rattle.bounds_text.specs.LowerCounts.{heaviest_in};
 ghost use Rattle.bounds_text.specs.Latency.{IsHighestTask, heaviest_ending, longest_item, taken_counts, parts_of, latency_text, latency_line, told_of, tick_line, tick_lines, last_line, AreAllLines, HasLatency, IsLatencyText};
 
-use crate::bound::{Bound, has_lower};
+use crate::bound::{Bound, has_lower, walked_bounds};
 use crate::entry_latency::{highest_among, latency_of};
 use crate::lower_counts::{heaviest, heaviest_in, lower_counts};
-use crate::stretches::{enter_counts, running_counts};
-use crate::{bound_lines, bounds};
-use bound_rules::weights::{BodyWeights, weights_at};
-use call_graph::ranking::Ranks;
+use crate::stretches::enter_counts;
+use crate::{bound_lines, running_counts};
+use bound_rules::{BodyWeights, weights_at};
+use call_graph::Ranks;
 use code_lengths::tick_path;
 use event_weights::{ItemLengths, lengths};
-use itoa::Buffer;
 use run_counts::weights_by;
-use sloth_base::app::App;
-use sloth_base::config::Config;
-use sloth_base::list::List;
-use sloth_base::memory::NoMemory;
-use sloth_base::refusal::BuildError;
+use sloth_base::{App, BuildError, Config, List, NoMemory};
 use sloth_source::read_checked;
 use std::alloc::Global;
-use task_verify::verified::Verified;
-use walk_sums::sections::section_sums;
-use walk_sums::sum::Sum;
+use task_verify::Verified;
+use text_pieces::pieces::Piece;
+use text_pieces::pieces::Piece::{Number, Word};
+use text_pieces::text;
+use walk_sums::{Sum, Walks, known_code};
 
 // The task of highest priority, if there is a task.
 fn highest_task(config: &Config) -> Option<usize>
@@ -119,15 +116,12 @@ fn latency_text(alloc: Global, parts: &Parts, told: Sum) -> Result<Vec<u8>, NoMe
 {
     match told {
         Sum::Counts(counts) => {
-            let mut buffer = Buffer::new();
             let lower = taken_counts(parts.some, parts.leaving, counts);
             let latency = latency_of(parts.running, lower, parts.longest, parts.entry);
-            let mut text = Vec::from_slice(alloc, b" ")?;
-            text.extend_from_slice(buffer.format(latency).as_bytes())?;
-            Ok(text)
-        }
-        Sum::Huge => Ok(Vec::from_slice(alloc, b" huge")?),
-        Sum::Endless => Ok(Vec::from_slice(alloc, b" endless")?),
+            text!(alloc; Word(b" "), Piece::Sum(u128::from(latency)))
+        },
+        Sum::Huge => text!(alloc; Word(b" huge")),
+        Sum::Endless => text!(alloc; Word(b" endless")),
     }
 }
 
@@ -198,14 +192,9 @@ fn tick_line(alloc: Global, config: &Config, counter: usize) -> Result<Vec<u8>, 
     requires in_range { InRange config.now }
     ensures { IfOk result (λ line. line.items ≡ tick_line config.now counter) }
 {
-    let mut buffer = Buffer::new();
     let counts = tick_path(config, counter as u32);
-    let mut line = Vec::from_slice(alloc, b"tick ")?;
-    line.extend_from_slice(config.counters.items()[counter].name.bytes())?;
-    line.extend_from_slice(b" ")?;
-    line.extend_from_slice(buffer.format(counts).as_bytes())?;
-    line.extend_from_slice(b"\n")?;
-    Ok(line)
+    let name = config.counters.items()[counter].name.bytes();
+    text!(alloc; Word(b"tick "), Word(name), Word(b" "), Number(counts), Word(b"\n"))
 }
 
 // The lines of all counters.
@@ -246,90 +235,49 @@ fn all_lines(
     Ok(text)
 }
 
-// The lines of task code with these bounds, by the counts of its items.
+// The lines of walked task code with these bounds, by the lengths and counts of its items.
 fn lines_by_counts(
-    alloc: Global,
-    config: &Config,
-    app: &App,
-    ranks: &Ranks,
+    walks: &Walks,
     bounds: &[Bound],
     lengths: &ItemLengths,
     weights: &[BodyWeights],
 ) -> Result<Vec<u8>, NoMemory>
-    requires well_formed { WellFormed config.now app.now }
-    requires belong { RanksOf app.now ranks.now }
-    requires bounds { AreToldBounds config.now app.now bounds.now }
+    requires bounds { AreToldBounds walks.now.config walks.now.app bounds.now }
     requires tellable { AreTellable bounds.now }
-    requires lengths { AreLengths app.now lengths.now.bodies }
-    requires counts { AreCountsBy app.now lengths.now.bodies weights.now }
-    requires fit { AreWeights app.now weights.now }
-    ensures { IfOk result (λ text. HasLatency config.now app.now text.items) }
+    requires lengths { AreLengths walks.now.app lengths.now.bodies }
+    requires counts { AreCountsBy walks.now.app lengths.now.bodies weights.now }
+    requires fit { AreWeights walks.now.app weights.now }
+    ensures { IfOk result (λ text. HasLatency walks.now.config walks.now.app text.items) }
 {
-    let table = section_sums(alloc, config, app, ranks, weights)?;
-    all_lines(alloc, config, app, bounds, lengths, weights, &table)
+    let config = walks.config();
+    let app = walks.app();
+    let table = walks.section_sums(weights)?;
+    all_lines(walks.alloc(), config, app, bounds, lengths, weights, &table)
 }
 
-// By the lengths of its items.
-fn lines_by_lengths(
-    alloc: Global,
-    config: &Config,
-    app: &App,
-    ranks: &Ranks,
-    bounds: &[Bound],
-    lengths: &ItemLengths,
-) -> Result<Vec<u8>, NoMemory>
-    requires well_formed { WellFormed config.now app.now }
-    requires belong { RanksOf app.now ranks.now }
-    requires bounds { AreToldBounds config.now app.now bounds.now }
-    requires tellable { AreTellable bounds.now }
-    requires lengths { AreLengths app.now lengths.now.bodies }
-    requires short { (f i : ℕ) → length_of lengths.now.bodies f i ≤ 36 }
-    ensures { IfOk result (λ text. HasLatency config.now app.now text.items) }
+// The lines of walked task code.
+fn walked_lines(walks: &Walks) -> Result<Vec<u8>, NoMemory>
+    ensures { IfOk result (λ text. HasLatency walks.now.config walks.now.app text.items) }
 {
-    let weights = weights_by(alloc, app, lengths)?;
-    lines_by_counts(alloc, config, app, ranks, bounds, lengths, &weights)
-}
-
-// With these bounds.
-fn lines_with(
-    alloc: Global,
-    config: &Config,
-    app: &App,
-    ranks: &Ranks,
-    bounds: &[Bound],
-) -> Result<Vec<u8>, NoMemory>
-    requires well_formed { WellFormed config.now app.now }
-    requires belong { RanksOf app.now ranks.now }
-    requires bounds { AreToldBounds config.now app.now bounds.now }
-    requires tellable { AreTellable bounds.now }
-    ensures { IfOk result (λ text. HasLatency config.now app.now text.items) }
-{
-    let lengths = lengths(alloc, app)?;
-    lines_by_lengths(alloc, config, app, ranks, bounds, &lengths)
+    let app = walks.app();
+    let bounds = walked_bounds(walks)?;
+    let lengths = lengths(walks.alloc(), app)?;
+    let weights = weights_by(walks.alloc(), app, &lengths)?;
+    lines_by_counts(walks, &bounds, &lengths, &weights)
 }
 
 // The lines of task code.
-fn checked_latency(alloc: Global, verified: &Verified, ranks: &Ranks) -> Result<Vec<u8>, NoMemory>
-    requires { RanksOf verified.now.app ranks.now }
-    ensures { IfOk result (λ text. HasLatency verified.now.config verified.now.app text.items) }
-{
-    let bounds = bounds(alloc, verified, ranks)?;
-    lines_with(
-        alloc,
-        verified.config(),
-        verified.app(),
-        ranks,
-        bounds.items(),
-    )
-}
-
-// The same, where the error is that of texts.
-fn latency_of_code(alloc: Global, verified: &Verified, ranks: &Ranks) -> Result<Vec<u8>, BuildError>
+fn checked_latency(alloc: Global, verified: &Verified, ranks: &Ranks) -> Result<Vec<u8>, BuildError>
     requires { RanksOf verified.now.app ranks.now }
     ensures text { IfOk result (λ text. HasLatency verified.now.config verified.now.app text.items) }
     ensures memory { IfErr result (λ error. error ≡ BuildError.Memory) }
 {
-    Ok(checked_latency(alloc, verified, ranks)?)
+    let config = verified.config();
+    let app = verified.app();
+    let known = known_code(alloc, config, app, ranks)?;
+    let walks = Walks::of(alloc, config, app, &known);
+    let text = walked_lines(&walks)?;
+    Ok(text)
 }
 
 /// The lines of the bounds of all tasks, of the ticks of all counters, and of the latency of the task of highest priority, of texts of at most 4,294,967,294
@@ -342,5 +290,5 @@ pub fn latency_lines(alloc: Global, oil: &[u8], src: &[u8]) -> Result<Vec<u8>, B
     ensures refused { IfErr result (SourcesErrorIs oil.now src.now) }
 {
     let checked = read_checked(alloc, oil, src)?;
-    latency_of_code(alloc, &checked.verified, &checked.ranks)
+    checked_latency(alloc, &checked.verified, &checked.ranks)
 }

@@ -41,15 +41,17 @@ mod way_lines;
 
 use crate::bound::Bound;
 pub use bound::bounds;
-use call_graph::ranking::Ranks;
-use itoa::Buffer;
-use sloth_base::config::TaskDecl;
-use sloth_base::limits::ITEM_COUNTS;
-use sloth_base::memory::NoMemory;
-use sloth_base::refusal::BuildError;
+use call_graph::Ranks;
+pub use latency::{heaviest_ending, latency_lines, longest_item};
+pub use lower_counts::lower_count_lines;
+use sloth_base::{BuildError, ITEM_COUNTS, NoMemory, TaskDecl};
 use sloth_source::read_checked;
 use std::alloc::Global;
-use task_verify::verified::Verified;
+pub use stretches::running_counts;
+pub use task_bound::task_bound_text;
+use task_verify::Verified;
+use text_pieces::pieces::Piece::{Number, Word};
+use text_pieces::text;
 
 // A bound in items and in counts.
 fn bound_text(alloc: Global, bound: Bound) -> Result<Vec<u8>, NoMemory>
@@ -58,16 +60,10 @@ fn bound_text(alloc: Global, bound: Bound) -> Result<Vec<u8>, NoMemory>
 {
     match bound {
         Bound::Items(items) => {
-            let mut items_buffer = Buffer::new();
-            let mut counts_buffer = Buffer::new();
-            let mut text = Vec::from_slice(alloc, b" ")?;
-            text.extend_from_slice(items_buffer.format(items).as_bytes())?;
-            text.extend_from_slice(b" ")?;
-            text.extend_from_slice(counts_buffer.format(ITEM_COUNTS * items).as_bytes())?;
-            Ok(text)
-        }
-        Bound::Huge => Ok(Vec::from_slice(alloc, b" huge")?),
-        Bound::Endless => Ok(Vec::from_slice(alloc, b" endless")?),
+            text!(alloc; Word(b" "), Number(items), Word(b" "), Number(ITEM_COUNTS * items))
+        },
+        Bound::Huge => text!(alloc; Word(b" huge")),
+        Bound::Endless => text!(alloc; Word(b" endless")),
     }
 }
 

@@ -1,6 +1,5 @@
 //! The lines of the command `bounds OIL SRC counts`.
 ghost use Rattle.std.specs.Prelude.{◌≡◌, ◌<◌, length, IfOk, IfErr};
-ghost use Rattle.code_rules.specs.WellFormed.{WellFormed};
 ghost use Rattle.call_graph.specs.Ranks.{RanksOf};
 ghost use Rattle.walk_sums.specs.Weights.{AreWeights};
 ghost use Rattle.run_counts.specs.Counts.{AreCounts};
@@ -8,21 +7,16 @@ ghost use Rattle.sloth_source.specs.Texts.{SourcesErrorIs};
 ghost use Rattle.bounds_text.specs.LowerCounts.{heaviest_in, heaviest, behind_item, lower_counts, sum_text, count_line, count_lines, HasLowerCounts, IsLowerCountsText};
 
 use crate::bound::has_lower;
-use bound_rules::weights::{BodyWeights, weights_at};
-use call_graph::ranking::Ranks;
-use itoa::Buffer;
+use bound_rules::{BodyWeights, weights_at};
+use call_graph::Ranks;
 use run_counts::count_weights;
-use sloth_base::app::App;
-use sloth_base::config::{Config, TaskDecl};
-use sloth_base::limits::COUNT_LIMIT;
-use sloth_base::list::List;
-use sloth_base::memory::NoMemory;
-use sloth_base::refusal::BuildError;
+use sloth_base::{BuildError, COUNT_LIMIT, List, NoMemory, TaskDecl};
 use sloth_source::read_checked;
 use std::alloc::Global;
-use task_verify::verified::Verified;
-use walk_sums::sections::{greatest_of, section_sums};
-use walk_sums::sum::Sum;
+use task_verify::Verified;
+use text_pieces::pieces::Piece::{Number, Word};
+use text_pieces::text;
+use walk_sums::{Sum, Walks, greatest_of, known_code};
 
 // The heaviest of these items of a body.
 pub(crate) fn heaviest_in(going: &[u32]) -> u32
@@ -80,14 +74,9 @@ fn sum_text(alloc: Global, sum: Sum) -> Result<Vec<u8>, NoMemory>
     ensures { IfOk result (λ text. text.items ≡ sum_text sum) }
 {
     match sum {
-        Sum::Counts(counts) => {
-            let mut buffer = Buffer::new();
-            let mut text = Vec::from_slice(alloc, b" ")?;
-            text.extend_from_slice(buffer.format(counts).as_bytes())?;
-            Ok(text)
-        }
-        Sum::Huge => Ok(Vec::from_slice(alloc, b" huge")?),
-        Sum::Endless => Ok(Vec::from_slice(alloc, b" endless")?),
+        Sum::Counts(counts) => text!(alloc; Word(b" "), Number(counts)),
+        Sum::Huge => text!(alloc; Word(b" huge")),
+        Sum::Endless => text!(alloc; Word(b" endless")),
     }
 }
 
@@ -129,45 +118,42 @@ fn count_lines(
 }
 
 // The lines by the counts of all items.
-fn lines_by(
-    alloc: Global,
-    config: &Config,
-    app: &App,
-    ranks: &Ranks,
-    weights: &[BodyWeights],
-) -> Result<Vec<u8>, NoMemory>
-    requires well_formed { WellFormed config.now app.now }
-    requires belong { RanksOf app.now ranks.now }
-    requires are { AreCounts app.now weights.now }
-    requires fit { AreWeights app.now weights.now }
-    ensures { IfOk result (λ text. HasLowerCounts config.now app.now text.items) }
+fn lines_by_counts(walks: &Walks, weights: &[BodyWeights]) -> Result<Vec<u8>, NoMemory>
+    requires are { AreCounts walks.now.app weights.now }
+    requires fit { AreWeights walks.now.app weights.now }
+    ensures { IfOk result (λ text. HasLowerCounts walks.now.config walks.now.app text.items) }
 {
-    let table = section_sums(alloc, config, app, ranks, weights)?;
-    count_lines(alloc, config.tasks.items(), heaviest(weights), &table)
+    let config = walks.config();
+    let table = walks.section_sums(weights)?;
+    count_lines(
+        walks.alloc(),
+        config.tasks.items(),
+        heaviest(weights),
+        &table,
+    )
+}
+
+// The lines of walked task code.
+fn walked_lines(walks: &Walks) -> Result<Vec<u8>, NoMemory>
+    ensures { IfOk result (λ text. HasLowerCounts walks.now.config walks.now.app text.items) }
+{
+    let app = walks.app();
+    let weights = count_weights(walks.alloc(), app)?;
+    lines_by_counts(walks, &weights)
 }
 
 // The lines of task code.
-fn checked_counts(
-    alloc: Global,
-    config: &Config,
-    app: &App,
-    ranks: &Ranks,
-) -> Result<Vec<u8>, NoMemory>
-    requires well_formed { WellFormed config.now app.now }
-    requires belong { RanksOf app.now ranks.now }
-    ensures { IfOk result (λ text. HasLowerCounts config.now app.now text.items) }
-{
-    let weights = count_weights(alloc, app)?;
-    lines_by(alloc, config, app, ranks, &weights)
-}
-
-// The same, where the error is that of texts.
-fn counts_of_code(alloc: Global, verified: &Verified, ranks: &Ranks) -> Result<Vec<u8>, BuildError>
+fn checked_counts(alloc: Global, verified: &Verified, ranks: &Ranks) -> Result<Vec<u8>, BuildError>
     requires { RanksOf verified.now.app ranks.now }
     ensures text { IfOk result (λ text. HasLowerCounts verified.now.config verified.now.app text.items) }
     ensures memory { IfErr result (λ error. error ≡ BuildError.Memory) }
 {
-    Ok(checked_counts(alloc, verified.config(), verified.app(), ranks)?)
+    let config = verified.config();
+    let app = verified.app();
+    let known = known_code(alloc, config, app, ranks)?;
+    let walks = Walks::of(alloc, config, app, &known);
+    let text = walked_lines(&walks)?;
+    Ok(text)
 }
 
 /// The lines of the counts of lower tasks that may stand in front of each task's entry, of texts of at most 4,294,967,294 bytes; or the first refusal
@@ -179,5 +165,5 @@ pub fn lower_count_lines(alloc: Global, oil: &[u8], src: &[u8]) -> Result<Vec<u8
     ensures refused { IfErr result (SourcesErrorIs oil.now src.now) }
 {
     let checked = read_checked(alloc, oil, src)?;
-    counts_of_code(alloc, &checked.verified, &checked.ranks)
+    checked_counts(alloc, &checked.verified, &checked.ranks)
 }

@@ -6,9 +6,8 @@ ghost use Rattle.event_weights.specs.Events.{enter_counts};
 ghost use Rattle.bounds_text.specs.Stretches.{heaviest_entry, heaviest_tick, running_counts};
 
 use code_lengths::{entry_path, tick_path};
-use sloth_base::app::App;
-use sloth_base::config::Config;
-use stack_bounds::task_bodies::body_of;
+use sloth_base::{App, Config};
+use stack_bounds::body_of;
 
 /// The most counts of an entry of a task, that starts anew or goes on behind a wait.
 pub fn enter_counts(config: &Config, app: &App, task: usize) -> u32

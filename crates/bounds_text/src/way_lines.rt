@@ -1,14 +1,13 @@
 //! The lines of ways.
-ghost use Rattle.std.specs.Prelude.{◌≡◌, ◌++◌, codes, OnOk};
-ghost use Rattle.sloth_base.specs.Named.{function, item_of, declaration};
+ghost use Rattle.std.specs.Prelude.{◌≡◌, ◌++◌, OnOk};
+ghost use Rattle.sloth_base.specs.Named.{function, item_of};
 ghost use Rattle.bounds_text.specs.TaskBound.{point_word, point_words, task_line, way_lines, shown_lines};
 
-use itoa::Buffer;
-use section_ways::ways::Way;
-use sloth_base::app::App;
-use sloth_base::config::Config;
-use sloth_base::memory::NoMemory;
-use walk_sums::standing::Point;
+use section_ways::Way;
+use sloth_base::{App, Config, NoMemory};
+use text_pieces::line;
+use text_pieces::pieces::Piece::{Number, Word};
+use walk_sums::Point;
 
 // The line of the item at a point, 0 where there is none.
 fn line_of(app: &App, point: Point) -> u32
@@ -23,22 +22,10 @@ fn line_of(app: &App, point: Point) -> u32
     }
 }
 
-fn task_name(config: &Config, task: usize) -> &[u8]
-    ensures { result.now ≡ (declaration config.now task).name }
-{
-    match config.tasks.items().get(task) {
-        Some(decl) => decl.name.bytes(),
-        None => &[],
-    }
-}
-
 fn push_point(text: &mut Vec<u8>, app: &App, point: Point) -> Result<(), NoMemory>
     ensures { OnOk result (text.new.items ≡ text.old.items ++ point_word app.now point) }
 {
-    let mut buffer = Buffer::new();
-    text.extend_from_slice(b" ")?;
-    text.extend_from_slice(buffer.format(line_of(app, point)).as_bytes())?;
-    Ok(())
+    line!(text; Word(b" "), Number(line_of(app, point)))
 }
 
 fn push_points(text: &mut Vec<u8>, app: &App, points: &[Point]) -> Result<(), NoMemory>
@@ -53,10 +40,7 @@ fn push_points(text: &mut Vec<u8>, app: &App, points: &[Point]) -> Result<(), No
 fn push_task(text: &mut Vec<u8>, config: &Config, task: usize) -> Result<(), NoMemory>
     ensures { OnOk result (text.new.items ≡ text.old.items ++ task_line config.now task) }
 {
-    text.extend_from_slice(b"task ")?;
-    text.extend_from_slice(task_name(config, task))?;
-    text.extend_from_slice(b"\n")?;
-    Ok(())
+    line!(text; Word(b"task "), Word(config.task_name(task)), Word(b"\n"))
 }
 
 // The lines of a way, the second with this word.
@@ -70,10 +54,9 @@ fn push_way(
     ensures { OnOk result (text.new.items ≡ text.old.items ++ way_lines config.now app.now word.now way.now) }
 {
     push_task(text, config, way.task)?;
-    text.extend_from_slice(word)?;
+    line!(text; Word(word))?;
     push_points(text, app, way.points.items())?;
-    text.extend_from_slice(b"\n")?;
-    Ok(())
+    line!(text; Word(b"\n"))
 }
 
 /// The lines of a way, if there is one.

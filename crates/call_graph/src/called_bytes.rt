@@ -2,8 +2,7 @@
 ghost use Rattle.std.specs.Prelude.{◌≡◌};
 ghost use Rattle.call_graph.specs.Tables.{bytes_called, table_entry, IsKnownCall, IsTableInLimit, AreCallable};
 
-use sloth_base::app::{Func, Op};
-use sloth_base::memory_map::WORD;
+use sloth_base::{Func, Op, WORD};
 
 /// The bytes of the call that an operation may be, with the calls that the function then makes by the table.
 pub fn bytes_called(funcs: &[Func], table: &[u32], op: Op) -> u32

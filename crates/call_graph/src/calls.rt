@@ -5,8 +5,7 @@ ghost use Rattle.call_graph.specs.Bits.{is_member};
 ghost use Rattle.call_graph.specs.Rows.{is_call, is_get, is_taking, is_pause};
 
 use crate::bits::with;
-use sloth_base::app::{Call, Item, Op};
-use sloth_base::service::Service;
+use sloth_base::{Call, Item, Op, Service};
 
 fn with_call(calls: u64, op: Op) -> u64
     requires { (g : ℕ) → is_call g op ≡ true → g < 64 }

@@ -4,10 +4,9 @@ ghost use Rattle.sloth_base.specs.Limits.{body_limit};
 ghost use Rattle.least_fault.specs.Search.{IsSearchResult};
 ghost use Rattle.call_graph.specs.Cycles.{RowCycle};
 
-use crate::word_bits::has;
+use crate::has;
 use least_fault::{fault_if, merge};
-use sloth_base::app::Func;
-use sloth_base::refusal::{Code, Part, Refusal};
+use sloth_base::{Code, Func, Part, Refusal};
 
 /// The least function that its own row has, by its header's line.
 pub fn cycle(funcs: &[Func], rows: &[u64]) -> Option<Refusal>

@@ -27,11 +27,13 @@ pub mod word_bits;
 
 use crate::cycles::cycle;
 use crate::lists::{direct_calls, gathered};
-use crate::ranking::Ranks;
 use crate::rows::closed;
-use sloth_base::app::App;
-use sloth_base::refusal::BuildError;
+pub use called_bytes::bytes_called;
+pub use ranking::Ranks;
+use sloth_base::{App, BuildError};
+pub use stack_offsets::{bytes_below, offsets_of_tasks};
 use std::alloc::Global;
+pub use word_bits::{has, union};
 
 /// What the calls of the task code reach, unless a function calls itself by way of others.
 pub fn ranks(alloc: Global, app: &App) -> Result<Ranks, BuildError>

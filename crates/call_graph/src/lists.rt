@@ -6,14 +6,12 @@ ghost use Rattle.call_graph.specs.Rows.{row_has};
 ghost use Rattle.call_graph.specs.Reached.{AreFew, func_of, is_direct_call, takes_by, pauses_by, used_by};
 ghost use Rattle.call_graph.specs.Gathered.{AreGathered};
 
+use crate::Ranks;
 use crate::calls::called;
-use crate::ranking::Ranks;
 use crate::reached::{pauses_of, resources_of, users_of};
-use sloth_base::app::Func;
-use sloth_base::list::List;
-use sloth_base::memory::NoMemory;
+use sloth_base::{Func, List, NoMemory};
 use std::alloc::Global;
-use text_pieces::growth::push;
+use text_pieces::push;
 
 /// The rows of direct calls.
 pub fn direct_calls(alloc: Global, funcs: &[Func]) -> Result<Vec<u64>, NoMemory>

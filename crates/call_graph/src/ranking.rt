@@ -1,6 +1,6 @@
 //! What is known of the functions of task code from their calls.
 
-use sloth_base::list::List;
+use sloth_base::List;
 
 /// What the calls of task code reach, function by function.
 pub struct Ranks {

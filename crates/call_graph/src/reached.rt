@@ -7,8 +7,8 @@ ghost use Rattle.call_graph.specs.Reached.{AreFew, TakesFew, IsOfFew, is_direct_
 
 use crate::bits::with_task;
 use crate::calls::{pauses, taken};
-use crate::word_bits::{has, union};
-use sloth_base::app::Func;
+use crate::{has, union};
+use sloth_base::Func;
 
 /// Whether the function with this number and this row is the other, or reaches it.
 fn is_reached(from: usize, row: u64, to: usize) -> bool

@@ -3,7 +3,7 @@ ghost use Rattle.std.specs.Prelude.{◌≡◌, ℕ, ◌<◌, ◌≤◌, ◌||◌
 ghost use Rattle.call_graph.specs.Bits.{is_member};
 ghost use Rattle.call_graph.specs.Rows.{row_has, widened_row, IsRowChain};
 
-use crate::word_bits::{has, union};
+use crate::{has, union};
 
 /// A row that also has what the row of k has, where it has k.
 fn joined(own: u64, row: u64, k: usize) -> u64

@@ -2,10 +2,9 @@
 ghost use Rattle.std.specs.Prelude.{◌≡◌, ◌<◌, ◌≤◌, length, cond, nat_lt, ◌&&◌, IfOk};
 ghost use Rattle.call_graph.specs.Tables.{sum_below, bytes_under, bytes_lower, AreStacks, AreOffsets};
 
-use sloth_base::config::TaskDecl;
-use sloth_base::memory::NoMemory;
+use sloth_base::{NoMemory, TaskDecl};
 use std::alloc::Global;
-use text_pieces::growth::push;
+use text_pieces::push;
 
 fn bytes_under(task: &TaskDecl, yielding: bool, bytes: u32, priority: u32) -> u32
     ensures { result ≡ cond (yielding && nat_lt task.now.priority priority) bytes 0 }

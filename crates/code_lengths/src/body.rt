@@ -2,8 +2,7 @@
 ghost use Rattle.std.specs.Prelude.{ℕ, ◌≡◌, ◌↔◌, IsTrue};
 ghost use Rattle.code_lengths.specs.Bodies.{IsBodyPlace};
 
-use sloth_base::app::Func;
-use sloth_base::numbers::TaskId;
+use sloth_base::{Func, TaskId};
 
 /// The place of the task's body among these functions. There is one.
 pub fn body_of(funcs: &[Func], task: TaskId) -> usize

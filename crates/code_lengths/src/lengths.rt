@@ -5,12 +5,8 @@ ghost use Rattle.sloth_base.specs.Limits.{task_limit, counter_limit, frame_limit
 ghost use Rattle.code_lengths.specs.Bodies.{IsBodyPlace};
 ghost use Rattle.code_lengths.specs.CodeLengths.{lines_length, boot_length, prologue_length, service_counts, service_length, block_length, IsPrologueLength};
 
-use crate::body::body_of;
-use sloth_base::app::App;
-use sloth_base::config::{Config, TaskDecl};
-use sloth_base::numbers::TaskId;
-use sloth_base::places::block_service;
-use sloth_base::service::Service;
+use crate::body_of;
+use sloth_base::{App, Config, Service, TaskDecl, TaskId, block_service};
 
 /// The instructions of boot without a task.
 const BOOT_ALONE: u32 = 10;

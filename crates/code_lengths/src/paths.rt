@@ -3,10 +3,9 @@ ghost use Rattle.std.specs.Prelude.{◌≡◌, ◌≤◌, ◌+◌, ◌*◌, leng
 ghost use Rattle.sloth_base.specs.Limits.{alarm_limit, counter_limit, task_limit, frame_limit};
 ghost use Rattle.code_lengths.specs.LongestPaths.{going_path, leaving_path, served_path, entry_path, tick_path, boot_path};
 
-use crate::lengths::{boot_length, service_counts};
-use crate::ticks::tick_length;
-use sloth_base::config::Config;
-use sloth_base::service::Service;
+use crate::lengths::service_counts;
+use crate::{boot_length, tick_length};
+use sloth_base::{Config, Service};
 
 /// The way back from Schedule.
 const WAY_BACK: u32 = 4;

@@ -3,8 +3,7 @@ ghost use Rattle.std.specs.Prelude.{◌≡◌, ◌≤◌, ◌+◌, ◌*◌, ◌=
 ghost use Rattle.sloth_base.specs.Limits.{alarm_limit};
 ghost use Rattle.code_lengths.specs.CodeLengths.{sets_events_of, is_looked_at, action_length, tick_length};
 
-use sloth_base::config::{Action, AlarmDecl};
-use sloth_base::numbers::TaskId;
+use sloth_base::{Action, AlarmDecl, TaskId};
 
 /// The instructions of a tick without an alarm.
 const TICK_ALONE: u32 = 11;

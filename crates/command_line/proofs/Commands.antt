@@ -84,28 +84,7 @@ stands word =
 -- is no tool's
 tool-apart : (t : Tool) → stands (tool_word t) ≡ false
 tool-apart tool.Elf = refl
-tool-apart tool.Unelf = refl
-tool-apart tool.Infer = refl
-tool-apart tool.At = refl
-tool-apart tool.AtAll = refl
-tool-apart tool.Losses = refl
-tool-apart tool.Wave = refl
-tool-apart tool.Picture = refl
-tool-apart tool.Check = refl
-tool-apart tool.Bounds = refl
-tool-apart tool.Latency = refl
-tool-apart tool.LowerCounts = refl
-tool-apart tool.Map = refl
-tool-apart tool.Shares = refl
-tool-apart tool.Response = refl
-tool-apart tool.Why = refl
-tool-apart tool.TaskBound = refl
-tool-apart tool.TaskResponse = refl
-tool-apart tool.RunResponse = refl
-tool-apart tool.Symbols = refl
-tool-apart tool.Labels = refl
-tool-apart tool.TraceReason = refl
-tool-apart tool.Unused = refl
+tool-apart t = refl
 
 apart : (t : Tool) (word : List ℕ) → stands word ≡ true → tool_word t ≡ word → ⊥
 apart t word stood e = let not : stands word ≡ false = subst (λ w. stands w ≡ false) e (tool-apart t) in true≢false (sym stood ∙ not)

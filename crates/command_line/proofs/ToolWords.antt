@@ -1,9 +1,11 @@
 -- The words of a tool are those of one use.
 use Rattle.std.proofs.Common.{Global, zero, suc, ◌≡◌, ◌≤◌, ◌+◌, ◌-◌, ◌∙◌, ℕ, List, [], ◌∷◌, ◌++◌, Option, None, Some, refl, sym, ap, subst, get_or, arith, length, take, drop}
-use Rattle.std.specs.Prelude.{decimal, Bool, true, false, not, ◌&&◌, ◌==◌, if◌then◌else◌, IfNone, slice_get, string_bytes, String, option_to_list, cond}
+use Rattle.std.specs.Prelude.{decimal, Bool, true, false, ◌==◌, IfNone, IfSome, slice_get, string_bytes, String, option_to_list, cond}
 use Rattle.std.specs.Str.{bytes_eq}
+use Rattle.std.proofs.Math.Dec.{leb}
+use Rattle.std.proofs.lemmas.Slice.Eq.{bytes_eq-Decides}
 use Rattle.std.proofs.Math.Seq.{take-append_seam, drop-append_seam}
-use Rattle.std.proofs.lemmas.Bool.{true≢false, false≢true}
+use Rattle.std.proofs.lemmas.Bool.{false≢true, leb-true, and_parts, eqb-true}
 use Rattle.std.proofs.lemmas.List.{length-append, length-map, length-take-le, drop-map, take-map}
 use Rattle.std.proofs.Math.Numerals.{add-one}
 use Rattle.std.proofs.lemmas.Fmt.{decimal_injective}
@@ -15,60 +17,66 @@ use Rattle.command_line.specs.declared.counts.Window.{Window}
 use Rattle.command_line.specs.declared.tool.Tool.{Tool}
 use Rattle.command_line.specs.declared.tool.Tool.TheVariants as tool
 use Rattle.command_line.specs.Command.{IsCommand, NoTool, Uses, words_of}
-use Rattle.command_line.specs.Tools.{ToolUse, asks_second, IsAskedFor, tool_word, tool_words, input_count, file_count, file_names, further_word, closing_word, word_count, counts_limit, writes_file, counts_words, output_words, last_words, AreCounts, IsOutput, IsToolUse, IsWindow}
+use Rattle.command_line.specs.Tools.{ToolUse, asks_second, IsAskedFor, is_meant, is_called, tools, tool_among, tool_called, number_count, tool_word, tool_words, input_count, file_count, file_names, further_word, closing_word, word_count, counts_limit, writes_file, counts_words, output_words, last_words, AreCounts, IsOutput, IsToolUse, IsWindow}
 
--- the tools
-abbrev all_tools : List Tool
-all_tools = tool.Elf ∷ tool.Unelf ∷ tool.Infer ∷ tool.At ∷ tool.AtAll ∷ tool.Losses ∷ tool.Wave ∷ tool.Picture ∷ tool.Check ∷ tool.Bounds ∷ tool.Latency ∷ tool.LowerCounts ∷ tool.Map ∷ tool.Shares ∷ tool.Response ∷ tool.Why ∷ tool.TaskBound ∷ tool.TaskResponse ∷ tool.RunResponse ∷ tool.Symbols ∷ tool.Labels ∷ tool.TraceReason ∷ tool.Unused ∷ []
-
--- of the two of one word it is the one that is asked for
-abbrev is_asked_for : Tool → (asks : Bool) → Bool
-is_asked_for tool.Latency asks = not asks
-is_asked_for tool.LowerCounts asks = asks
-is_asked_for tool.TaskBound asks = not asks
-is_asked_for tool.Labels asks = asks
-is_asked_for _ asks = true
-
--- the first of these that has a word and so many words, and is asked for
-abbrev first_with : List ℕ → ℕ → (asks : Bool) → List Tool → Option Tool
-first_with word count asks [] = None
-first_with word count asks (t ∷ rest) =
-    if bytes_eq (tool_word t) word && ((word_count t == count) && is_asked_for t asks) then Some t else first_with word count asks rest
-
-found : (t : Tool) (asks : Bool) → IsAskedFor t asks → first_with (tool_word t) (word_count t) asks all_tools ≡ Some t
-found tool.Elf asks h = refl
-found tool.Unelf asks h = refl
-found tool.Infer asks h = refl
-found tool.At asks h = refl
-found tool.AtAll asks h = refl
-found tool.Losses asks h = refl
-found tool.Wave asks h = refl
-found tool.Picture asks h = refl
-found tool.Check asks h = refl
-found tool.Bounds asks h = refl
+found : (t : Tool) (asks : Bool) → IsAskedFor t asks → tool_called (tool_word t) (word_count t) asks ≡ Some t
+unfolding tool_called
+found tool.Latency true h = absurd (false≢true h)
 found tool.Latency false h = refl
-found tool.Latency true h = absurd (true≢false h)
 found tool.LowerCounts true h = refl
 found tool.LowerCounts false h = absurd (false≢true h)
-found tool.Map asks h = refl
-found tool.Shares asks h = refl
-found tool.Response asks h = refl
-found tool.Why asks h = refl
+found tool.TaskBound true h = absurd (false≢true h)
 found tool.TaskBound false h = refl
-found tool.TaskBound true h = absurd (true≢false h)
-found tool.TaskResponse asks h = refl
-found tool.RunResponse asks h = refl
-found tool.Symbols asks h = refl
 found tool.Labels true h = refl
 found tool.Labels false h = absurd (false≢true h)
-found tool.TraceReason asks h = refl
-found tool.Unused asks h = refl
+found t asks h = refl
+
+-- the first of some that is called so is called so
+among : (ts : List Tool) (word : List ℕ) (count : ℕ) (asks : Bool) (t : Tool) → tool_among ts word count asks ≡ Some t → is_called t word count asks ≡ true
+among [] word count asks t e = absurd cc
+among (u ∷ rest) word count asks t e = by (is_called u word count asks) refl e (among rest word count asks t)
+  where
+    by : (b : Bool) → is_called u word count asks ≡ b → cond b (Some u) (tool_among rest word count asks) ≡ Some t
+        → (tool_among rest word count asks ≡ Some t → is_called t word count asks ≡ true) → is_called t word count asks ≡ true
+    by true is e further = let same : u ≡ t = cc in subst (λ v. is_called v word count asks ≡ true) same is
+    by false is e further = further e
+
+-- a tool that is called so has the word and so many words, and is the one that is asked for
+pub called : (o : Option Tool) (word : List ℕ) (count : ℕ) (asks : Bool) → o ≡ tool_called word count asks
+    → IfSome o (λ t. (word ≡ tool_word t) × (count ≡ word_count t) × IsAskedFor t asks)
+unfolding tool_called
+called None word count asks e = tt
+called (Some t) word count asks e =
+    let parts = and_parts (bytes_eq word (tool_word t)) _ (among tools word count asks t (sym e)) in
+    let rest = and_parts (count == word_count t) (is_meant t asks) parts.1 in
+    ((bytes_eq-Decides word (tool_word t)).0 parts.0, eqb-true count (word_count t) rest.0, rest.1)
+
+-- some tool is called as each is
+abbrev is_some : Option Tool → Bool
+is_some None = false
+is_some (Some t) = true
+
+some-called : (t : Tool) (asks : Bool) → is_some (tool_called (tool_word t) (word_count t) asks) ≡ true
+unfolding tool_called
+some-called tool.Elf true = refl
+some-called t true = refl
+some-called tool.Elf false = refl
+some-called t false = refl
+
+pub none-called : (o : Option Tool) (word : List ℕ) (count : ℕ) (asks : Bool) → o ≡ tool_called word count asks
+    → IfNone o ((t : Tool) → word ≡ tool_word t → count ≡ word_count t → ⊥)
+none-called (Some t) word count asks e = tt
+none-called None word count asks e =
+    λ t w n.
+    let some : is_some (tool_called word count asks) ≡ true =
+    ap (λ v. is_some (tool_called v count asks)) w ∙ (ap (λ k. is_some (tool_called (tool_word t) k asks)) n ∙ some-called t asks) in
+    false≢true (ap is_some e ∙ some)
 
 pub same-tool : (t u : Tool) (asks : Bool) → IsAskedFor t asks → IsAskedFor u asks → tool_word t ≡ tool_word u → word_count t ≡ word_count u → t ≡ u
 same-tool t u asks a b e n =
     let both : Some t ≡ Some u =
     sym (found t asks a)
-    ∙ (ap (λ w. first_with w (word_count t) asks all_tools) e ∙ (ap (λ k. first_with (tool_word u) k asks all_tools) n ∙ found u asks b)) in cc
+    ∙ (ap (λ w. tool_called w (word_count t) asks) e ∙ (ap (λ k. tool_called (tool_word u) k asks) n ∙ found u asks b)) in cc
 
 -- the tool of some words is the one that they ask for
 pub asked-for : (u : ToolUse) → IsToolUse u → IsAskedFor u.tool (asks_second (tool_words u))
@@ -80,30 +88,22 @@ IsWordLimit None = Unit {0}
 IsWordLimit (Some (limit.One most)) = most ≤ 4294967295
 IsWordLimit (Some (limit.Window most apart)) = most ≤ 4294967295
 
+abbrev is_word_limit : Option Limit → Bool
+is_word_limit None = true
+is_word_limit (Some (limit.One most)) = leb most 4294967295
+is_word_limit (Some (limit.Window most apart)) = leb most 4294967295
+
+limit-tells : (l : Option Limit) → is_word_limit l ≡ true → IsWordLimit l
+limit-tells None h = tt
+limit-tells (Some (limit.One most)) h = leb-true most 4294967295 h
+limit-tells (Some (limit.Window most apart)) h = leb-true most 4294967295 h
+
+has-word-limit : (t : Tool) → is_word_limit (counts_limit t) ≡ true
+has-word-limit tool.Elf = refl
+has-word-limit t = refl
+
 word-limit : (t : Tool) → IsWordLimit (counts_limit t)
-word-limit tool.Elf = tt
-word-limit tool.Unelf = tt
-word-limit tool.Infer = tt
-word-limit tool.At = omega arith
-word-limit tool.AtAll = omega arith
-word-limit tool.Losses = omega arith
-word-limit tool.Wave = omega arith
-word-limit tool.Picture = omega arith
-word-limit tool.Check = omega arith
-word-limit tool.Bounds = tt
-word-limit tool.Latency = tt
-word-limit tool.LowerCounts = tt
-word-limit tool.Map = tt
-word-limit tool.Shares = tt
-word-limit tool.Response = tt
-word-limit tool.Why = tt
-word-limit tool.TaskBound = tt
-word-limit tool.TaskResponse = tt
-word-limit tool.RunResponse = tt
-word-limit tool.Symbols = tt
-word-limit tool.Labels = tt
-word-limit tool.TraceReason = omega arith
-word-limit tool.Unused = tt
+word-limit t = limit-tells (counts_limit t) (has-word-limit t)
 
 -- two lists of one length in front of others
 fronts : (xs ys : List (List ℕ)) (r s : List (List ℕ)) → length xs ≡ length ys → xs ++ r ≡ ys ++ s → (xs ≡ ys) × (r ≡ s)
@@ -172,12 +172,6 @@ same-parts u w a b c d =
 
 -- ---- how many words it has
 
--- how many numbers stand where there is a limit
-abbrev number_count : Option Limit → ℕ
-number_count None = 0
-number_count (Some (limit.One most)) = 1
-number_count (Some (limit.Window most apart)) = 2
-
 counts-counted : (limit : Option Limit) (c : Option Counts) → AreCounts limit c → length (counts_words c) ≡ number_count limit
 counts-counted None None h = refl
 counts-counted None (Some c) h = absurd h
@@ -195,29 +189,7 @@ output-counted true (Some name) h = refl
 
 -- the count of its words is that of its parts
 counted : (t : Tool) → word_count t ≡ 1 + (input_count t + (length (option_to_list (further_word t)) + (number_count (counts_limit t) + (length (option_to_list (closing_word t)) + cond (writes_file t) 1 0))))
-counted tool.Elf = refl
-counted tool.Unelf = refl
-counted tool.Infer = refl
-counted tool.At = refl
-counted tool.AtAll = refl
-counted tool.Losses = refl
-counted tool.Wave = refl
-counted tool.Picture = refl
-counted tool.Check = refl
-counted tool.Bounds = refl
-counted tool.Latency = refl
-counted tool.LowerCounts = refl
-counted tool.Map = refl
-counted tool.Shares = refl
-counted tool.Response = refl
-counted tool.Why = refl
-counted tool.TaskBound = refl
-counted tool.TaskResponse = refl
-counted tool.RunResponse = refl
-counted tool.Symbols = refl
-counted tool.Labels = refl
-counted tool.TraceReason = refl
-counted tool.Unused = refl
+counted t = refl
 
 pub words-counted : (u : ToolUse) → IsToolUse u → length (tool_words u) ≡ word_count u.tool
 words-counted u is =
@@ -433,28 +405,7 @@ is-tool (w ∷ words) t count n o behind rest closed begins same long further co
 
 few-files : (t : Tool) → file_count t ≤ input_count t
 few-files tool.Elf = omega arith
-few-files tool.Unelf = omega arith
-few-files tool.Infer = omega arith
-few-files tool.At = omega arith
-few-files tool.AtAll = omega arith
-few-files tool.Losses = omega arith
-few-files tool.Wave = omega arith
-few-files tool.Picture = omega arith
-few-files tool.Check = omega arith
-few-files tool.Bounds = omega arith
-few-files tool.Latency = omega arith
-few-files tool.LowerCounts = omega arith
-few-files tool.Map = omega arith
-few-files tool.Shares = omega arith
-few-files tool.Response = omega arith
-few-files tool.Why = omega arith
-few-files tool.TaskBound = omega arith
-few-files tool.TaskResponse = omega arith
-few-files tool.RunResponse = omega arith
-few-files tool.Symbols = omega arith
-few-files tool.Labels = omega arith
-few-files tool.TraceReason = omega arith
-few-files tool.Unused = omega arith
+few-files t = omega arith
 
 -- as many names are those of files as it reads
 pub files-counted : (u : ToolUse) → length u.inputs ≡ input_count u.tool → length (file_names u) ≡ file_count u.tool

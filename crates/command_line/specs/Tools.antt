@@ -1,5 +1,5 @@
 -- The commands that read files, judge what they hold, and end with one answer: a row for each in each of these tables.
-use Rattle.std.specs.Prelude.{ℕ, ◌≡◌, ◌≤◌, ◌+◌, List, [], ◌∷◌, ◌++◌, length, get_or, take, codes, decimal, Bool, true, false, cond, Option, Some, None, option_to_list}
+use Rattle.std.specs.Prelude.{ℕ, ◌≡◌, ◌≤◌, ◌+◌, List, [], ◌∷◌, ◌++◌, length, get_or, take, codes, decimal, Bool, true, false, not, ◌&&◌, ◌==◌, if◌then◌else◌, cond, Option, Some, None, option_to_list}
 use Rattle.std.specs.Str.{bytes_eq}
 use Rattle.sloth_base.specs.Limits.{count_limit, picture_limit}
 use Rattle.command_line.specs.declared.counts.Counts.{Counts}
@@ -10,57 +10,60 @@ use Rattle.command_line.specs.declared.counts.Window.{Window}
 use Rattle.command_line.specs.declared.tool.Tool.{Tool}
 use Rattle.command_line.specs.declared.tool.Tool.TheVariants as tool
 
+-- ---- the table
+
+-- a row: the tool's first word; how many names are its next words, those of the files that it reads and of a task behind them; the word behind these names
+-- and the counts behind that word, if it has them; and whether its last word names a file that it writes
+pub record ToolRow : Type 0 where
+  pub word : List ℕ
+  pub inputs : ℕ
+  pub further : Option (List ℕ)
+  pub limit : Option Limit
+  pub writes : Bool
+
+abbrev row : List ℕ → ℕ → Option (List ℕ) → Option Limit → Bool → ToolRow
+row word inputs further limit writes = record { word = word; inputs = inputs; further = further; limit = limit; writes = writes }
+
+-- the row of a tool
+abbrev pub tool_row : Tool → ToolRow
+tool_row tool.Elf = row (codes "elf") 1 None None true
+tool_row tool.Unelf = row (codes "unelf") 1 None None true
+tool_row tool.Infer = row (codes "infer") 2 None None true
+tool_row tool.At = row (codes "at") 2 None (Some (limit.One 999999)) false
+tool_row tool.AtAll = row (codes "at") 2 None (Some (limit.One 999999)) false
+tool_row tool.Losses = row (codes "losses") 2 None (Some (limit.One count_limit)) false
+tool_row tool.Wave = row (codes "wave") 2 None (Some (limit.One count_limit)) true
+tool_row tool.Picture = row (codes "picture") 2 None (Some (limit.Window count_limit picture_limit)) true
+tool_row tool.Check = row (codes "check") 4 None (Some (limit.One count_limit)) false
+tool_row tool.Bounds = row (codes "bounds") 2 None None false
+tool_row tool.Latency = row (codes "bounds") 2 (Some (codes "latency")) None false
+tool_row tool.LowerCounts = row (codes "bounds") 2 (Some (codes "counts")) None false
+tool_row tool.Map = row (codes "map") 2 None None false
+tool_row tool.Shares = row (codes "shares") 2 None None false
+tool_row tool.Response = row (codes "response") 3 None None false
+tool_row tool.Why = row (codes "why") 2 None None false
+tool_row tool.TaskBound = row (codes "why") 3 None None false
+tool_row tool.TaskResponse = row (codes "response") 4 None None false
+tool_row tool.Symbols = row (codes "symbols") 2 None None true
+tool_row tool.Labels = row (codes "why") 2 (Some (codes "labels")) None false
+tool_row tool.TraceReason = row (codes "why") 4 None (Some (limit.One count_limit)) false
+tool_row tool.Unused = row (codes "unused") 2 None None false
+
+-- the tools
+abbrev pub tools : List Tool
+tools =
+    tool.Elf ∷ tool.Unelf ∷ tool.Infer ∷ tool.At ∷ tool.AtAll ∷ tool.Losses ∷ tool.Wave ∷ tool.Picture ∷ tool.Check
+    ∷ tool.Bounds ∷ tool.Latency ∷ tool.LowerCounts ∷ tool.Map ∷ tool.Shares ∷ tool.Response ∷ tool.Why
+    ∷ tool.TaskBound ∷ tool.TaskResponse ∷ tool.Symbols ∷ tool.Labels ∷ tool.TraceReason
+    ∷ tool.Unused ∷ []
+
 -- its first word
 abbrev pub tool_word : Tool → List ℕ
-tool_word tool.Elf = codes "elf"
-tool_word tool.Unelf = codes "unelf"
-tool_word tool.Infer = codes "infer"
-tool_word tool.At = codes "at"
-tool_word tool.AtAll = codes "at"
-tool_word tool.Losses = codes "losses"
-tool_word tool.Wave = codes "wave"
-tool_word tool.Picture = codes "picture"
-tool_word tool.Check = codes "check"
-tool_word tool.Bounds = codes "bounds"
-tool_word tool.Latency = codes "bounds"
-tool_word tool.LowerCounts = codes "bounds"
-tool_word tool.Map = codes "map"
-tool_word tool.Shares = codes "shares"
-tool_word tool.Response = codes "response"
-tool_word tool.Why = codes "why"
-tool_word tool.TaskBound = codes "why"
-tool_word tool.TaskResponse = codes "response"
-tool_word tool.RunResponse = codes "responds"
-tool_word tool.Symbols = codes "symbols"
-tool_word tool.Labels = codes "why"
-tool_word tool.TraceReason = codes "why"
-tool_word tool.Unused = codes "unused"
+tool_word t = (tool_row t).word
 
 -- how many names are its next words: those of the files that it reads, and of a task behind them
 abbrev pub input_count : Tool → ℕ
-input_count tool.Elf = 1
-input_count tool.Unelf = 1
-input_count tool.Infer = 2
-input_count tool.At = 2
-input_count tool.AtAll = 2
-input_count tool.Losses = 2
-input_count tool.Wave = 2
-input_count tool.Picture = 2
-input_count tool.Check = 4
-input_count tool.Bounds = 2
-input_count tool.Latency = 2
-input_count tool.LowerCounts = 2
-input_count tool.Map = 2
-input_count tool.Shares = 2
-input_count tool.Response = 3
-input_count tool.Why = 2
-input_count tool.TaskBound = 3
-input_count tool.TaskResponse = 4
-input_count tool.RunResponse = 3
-input_count tool.Symbols = 2
-input_count tool.Labels = 2
-input_count tool.TraceReason = 4
-input_count tool.Unused = 2
+input_count t = (tool_row t).inputs
 
 -- how many of them are of files that it reads
 abbrev pub file_count : Tool → ℕ
@@ -70,55 +73,11 @@ file_count t = input_count t
 
 -- the word that stands behind these names, if one does
 abbrev pub further_word : Tool → Option (List ℕ)
-further_word tool.Elf = None
-further_word tool.Unelf = None
-further_word tool.Infer = None
-further_word tool.At = None
-further_word tool.AtAll = None
-further_word tool.Losses = None
-further_word tool.Wave = None
-further_word tool.Picture = None
-further_word tool.Check = None
-further_word tool.Bounds = None
-further_word tool.Latency = Some (codes "latency")
-further_word tool.LowerCounts = Some (codes "counts")
-further_word tool.Map = None
-further_word tool.Shares = None
-further_word tool.Response = None
-further_word tool.Why = None
-further_word tool.TaskBound = None
-further_word tool.TaskResponse = None
-further_word tool.RunResponse = None
-further_word tool.Symbols = None
-further_word tool.Labels = Some (codes "labels")
-further_word tool.TraceReason = None
-further_word tool.Unused = None
+further_word t = (tool_row t).further
 
 -- which counts it takes as its next words, if it takes any
 abbrev pub counts_limit : Tool → Option Limit
-counts_limit tool.Elf = None
-counts_limit tool.Unelf = None
-counts_limit tool.Infer = None
-counts_limit tool.At = Some (limit.One 999999)
-counts_limit tool.AtAll = Some (limit.One 999999)
-counts_limit tool.Losses = Some (limit.One count_limit)
-counts_limit tool.Wave = Some (limit.One count_limit)
-counts_limit tool.Picture = Some (limit.Window count_limit picture_limit)
-counts_limit tool.Check = Some (limit.One count_limit)
-counts_limit tool.Bounds = None
-counts_limit tool.Latency = None
-counts_limit tool.LowerCounts = None
-counts_limit tool.Map = None
-counts_limit tool.Shares = None
-counts_limit tool.Response = None
-counts_limit tool.Why = None
-counts_limit tool.TaskBound = None
-counts_limit tool.TaskResponse = None
-counts_limit tool.RunResponse = None
-counts_limit tool.Symbols = None
-counts_limit tool.Labels = None
-counts_limit tool.TraceReason = Some (limit.One count_limit)
-counts_limit tool.Unused = None
+counts_limit t = (tool_row t).limit
 
 -- the word that stands behind its counts, if one does
 abbrev pub closing_word : Tool → Option (List ℕ)
@@ -127,55 +86,19 @@ closing_word _ = None
 
 -- whether its last word names a file that it writes
 abbrev pub writes_file : Tool → Bool
-writes_file tool.Elf = true
-writes_file tool.Unelf = true
-writes_file tool.Infer = true
-writes_file tool.At = false
-writes_file tool.AtAll = false
-writes_file tool.Losses = false
-writes_file tool.Wave = true
-writes_file tool.Picture = true
-writes_file tool.Check = false
-writes_file tool.Bounds = false
-writes_file tool.Latency = false
-writes_file tool.LowerCounts = false
-writes_file tool.Map = false
-writes_file tool.Shares = false
-writes_file tool.Response = false
-writes_file tool.Why = false
-writes_file tool.TaskBound = false
-writes_file tool.TaskResponse = false
-writes_file tool.RunResponse = false
-writes_file tool.Symbols = true
-writes_file tool.Labels = false
-writes_file tool.TraceReason = false
-writes_file tool.Unused = false
+writes_file t = (tool_row t).writes
+
+-- how many numbers stand where there is a limit
+abbrev pub number_count : Option Limit → ℕ
+number_count None = 0
+number_count (Some (limit.One most)) = 1
+number_count (Some (limit.Window most apart)) = 2
 
 -- how many words it has
 abbrev pub word_count : Tool → ℕ
-word_count tool.Elf = 3
-word_count tool.Unelf = 3
-word_count tool.Infer = 4
-word_count tool.At = 4
-word_count tool.AtAll = 5
-word_count tool.Losses = 4
-word_count tool.Wave = 5
-word_count tool.Picture = 6
-word_count tool.Check = 6
-word_count tool.Bounds = 3
-word_count tool.Latency = 4
-word_count tool.LowerCounts = 4
-word_count tool.Map = 3
-word_count tool.Shares = 3
-word_count tool.Response = 4
-word_count tool.Why = 3
-word_count tool.TaskBound = 4
-word_count tool.TaskResponse = 5
-word_count tool.RunResponse = 4
-word_count tool.Symbols = 4
-word_count tool.Labels = 4
-word_count tool.TraceReason = 6
-word_count tool.Unused = 3
+word_count t =
+    1 + (input_count t + (length (option_to_list (further_word t)) + (number_count (counts_limit t)
+    + (length (option_to_list (closing_word t)) + cond (writes_file t) 1 0))))
 
 -- ---- two tools of one word, and of as many words
 
@@ -187,13 +110,32 @@ second_word word = cond (bytes_eq word (codes "why")) (codes "labels") (codes "c
 abbrev pub asks_second : (words : List (List ℕ)) → Bool
 asks_second words = bytes_eq (get_or words 3 []) (second_word (get_or words 0 []))
 
+-- of two such tools it is the one that is asked for
+abbrev pub is_meant : Tool → (asks : Bool) → Bool
+is_meant tool.Latency asks = not asks
+is_meant tool.LowerCounts asks = asks
+is_meant tool.TaskBound asks = not asks
+is_meant tool.Labels asks = asks
+is_meant _ asks = true
+
 -- a tool that is one of the two is the one that is asked for
 abbrev pub IsAskedFor : Tool → (asks : Bool) → Type 0
-IsAskedFor tool.Latency asks = asks ≡ false
-IsAskedFor tool.LowerCounts asks = asks ≡ true
-IsAskedFor tool.TaskBound asks = asks ≡ false
-IsAskedFor tool.Labels asks = asks ≡ true
-IsAskedFor _ asks = Unit {0}
+IsAskedFor t asks = is_meant t asks ≡ true
+
+-- ---- the tool of a word
+
+-- it has this word and so many words, and is the one that is asked for
+abbrev pub is_called : Tool → (word : List ℕ) → (count : ℕ) → (asks : Bool) → Bool
+is_called t word count asks = bytes_eq word (tool_word t) && ((count == word_count t) && is_meant t asks)
+
+-- the first of these
+abbrev pub tool_among : List Tool → (word : List ℕ) → (count : ℕ) → (asks : Bool) → Option Tool
+tool_among [] word count asks = None
+tool_among (t ∷ rest) word count asks = if is_called t word count asks then Some t else tool_among rest word count asks
+
+-- the first of all
+unfoldable pub tool_called : (word : List ℕ) → (count : ℕ) → (asks : Bool) → Option Tool
+tool_called word count asks = tool_among tools word count asks
 
 -- ---- uses
 

@@ -2,7 +2,8 @@
 use Rattle.std.specs.Prelude.{Option, Some, None}
 use Rattle.std.specs.Option.{option_map}
 use Rattle.command_line.specs.Command.{Command, Building, Execution, Run, Builds, Executes, Lists, Samples, Uses, words_of}
-use Rattle.command_line.specs.Tools.{ToolUse}
+use Rattle.command_line.specs.Tools.{ToolUse, ToolRow}
+use Rattle.command_line.specs.declared.tool.Row.{Row}
 use Rattle.command_line.specs.declared.tool.ToolWords.{ToolWords}
 use Rattle.command_line.specs.declared.command.BuildWords.{BuildWords}
 use Rattle.command_line.specs.declared.command.ExecWords.{ExecWords}
@@ -22,6 +23,10 @@ building_of b = record { oil = b.oil.now; src = b.src.now; img = b.img.now; run 
 -- a run of an image file as the words say
 abbrev pub execution_of : ExecWords → Execution
 execution_of e = record { img = e.img.now; arr = e.arr.now; n = e.n }
+
+-- a row of the table of tools as the program has it
+abbrev pub row_of : Row → ToolRow
+row_of r = record { word = r.word.now; inputs = r.inputs; further = option_map (λ word. word.now) r.further; limit = r.limit; writes = r.writes }
 
 -- a tool as the words say
 abbrev pub use_of : ToolWords → ToolUse

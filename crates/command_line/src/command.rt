@@ -6,8 +6,8 @@ ghost use Rattle.command_line.specs.Words.{command_of, execution_of};
 
 use crate::tool::ToolWords;
 use crate::tool_words::tool_command;
-use trace_text::number::{instructions, number};
-use trace_text::printing::Form;
+use trace_text::number::number;
+use trace_text::{Form, instructions};
 
 /// How an image is run.
 #[derive(Clone, Copy)]

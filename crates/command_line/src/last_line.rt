@@ -2,10 +2,10 @@
 ghost use Rattle.std.specs.Prelude.{◌≡◌, ◌≤◌, length};
 ghost use Rattle.command_line.specs.LastLine.{part_text, code_text, refusal_line, built_line, fault_text, no_image_line};
 
-use image_file::fault::ImageFault;
+use image_file::ImageFault;
 use itoa::Buffer;
-use sloth_base::refusal::{Code, Part, Refusal};
-use trace_text::line_text::LineText;
+use sloth_base::{Code, Part, Refusal};
+use trace_text::LineText;
 
 fn part_text(part: Part) -> &'static [u8]
     ensures is { result.now ≡ part_text part }

@@ -10,3 +10,8 @@ pub mod counts;
 pub mod last_line;
 pub mod tool;
 mod tool_words;
+
+pub use command::{BuildWords, CommandWords, ExecWords, RunWords};
+pub use counts::{Counts, Window, number_of, window_of};
+pub use last_line::{built_line, code_text, no_image_line, refusal_line};
+pub use tool::{Tool, file_words};

@@ -2,12 +2,13 @@
 ghost use Rattle.std.specs.Option.{option_map};
 ghost use Rattle.std.specs.Prelude.{◌≡◌, IfSome, IfNone, take};
 ghost use Rattle.command_line.specs.Command.{words_of};
-ghost use Rattle.command_line.specs.Words.{use_of};
-ghost use Rattle.command_line.specs.Tools.{IsAskedFor, tool_word, input_count, file_count, file_names, further_word, closing_word, word_count, counts_limit, writes_file};
+ghost use Rattle.command_line.specs.Words.{use_of, row_of};
+ghost use Rattle.command_line.specs.Tools.{IsAskedFor, is_meant, is_called, tool_called, tool_row, tool_word, input_count, file_count, file_names, further_word, closing_word, word_count, counts_limit, writes_file};
 ghost use Rattle.command_line.specs.declared.tool.Tool.{Tool as AnyTool};
 
-use crate::counts::{Counts, Limit};
-use sloth_base::limits::{COUNT_LIMIT, PICTURE_LIMIT};
+use crate::Counts;
+use crate::counts::Limit;
+use sloth_base::{COUNT_LIMIT, PICTURE_LIMIT};
 
 /// A command that reads files, judges what they hold, and writes one file at most.
 #[derive(Clone, Copy)]
@@ -41,7 +42,7 @@ pub enum Tool {
     Map,
     /// `shares OIL SRC`: which data the tasks share, and what keeps their accesses apart.
     Shares,
-    /// `response OIL SRC LOAD`: how soon each task has left the processor behind what makes it Ready, under a load.
+    /// `response OIL SRC LOAD`: how soon each task has left the processor after what makes it Ready, in every run that keeps a load.
     Response,
     /// `why OIL SRC`: whether the texts are accepted, or what stands behind their refusal.
     Why,
@@ -49,8 +50,6 @@ pub enum Tool {
     TaskBound,
     /// `response OIL SRC LOAD TASK`: the same of one task, and of what it is made.
     TaskResponse,
-    /// `responds OIL SRC LOAD`: how soon each task has left the processor, in every run that keeps a load.
-    RunResponse,
     /// `symbols OIL SRC OUT`: the file of the image that debuggers read.
     Symbols,
     /// `why OIL SRC labels`: whether lists of labels keep the rules, or where none do.
@@ -61,36 +60,113 @@ pub enum Tool {
     Unused,
 }
 
+// In the order of their words.
+const TOOLS: [Tool; 22] = [
+    Tool::Elf,
+    Tool::Unelf,
+    Tool::Infer,
+    Tool::At,
+    Tool::AtAll,
+    Tool::Losses,
+    Tool::Wave,
+    Tool::Picture,
+    Tool::Check,
+    Tool::Bounds,
+    Tool::Latency,
+    Tool::LowerCounts,
+    Tool::Map,
+    Tool::Shares,
+    Tool::Response,
+    Tool::Why,
+    Tool::TaskBound,
+    Tool::TaskResponse,
+    Tool::Symbols,
+    Tool::Labels,
+    Tool::TraceReason,
+    Tool::Unused,
+];
+
+// What is taken as a count of a run, as its length, and as a part of it.
+const COUNT: Option<Limit> = Some(Limit::One(COUNT_LIMIT - 1));
+
+const LENGTH: Option<Limit> = Some(Limit::One(COUNT_LIMIT));
+
+const WINDOW: Option<Limit> = Some(Limit::Window {
+    most: COUNT_LIMIT,
+    apart: PICTURE_LIMIT,
+});
+
+// A row of the table: the tool's first word, how many words it has, how many names stand behind its word, the word behind them and the counts behind that, if
+// it has them, and whether it writes a file.
+#[derive(Clone, Copy)]
+struct Row {
+    word: &'static str,
+    words: usize,
+    inputs: usize,
+    further: Option<&'static str>,
+    limit: Option<Limit>,
+    writes: bool,
+}
+
+impl Row {
+    fn new(
+        word: &'static str,
+        words: usize,
+        inputs: usize,
+        further: Option<&'static str>,
+        limit: Option<Limit>,
+        writes: bool,
+    ) -> Row
+        ensures { result ≡ record { word = word.entry; words = words; inputs = inputs; further = further.entry; limit = limit; writes = writes } }
+    {
+        Row {
+            word,
+            words,
+            inputs,
+            further,
+            limit,
+            writes,
+        }
+    }
+}
+
 impl Tool {
+    // Its row of the table.
+    fn row(self) -> Row
+        ensures is { row_of result ≡ tool_row self }
+        ensures words { result.words ≡ word_count self }
+    {
+        match self {
+            Tool::Elf => Row::new("elf", 3, 1, None, None, true),
+            Tool::Unelf => Row::new("unelf", 3, 1, None, None, true),
+            Tool::Infer => Row::new("infer", 4, 2, None, None, true),
+            Tool::At => Row::new("at", 4, 2, None, COUNT, false),
+            Tool::AtAll => Row::new("at", 5, 2, None, COUNT, false),
+            Tool::Losses => Row::new("losses", 4, 2, None, LENGTH, false),
+            Tool::Wave => Row::new("wave", 5, 2, None, LENGTH, true),
+            Tool::Picture => Row::new("picture", 6, 2, None, WINDOW, true),
+            Tool::Check => Row::new("check", 6, 4, None, LENGTH, false),
+            Tool::Bounds => Row::new("bounds", 3, 2, None, None, false),
+            Tool::Latency => Row::new("bounds", 4, 2, Some("latency"), None, false),
+            Tool::LowerCounts => Row::new("bounds", 4, 2, Some("counts"), None, false),
+            Tool::Map => Row::new("map", 3, 2, None, None, false),
+            Tool::Shares => Row::new("shares", 3, 2, None, None, false),
+            Tool::Response => Row::new("response", 4, 3, None, None, false),
+            Tool::Why => Row::new("why", 3, 2, None, None, false),
+            Tool::TaskBound => Row::new("why", 4, 3, None, None, false),
+            Tool::TaskResponse => Row::new("response", 5, 4, None, None, false),
+            Tool::Symbols => Row::new("symbols", 4, 2, None, None, true),
+            Tool::Labels => Row::new("why", 4, 2, Some("labels"), None, false),
+            Tool::TraceReason => Row::new("why", 6, 4, None, LENGTH, false),
+            Tool::Unused => Row::new("unused", 3, 2, None, None, false),
+        }
+    }
+
     /// How many names stand behind its word: of the files that it reads, and of a task behind them.
     pub fn input_count(self) -> usize
         ensures { result ≡ input_count self }
     {
-        match self {
-            Tool::Elf => 1,
-            Tool::Unelf => 1,
-            Tool::Infer => 2,
-            Tool::At => 2,
-            Tool::AtAll => 2,
-            Tool::Losses => 2,
-            Tool::Wave => 2,
-            Tool::Picture => 2,
-            Tool::Check => 4,
-            Tool::Bounds => 2,
-            Tool::Latency => 2,
-            Tool::LowerCounts => 2,
-            Tool::Map => 2,
-            Tool::Shares => 2,
-            Tool::Response => 3,
-            Tool::Why => 2,
-            Tool::TaskBound => 3,
-            Tool::TaskResponse => 4,
-            Tool::RunResponse => 3,
-            Tool::Symbols => 2,
-            Tool::Labels => 2,
-            Tool::TraceReason => 4,
-            Tool::Unused => 2,
-        }
+        self.row().inputs
     }
 
     /// How many of them are of files that it reads.
@@ -108,65 +184,14 @@ impl Tool {
     pub fn further_word(self) -> Option<&'static str>
         ensures { option_map (λ word. word.now) result ≡ further_word self }
     {
-        match self {
-            Tool::Elf => None,
-            Tool::Unelf => None,
-            Tool::Infer => None,
-            Tool::At => None,
-            Tool::AtAll => None,
-            Tool::Losses => None,
-            Tool::Wave => None,
-            Tool::Picture => None,
-            Tool::Check => None,
-            Tool::Bounds => None,
-            Tool::Latency => Some("latency"),
-            Tool::LowerCounts => Some("counts"),
-            Tool::Map => None,
-            Tool::Shares => None,
-            Tool::Response => None,
-            Tool::Why => None,
-            Tool::TaskBound => None,
-            Tool::TaskResponse => None,
-            Tool::RunResponse => None,
-            Tool::Symbols => None,
-            Tool::Labels => Some("labels"),
-            Tool::TraceReason => None,
-            Tool::Unused => None,
-        }
+        self.row().further
     }
 
     /// Which counts it takes as its words behind these names, if it takes any.
     pub fn counts_limit(self) -> Option<Limit>
         ensures { result ≡ counts_limit self }
     {
-        match self {
-            Tool::Elf => None,
-            Tool::Unelf => None,
-            Tool::Infer => None,
-            Tool::At => Some(Limit::One(COUNT_LIMIT - 1)),
-            Tool::AtAll => Some(Limit::One(COUNT_LIMIT - 1)),
-            Tool::Losses => Some(Limit::One(COUNT_LIMIT)),
-            Tool::Wave => Some(Limit::One(COUNT_LIMIT)),
-            Tool::Picture => Some(Limit::Window {
-                most: COUNT_LIMIT,
-                apart: PICTURE_LIMIT,
-            }),
-            Tool::Check => Some(Limit::One(COUNT_LIMIT)),
-            Tool::Bounds => None,
-            Tool::Latency => None,
-            Tool::LowerCounts => None,
-            Tool::Map => None,
-            Tool::Shares => None,
-            Tool::Response => None,
-            Tool::Why => None,
-            Tool::TaskBound => None,
-            Tool::TaskResponse => None,
-            Tool::RunResponse => None,
-            Tool::Symbols => None,
-            Tool::Labels => None,
-            Tool::TraceReason => Some(Limit::One(COUNT_LIMIT)),
-            Tool::Unused => None,
-        }
+        self.row().limit
     }
 
     /// The word that stands behind its counts, if one does.
@@ -183,31 +208,26 @@ impl Tool {
     pub fn writes_file(self) -> bool
         ensures { result ≡ writes_file self }
     {
+        self.row().writes
+    }
+
+    // Of two tools of one word and as many words, whether it is the one that is asked for.
+    fn is_meant(self, asks: bool) -> bool
+        ensures { result ≡ is_meant self asks }
+    {
         match self {
-            Tool::Elf => true,
-            Tool::Unelf => true,
-            Tool::Infer => true,
-            Tool::At => false,
-            Tool::AtAll => false,
-            Tool::Losses => false,
-            Tool::Wave => true,
-            Tool::Picture => true,
-            Tool::Check => false,
-            Tool::Bounds => false,
-            Tool::Latency => false,
-            Tool::LowerCounts => false,
-            Tool::Map => false,
-            Tool::Shares => false,
-            Tool::Response => false,
-            Tool::Why => false,
-            Tool::TaskBound => false,
-            Tool::TaskResponse => false,
-            Tool::RunResponse => false,
-            Tool::Symbols => true,
-            Tool::Labels => false,
-            Tool::TraceReason => false,
-            Tool::Unused => false,
+            Tool::Latency | Tool::TaskBound => !asks,
+            Tool::LowerCounts | Tool::Labels => asks,
+            _ => true,
         }
+    }
+
+    // Whether it has this word and so many words, and is the one that is asked for.
+    fn is_called(self, word: &str, count: usize, asks: bool) -> bool
+        ensures { result ≡ is_called self word.now count asks }
+    {
+        let row = self.row();
+        word == row.word && count == row.words && self.is_meant(asks)
     }
 }
 
@@ -237,105 +257,15 @@ pub fn file_words<'a>(words: &ToolWords<'a>) -> &'a [String]
     first_words(words.inputs, words.tool.file_count())
 }
 
-// The tool of three words that a word asks for.
-fn tool_of_three(word: &str, asks: bool) -> Option<Tool>
-    ensures some { IfSome result (λ tool. (word.now ≡ tool_word tool) × (3 ≡ word_count tool) × IsAskedFor tool asks) }
-    ensures none { IfNone result ((tool : AnyTool) → word.now ≡ tool_word tool → 3 ≡ word_count tool → ⊥) }
+// The first of the tools that is called so.
+#[tactic(auto, unfolding(crate::specs::Tools::tool_called))]
+fn tool_called(word: &str, count: usize, asks: bool) -> Option<Tool>
+    ensures { result ≡ tool_called word.now count asks }
 {
-    if word == "elf" {
-        return Some(Tool::Elf);
-    }
-    if word == "unelf" {
-        return Some(Tool::Unelf);
-    }
-    if word == "bounds" {
-        return Some(Tool::Bounds);
-    }
-    if word == "map" {
-        return Some(Tool::Map);
-    }
-    if word == "shares" {
-        return Some(Tool::Shares);
-    }
-    if word == "why" {
-        return Some(Tool::Why);
-    }
-    if word == "unused" {
-        return Some(Tool::Unused);
-    }
-    None
-}
-
-// The tool of four words.
-fn tool_of_four(word: &str, asks: bool) -> Option<Tool>
-    ensures some { IfSome result (λ tool. (word.now ≡ tool_word tool) × (4 ≡ word_count tool) × IsAskedFor tool asks) }
-    ensures none { IfNone result ((tool : AnyTool) → word.now ≡ tool_word tool → 4 ≡ word_count tool → ⊥) }
-{
-    if word == "infer" {
-        return Some(Tool::Infer);
-    }
-    if word == "at" {
-        return Some(Tool::At);
-    }
-    if word == "losses" {
-        return Some(Tool::Losses);
-    }
-    if word == "bounds" {
-        return if asks {
-            Some(Tool::LowerCounts)
-        } else {
-            Some(Tool::Latency)
-        };
-    }
-    if word == "response" {
-        return Some(Tool::Response);
-    }
-    if word == "responds" {
-        return Some(Tool::RunResponse);
-    }
-    if word == "why" {
-        return if asks {
-            Some(Tool::Labels)
-        } else {
-            Some(Tool::TaskBound)
-        };
-    }
-    if word == "symbols" {
-        return Some(Tool::Symbols);
-    }
-    None
-}
-
-// The tool of five words.
-fn tool_of_five(word: &str, asks: bool) -> Option<Tool>
-    ensures some { IfSome result (λ tool. (word.now ≡ tool_word tool) × (5 ≡ word_count tool) × IsAskedFor tool asks) }
-    ensures none { IfNone result ((tool : AnyTool) → word.now ≡ tool_word tool → 5 ≡ word_count tool → ⊥) }
-{
-    if word == "wave" {
-        return Some(Tool::Wave);
-    }
-    if word == "at" {
-        return Some(Tool::AtAll);
-    }
-    if word == "response" {
-        return Some(Tool::TaskResponse);
-    }
-    None
-}
-
-// The tool of six words.
-fn tool_of_six(word: &str, asks: bool) -> Option<Tool>
-    ensures some { IfSome result (λ tool. (word.now ≡ tool_word tool) × (6 ≡ word_count tool) × IsAskedFor tool asks) }
-    ensures none { IfNone result ((tool : AnyTool) → word.now ≡ tool_word tool → 6 ≡ word_count tool → ⊥) }
-{
-    if word == "picture" {
-        return Some(Tool::Picture);
-    }
-    if word == "check" {
-        return Some(Tool::Check);
-    }
-    if word == "why" {
-        return Some(Tool::TraceReason);
+    for tool in TOOLS {
+        if tool.is_called(word, count, asks) {
+            return Some(tool);
+        }
     }
     None
 }
@@ -345,11 +275,5 @@ pub fn tool_named(word: &str, count: usize, asks: bool) -> Option<Tool>
     ensures some { IfSome result (λ tool. (word.now ≡ tool_word tool) × (count ≡ word_count tool) × IsAskedFor tool asks) }
     ensures none { IfNone result ((tool : AnyTool) → word.now ≡ tool_word tool → count ≡ word_count tool → ⊥) }
 {
-    match count {
-        3 => tool_of_three(word, asks),
-        4 => tool_of_four(word, asks),
-        5 => tool_of_five(word, asks),
-        6 => tool_of_six(word, asks),
-        _ => None,
-    }
+    tool_called(word, count, asks)
 }

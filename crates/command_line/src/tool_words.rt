@@ -8,9 +8,10 @@ ghost use Rattle.command_line.specs.Tools.{BeginWith, IsWindow, IsOutput, output
 ghost use Rattle.command_line.specs.Command.{IsCommand, NoTool, Uses, words_of};
 ghost use Rattle.command_line.specs.Words.{use_of};
 
-use crate::counts::{Counts, Limit, Window};
+use crate::counts::Limit;
 use crate::tool::{ToolWords, tool_named};
-use trace_text::number::number_below;
+use crate::{Counts, Window};
+use trace_text::number_below;
 
 // The words behind the first ones, so many of them.
 fn words_behind(words: &[String], count: usize) -> &[String]

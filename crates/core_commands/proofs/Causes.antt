@@ -14,12 +14,13 @@ use Rattle.sloth_io.specs.Store.{Files, KeepsFiles, AreDelivered, IsFileWritten,
 use Rattle.sloth_io.specs.Slots.{is_space_for}
 use Rattle.image_file.specs.ImageText.{image_bytes}
 use Rattle.sloth_source.specs.Texts.{AreAccepted}
-use Rattle.command_line.specs.Command.{Command, Building, Builds, Executes, Lists, Samples, Uses, IsCommand, IsInLimit}
+use Rattle.command_line.specs.Command.{Command, Building, Builds, Executes, Lists, Samples, Uses, IsCommand}
 use Rattle.sloth_base.specs.Limits.{file_limit}
 use Rattle.run_inputs.specs.Inputs.{AreArrivalsOf}
 use Rattle.command_line.specs.LastLine.{refusal_line, no_image_line}
 use Rattle.tool_answers.specs.declared.status.Status.{Status}
 use Rattle.tool_answers.specs.declared.status.Status.TheVariants as status
+use Rattle.sim_induction.proofs.Coming.{arrivals_come}
 use Rattle.core_commands.specs.declared.failure.Failure.{Failure}
 use Rattle.core_commands.specs.declared.failure.Failure.TheVariants as failure
 use Rattle.core_commands.specs.Top.{World, world, text_deliveries, AreInputs, AreFilesSame, IsAccepted, IsBuiltImage}
@@ -100,13 +101,12 @@ pub record IsBuilt (old mid : Files) (c : Building) (image : Image) (arrivals : 
   pub app : App
   pub accepted : IsAccepted (call_files old mid) c config app arrivals
   pub is_image : IsBuiltImage config app image
-  pub in_limit : IsInLimit c.run
   pub kept : KeepsFiles old mid
 
 pub built-of : (old mid : Files) (c : Building) (config : Config) (app : App) (image : Image) (arrivals : List Arrival) (oil src arr : List ℕ)
     → AreInputs old c oil src arr → AreDelivered old mid (text_deliveries c oil src arr) → AreAccepted oil src config app → AreArrivalsOf (task_names config) (counter_names config) arr arrivals → AreArrivals (owners_in config) arrivals
-    → IsBuiltImage config app image → IsInLimit c.run → KeepsFiles old mid → IsBuilt old mid c image arrivals
-built-of old mid c config app image arrivals oil src arr inputs delivered accepted read in_range is_image in_limit kept = record {
+    → IsBuiltImage config app image → KeepsFiles old mid → IsBuilt old mid c image arrivals
+built-of old mid c config app image arrivals oil src arr inputs delivered accepted read in_range is_image kept = record {
   config = config;
   app = app;
   accepted = record {
@@ -120,7 +120,6 @@ built-of old mid c config app image arrivals oil src arr inputs delivered accept
     in_range = in_range;
   };
   is_image = is_image;
-  in_limit = in_limit;
   kept = kept;
 }
 
@@ -138,7 +137,7 @@ done old mid new c image arrivals b same w = record {
   is_image = b.is_image;
   written = (written-behind old mid new c.img (image_bytes image) b.kept w.0, λ name other. w.1 name other ∙ b.kept.holds name);
   text_is = refl;
-  protocol = shown-keep b.config b.app image arrivals c.run b.is_image.protocol b.accepted.in_range b.in_limit;
+  protocol = shown-keep b.config b.app image arrivals c.run b.is_image.protocol (arrivals_come (owners_in b.config) arrivals b.accepted.in_range);
 }
 
 pub perform-ends : (f : Failure) (old mid : Files) (sink : Output) (new : World) (c : Building) (image : Image) (arrivals : List Arrival)

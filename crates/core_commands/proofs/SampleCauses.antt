@@ -1,11 +1,12 @@
 -- Why `sample` was not done, and what it did.
-use Rattle.std.proofs.Common.{◌≡◌, ℕ, List, refl, subst, arith}
+use Rattle.std.proofs.Common.{◌≡◌, ◌∙◌, ℕ, List, length, refl, sym, ap, subst, arith, rules}
 use Rattle.sloth_base.specs.declared.config.Config.{Config}
 use Rattle.sloth_base.specs.declared.app.App.{App}
 use Rattle.sloth_base.specs.Arrivals.{AreArrivals}
 use Rattle.sloth_base.specs.declared.event.Arrival.{Arrival}
 use Rattle.sloth_base.specs.declared.image.Image.{Image}
-use Rattle.sloth_base.specs.Owners.{owners_in}
+use Rattle.sloth_base.specs.Owners.{owners_in, owners_named}
+use Rattle.std.proofs.lemmas.List.{length-map}
 use Rattle.sloth_base.specs.Limits.{count_limit}
 use Rattle.sloth_io.specs.Sink.{Output}
 use Rattle.sloth_io.specs.Store.{Files, call_files}
@@ -13,9 +14,10 @@ use Rattle.image_file.specs.ImageText.{image_bytes}
 use Rattle.sloth_source.specs.Texts.{AreAccepted}
 use Rattle.command_line.specs.Command.{Samples}
 use Rattle.sloth_runner.proofs.SoundRuns.{whole-run}
+use Rattle.sim_induction.proofs.Coming.{arrivals_come}
 use Rattle.core_commands.specs.Samples.{sample_oil, sample_source, sample_arrivals, sample_text}
 use Rattle.core_commands.specs.Top.{World, world, IsBuiltImage, IsWritten, IsSampled, IsTextTaken}
-use Rattle.core_commands.specs.Failures.{IsPerformFailure, IsCommandFailure, IsPerformed}
+use Rattle.core_commands.specs.Failures.{IsPerformFailure, IsSampleFailure, IsCommandFailure, IsPerformed}
 use Rattle.tool_answers.specs.declared.status.Status.TheVariants as status
 use Rattle.core_commands.specs.declared.failure.Failure.{Failure}
 use Rattle.core_commands.specs.declared.failure.Failure.TheVariants as failure
@@ -49,8 +51,8 @@ sampled old new seed img image is written = record {
   is_image = is.is_image;
   written = written;
   text_is = refl;
-  whole = whole-run is.config is.app image (sample_arrivals seed) count_limit is.is_image.sound is.in_range (omega arith);
-  protocol = is.is_image.protocol (sample_arrivals seed) count_limit is.in_range (omega arith);
+  whole = whole-run is.config is.app image (sample_arrivals seed) count_limit is.is_image.sound (arrivals_come (owners_in is.config) (sample_arrivals seed) is.in_range);
+  protocol = is.is_image.protocol (sample_arrivals seed) count_limit (arrivals_come (owners_in is.config) (sample_arrivals seed) is.in_range);
 }
 
 pub sample-failed : (f : Failure) (old : Files) (sink : Output) (new : World) (seed : ℕ) (img : List ℕ) (image : Image)
@@ -71,3 +73,21 @@ pub sample-done : (old new : Files) (sink out : Output) (seed : ℕ) (img : List
     → IsPerformed LacksTools status.Done (world (call_files old new) sink) (world new out) (Samples seed img)
 sample-done old new sink out seed img image is written took =
     (sample_text image (sample_arrivals seed), sampled (call_files old new) new seed img image is written, took)
+
+pub sample-unmade : (f : Failure) (old : Files) (sink : Output) (seed : ℕ) (img : List ℕ)
+    → IsSampleFailure f seed → IsCommandFailure LacksTools f (world (call_files old old) sink) (world old sink) (Samples seed img)
+sample-unmade (failure.Refused r) old sink seed img h = search rules
+sample-unmade failure.NoMemory old sink seed img h = search rules
+sample-unmade failure.WriteFile old sink seed img h = absurd h
+sample-unmade failure.Put old sink seed img h = absurd h
+sample-unmade failure.ReadFault old sink seed img h = absurd h
+sample-unmade failure.TooLong old sink seed img h = absurd h
+sample-unmade (failure.NotAnImage fault) old sink seed img h = absurd h
+
+pub built-owned : (config : Config) (app : App) (image : Image) (arrivals : List Arrival)
+    → IsBuiltImage config app image → AreArrivals (owners_in config) arrivals → AreArrivals (owners_named image) arrivals
+built-owned config app image arrivals built h =
+    let tasks : length config.tasks ≡ length image.tasks = sym (ap length built.names ∙ length-map config.tasks (λ t. t.name)) in
+    let counters : length config.counters ≡ length image.counters = sym (ap length built.counters ∙ length-map config.counters (λ c. c.name)) in
+    subst (λ n. AreArrivals record { tasks = n; counters = length image.counters } arrivals) tasks
+    (subst (λ n. AreArrivals record { tasks = length config.tasks; counters = n } arrivals) counters h)

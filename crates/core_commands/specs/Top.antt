@@ -14,7 +14,7 @@ use Rattle.code_rules.specs.WellFormed.{WellFormed}
 use Rattle.rv32_expand.specs.InPlace.{ItemsInPlace}
 use Rattle.osek_blocking.specs.Protocol.{KeepsCeilingProtocol}
 use Rattle.osek_blocking.specs.NextEvents.{IsOnlyRun}
-use Rattle.sim_induction.specs.Sound.{Sound, events_of}
+use Rattle.sim_induction.specs.Sound.{AreComing, Sound, events_of}
 use Rattle.sim_induction.specs.Weighed.{Weighed}
 use Rattle.sim_induction.specs.Paced.{InPace}
 use Rattle.sim_laws.specs.TaskStates.{HasTaskStates}
@@ -131,12 +131,12 @@ pub record IsAccepted (old : Files) (c : Building) (config : Config) (app : App)
 -- in every run of an image, whatever lines arrive, the observed events keep the priority ceiling protocol
 abbrev pub RunsKeepProtocol : Config → App → Image → Type 0
 RunsKeepProtocol config app image =
-    (arrivals : List Arrival) (n : ℕ) → AreArrivals (owners_in config) arrivals → n ≤ count_limit
+    (arrivals : List Arrival) (n : ℕ) → AreComing (owners_in config) arrivals
     → KeepsCeilingProtocol config app (events_of image arrivals n)
 
 -- in every run of an image in which no line arrives, the observed events are the only run of their number of the abstract scheduler
 abbrev pub RunsAreOnly : Config → App → Image → Type 0
-RunsAreOnly config app image = (n : ℕ) → n ≤ count_limit → IsOnlyRun config app (events_of image [] n)
+RunsAreOnly config app image = (n : ℕ) → IsOnlyRun config app (events_of image [] n)
 
 -- an image of a configuration and its task code
 pub record IsBuiltImage (config : Config) (app : App) (image : Image) : Type 0 where

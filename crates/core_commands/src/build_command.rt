@@ -19,17 +19,13 @@ ghost use Rattle.sloth_base.specs.DeclaredNames.{task_names, counter_names};
 ghost use Rattle.core_commands.specs.Failures.{IsReadFailure, IsJudgeFailure, IsPerformFailure};
 
 use crate::building::build_image;
-use crate::failure::Failure;
-use crate::inputs::fetch;
-use command_line::command::{BuildWords, RunWords};
-use command_line::last_line::built_line;
+use crate::{Failure, fetch};
+use command_line::{BuildWords, RunWords, built_line};
 use image_file::write_image;
-use sloth_base::event::Arrival;
-use sloth_base::image::Image;
+use sloth_base::{Arrival, Image};
 use sloth_build::Built;
-use sloth_io::sink::Sink;
-use sloth_io::store::Store;
-use sloth_runner::runner::Runner;
+use sloth_io::{Sink, Store};
+use sloth_runner::Runner;
 use std::alloc::Global;
 use trace_text::read_arrivals;
 

@@ -4,7 +4,7 @@ ghost use Rattle.sloth_source.specs.Texts.{AreAccepted, SourcesErrorIs};
 ghost use Rattle.sloth_base.specs.DeclaredNames.{task_names, counter_names};
 ghost use Rattle.core_commands.specs.Top.{IsBuiltImage};
 
-use sloth_base::refusal::BuildError;
+use sloth_base::BuildError;
 use sloth_build::{Built, build};
 use std::alloc::Global;
 

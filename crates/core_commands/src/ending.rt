@@ -3,9 +3,9 @@ ghost use Rattle.std.specs.Prelude.{◌≡◌, ◌≢◌, ◌++◌, [], ◌∷�
 ghost use Rattle.core_commands.specs.Top.{IsPutAnswer, IsCloseAnswer};
 ghost use Rattle.core_commands.specs.Failures.{IsFailureEnd, last_lines};
 
-use crate::failure::Failure;
-use command_line::last_line::{no_image_line, refusal_line};
-use sloth_io::sink::Sink;
+use crate::Failure;
+use command_line::{no_image_line, refusal_line};
+use sloth_io::Sink;
 use tool_answers::Status;
 
 /// Hands on what the sink holds back. Where it can't be, the status is WriteFault.

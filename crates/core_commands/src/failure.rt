@@ -3,11 +3,9 @@ ghost use Rattle.std.specs.Prelude.{◌≡◌};
 ghost use Rattle.core_commands.specs.Failures.{read_failure, judge_failure, image_failure};
 ghost use Rattle.core_commands.specs.declared.failure.Failure.TheVariants.{NoMemory as OutOfMemory, Put as PutFailed};
 
-use image_file::fault::{ImageError, ImageFault};
-use sloth_base::memory::NoMemory;
-use sloth_base::refusal::{BuildError, Refusal};
-use sloth_io::sink::SinkFault;
-use sloth_io::store::StoreFault;
+use image_file::{ImageError, ImageFault};
+use sloth_base::{BuildError, NoMemory, Refusal};
+use sloth_io::{SinkFault, StoreFault};
 use std::alloc::AllocFailed;
 
 /// Why a command was not done.

@@ -20,21 +20,17 @@ ghost use Rattle.tool_answers.specs.declared.status.Status.TheVariants.{Done as 
 ghost use Rattle.trace_text.specs.Listing.{listing};
 ghost use Rattle.core_commands.specs.ToolTables.{LacksTools};
 
-use crate::failure::Failure;
-use crate::inputs::fetch;
 use crate::listing::put_listing;
-use command_line::command::ExecWords;
+use crate::{Failure, fetch};
+use command_line::ExecWords;
 use image_file::read_image;
 use run_inputs::{RunInputs, Unread, read_run};
-use sloth_base::event::Arrival;
-use sloth_base::image::Image;
-use sloth_io::sink::{Sink, SinkFault};
-use sloth_io::store::Store;
-use sloth_runner::runner::{RunEnd, Runner};
+use sloth_base::{Arrival, Image};
+use sloth_io::{Sink, SinkFault, Store};
+use sloth_runner::{RunEnd, Runner};
 use std::alloc::Global;
 use tool_answers::Status;
-use trace_text::printing::Form;
-use trace_text::stop_line::stopped_line;
+use trace_text::{Form, stopped_line};
 
 // An image file and an arrivals file.
 #[derive(Drop)]

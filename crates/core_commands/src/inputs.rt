@@ -4,9 +4,9 @@ ghost use Rattle.sloth_base.specs.Limits.{file_limit};
 ghost use Rattle.sloth_io.specs.Store.{KeepsFiles, AreDelivered, Holds};
 ghost use Rattle.core_commands.specs.Failures.{IsFetchFailure};
 
-use crate::failure::Failure;
-use sloth_base::limits::FILE_LIMIT;
-use sloth_io::store::Store;
+use crate::Failure;
+use sloth_base::FILE_LIMIT;
+use sloth_io::Store;
 use std::alloc::Global;
 
 /// The bytes of a file, of which there are at most 4 MiB.

@@ -33,4 +33,9 @@ pub mod sample_command;
 pub mod sample_laws;
 pub mod top;
 
+pub use ending::{close, finish, say};
+pub use failure::Failure;
+pub use inputs::fetch;
+pub use own_output::is_tool_input;
+pub use program::{run_program, words_given};
 pub use top::core_top;

@@ -4,8 +4,8 @@ ghost use Rattle.sloth_base.specs.ImageRange.{InFormat};
 ghost use Rattle.sloth_io.specs.Sink.{output_with, GainsPart};
 ghost use Rattle.trace_text.specs.Listing.{line_at, listing};
 
-use sloth_base::image::Image;
-use sloth_io::sink::{Sink, SinkFault};
+use sloth_base::Image;
+use sloth_io::{Sink, SinkFault};
 use trace_text::listing_line;
 
 // Puts line k.

@@ -4,9 +4,9 @@ ghost use Rattle.command_line.specs.Command.{Builds, Uses, words_of};
 ghost use Rattle.command_line.specs.Words.{building_of, command_of, run_of, use_of};
 ghost use Rattle.core_commands.specs.CommandFiles.{arrivals_named, HasOwnOutput, IsFileAmong, IsNameApart, IsOnlyAsked, OverwritesInput};
 
-use command_line::command::{BuildWords, CommandWords, RunWords};
-use command_line::tool::{ToolWords, file_words};
-use sloth_io::store::Store;
+use command_line::tool::ToolWords;
+use command_line::{BuildWords, CommandWords, RunWords, file_words};
+use sloth_io::Store;
 
 // Whether the file of a name is one of these.
 fn is_among<F: Store>(files: &mut F, name: &str, inputs: &[String]) -> bool

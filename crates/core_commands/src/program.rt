@@ -6,9 +6,8 @@ ghost use Rattle.command_line.specs.Command.{words_of};
 ghost use Rattle.core_commands.specs.ProgramRun.{IsProgramRun, HasTopRun};
 ghost use Rattle.core_commands.specs.ToolTables.{LacksTools};
 
-use crate::top::core_top;
-use sloth_io::file_store::FileStore;
-use sloth_io::out_sink::OutSink;
+use crate::core_top;
+use sloth_io::{FileStore, OutSink};
 use std::alloc::Global;
 use std::env;
 use std::env::Env;

@@ -16,20 +16,14 @@ ghost use Rattle.core_commands.specs.Failures.{IsSampleFailure, IsPerformFailure
 ghost use Rattle.tool_answers.specs.declared.status.Status.TheVariants.{Done as DoneStatus};
 ghost use Rattle.core_commands.specs.ToolTables.{LacksTools};
 
+use crate::Failure;
 use crate::building::build_image;
-use crate::failure::Failure;
-use app_gen::application::Sample;
-use app_gen::sample;
+use app_gen::{Sample, sample};
 use image_file::write_image;
-use sloth_base::event::Arrival;
-use sloth_base::image::Image;
-use sloth_base::limits::{COUNT_LIMIT, TASK_LIMIT};
-use sloth_base::list::List;
+use sloth_base::{Arrival, COUNT_LIMIT, Image, List, TASK_LIMIT};
 use sloth_build::Built;
-use sloth_io::sink::{Sink, SinkFault};
-use sloth_io::store::Store;
-use sloth_runner::runner::Runner;
-use sloth_runner::summary::put_summary;
+use sloth_io::{Sink, SinkFault, Store};
+use sloth_runner::{Runner, put_summary};
 use std::alloc::Global;
 use tool_answers::Status;
 

@@ -13,14 +13,13 @@ ghost use Rattle.core_commands.specs.Failures.{IsCommandFailure, IsPerformed};
 ghost use Rattle.tool_answers.specs.declared.status.Status.TheVariants.{Done as DoneStatus};
 
 use crate::build_command::{judge, perform, read_inputs};
-use crate::ending::{close, finish, say};
-use crate::failure::Failure;
 use crate::image_commands::{execute, list};
 use crate::own_output::overwrites_input;
 use crate::sample_command::sample_run;
-use command_line::command::{BuildWords, CommandWords, command};
-use sloth_io::sink::Sink;
-use sloth_io::store::Store;
+use crate::{Failure, close, finish, say};
+use command_line::command::command;
+use command_line::{BuildWords, CommandWords};
+use sloth_io::{Sink, Store};
 use std::alloc::Global;
 use tool_answers::Status;
 

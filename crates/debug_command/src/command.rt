@@ -10,19 +10,14 @@ ghost use Rattle.debug_session.specs.Serving.{IsWhole, BrokeOff, IsAnswered, IsA
 ghost use Rattle.debug_command.specs.DebugAnswers.{IsCloseAnswer, IsLineAnswer, IsSaid, IsSessionEnd, IsTextsAnswer, IsDebugAnswer, end_status, heard};
 ghost use Rattle.debug_command.specs.Words.{debugging_of};
 
+use crate::DebugWords;
 use crate::inputs::{Cause, Meaning, read_meaning, read_texts};
-use crate::words::DebugWords;
-use command_line::last_line::{no_image_line, refusal_line};
-use debug_session::input::Input;
-use debug_session::serving::{SessionFault, serve};
+use command_line::{no_image_line, refusal_line};
+use debug_session::{Input, SessionFault, serve};
 use debug_view::Place;
 use debug_ways::{Cursor, Machine};
-use sloth_base::event::Arrival;
-use sloth_base::image::Image;
-use sloth_base::memory::NoMemory;
-use sloth_base::name::Name;
-use sloth_io::sink::Sink;
-use sloth_io::store::Store;
+use sloth_base::{Arrival, Image, Name, NoMemory};
+use sloth_io::{Sink, Store};
 use std::alloc::Global;
 use tool_answers::Status;
 

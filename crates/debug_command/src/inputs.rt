@@ -8,14 +8,10 @@ ghost use Rattle.sloth_io.specs.Store.{KeepsFiles, AreDelivered};
 ghost use Rattle.debug_command.specs.Inputs.{IsFile, AreRead, AreFirstRead, IsUnreadFile, AreUnread, AreMeant, AreNotMeant, unread_cause, image_cause, arrivals_cause};
 ghost use Rattle.debug_command.specs.Words.{debugging_of};
 
-use crate::words::DebugWords;
-use image_file::fault::{ImageError, ImageFault};
-use image_file::read_image;
-use sloth_base::event::Arrival;
-use sloth_base::image::Image;
-use sloth_base::limits::FILE_LIMIT;
-use sloth_base::refusal::{BuildError, Refusal};
-use sloth_io::store::{Store, StoreFault};
+use crate::DebugWords;
+use image_file::{ImageError, ImageFault, read_image};
+use sloth_base::{Arrival, BuildError, FILE_LIMIT, Image, Refusal};
+use sloth_io::{Store, StoreFault};
 use std::alloc::Global;
 use trace_text::read_arrivals;
 

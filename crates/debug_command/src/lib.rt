@@ -12,4 +12,5 @@ pub mod program;
 pub mod words;
 
 pub use command::debug;
-pub use words::debug_words;
+pub use program::debug_over;
+pub use words::{DebugWords, debug_words};

@@ -6,11 +6,9 @@ ghost use Rattle.debug_command.specs.DebugAnswers.{heard};
 ghost use Rattle.debug_command.specs.DebugRun.{IsDebugRun};
 ghost use Rattle.debug_command.specs.Words.{debugging_of};
 
-use crate::command::debug;
-use crate::words::DebugWords;
-use debug_session::input::Input;
-use sloth_io::file_store::FileStore;
-use sloth_io::out_sink::OutSink;
+use crate::{DebugWords, debug};
+use debug_session::Input;
+use sloth_io::{FileStore, OutSink};
 use std::alloc::Global;
 use std::rt::Files;
 use tool_answers::Status;

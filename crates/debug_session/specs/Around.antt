@@ -43,8 +43,13 @@ abbrev pub further : ℕ → List (List ℕ) → List (List ℕ)
 further count [] = []
 further count (line ∷ lines) = if nat_lt (end_of line) count then further count lines else line ∷ further count lines
 
+-- the last of those that end before a count, and the first of the others
+abbrev pub front_text : ℕ → List (List ℕ) → List ℕ
+front_text count lines = text_of (drop (length (ended count lines) - side) (ended count lines))
+
+abbrev pub rest_text : ℕ → List (List ℕ) → List ℕ
+rest_text count lines = text_of (take side (further count lines))
+
 -- of a text the last lines of events that end before a count, the count, and the first lines of the others
 abbrev pub around : (text : List ℕ) → (count : ℕ) → List ℕ
-around text count =
-    text_of (drop (length (ended count (merged text)) - side) (ended count (merged text))) ++ (codes "count " ++ decimal count ++ codes "\n")
-    ++ text_of (take side (further count (merged text)))
+around text count = front_text count (merged text) ++ (codes "count " ++ decimal count ++ codes "\n") ++ rest_text count (merged text)

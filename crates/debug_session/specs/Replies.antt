@@ -239,41 +239,62 @@ fault_text fault = if fault == 1 then codes "E01" else if fault == 2 then codes 
 abbrev pub set_text : List Point → Point → List ℕ
 set_text points point = if is_among point points then codes "OK" else codes "E05"
 
+-- the text of a reply in which the run has no part
+abbrev pub fixed_text : List Point → Request → List ℕ
+fixed_text points (asks.Fault fault) = fault_text fault
+fixed_text points asks.Supported = features_text
+fixed_text points asks.NoAnnex = codes "E00"
+fixed_text points asks.ThreadListEnd = codes "l"
+fixed_text points asks.Attached = codes "1"
+fixed_text points (asks.SetPoint point) = set_text points point
+fixed_text points asks.Actions = codes "vCont;c;C;s;S;r"
+fixed_text points asks.Confirmed = codes "OK"
+fixed_text points asks.NoAcks = codes "OK"
+fixed_text points (asks.SelectShown thread) = codes "OK"
+fixed_text points (asks.SelectStepped thread) = codes "OK"
+fixed_text points (asks.TakePoint point) = codes "OK"
+fixed_text points asks.Detach = codes "OK"
+fixed_text points _ = []
+
+-- what is told of threads
+abbrev pub threads_reply : Run → List (List ℕ) → ℕ → Request → List ℕ
+threads_reply run names count (asks.Threads window) = window_text (threads_text (view_of run count) names) window
+threads_reply run names count asks.ThreadList = thread_list (length names)
+threads_reply run names count (asks.ThreadInfo thread) = hex_of (words_text (view_of run count) names thread)
+threads_reply run names count asks.CurrentThread = codes "QC" ++ hex_number (thread_of (run.look count))
+threads_reply run names count _ = []
+
+-- the digits of what a command of the monitor shows
+abbrev pub monitor_reply : Run → List (List ℕ) → Standing → Request → List ℕ
+monitor_reply run names standing asks.Count = hex_of (count_text run standing)
+monitor_reply run names standing (asks.Goto count) = hex_of (count_text run standing)
+monitor_reply run names standing asks.NoGoto = hex_of no_goto_text
+monitor_reply run names standing asks.States = hex_of (states_text names (seen_of run standing.count))
+monitor_reply run names standing asks.Events = hex_of (events_text run standing.count)
+monitor_reply run names standing asks.Help = hex_of help_text
+monitor_reply run names standing _ = []
+
 -- the text of the reply to a request, where a session stands so behind it with these points
 abbrev pub reply_text : Run → List (List ℕ) → List Point → Standing → Request → List ℕ
-reply_text run names points standing asks.Nothing = []
-reply_text run names points standing (asks.Fault fault) = fault_text fault
-reply_text run names points standing asks.Confirmed = codes "OK"
-reply_text run names points standing asks.Supported = features_text
-reply_text run names points standing asks.NoAcks = codes "OK"
 reply_text run names points standing asks.LastStop = stop_text run standing
-reply_text run names points standing (asks.Description window) = window_text description window
-reply_text run names points standing asks.NoAnnex = codes "E00"
-reply_text run names points standing (asks.Threads window) = window_text (threads_text (view_of run standing.count) names) window
-reply_text run names points standing asks.ThreadList = thread_list (length names)
-reply_text run names points standing asks.ThreadListEnd = codes "l"
-reply_text run names points standing (asks.ThreadInfo thread) = hex_of (words_text (view_of run standing.count) names thread)
-reply_text run names points standing asks.CurrentThread = codes "QC" ++ hex_number (thread_of (run.look standing.count))
-reply_text run names points standing asks.Attached = codes "1"
-reply_text run names points standing (asks.SelectShown thread) = codes "OK"
-reply_text run names points standing (asks.SelectStepped thread) = codes "OK"
-reply_text run names points standing asks.Registers = registers_text run standing
-reply_text run names points standing (asks.Register number) = register_text run standing number
-reply_text run names points standing (asks.Memory window) = memory_text run standing window
-reply_text run names points standing (asks.SetPoint point) = set_text points point
-reply_text run names points standing (asks.TakePoint point) = codes "OK"
-reply_text run names points standing asks.Actions = codes "vCont;c;C;s;S;r"
 reply_text run names points standing (asks.Continue backwards) = stop_text run standing
 reply_text run names points standing (asks.Step step) = stop_text run standing
 reply_text run names points standing (asks.PlainStep backwards) = stop_text run standing
-reply_text run names points standing asks.Count = hex_of (count_text run standing)
-reply_text run names points standing (asks.Goto count) = hex_of (count_text run standing)
-reply_text run names points standing asks.NoGoto = hex_of no_goto_text
-reply_text run names points standing asks.States = hex_of (states_text names (seen_of run standing.count))
-reply_text run names points standing asks.Events = hex_of (events_text run standing.count)
-reply_text run names points standing asks.Help = hex_of help_text
-reply_text run names points standing asks.Detach = codes "OK"
-reply_text run names points standing asks.Kill = []
+reply_text run names points standing (asks.Description window) = window_text description window
+reply_text run names points standing (asks.Threads window) = threads_reply run names standing.count (asks.Threads window)
+reply_text run names points standing asks.ThreadList = threads_reply run names standing.count asks.ThreadList
+reply_text run names points standing (asks.ThreadInfo thread) = threads_reply run names standing.count (asks.ThreadInfo thread)
+reply_text run names points standing asks.CurrentThread = threads_reply run names standing.count asks.CurrentThread
+reply_text run names points standing asks.Registers = registers_text run standing
+reply_text run names points standing (asks.Register number) = register_text run standing number
+reply_text run names points standing (asks.Memory window) = memory_text run standing window
+reply_text run names points standing asks.Count = monitor_reply run names standing asks.Count
+reply_text run names points standing (asks.Goto count) = monitor_reply run names standing (asks.Goto count)
+reply_text run names points standing asks.NoGoto = monitor_reply run names standing asks.NoGoto
+reply_text run names points standing asks.States = monitor_reply run names standing asks.States
+reply_text run names points standing asks.Events = monitor_reply run names standing asks.Events
+reply_text run names points standing asks.Help = monitor_reply run names standing asks.Help
+reply_text run names points standing request = fixed_text points request
 
 -- `k` has no reply
 abbrev pub has_reply : Request → Bool

@@ -1,31 +1,23 @@
 //! The lines around a count.
 ghost use Rattle.std.specs.Prelude.{◌≡◌, ◌++◌, ◌-◌, map, OnOk, codes, decimal, length, take, drop};
 ghost use Rattle.text_pieces.specs.Names.{referent};
-ghost use Rattle.debug_session.specs.Around.{text_of, side, around};
+ghost use Rattle.debug_session.specs.Around.{text_of, side, front_text, rest_text, around};
 
 use crate::merging::{ended, further, merged};
-use itoa::Buffer;
-use sloth_base::memory::NoMemory;
+use sloth_base::NoMemory;
 use std::alloc::Global;
+use text_pieces::line;
+use text_pieces::pieces::Piece::{Number, Word};
 
 /// How many lines stand on each side.
 const SIDE: usize = 8;
-
-// Puts bytes.
-fn push_bytes(out: &mut Vec<u8>, bytes: &[u8]) -> Result<(), NoMemory>
-    ensures { OnOk result (out.new.items ≡ out.old.items ++ bytes.now) }
-{
-    out.extend_from_slice(bytes)?;
-    Ok(())
-}
 
 // Puts lines.
 fn push_lines(out: &mut Vec<u8>, lines: &[&[u8]]) -> Result<(), NoMemory>
     ensures { OnOk result (out.new.items ≡ out.old.items ++ text_of (map referent lines.now)) }
 {
     for line in lines {
-        push_bytes(out, *line)?;
-        push_bytes(out, b"\n")?;
+        line!(out; Word(*line), Word(b"\n"))?;
     }
     Ok(())
 }
@@ -34,10 +26,7 @@ fn push_lines(out: &mut Vec<u8>, lines: &[&[u8]]) -> Result<(), NoMemory>
 fn push_count(out: &mut Vec<u8>, count: u32) -> Result<(), NoMemory>
     ensures { OnOk result (out.new.items ≡ out.old.items ++ (codes "count " ++ decimal count ++ codes "\n")) }
 {
-    let mut buffer = Buffer::new();
-    push_bytes(out, b"count ")?;
-    push_bytes(out, buffer.format(count).as_bytes())?;
-    push_bytes(out, b"\n")
+    line!(out; Word(b"count "), Number(count), Word(b"\n"))
 }
 
 // The last lines.
@@ -57,6 +46,22 @@ fn first<'a, 'b>(lines: &'b [&'a [u8]]) -> &'b [&'a [u8]]
     &lines[..SIDE]
 }
 
+// Puts the last lines of the events that end before a count.
+fn push_front(alloc: Global, out: &mut Vec<u8>, lines: &[&[u8]], count: u32) -> Result<(), NoMemory>
+    ensures { OnOk result (out.new.items ≡ out.old.items ++ front_text count (map referent lines.now)) }
+{
+    let front = ended(alloc, lines, count)?;
+    push_lines(out, last(front.as_slice()))
+}
+
+// Puts the first lines of the others.
+fn push_rest(alloc: Global, out: &mut Vec<u8>, lines: &[&[u8]], count: u32) -> Result<(), NoMemory>
+    ensures { OnOk result (out.new.items ≡ out.old.items ++ rest_text count (map referent lines.now)) }
+{
+    let rest = further(alloc, lines, count)?;
+    push_lines(out, first(rest.as_slice()))
+}
+
 /// Puts the last lines of a text whose events end before a count, the count, and the first lines of the others.
 pub fn push_around(
     alloc: Global,
@@ -67,9 +72,7 @@ pub fn push_around(
     ensures { OnOk result (out.new.items ≡ out.old.items ++ around text.now count) }
 {
     let lines = merged(alloc, text)?;
-    let front = ended(alloc, lines.as_slice(), count)?;
-    let rest = further(alloc, lines.as_slice(), count)?;
-    push_lines(out, last(front.as_slice()))?;
+    push_front(alloc, out, lines.as_slice(), count)?;
     push_count(out, count)?;
-    push_lines(out, first(rest.as_slice()))
+    push_rest(alloc, out, lines.as_slice(), count)
 }

@@ -3,8 +3,9 @@ ghost use Rattle.std.specs.Prelude.{◌≡◌, ◌≤◌, ◌<◌, ◌++◌, opt
 ghost use Rattle.std.specs.Io.KnownBytes.{Consumes, IsAtEnd, Keeps};
 ghost use Rattle.debug_session.specs.Input.{Gives, Ends};
 
+use crate::Input;
 use crate::given::Given;
-use crate::input::{Input, InputFault};
+use crate::input::InputFault;
 use std::io::Read;
 
 /// The greatest number of bytes that one read asks for.

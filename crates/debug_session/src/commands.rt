@@ -7,7 +7,7 @@ ghost use Rattle.debug_session.specs.Requests.{goto_by, single_command, double_c
 use crate::hex::bytes_of_hex;
 use crate::request::Request;
 use crate::words::{count_in, first_word, further_words, same};
-use sloth_base::memory::NoMemory;
+use sloth_base::NoMemory;
 use std::alloc::Global;
 
 fn goto_by(count: Option<u32>) -> Request

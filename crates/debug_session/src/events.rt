@@ -8,8 +8,7 @@ ghost use Rattle.debug_session.specs.Replies.{events_text, trace_counts};
 use crate::around::push_around;
 use crate::texts::least_of;
 use debug_ways::{Cursor, Machine};
-use sloth_base::limits::COUNT_LIMIT;
-use sloth_base::memory::NoMemory;
+use sloth_base::{COUNT_LIMIT, NoMemory};
 use std::alloc::Global;
 
 /// How many counts behind the own one the events are shown of.

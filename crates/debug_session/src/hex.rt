@@ -2,7 +2,7 @@
 ghost use Rattle.std.specs.Prelude.{◌≡◌, ◌<◌, ◌++◌, OnOk, IfOk, IfSome, IfNone, None, Some};
 ghost use Rattle.debug_session.specs.Hex.{hex_digit, digit_value, hex_of, number_of, number_from, bytes_of_hex};
 
-use sloth_base::memory::NoMemory;
+use sloth_base::NoMemory;
 use std::alloc::Global;
 
 /// The hexadecimal digit of a value, in lower case.

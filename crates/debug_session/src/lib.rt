@@ -64,3 +64,8 @@ mod views;
 pub mod wanted;
 mod words;
 pub mod writing;
+
+pub use byte_reader::ByteReader;
+pub use input::Input;
+pub use mem_input::MemInput;
+pub use serving::{SessionFault, serve};

@@ -4,7 +4,7 @@ ghost use Rattle.debug_session.specs.Framing.{framed};
 ghost use Rattle.debug_session.specs.Acknowledging.{first_sending, sent, without_acks, acknowledged, refused, repeated};
 
 use crate::writing::push_packet;
-use sloth_base::memory::NoMemory;
+use sloth_base::NoMemory;
 use std::alloc::Global;
 use std::marker::Model;
 

@@ -2,8 +2,9 @@
 ghost use Rattle.std.specs.Prelude.{◌≡◌, []};
 ghost use Rattle.debug_session.specs.MemInput.{coming_of};
 
+use crate::Input;
 use crate::given::Given;
-use crate::input::{Input, InputFault};
+use crate::input::InputFault;
 
 /// Bytes in memory, and whether a fault stands behind them in the place of the end.
 #[derive(Drop)]

@@ -3,12 +3,9 @@ ghost use Rattle.std.specs.Prelude.{◌≡◌, ◌++◌, ◌-◌, ◌∷◌, [],
 ghost use Rattle.text_pieces.specs.Names.{referent};
 ghost use Rattle.debug_session.specs.Around.{whole_lines, is_idle, merged_from, merged, end_of, ended, further};
 
-use asm_lines::cutting::split;
-use sloth_base::memory::NoMemory;
+use sloth_base::NoMemory;
 use std::alloc::Global;
-use text_pieces::bytes::{before, behind, same};
-use text_pieces::growth::push;
-use text_pieces::numerals::value;
+use text_pieces::{before, behind, push, same, split, value};
 
 // Whether a line is that of an idle.
 fn is_idle(line: &[u8]) -> bool

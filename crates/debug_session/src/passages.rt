@@ -7,8 +7,7 @@ ghost use Rattle.debug_session.specs.Wishes.{wish_of};
 
 use crate::points::{Watch, break_at, watched};
 use crate::wanted::{Cause, Passage, Wanted};
-use debug_ways::ways::{go_ahead, go_back};
-use debug_ways::{Cursor, Look, Machine};
+use debug_ways::{Cursor, Look, Machine, go_ahead, go_back};
 
 // The watchpoint that is met, or else another cause.
 fn cause_by_watch(watch: &Option<Watch>, cause: Cause) -> Cause

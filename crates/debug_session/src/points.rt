@@ -4,7 +4,7 @@ ghost use Rattle.debug_session.specs.Points.{is_point, is_among, break_at, is_fo
 
 use crate::request::Point;
 use debug_ways::Access;
-use sloth_base::memory::NoMemory;
+use sloth_base::NoMemory;
 
 /// The most points that there may be.
 pub const POINT_LIMIT: usize = 1_000;

@@ -3,7 +3,7 @@ ghost use Rattle.std.specs.Prelude.{◌≡◌, IfOk};
 ghost use Rattle.debug_session.specs.Reading.{fresh, opened, event_after, event_at, reading_after, after_outside, after_inside, is_told};
 
 use crate::hex::value_of;
-use sloth_base::memory::NoMemory;
+use sloth_base::NoMemory;
 use std::alloc::Global;
 use std::marker::Model;
 

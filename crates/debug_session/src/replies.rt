@@ -5,7 +5,7 @@ ghost use Rattle.debug_session.specs.Hex.{hex_of};
 ghost use Rattle.debug_session.specs.Causes.{thread_of};
 ghost use Rattle.debug_session.specs.Texts.{hex_number, window_text};
 ghost use Rattle.debug_ways.specs.Cursor.{cursor_run};
-ghost use Rattle.debug_session.specs.Replies.{reply_text, has_reply, fault_text, set_text, features_text, help_text, no_goto_text, view_of, words_text, threads_text, count_text, states_text, seen_of, events_text};
+ghost use Rattle.debug_session.specs.Replies.{reply_text, has_reply, fault_text, set_text, fixed_text, threads_reply, monitor_reply, features_text, help_text, no_goto_text, view_of, words_text, threads_text, count_text, states_text, seen_of, events_text};
 
 use crate::description::description;
 use crate::events::push_events;
@@ -18,8 +18,7 @@ use crate::texts::{push, push_number, push_window};
 use crate::threads::{push_thread_list, push_threads, push_words, seen_of, view_of};
 use crate::views::{push_count, push_memory, push_registers, push_shown_register, push_states};
 use debug_ways::{Cursor, Machine};
-use sloth_base::memory::NoMemory;
-use sloth_base::name::Name;
+use sloth_base::{Name, NoMemory};
 use std::alloc::Global;
 
 // The text of a fault's number.
@@ -170,6 +169,77 @@ fn push_events_digits<M: Machine>(
     push_hex(out, text.as_slice())
 }
 
+// The text of a reply in which the run has no part.
+fn fixed_text(points: &[Point], request: &Request) -> &'static [u8]
+    ensures { result.now ≡ fixed_text points.now request.now }
+{
+    match request {
+        Request::Fault(fault) => fault_text(*fault),
+        Request::Supported => features_text(),
+        Request::NoAnnex => b"E00",
+        Request::ThreadListEnd => b"l",
+        Request::Attached => b"1",
+        Request::SetPoint(point) => set_text(points, point),
+        Request::Actions => b"vCont;c;C;s;S;r",
+        Request::Confirmed
+        | Request::NoAcks
+        | Request::SelectShown(_)
+        | Request::SelectStepped(_)
+        | Request::TakePoint(_)
+        | Request::Detach => b"OK",
+        _ => b"",
+    }
+}
+
+// Puts what is told of threads.
+fn push_threads_text<M: Machine>(
+    alloc: Global,
+    out: &mut Vec<u8>,
+    cursor: &mut Cursor<M>,
+    names: &[Name],
+    count: u32,
+    request: &Request,
+) -> Result<(), NoMemory>
+    requires there { count ≤ (cursor_run M.run cursor.old).end }
+    requires few { length names.now ≤ task_limit }
+    ensures text { OnOk result (out.new.items ≡ out.old.items ++ threads_reply (cursor_run M.run cursor.old) names.now count request.now) }
+    ensures run { cursor_run M.run cursor.new ≡ cursor_run M.run cursor.old }
+{
+    match request {
+        Request::Threads(window) => {
+            push_threads_window(alloc, out, cursor, names, count, window)
+        }
+        Request::ThreadList => push_thread_list(out, names.len() as u32),
+        Request::ThreadInfo(thread) => push_info(alloc, out, cursor, names, count, *thread),
+        Request::CurrentThread => push_current(out, cursor, count),
+        _ => Ok(()),
+    }
+}
+
+// Puts the digits of what a command of the monitor shows.
+fn push_monitor_text<M: Machine>(
+    alloc: Global,
+    out: &mut Vec<u8>,
+    cursor: &mut Cursor<M>,
+    names: &[Name],
+    standing: &Standing,
+    request: &Request,
+) -> Result<(), NoMemory>
+    requires there { standing.now.count ≤ (cursor_run M.run cursor.old).end }
+    requires few { length names.now ≤ task_limit }
+    ensures text { OnOk result (out.new.items ≡ out.old.items ++ monitor_reply (cursor_run M.run cursor.old) names.now standing.now request.now) }
+    ensures run { cursor_run M.run cursor.new ≡ cursor_run M.run cursor.old }
+{
+    match request {
+        Request::Count | Request::Goto(_) => push_count_digits(alloc, out, cursor, standing),
+        Request::NoGoto => push_hex(out, no_goto_text()),
+        Request::States => push_states_digits(alloc, out, cursor, names, standing.count),
+        Request::Events => push_events_digits(alloc, out, cursor, standing.count),
+        Request::Help => push_hex(out, help_text()),
+        _ => Ok(()),
+    }
+}
+
 /// Whether a request has a reply.
 pub fn has_reply(request: &Request) -> bool
     ensures { result ≡ has_reply request.now }
@@ -196,39 +266,39 @@ pub fn push_text<M: Machine>(
         ++ reply_text (cursor_run M.run cursor.old) names.now points.now standing.now request.now) }
     ensures run { cursor_run M.run cursor.new ≡ cursor_run M.run cursor.old }
 {
-    let count = standing.count;
     match request {
         Request::Nothing | Request::Kill => Ok(()),
-        Request::Fault(fault) => push(out, fault_text(*fault)),
-        Request::Supported => push(out, features_text()),
         Request::LastStop | Request::Continue(_) | Request::Step(_) | Request::PlainStep(_) => {
             push_stop(out, cursor, standing)
         }
         Request::Description(window) => push_window(out, description(), window),
-        Request::NoAnnex => push(out, b"E00"),
-        Request::Threads(window) => {
-            push_threads_window(alloc, out, cursor, names, count, window)
+        Request::Threads(_)
+        | Request::ThreadList
+        | Request::ThreadInfo(_)
+        | Request::CurrentThread => {
+            push_threads_text(alloc, out, cursor, names, standing.count, request)
         }
-        Request::ThreadList => push_thread_list(out, names.len() as u32),
-        Request::ThreadListEnd => push(out, b"l"),
-        Request::ThreadInfo(thread) => push_info(alloc, out, cursor, names, count, *thread),
-        Request::CurrentThread => push_current(out, cursor, count),
-        Request::Attached => push(out, b"1"),
         Request::Registers => push_registers(out, cursor, standing),
         Request::Register(number) => push_shown_register(out, cursor, standing, *number),
         Request::Memory(window) => push_memory(alloc, out, cursor, standing, window),
-        Request::SetPoint(point) => push(out, set_text(points, point)),
-        Request::Actions => push(out, b"vCont;c;C;s;S;r"),
-        Request::Count | Request::Goto(_) => push_count_digits(alloc, out, cursor, standing),
-        Request::NoGoto => push_hex(out, no_goto_text()),
-        Request::States => push_states_digits(alloc, out, cursor, names, count),
-        Request::Events => push_events_digits(alloc, out, cursor, count),
-        Request::Help => push_hex(out, help_text()),
-        Request::Confirmed
+        Request::Count
+        | Request::Goto(_)
+        | Request::NoGoto
+        | Request::States
+        | Request::Events
+        | Request::Help => push_monitor_text(alloc, out, cursor, names, standing, request),
+        Request::Fault(_)
+        | Request::Supported
+        | Request::NoAnnex
+        | Request::ThreadListEnd
+        | Request::Attached
+        | Request::SetPoint(_)
+        | Request::Actions
+        | Request::Confirmed
         | Request::NoAcks
         | Request::SelectShown(_)
         | Request::SelectStepped(_)
         | Request::TakePoint(_)
-        | Request::Detach => push(out, b"OK"),
+        | Request::Detach => push(out, fixed_text(points, request)),
     }
 }

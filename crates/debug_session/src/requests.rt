@@ -13,7 +13,7 @@ use crate::selecting::{
     threads_by,
 };
 use crate::words::{same, thread_in, window_of};
-use sloth_base::memory::NoMemory;
+use sloth_base::NoMemory;
 use std::alloc::Global;
 
 // A request where nothing follows, or else another.

@@ -6,13 +6,12 @@ ghost use Rattle.debug_session.specs.Reading.{fresh};
 ghost use Rattle.debug_ways.specs.Cursor.{cursor_run};
 ghost use Rattle.debug_session.specs.Serving.{behind_event, event_answer, IsWhole, BrokeOff, IsAnswered, IsAnsweredInPart, HasNoAnswer};
 
-use crate::input::Input;
+use crate::Input;
 use crate::reading::{Event, PacketReader};
 use crate::session::Session;
 use debug_ways::{Cursor, Machine};
-use sloth_base::memory::NoMemory;
-use sloth_base::name::Name;
-use sloth_io::sink::Sink;
+use sloth_base::{Name, NoMemory};
+use sloth_io::Sink;
 use std::alloc::Global;
 
 /// Why a session broke off.

@@ -15,8 +15,7 @@ use crate::requests::request_of;
 use crate::standing::{Standing, begun, plain_step, selected};
 use crate::stepping::{continued, moved, stepped};
 use debug_ways::{Cursor, Machine};
-use sloth_base::memory::NoMemory;
-use sloth_base::name::Name;
+use sloth_base::{Name, NoMemory};
 use std::alloc::Global;
 use std::marker::Model;
 

@@ -11,8 +11,7 @@ use crate::standing::{
     Standing, Told, interrupted, is_end, is_step, stays, step_target, thread_of, told_by,
 };
 use crate::wanted::{Cause, Passage, Target, Wanted, is_own};
-use debug_ways::ways::go_ahead;
-use debug_ways::{Cursor, Look, Machine};
+use debug_ways::{Cursor, Look, Machine, go_ahead};
 
 // The points and the target of a step.
 fn wanted_by<'a>(points: &'a [Point], step: &Step, look: &Look) -> Wanted<'a>

@@ -9,7 +9,7 @@ use crate::texts::{push, push_number};
 use crate::wanted::Cause;
 use debug_ways::{Cursor, Machine};
 use rv32_instr::Stop;
-use sloth_base::memory::NoMemory;
+use sloth_base::NoMemory;
 
 // The signal of the end of a run.
 fn stop_signal(stop: &Option<Stop>) -> &'static [u8]

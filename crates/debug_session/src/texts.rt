@@ -1,12 +1,13 @@
 //! Parts of replies.
-ghost use Rattle.std.specs.Prelude.{◌≡◌, ◌<◌, ◌+◌, ◌++◌, OnOk, decimal};
+ghost use Rattle.std.specs.Prelude.{◌≡◌, ◌<◌, ◌+◌, ◌++◌, OnOk};
 ghost use Rattle.debug_session.specs.Texts.{digit_at, hex_number, register_digits, least_of, part_text, window_text, state_text, active_text, thread_state_text};
 
 use crate::hex::{digit_of, push_hex};
 use crate::request::Window;
-use itoa::Buffer;
-use osek_scheduler::state::TaskState;
-use sloth_base::memory::NoMemory;
+use osek_scheduler::TaskState;
+use sloth_base::NoMemory;
+use text_pieces::line;
+use text_pieces::pieces::Piece::{Number, Word};
 
 /// The most bytes of a part of a text.
 const PART_LIMIT: u32 = 16_368;
@@ -17,14 +18,6 @@ pub fn push(out: &mut Vec<u8>, bytes: &[u8]) -> Result<(), NoMemory>
 {
     out.extend_from_slice(bytes)?;
     Ok(())
-}
-
-/// Puts a number in decimal digits.
-pub fn push_decimal(out: &mut Vec<u8>, number: u32) -> Result<(), NoMemory>
-    ensures { OnOk result (out.new.items ≡ out.old.items ++ decimal number) }
-{
-    let mut buffer = Buffer::new();
-    push(out, buffer.format(number).as_bytes())
 }
 
 // Puts the digit of a place, unless it is a zero in front.
@@ -105,10 +98,7 @@ pub fn push_state(out: &mut Vec<u8>, state: TaskState) -> Result<(), NoMemory>
         TaskState::Suspended => push(out, b"suspended"),
         TaskState::Ready => push(out, b"ready"),
         TaskState::Active => push(out, b"active"),
-        TaskState::Waiting(mask) => {
-            push(out, b"waiting ")?;
-            push_decimal(out, mask)
-        }
+        TaskState::Waiting(mask) => line!(out; Word(b"waiting "), Number(mask)),
     }
 }
 

@@ -6,12 +6,12 @@ ghost use Rattle.debug_ways.specs.Cursor.{cursor_run};
 ghost use Rattle.debug_session.specs.Texts.{up_to};
 ghost use Rattle.debug_session.specs.Replies.{seen_at, seen_of, view_of, machine_text, task_text, thread_text, thread_name, words_text, number_front, name_front, element_number, element_head, thread_element, threads_head, threads_text, number_text, thread_list};
 
-use crate::texts::{push, push_decimal, push_number, push_thread_state};
+use crate::texts::{push, push_number, push_thread_state};
 use debug_ways::{Cursor, Machine};
-use osek_scheduler::state::TaskState;
-use sloth_base::limits::TASK_LIMIT;
-use sloth_base::memory::NoMemory;
-use sloth_base::name::Name;
+use osek_scheduler::TaskState;
+use sloth_base::{Name, NoMemory, TASK_LIMIT};
+use text_pieces::line;
+use text_pieces::pieces::Piece::{Number, Word};
 
 /// What a count shows of tasks.
 #[derive(Clone, Copy)]
@@ -82,10 +82,7 @@ pub fn view_of<M: Machine>(cursor: &mut Cursor<M>, count: u32) -> View
 fn push_machine(out: &mut Vec<u8>, view: &View) -> Result<(), NoMemory>
     ensures { OnOk result (out.new.items ≡ out.old.items ++ machine_text view.now) }
 {
-    push(out, b"count ")?;
-    push_decimal(out, view.count)?;
-    push(out, b", level ")?;
-    push_decimal(out, view.level)?;
+    line!(out; Word(b"count "), Number(view.count), Word(b", level "), Number(view.level))?;
     if view.mstatus / 8 % 2 == 1 {
         return Ok(());
     }

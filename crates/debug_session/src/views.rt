@@ -8,16 +8,16 @@ ghost use Rattle.debug_session.specs.Replies.{shown_thread, register_text, regis
 use crate::hex::push_hex;
 use crate::request::Window;
 use crate::standing::{Standing, thread_of};
-use crate::texts::{least_of, push, push_decimal, push_register, push_state};
+use crate::texts::{least_of, push, push_register, push_state};
 use crate::threads::Seen;
 use debug_ways::{Cursor, Machine};
-use osek_scheduler::state::TaskState;
+use osek_scheduler::TaskState;
 use rv32_instr::Stop;
-use sloth_base::limits::TASK_LIMIT;
-use sloth_base::memory::NoMemory;
-use sloth_base::name::Name;
+use sloth_base::{Name, NoMemory, TASK_LIMIT};
 use std::alloc::Global;
-use trace_text::stop_line::stopped_line;
+use text_pieces::line;
+use text_pieces::pieces::Piece::{Number, Word};
+use trace_text::stopped_line;
 
 /// The most bytes of memory that are shown at once.
 const BYTE_LIMIT: u32 = 8_184;
@@ -169,8 +169,7 @@ pub fn push_count<M: Machine>(
     ensures text { OnOk result (out.new.items ≡ out.old.items ++ count_text (cursor_run M.run cursor.old) standing.now) }
     ensures run { cursor_run M.run cursor.new ≡ cursor_run M.run cursor.old }
 {
-    push(out, b"count ")?;
-    push_decimal(out, standing.count)?;
+    line!(out; Word(b"count "), Number(standing.count))?;
     push_meeting(out, cursor, standing)
 }
 
@@ -186,8 +185,7 @@ fn push_task_line(
     requires there { task < task_limit }
     ensures { OnOk result (out.new.items ≡ out.old.items ++ task_line names.now states.now task) }
 {
-    push(out, names[task].bytes())?;
-    push(out, b" ")?;
+    line!(out; Word(names[task].bytes()), Word(b" "))?;
     push_state(out, states[task])?;
     push(out, b"\n")
 }
@@ -212,9 +210,7 @@ fn push_seen(out: &mut Vec<u8>, names: &[Name], seen: &Seen) -> Result<(), NoMem
     requires { length names.now ≤ task_limit }
     ensures { OnOk result (out.new.items ≡ out.old.items ++ states_text names.now (Some seen.now)) }
 {
-    push(out, b"count ")?;
-    push_decimal(out, seen.count)?;
-    push(out, b"\n")?;
+    line!(out; Word(b"count "), Number(seen.count), Word(b"\n"))?;
     push_task_lines(out, names, &seen.states)
 }
 

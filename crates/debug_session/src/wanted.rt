@@ -5,8 +5,7 @@ ghost use Rattle.debug_session.specs.Wishes.{wish_of};
 
 use crate::points::{break_at, watched};
 use crate::request::Point;
-use debug_ways::Look;
-use debug_ways::ways::Hits;
+use debug_ways::{Hits, Look};
 
 /// A count that a way goes to.
 #[derive(Clone, Copy)]

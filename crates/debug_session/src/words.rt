@@ -6,7 +6,7 @@ ghost use Rattle.debug_session.specs.Words.{front, behind, window_by, window_of,
 
 use crate::hex::number;
 use crate::request::Window;
-use sloth_base::limits::COUNT_LIMIT;
+use sloth_base::COUNT_LIMIT;
 
 /// A thread that a text tells, or why it tells none.
 #[derive(Clone, Copy)]

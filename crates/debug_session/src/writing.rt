@@ -5,7 +5,7 @@ ghost use Rattle.debug_session.specs.Framing.{checksum, packet_of, framed};
 
 use crate::escapes::push_escaped;
 use crate::hex::digit_of;
-use sloth_base::memory::NoMemory;
+use sloth_base::NoMemory;
 use std::alloc::Global;
 
 // The sum of bytes, modulo 256.

@@ -2,8 +2,6 @@
 use Rattle.std.proofs.Common.{◌≡◌, ◌<◌, ◌≤◌, ◌+◌, ℕ, zero, suc, List, Option, Some, None, Bool, true, false, if◌then◌else◌, refl, ◌∙◌, ap, subst, arith, length}
 use Rattle.std.specs.Prelude.{filter, get_or}
 use Rattle.std.specs.Option.{option_or}
-use Rattle.sloth_base.specs.Arrivals.{AreArrivals}
-use Rattle.sloth_base.specs.Limits.{count_limit}
 use Rattle.sloth_base.specs.Owners.{owners_in}
 use Rattle.sloth_base.specs.declared.app.App.{App}
 use Rattle.sloth_base.specs.declared.config.Config.{Config}
@@ -14,7 +12,7 @@ use Rattle.rv32_machine.specs.Run.{state_with_arrivals}
 use Rattle.osek_scheduler.specs.State.{System, task, opening}
 use Rattle.osek_scheduler.specs.Runs.{AreStepsTo}
 use Rattle.osek_scheduler.specs.declared.state.TaskState.{TaskState}
-use Rattle.sim_induction.specs.Sound.{events_of, stands_before}
+use Rattle.sim_induction.specs.Sound.{AreComing, events_of, stands_before}
 use Rattle.sim_laws.specs.TaskStates.{HasTaskStates}
 use Rattle.sloth_inspect.proofs.Places.{state_at_place}
 use Rattle.sloth_runner.specs.TaskStates.{AreLastStates, IsLast, image_states, task_states, running_task}
@@ -54,15 +52,15 @@ last_is_shown image A (suc k) within =
 
 -- the state of a task that is shown
 pub shown_state : (config : Config) (app : App) (image : Image) → HasTaskStates config app image → length image.tasks ≡ length config.tasks
-    → (A : List Arrival) (n k count : ℕ) (s : System) → AreArrivals (owners_in config) A → n ≤ count_limit → k ≤ (run_of image A).end
+    → (A : List Arrival) (n k count : ℕ) (s : System) → AreComing (owners_in config) A → k ≤ (run_of image A).end
     → ((run_of image A).look k).open_count ≡ Some count → count < n
     → AreStepsTo config app (filter (stands_before count) (events_of image A n)) (opening config app) s
     → (t : ℕ) (unused : TaskState) → t < length config.tasks → get_or ((run_of image A).states count) t unused ≡ (task s t).state
-shown_state config app image shows same A n k count s in_range few within here below steps t unused own =
+shown_state config app image shows same A n k count s come within here below steps t unused own =
     let L : Option ℕ → Type 0 = λ o. IsLast image A (k + 1) (shown_seen image A o) in
     let last : AreLastStates image A (k + 1) (seen_at image A count) = subst L here (last_is_shown image A k within) in
     let memory = memory_of (state_with_arrivals A count last.state).core in
-    let told = shows.each A n count last.state s in_range few below last.after last.enabled steps in
+    let told = shows.each A n count last.state s come below last.after last.enabled steps in
     let among : t < length image.tasks = omega (arith, own, same) in
     ap (λ (states : List TaskState). get_or states t unused) last.tasks
     ∙ state_at_place memory (length image.tasks) t unused among ∙ told.task_states t own

@@ -8,7 +8,7 @@ ghost use Rattle.debug_view.specs.Standing.{AreLines};
 
 use observe::passing;
 use rv32_machine::{Machine, SlothBus};
-use sloth_base::event::Arrival;
+use sloth_base::Arrival;
 
 // The lines of these arrivals become pending.
 fn arrive_all(machine: &mut Machine<SlothBus>, arrivals: &[Arrival])

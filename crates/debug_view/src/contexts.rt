@@ -4,12 +4,8 @@ ghost use Rattle.sloth_base.specs.Limits.{task_limit};
 ghost use Rattle.debug_view.specs.Contexts.{word_in, is_word, is_link, word_or_zero, link_in, is_whole, whole, preempted, waiting, context_in, context_register, fresh_register, kept_register};
 
 use rv32_machine::{Bus, SlothBus};
-use sloth_base::app::Width;
-use sloth_base::limits::TASK_LIMIT;
-use sloth_base::memory_map::{MEMORY_BASE, VECTORS_BASE};
-use sloth_region::layout::{
-    BELOW_WORD, CONTEXT_BELOW, CONTEXT_BYTES, CONTEXT_CUR, RESUME_WORDS, active,
-};
+use sloth_base::{MEMORY_BASE, TASK_LIMIT, VECTORS_BASE, Width};
+use sloth_region::{BELOW_WORD, CONTEXT_BELOW, CONTEXT_BYTES, CONTEXT_CUR, RESUME_WORDS, active};
 
 // The last word of a context.
 const LAST_WORD: u32 = CONTEXT_BYTES as u32 - 4;

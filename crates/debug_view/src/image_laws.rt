@@ -1,7 +1,5 @@
 //! What is shown of tasks, in the words of `at` and of the abstract scheduler.
 ghost use Rattle.std.specs.Prelude.{◌≡◌, ◌≤◌, ◌<◌, ◌+◌, ℕ, List, Some, true, filter, length, get_or};
-ghost use Rattle.sloth_base.specs.Arrivals.{AreArrivals};
-ghost use Rattle.sloth_base.specs.Limits.{count_limit};
 ghost use Rattle.sloth_base.specs.Owners.{owners_in};
 ghost use Rattle.sloth_base.specs.declared.app.App.{App};
 ghost use Rattle.sloth_base.specs.declared.config.Config.{Config};
@@ -10,7 +8,7 @@ ghost use Rattle.sloth_base.specs.declared.image.Image.{Image};
 ghost use Rattle.osek_scheduler.specs.State.{System, task, opening};
 ghost use Rattle.osek_scheduler.specs.Runs.{AreStepsTo};
 ghost use Rattle.osek_scheduler.specs.declared.state.TaskState.{TaskState};
-ghost use Rattle.sim_induction.specs.Sound.{events_of, stands_before};
+ghost use Rattle.sim_induction.specs.Sound.{AreComing, events_of, stands_before};
 ghost use Rattle.sim_laws.specs.TaskStates.{HasTaskStates};
 ghost use Rattle.sloth_runner.specs.TaskStates.{IsLast};
 ghost use Rattle.debug_view.specs.ShownRun.{run_of};
@@ -26,8 +24,8 @@ pub fn states_are_those_of_at()
 /// Of an image that shows the tasks of the abstract scheduler, a state that is shown is that of the task in the system to which the events before its count lead.
 pub fn states_are_those_of_the_scheduler()
     ensures { (config : Config) (app : App) (image : Image) → HasTaskStates config app image → length image.tasks ≡ length config.tasks
-        → (arrivals : List Arrival) (n k count : ℕ) (s : System) → AreArrivals (owners_in config) arrivals
-        → n ≤ count_limit → k ≤ (run_of image arrivals).end → ((run_of image arrivals).look k).open_count ≡ Some count → count < n
+        → (arrivals : List Arrival) (n k count : ℕ) (s : System) → AreComing (owners_in config) arrivals
+        → k ≤ (run_of image arrivals).end → ((run_of image arrivals).look k).open_count ≡ Some count → count < n
         → AreStepsTo config app (filter (stands_before count) (events_of image arrivals n)) (opening config app) s
         → (t : ℕ) (unused : TaskState) → t < length config.tasks → get_or ((run_of image arrivals).states count) t unused ≡ (task s t).state }
 {}

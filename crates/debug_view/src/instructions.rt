@@ -5,11 +5,10 @@ ghost use Rattle.rv32_machine.specs.State.{state};
 ghost use Rattle.debug_view.specs.Looks.{fetched_instr, effect_by, effect_of, keeps_open, change_keeps_open, access_of, is_plain};
 
 use debug_ways::Access;
-use rv32_instr::csr::MSTATUS;
-use rv32_instr::{Change, Effect, Instr};
+use rv32_instr::{Change, Effect, Instr, MSTATUS};
 use rv32_machine::effect::effect;
 use rv32_machine::{Bus, Machine, SlothBus};
-use sloth_base::app::Width;
+use sloth_base::Width;
 
 // The instruction at an address, if the word there is one's. The bus keeps its contents.
 fn fetched_instr(bus: &mut SlothBus, address: u32) -> Option<Instr>

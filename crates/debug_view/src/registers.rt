@@ -10,11 +10,9 @@ ghost use Rattle.debug_view.specs.Looks.{named};
 ghost use Rattle.debug_view.specs.Registers.{csr_number, executed_csr, machine_register, is_live, thread_register, is_pending_byte, shown_byte};
 
 use crate::contexts::kept_register;
-use rv32_instr::csr::{ILEVEL, MEPC, MSCRATCH, MSTATUS, PLEVEL};
+use rv32_instr::{ILEVEL, MEPC, MSCRATCH, MSTATUS, PLEVEL};
 use rv32_machine::{Bus, Machine, SlothBus};
-use sloth_base::app::Width;
-use sloth_base::memory_map::CONTROLLER_BASE;
-use sloth_base::numbers::Line;
+use sloth_base::{CONTROLLER_BASE, Line, Width};
 use sloth_inspect::running;
 
 /// The number of a task and 1 more, or 0 where there are not so many.

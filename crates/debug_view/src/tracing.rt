@@ -8,13 +8,11 @@ ghost use Rattle.sloth_io.specs.MemSink.{taken_by};
 ghost use Rattle.sloth_runner.specs.Runner.{run_text};
 ghost use Rattle.trace_text.specs.declared.printing.Form.TheVariants as form;
 
-use sloth_base::event::Arrival;
-use sloth_base::image::Image;
-use sloth_base::memory::NoMemory;
-use sloth_io::mem_sink::MemSink;
+use sloth_base::{Arrival, Image, NoMemory};
+use sloth_io::MemSink;
 use sloth_runner::Runner;
 use std::alloc::Global;
-use trace_text::printing::Form;
+use trace_text::Form;
 
 /// The most bytes of the text. A run of 1,000,000 instructions has an event for each at most.
 const TEXT_BYTES: u32 = 256 * 1024 * 1024;

@@ -3,13 +3,11 @@ ghost use Rattle.std.specs.Prelude.{◌≡◌, ◌≤◌, ◌<◌, ◌+◌, ◌+
 ghost use Rattle.sloth_base.specs.Limits.{count_limit};
 ghost use Rattle.debug_ways.specs.Marks.{AreMarks};
 
-use crate::look::Look;
-use crate::machine::Machine;
 use crate::marks::{STRIDE, mark_at, marks_of};
-use osek_scheduler::state::TaskState;
+use crate::{Look, Machine};
+use osek_scheduler::TaskState;
 use rv32_instr::Stop;
-use sloth_base::limits::TASK_LIMIT;
-use sloth_base::memory::NoMemory;
+use sloth_base::{NoMemory, TASK_LIMIT};
 use std::alloc::Global;
 
 /// A machine that goes to any count of its run, over those that were kept of it.

@@ -16,3 +16,4 @@ pub mod ways;
 pub use cursor::Cursor;
 pub use look::{Access, Look};
 pub use machine::Machine;
+pub use ways::{Hits, go_ahead, go_back};

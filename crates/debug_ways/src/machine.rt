@@ -3,11 +3,10 @@ ghost use Rattle.std.specs.Prelude.{◌≡◌, ◌<◌, ◌≤◌, ◌+◌, ◌+
 ghost use Rattle.sloth_base.specs.Limits.{count_limit};
 ghost use Rattle.debug_ways.specs.Runs.{Run};
 
-use crate::look::Look;
-use osek_scheduler::state::TaskState;
+use crate::Look;
+use osek_scheduler::TaskState;
 use rv32_instr::Stop;
-use sloth_base::limits::TASK_LIMIT;
-use sloth_base::memory::NoMemory;
+use sloth_base::{NoMemory, TASK_LIMIT};
 use std::alloc::Global;
 
 /// A machine at a count of its run. Nothing but `step` and `set_to` changes where it stands.

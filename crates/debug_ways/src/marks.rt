@@ -4,8 +4,8 @@ ghost use Rattle.sloth_base.specs.Limits.{count_limit};
 ghost use Rattle.debug_ways.specs.Marks.{AreMarks};
 ghost use Rattle.debug_ways.specs.Runs.{Run};
 
-use crate::machine::Machine;
-use sloth_base::memory::NoMemory;
+use crate::Machine;
+use sloth_base::NoMemory;
 use std::alloc::{AllocError, Global};
 
 /// The counts between two machines that are kept.

@@ -3,9 +3,7 @@ ghost use Rattle.std.specs.Prelude.{◌≡◌, ◌≤◌, ◌<◌, ◌-◌, ◌|
 ghost use Rattle.debug_ways.specs.Cursor.{cursor_run};
 ghost use Rattle.debug_ways.specs.Ways.{Tests, ahead, back, ends_ahead, ends_back, guards_before, least_behind, greatest_below, last_of};
 
-use crate::cursor::Cursor;
-use crate::look::Look;
-use crate::machine::Machine;
+use crate::{Cursor, Look, Machine};
 
 /// The counts of the first window that a way back searches. Each further one is eight times as long.
 const NEAR: u32 = 4096;

@@ -5,9 +5,8 @@ ghost use Rattle.sloth_base.specs.MemoryMap.{memory_bytes};
 ghost use Rattle.image_file.specs.Fields.{four_bytes};
 ghost use Rattle.elf_image.specs.ElfText.{elf_header, load_header, note_header};
 
-use image_file::number_fields::put_u32;
-use sloth_base::memory::NoMemory;
-use sloth_base::memory_map::{MEMORY_BASE, MEMORY_BYTES};
+use image_file::put_u32;
+use sloth_base::{MEMORY_BASE, MEMORY_BYTES, NoMemory};
 
 /// The length of the ELF header, in bytes.
 pub const ELF_HEADER: usize = 52;

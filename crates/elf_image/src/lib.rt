@@ -18,5 +18,6 @@ pub mod read;
 pub mod reading;
 pub mod write;
 
+pub use headers::put_words;
 pub use read::read_elf;
 pub use write::write_elf;

@@ -2,8 +2,7 @@
 ghost use Rattle.std.specs.Prelude.{Decides};
 ghost use Rattle.image_file.specs.Parts.{AreRightNames};
 
-use image_file::names::are_right_names;
-use image_file::read::Outline;
+use image_file::{Outline, are_right_names};
 
 /// Whether the names of tasks, of functions and of counters are right.
 pub fn has_right_names(outline: &Outline) -> bool

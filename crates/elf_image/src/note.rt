@@ -2,9 +2,9 @@
 ghost use Rattle.std.specs.Prelude.{◌≡◌, ◌≤◌, ◌<◌, ◌++◌, OnOk, length};
 ghost use Rattle.elf_image.specs.ElfText.{note_bytes};
 
-use crate::headers::put_words;
 pub use crate::padding::padding_size;
-use sloth_base::memory::NoMemory;
+use crate::put_words;
+use sloth_base::NoMemory;
 
 /// The length of a note before its description.
 pub const NOTE_HEAD: usize = 20;

@@ -15,16 +15,11 @@ use crate::headers::HEADERS;
 use crate::names::has_right_names;
 use crate::note::{NOTE_HEAD, padding_size, put_note};
 use crate::reading::{judge_header, read_load_header, read_note_header};
-use image_file::elf_fault::{ElfError, ElfFault};
-use image_file::fault::ImageError;
-use image_file::mark_services::service_limit;
-use image_file::marks::{are_ascending, read_marks};
-use image_file::numbers::u32_at;
-use image_file::read::{Outline, read_parts};
-use image_file::sizes::Sizes;
-use sloth_base::image::{Image, Mark};
-use sloth_base::list::List;
-use sloth_base::memory::NoMemory;
+use image_file::{
+    ElfError, ElfFault, ImageError, Outline, Sizes, are_ascending, read_marks, read_parts,
+    service_limit, u32_at,
+};
+use sloth_base::{Image, List, Mark, NoMemory};
 use std::alloc::Global;
 
 // The length of the numbers of a description, in bytes.

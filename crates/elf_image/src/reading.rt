@@ -7,10 +7,8 @@ ghost use Rattle.elf_image.specs.Faults.{IsElfErrorOf, HasElfHeader, HasElfMagic
 use crate::headers::{
     ELF_HEADER, HEADERS, PROGRAM_HEADER, elf_header, put_load_header, put_note_header,
 };
-use image_file::elf_fault::{ElfError, ElfFault};
-use image_file::numbers::u32_at;
-use sloth_base::memory::NoMemory;
-use sloth_base::memory_map::MEMORY_BYTES;
+use image_file::{ElfError, ElfFault, u32_at};
+use sloth_base::{MEMORY_BYTES, NoMemory};
 use std::alloc::Global;
 
 // Whether the file begins as each ELF file does.

@@ -4,11 +4,11 @@ ghost use Rattle.sloth_base.specs.ImageRange.{InFormat};
 ghost use Rattle.sloth_base.specs.MemoryMap.{memory_bytes};
 ghost use Rattle.elf_image.specs.ElfText.{ElfText, description_bytes, file_bytes};
 
-use crate::headers::{elf_header, put_load_header, put_note_header, put_words};
+use crate::headers::{elf_header, put_load_header, put_note_header};
 use crate::note::{note_size, put_note};
-use image_file::write::{put_marks, put_names};
-use sloth_base::image::Image;
-use sloth_base::memory::NoMemory;
+use crate::put_words;
+use image_file::{put_marks, put_names};
+use sloth_base::{Image, NoMemory};
 use std::alloc::Global;
 
 /// The bytes of an image's ELF file.

@@ -4,14 +4,11 @@ ghost use Rattle.code_rules.specs.AppRange.{IsTaskCode};
 ghost use Rattle.event_weights.specs.Items.{length_of, AreLengths, served_counts, going_counts, leaving_counts, ending_counts};
 
 use code_lengths::{leaving_path, served_path};
-use raised_sections::chaining::chains_itself;
-use rv32_expand::long_branches::shortest;
-use sloth_base::app::{App, Func, Op};
-use sloth_base::list::List;
-use sloth_base::memory::NoMemory;
-use sloth_base::service::Service;
+use raised_sections::chains_itself;
+use rv32_expand::shortest;
+use sloth_base::{App, Func, List, NoMemory, Op, Service};
 use std::alloc::Global;
-use text_pieces::growth::push;
+use text_pieces::push;
 
 /// The lengths of the items of each body.
 #[derive(Drop)]

@@ -5,13 +5,10 @@ ghost use Rattle.code_rules.specs.Code.{held_list_at};
 ghost use Rattle.task_verify.specs.Labels.{last_label_below, ArePlaced};
 ghost use Rattle.fault_witnesses.specs.BodyLists.{AreLists, AreAgreed, AreBodyLists};
 
-use sloth_base::app::{Func, Label};
-use sloth_base::list::List;
-use sloth_base::memory::NoMemory;
+use sloth_base::{Func, Label, List, NoMemory};
 use std::alloc::Global;
-use task_verify::held_resources::{held_after, held_at_label, is_held};
-use task_verify::labels::last_labels;
-use text_pieces::growth::push;
+use task_verify::{held_after, held_at_label, is_held, last_labels};
+use text_pieces::push;
 
 /// More resources than a clean way can hold.
 const LONG: usize = 64;

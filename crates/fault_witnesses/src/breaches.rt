@@ -14,23 +14,16 @@ ghost use Rattle.task_verify.specs.Ways.{HasBodyLabel, IsMarked, IsReachedItem};
 ghost use Rattle.fault_witnesses.specs.BreachTests.{plain_test, held_test};
 ghost use Rattle.fault_witnesses.specs.Places.{IsPlace, IsBrokenAt, IsPlaceOfFault, line_of_place};
 
-use crate::chains::function_at;
-use crate::label_rules::{has_other_list, held_at};
-use crate::places::{Place, place_on};
-use call_graph::ranking::Ranks;
-use sloth_base::app::{App, Func};
-use sloth_base::config::Config;
-use sloth_base::memory::NoMemory;
-use sloth_base::refusal::{Code, Part, Refusal};
+use crate::label_rules::has_other_list;
+use crate::places::place_on;
+use crate::{Place, held_at};
+use call_graph::Ranks;
+use sloth_base::{App, Code, Config, Func, NoMemory, Part, Refusal};
 use std::alloc::Global;
-use task_verify::accesses::{is_access_past, is_mask_past, is_uneven};
-use task_verify::endings::is_wrong_leave;
-use task_verify::held_resources::{
-    is_leave_with_resource, is_other_list_jump, is_second_take, is_wrong_release,
+use task_verify::{
+    is_access_past, is_leave_with_resource, is_mask_past, is_other_list_jump, is_run_out,
+    is_second_take, is_undeclared_use, is_uneven, is_wrong_leave, is_wrong_release, reached,
 };
-use task_verify::reachable::reached;
-use task_verify::tasks::is_undeclared_use;
-use task_verify::ways::is_run_out;
 
 // V2 to V5, V11 and V12 of an item that these tasks reach.
 fn plain_test(config: &Config, app: &App, users: u64, func: &Func, item: usize, code: Code) -> bool
@@ -65,7 +58,7 @@ fn is_plain_breach(
     requires inside { item < length (function app.now body).items }
     ensures { result ≡ true → IsBreach config.now app.now body item code }
 {
-    plain_test(config, app, users, function_at(app, body), item, code)
+    plain_test(config, app, users, app.function(body), item, code)
 }
 
 // V8 to V10 of an item before which this is held.
@@ -98,7 +91,7 @@ fn is_held_breach(
     requires held { held.now ≡ held_list_at (function app.now body) item }
     ensures { result ≡ true → IsBreach config.now app.now body item code }
 {
-    held_test(ranks, function_at(app, body), held, item, code)
+    held_test(ranks, app.function(body), held, item, code)
 }
 
 // Whether the label of a jump has another list than this.
@@ -182,7 +175,7 @@ fn is_path_breach(
     if !is_path_code(code) {
         return Ok(false);
     }
-    let unreached = is_unreached(alloc, function_at(app, body), item)?;
+    let unreached = is_unreached(alloc, app.function(body), item)?;
     Ok(unreached)
 }
 
@@ -202,7 +195,7 @@ fn is_jump_breach(
     ensures { result ≡ true → IsBreach config.now app.now body item code }
 {
     if is_label_code(code) {
-        jumps_otherwise(function_at(app, body), held, item)
+        jumps_otherwise(app.function(body), held, item)
     } else {
         false
     }
@@ -224,7 +217,7 @@ fn is_walk_breach(
     requires inside { item < length (function app.now body).items }
     ensures { IfOk result (λ breach. breach ≡ true → IsBreach config.now app.now body item code) }
 {
-    let held = held_at(alloc, function_at(app, body), item)?;
+    let held = held_at(alloc, app.function(body), item)?;
     if is_jump_breach(config, app, body, item, &held, code) {
         return Ok(true);
     }
@@ -298,9 +291,9 @@ fn is_broken_at(
     ensures { IfOk result (λ broken. broken ≡ true → IsBrokenAt config.now app.now refusal place) }
 {
     match place {
-        Place::Header(body) => Ok(is_empty_body(function_at(app, body), refusal.code)),
+        Place::Header(body) => Ok(is_empty_body(app.function(body), refusal.code)),
         Place::Label { body, label } => {
-            is_label_breach(alloc, function_at(app, body), label, refusal.code)
+            is_label_breach(alloc, app.function(body), label, refusal.code)
         },
         Place::Item { body, item } => {
             is_breach(alloc, config, app, ranks, body, item, refusal.code)
@@ -313,9 +306,9 @@ fn line_of(app: &App, place: Place) -> u32
     ensures { result ≡ line_of_place app.now place }
 {
     match place {
-        Place::Header(body) => function_at(app, body).line,
-        Place::Label { body, label } => function_at(app, body).labels.items()[label].line,
-        Place::Item { body, item } => function_at(app, body).items.items()[item].line,
+        Place::Header(body) => app.function(body).line,
+        Place::Label { body, label } => app.function(body).labels.items()[label].line,
+        Place::Item { body, item } => app.function(body).items.items()[item].line,
     }
 }
 

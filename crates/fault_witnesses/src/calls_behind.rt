@@ -9,14 +9,11 @@ ghost use Rattle.fault_witnesses.specs.declared.places.Place.TheVariants as plac
 ghost use Rattle.fault_witnesses.specs.Places.{IsPlace};
 ghost use Rattle.fault_witnesses.specs.Witnesses.{is_culprit, AreShownCalls};
 
-use crate::chain_search::{Aim, called, is_pause, shortest_chain};
-use crate::chains::{Calls, chain_end, function_at, is_chain};
+use crate::chain_search::{Aim, is_pause, shortest_chain};
+use crate::chains::is_chain;
 use crate::clean_steps::is_own_second_take;
-use crate::label_rules::held_at;
-use sloth_base::app::{App, Op};
-use sloth_base::config::Config;
-use sloth_base::memory::NoMemory;
-use sloth_base::refusal::Code;
+use crate::{Calls, chain_end, held_at};
+use sloth_base::{App, Code, Config, NoMemory, Op};
 use std::alloc::Global;
 
 // What an operation leads to that breaks V9 or V10.
@@ -47,7 +44,7 @@ fn is_culprit_at(app: &App, code: Code, held: &[u32], body: usize, item: usize) 
     if body >= app.funcs.items().len() {
         return false;
     }
-    let items = function_at(app, body).items.items();
+    let items = app.function(body).items.items();
     item < items.len() && is_culprit(code, held, items[item].op)
 }
 
@@ -116,8 +113,8 @@ pub fn calls_of(
     requires is_place { IsPlace app.now (place.Item body item) }
     ensures { IfOk result (λ calls. AreShownCalls app.now code (place.Item body item) calls) }
 {
-    let func = function_at(app, body);
-    let Some(callee) = called(func.items.items()[item].op) else {
+    let func = app.function(body);
+    let Some(callee) = func.items.items()[item].op.callee() else {
         return Ok(None);
     };
     let held = held_at(alloc, func, item)?;

@@ -1,16 +1,13 @@
 //! The search for the shortest chain of calls: breadth first, items in their order.
-ghost use Rattle.std.specs.Prelude.{◌≡◌, IfSome};
-ghost use Rattle.sloth_base.specs.declared.app.Op.TheVariants as op_is;
+ghost use Rattle.std.specs.Prelude.{◌≡◌};
 ghost use Rattle.call_graph.specs.Rows.{is_pausing, is_pause};
 
-use crate::chains::{Calls, Link, function_at, is_call};
+use crate::chains::is_call;
 use crate::clean_steps::is_own_second_take;
-use sloth_base::app::{App, Func, Op};
-use sloth_base::list::List;
-use sloth_base::memory::NoMemory;
-use sloth_base::service::Service;
+use crate::{Calls, Link};
+use sloth_base::{App, Func, List, NoMemory, Op, Service};
 use std::alloc::Global;
-use text_pieces::growth::push;
+use text_pieces::push;
 
 /// What a chain is to lead to.
 #[derive(Clone, Copy)]
@@ -49,16 +46,6 @@ pub fn is_pause(op: Op) -> bool
     }
 }
 
-/// The function that an operation calls.
-pub fn called(op: Op) -> Option<usize>
-    ensures { IfSome result (λ g. op ≡ op_is.Invoke g) }
-{
-    match op {
-        Op::Invoke { func } => Some(func.0 as usize),
-        _ => None,
-    }
-}
-
 fn is_aim(aim: Aim, op: Op) -> bool {
     match aim {
         Aim::CallOf(func) => is_call(op, func),
@@ -91,7 +78,7 @@ fn is_reached(reached: &[Reached], func: usize) -> bool {
 
 // What an item calls, if it was not reached.
 fn reach(reached: &mut Vec<Reached>, before: usize, line: u32, op: Op) -> Result<(), NoMemory> {
-    let Some(func) = called(op) else {
+    let Some(func) = op.callee() else {
         return Ok(());
     };
     if is_reached(reached.as_slice(), func) {
@@ -146,7 +133,7 @@ fn chain_from(
             return Ok(None);
         }
         let number = reached[turn].func;
-        let func = function_at(app, number);
+        let func = app.function(number);
         if let Some(item) = hit(aim, number, func) {
             let links = links_to(alloc, reached, turn)?;
             return Ok(Some(Calls { links, item }));

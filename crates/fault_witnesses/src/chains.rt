@@ -6,8 +6,7 @@ ghost use Rattle.sloth_base.specs.declared.app.Item.{Item};
 ghost use Rattle.call_graph.specs.Rows.{is_call};
 ghost use Rattle.fault_witnesses.specs.CallChains.{IsCallOn, IsChain, chain_end};
 
-use sloth_base::app::{App, Func, Item, Op};
-use sloth_base::list::List;
+use sloth_base::{App, Func, Item, List, Op};
 
 /// A call: the number of the function that is called, and the line of the item that calls it.
 #[derive(Clone, Copy)]
@@ -21,14 +20,6 @@ pub struct Link {
 pub struct Calls {
     pub links: List<Link>,
     pub item: usize,
-}
-
-/// A function by its number.
-pub fn function_at(app: &App, number: usize) -> &Func
-    requires { number < length app.now.funcs }
-    ensures { result.now ≡ function app.now number }
-{
-    &app.funcs.items()[number]
 }
 
 /// Whether the operation calls the function.
@@ -63,7 +54,7 @@ fn makes_call_in(app: &App, caller: usize, link: Link) -> bool
     requires { caller < length app.now.funcs }
     ensures { result ≡ true → IsCallOn app.now caller link }
 {
-    calls_on(function_at(app, caller), link.func, link.line)
+    calls_on(app.function(caller), link.func, link.line)
 }
 
 // The same of any number.

@@ -8,13 +8,11 @@ ghost use Rattle.task_verify.specs.Ways.{HasBodyLabel};
 ghost use Rattle.fault_witnesses.specs.BodyLists.{AreBodyLists, AreLed};
 ghost use Rattle.fault_witnesses.specs.CleanWays.{is_own_second_take, is_orderly, IsCleanStep, way_item};
 
-use crate::body_lists::{BodyLists, KeptList};
-use sloth_base::app::{Func, Op};
-use sloth_base::memory::NoMemory;
-use sloth_base::service::Service;
+use crate::KeptList;
+use crate::body_lists::BodyLists;
+use sloth_base::{Func, NoMemory, Op, Service};
 use std::alloc::Global;
-use task_verify::held_resources::{held_after, is_wrong_release};
-use task_verify::ways::{jump_of, next_of};
+use task_verify::{held_after, is_wrong_release, jump_of, next_of};
 
 fn is_get(service: Service) -> bool
     ensures { result ≡ is_get service }

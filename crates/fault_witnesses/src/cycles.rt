@@ -3,19 +3,18 @@ ghost use Rattle.std.specs.Prelude.{◌≡◌, ◌<◌, length, true, IfOk, IfSo
 ghost use Rattle.fault_witnesses.specs.CallChains.{IsChain, IsCycle, chain_end};
 
 use crate::chain_search::{Aim, shortest_chain};
-use crate::chains::{Calls, Link, chain_end, function_at, is_chain};
-use sloth_base::app::App;
-use sloth_base::list::List;
-use sloth_base::memory::NoMemory;
+use crate::chains::is_chain;
+use crate::{Calls, Link, chain_end};
+use sloth_base::{App, List, NoMemory};
 use std::alloc::Global;
-use text_pieces::growth::push;
+use text_pieces::push;
 
 // The line of an item of a function, 0 where there is none.
 fn line_of(app: &App, func: usize, item: usize) -> u32 {
     if func >= app.funcs.items().len() {
         return 0;
     }
-    let items = function_at(app, func).items.items();
+    let items = app.function(func).items.items();
     if item < items.len() {
         items[item].line
     } else {

@@ -5,12 +5,9 @@ ghost use Rattle.code_rules.specs.Code.{held_list_at, held_list_fallen_into, hel
 ghost use Rattle.code_rules.specs.WellFormed.{HasOtherList};
 ghost use Rattle.task_verify.specs.Labels.{last_label_below, list_of, ArePlaced};
 
-use sloth_base::app::{Func, Label};
-use sloth_base::memory::NoMemory;
+use sloth_base::{Func, Label, NoMemory};
 use std::alloc::Global;
-use task_verify::held_resources::{held_after, held_at_label, is_held};
-use task_verify::labels::last_labels;
-use task_verify::ways::falls;
+use task_verify::{falls, held_after, held_at_label, is_held, last_labels};
 
 // By the last label at each place.
 fn fallen_by(

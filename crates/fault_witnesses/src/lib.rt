@@ -23,3 +23,13 @@ pub mod users;
 mod way_search;
 pub mod ways;
 pub mod witnesses;
+
+pub use body_lists::KeptList;
+pub use chains::{Calls, Link, chain_end};
+pub use clean_steps::is_orderly;
+pub use cycles::cycle_calls;
+pub use label_rules::{held_at, held_entering, label_before};
+pub use places::Place;
+pub use users::User;
+pub use ways::Way;
+pub use witnesses::{Witness, witness_of};

@@ -3,8 +3,7 @@ ghost use Rattle.std.specs.Prelude.{◌≡◌, ◌<◌, length, IfSome};
 ghost use Rattle.sloth_base.specs.Named.{function};
 ghost use Rattle.fault_witnesses.specs.Places.{IsPlace};
 
-use crate::chains::function_at;
-use sloth_base::app::{App, Func};
+use sloth_base::{App, Func};
 
 /// A place of task code, by the number of its body, and of the label or item in it.
 #[derive(Clone, Copy)]
@@ -44,7 +43,7 @@ fn place_in(app: &App, body: usize, line: u32) -> Option<Place>
     requires { body < length app.now.funcs }
     ensures { IfSome result (IsPlace app.now) }
 {
-    let func = function_at(app, body);
+    let func = app.function(body);
     if func.line == line {
         return Some(Place::Header(body));
     }

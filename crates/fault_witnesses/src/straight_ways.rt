@@ -4,16 +4,11 @@ ghost use Rattle.sloth_base.specs.Named.{label_of};
 ghost use Rattle.task_verify.specs.Labels.{last_label_below, ArePlaced};
 ghost use Rattle.fault_witnesses.specs.CleanWays.{IsCleanStep, IsWayFromLabel, IsShownWay, way_item};
 
-use crate::clean_steps::is_orderly;
-use crate::ways::Way;
-use sloth_base::app::{Func, Item};
-use sloth_base::list::List;
-use sloth_base::memory::NoMemory;
+use crate::{Way, is_orderly};
+use sloth_base::{Func, Item, List, NoMemory};
 use std::alloc::Global;
-use task_verify::held_resources::{held_after, held_by};
-use task_verify::labels::last_labels;
-use task_verify::ways::falls;
-use text_pieces::growth::push;
+use task_verify::{falls, held_after, held_by, last_labels};
+use text_pieces::push;
 
 // The last label at or in front of an item.
 fn label_in_front(last: &[Option<usize>], goal: usize) -> Option<usize> {

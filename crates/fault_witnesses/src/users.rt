@@ -9,13 +9,9 @@ ghost use Rattle.fault_witnesses.specs.Witnesses.{lacks_used, is_lacking, names_
 ghost use Rattle.fault_witnesses.specs.CallChains.{IsChain, chain_end};
 
 use crate::chain_search::{Aim, shortest_chain};
-use crate::chains::{Calls, Link, chain_end, function_at, is_chain};
-use sloth_base::app::{App, Call, Func, Op};
-use sloth_base::config::{Config, TaskDecl};
-use sloth_base::list::List;
-use sloth_base::memory::NoMemory;
-use sloth_base::numbers::ResId;
-use sloth_base::service::Service;
+use crate::chains::is_chain;
+use crate::{Calls, Link, chain_end};
+use sloth_base::{App, Call, Config, Func, List, NoMemory, Op, ResId, Service, TaskDecl};
 use std::alloc::Global;
 
 /// A task that lacks what an item uses, with an event that it lacks; and the calls from its body to that of the item.
@@ -116,7 +112,7 @@ fn body_of(app: &App, task: usize) -> Option<usize>
     ensures { IfSome result (λ b. IsBodyOf app.now task b) }
 {
     for number in 0..app.funcs.items().len() {
-        if belongs_to(function_at(app, number), task) {
+        if belongs_to(app.function(number), task) {
             return Some(number);
         }
     }
@@ -193,7 +189,7 @@ fn is_lacked_by(config: &Config, app: &App, body: usize, item: usize, task: usiz
     ensures lacking { result ≡ true → is_lacking config.now task (operation app.now body item) ≡ true }
     ensures unnamed { result ≡ true → names_task (operation app.now body item) ≡ false }
 {
-    let op = &function_at(app, body).items.items()[item].op;
+    let op = &app.function(body).items.items()[item].op;
     !names_task(*op) && is_lacking(config, task, *op)
 }
 
@@ -229,7 +225,7 @@ fn is_lacking_named(config: &Config, app: &App, body: usize, item: usize, task: 
     ensures lacking { result ≡ true → is_lacking config.now task (operation app.now body item) ≡ true }
     ensures named { result ≡ true → names_task (operation app.now body item) ≡ true }
 {
-    let op = &function_at(app, body).items.items()[item].op;
+    let op = &app.function(body).items.items()[item].op;
     names_task(*op) && is_lacking(config, task, *op)
 }
 

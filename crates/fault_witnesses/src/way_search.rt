@@ -6,11 +6,10 @@ ghost use Rattle.fault_witnesses.specs.BodyLists.{AreBodyLists};
 
 use crate::body_lists::{BodyLists, all_marked};
 use crate::clean_steps::is_clean_step;
-use sloth_base::app::Func;
-use sloth_base::memory::NoMemory;
+use sloth_base::{Func, NoMemory};
 use std::alloc::Global;
-use task_verify::ways::{jump_of, next_of};
-use text_pieces::growth::push;
+use task_verify::{jump_of, next_of};
+use text_pieces::push;
 
 // An item that was reached, and the place of the one before it among those that were reached.
 #[derive(Clone, Copy)]

@@ -11,9 +11,7 @@ use crate::body_lists::{BodyLists, body_lists};
 use crate::clean_steps::are_clean_steps;
 use crate::straight_ways::straight_way;
 use crate::way_search::shortest_way;
-use sloth_base::app::Func;
-use sloth_base::list::List;
-use sloth_base::memory::NoMemory;
+use sloth_base::{Func, List, NoMemory};
 use std::alloc::Global;
 
 /// A way through a body: the numbers of its items, and the label that it starts behind, if it does not start where the body begins.

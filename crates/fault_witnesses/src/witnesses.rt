@@ -10,18 +10,13 @@ ghost use Rattle.fault_witnesses.specs.Witnesses.{IsShownWayTo, IsBehind, IsShow
 
 use crate::breaches::{place_at_fault, stands_behind};
 use crate::calls_behind::calls_of;
-use crate::chains::{Calls, function_at};
-use crate::label_rules::label_before;
-use crate::places::Place;
-use crate::users::{User, user_of};
-use crate::ways::{Way, way_to};
-use call_graph::ranking::Ranks;
-use sloth_base::app::{App, Func};
-use sloth_base::config::Config;
-use sloth_base::memory::NoMemory;
-use sloth_base::refusal::{Code, Refusal};
+use crate::users::user_of;
+use crate::ways::way_to;
+use crate::{Calls, Place, User, Way, label_before};
+use call_graph::Ranks;
+use sloth_base::{App, Code, Config, Func, NoMemory, Refusal};
 use std::alloc::Global;
-use task_verify::ways::falls;
+use task_verify::falls;
 
 /// What is shown of a fault of V2 to V12.
 #[derive(Drop)]
@@ -61,7 +56,7 @@ fn way_to_item(
     requires is_place { IsPlace app.now (place.Item body item) }
     ensures { IfOk result (λ way. IsShownWayTo app.now (place.Item body item) way) }
 {
-    way_to(alloc, function_at(app, body), item)
+    way_to(alloc, app.function(body), item)
 }
 
 // The way to the item in front of a label, unless another label stands between.
@@ -76,7 +71,7 @@ fn way_to_label(
     requires is_place { IsPlace app.now (place.Label body label) }
     ensures { IfOk result (λ way. IsShownWayTo app.now (place.Label body label) way) }
 {
-    let func = function_at(app, body);
+    let func = app.function(body);
     let place = func.labels.items()[label].item as usize;
     if place == 0 || label_before(func, label).is_some() {
         return Ok(None);
@@ -110,7 +105,7 @@ fn behind_of(
     requires is_place { IsPlace app.now (place.Item body item) }
     ensures { IfOk result (λ behind. IsShownBehind app.now (place.Item body item) behind) }
 {
-    match behind_in(alloc, function_at(app, body), item)? {
+    match behind_in(alloc, app.function(body), item)? {
         Some(behind) => Ok(Some(behind)),
         None => Ok(None),
     }

@@ -6,7 +6,7 @@ use Rattle.std.proofs.lemmas.Bool.{eqb-true, eq-eqb, cases_eq}
 use Rattle.std.proofs.lemmas.List.{drop_more, length-drop}
 use Rattle.sloth_base.specs.declared.config.Config.{Config}
 use Rattle.asm_lines.specs.declared.source_line.SourceLine.{SourceLine}
-use Rattle.asm_lines.specs.Lines.{line_of, without_returns}
+use Rattle.text_pieces.specs.Lines.{line_of, without_returns}
 use Rattle.asm_lines.specs.SourceLines.{source_line}
 use Rattle.asm_scopes.specs.Statements.{is_label}
 use Rattle.holds_infer.specs.Relabel.{first_list, other_lists}

@@ -12,10 +12,10 @@ use Rattle.sloth_base.specs.declared.config.Config.{Config}
 use Rattle.sloth_base.specs.declared.app.App.{App}
 use Rattle.text_pieces.specs.Bytes.{is_name, is_byte_of}
 use Rattle.asm_lines.specs.declared.source_line.SourceLine.{SourceLine}
-use Rattle.asm_lines.specs.Lines.{line_of, without_returns, lines}
+use Rattle.text_pieces.specs.Lines.{line_of, without_returns, lines}
 use Rattle.asm_lines.specs.SourceLines.{source_line}
 use Rattle.asm_lines.specs.Faults.{source_lines}
-use Rattle.asm_lines.proofs.Cuts.{has_in, has_here, last_is, but_last, ends_there}
+use Rattle.text_pieces.proofs.Cuts.{has_in, has_here, last_is, but_last, ends_there}
 use Rattle.asm_scopes.specs.Statements.{is_label, name_of}
 use Rattle.holds_infer.specs.LabelLines.{label_text, line_end, resource_names}
 use Rattle.holds_infer.specs.Relabel.{all_holds, first_list, other_lists, label_statement, relabeled_lines}

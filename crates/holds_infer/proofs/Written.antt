@@ -12,10 +12,10 @@ use Rattle.asm_lines.specs.declared.source_line.SourceLine.TheVariants.{Empty, S
 use Rattle.asm_forms.specs.declared.forms.Mnemonic.TheVariants as m
 use Rattle.asm_lines.specs.Bytes.{is_shown, trim}
 use Rattle.asm_lines.specs.Table.{mnemonic_of, alu_of, imm_of, shift_of, load_of, store_of, branch_of, plain_of}
-use Rattle.asm_lines.specs.Operands.{before}
+use Rattle.text_pieces.specs.Bytes.{before}
 use Rattle.asm_lines.specs.SourceLines.{source_line, statement_of, known_statement, read_operands, has_empty}
 use Rattle.asm_lines.specs.Grammar.{has_bare_start, HasBareEnds, IsTrimmed, is_whole, IsOperands, is_last, is_more, is_something, IsShape}
-use Rattle.asm_lines.proofs.Cuts.{lacks, all_weaker}
+use Rattle.text_pieces.proofs.Cuts.{lacks, all_weaker}
 use Rattle.asm_lines.proofs.Shapes.{remains_made, shape_made}
 use Rattle.asm_lines.proofs.PlacesMade.{name_bare, end_on}
 use Rattle.asm_lines.proofs.Parts.{name_bytes}

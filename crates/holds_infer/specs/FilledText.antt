@@ -4,7 +4,7 @@ use Rattle.std.specs.List.{slice_split, join_with_byte}
 use Rattle.sloth_base.specs.declared.config.Config.{Config}
 use Rattle.sloth_base.specs.declared.app.App.{App}
 use Rattle.asm_lines.specs.declared.source_line.SourceLine.{SourceLine}
-use Rattle.asm_lines.specs.Lines.{line_of}
+use Rattle.text_pieces.specs.Lines.{line_of}
 use Rattle.asm_lines.specs.SourceLines.{source_line}
 use Rattle.asm_scopes.specs.Statements.{is_label, name_of}
 use Rattle.holds_infer.specs.LabelLines.{label_text, line_end, resource_names}

@@ -3,7 +3,7 @@ use Rattle.std.specs.Prelude.{ℕ, ◌==◌, ◌++◌, Bool, if◌then◌else◌
 use Rattle.std.specs.List.{flat_map}
 use Rattle.sloth_base.specs.ConfigRange.{res_scheduler_name, scheduler_number}
 use Rattle.sloth_base.specs.declared.config.Config.{Config}
-use Rattle.asm_lines.specs.Lines.{line_of}
+use Rattle.text_pieces.specs.Lines.{line_of}
 
 -- the name of a resource
 abbrev pub resource_name : Config → ℕ → List ℕ

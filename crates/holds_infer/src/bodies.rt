@@ -6,13 +6,9 @@ ghost use Rattle.holds_infer.specs.BodyFilling.{HaveTheirLabels, IsBodyFilling, 
 
 use crate::label_lists::held_list;
 use crate::spread::places;
-use sloth_base::app::{Func, Label};
-use sloth_base::list::List;
-use sloth_base::memory::NoMemory;
-use sloth_base::name::Name;
-use sloth_base::numbers::ResId;
+use sloth_base::{Func, Label, List, Name, NoMemory, ResId};
 use std::alloc::Global;
-use text_pieces::growth::push;
+use text_pieces::push;
 
 fn relisted_label(
     alloc: Global,

@@ -5,16 +5,12 @@ ghost use Rattle.holds_infer.specs.WayLists.{IsWayList, AreWayLists, AreHeldBehi
 
 use crate::holding_ways::goes;
 use crate::label_lists::list_at;
-use crate::spread::{no_lists, op_at};
-use fault_witnesses::clean_steps::is_orderly;
-use sloth_base::app::Func;
-use sloth_base::list::List;
-use sloth_base::memory::NoMemory;
-use sloth_base::numbers::ResId;
+use crate::spread::no_lists;
+use fault_witnesses::is_orderly;
+use sloth_base::{Func, List, NoMemory, ResId};
 use std::alloc::Global;
-use task_verify::held_resources::{held_after, held_by, is_held};
-use task_verify::ways::{jump_of, next_of};
-use text_pieces::growth::push;
+use task_verify::{held_after, held_by, is_held, jump_of, next_of};
+use text_pieces::push;
 
 /// An item that leads to a place at which other resources are held by the first way there.
 #[derive(Clone, Copy)]
@@ -63,7 +59,7 @@ fn orderly_behind(func: &Func, item: usize, held: Vec<u32>) -> Result<Option<Lis
     requires held { IsWayList func.now item held.items }
     ensures { IfOk result (λ found. IfSome found (AreHeldBehind func.now item)) }
 {
-    let op = op_at(func, item);
+    let op = func.op(item);
     if !is_orderly(&held, &op) {
         return Ok(None);
     }

@@ -3,7 +3,7 @@ ghost use Rattle.std.specs.Prelude.{◌≡◌, ◌++◌, ◌+◌, ◌^◌, ◌<�
 ghost use Rattle.std.specs.List.{join_with_byte};
 ghost use Rattle.text_pieces.specs.Names.{referent};
 ghost use Rattle.least_fault.specs.Order.{NoFault};
-ghost use Rattle.asm_lines.specs.Lines.{without_returns};
+ghost use Rattle.text_pieces.specs.Lines.{without_returns};
 ghost use Rattle.asm_lines.specs.SourceLines.{source_line};
 ghost use Rattle.asm_lines.specs.Faults.{source_lines, SourceLinesFault};
 ghost use Rattle.asm_scopes.specs.Statements.{is_label};
@@ -15,16 +15,11 @@ ghost use Rattle.holds_infer.specs.Relabel.{func_holds, all_holds};
 ghost use Rattle.holds_infer.specs.FilledText.{filled_part, filled_parts, filled_text};
 
 use crate::label_text::write_part;
-use asm_lines::cutting::split;
 use asm_lines::{SourceLine, read};
 use asm_scopes::is_label;
-use sloth_base::app::{App, Func};
-use sloth_base::config::Config;
-use sloth_base::list::List;
-use sloth_base::memory::NoMemory;
-use sloth_base::numbers::ResId;
+use sloth_base::{App, Config, Func, List, NoMemory, ResId};
 use std::alloc::Global;
-use text_pieces::growth::push;
+use text_pieces::{push, split};
 
 fn push_lists<'a>(lists: &mut Vec<&'a [ResId]>, func: &'a Func) -> Result<(), NoMemory>
     ensures { OnOk result (map referent lists.new.items ≡ map referent lists.old.items ++ func_holds func.now) }

@@ -6,14 +6,10 @@ ghost use Rattle.fault_witnesses.specs.CleanWays.{is_orderly};
 ghost use Rattle.holds_infer.specs.RightLists.{HasItsLabels};
 ghost use Rattle.holds_infer.specs.LabelWays.{way_place, HoldsOnWay, IsHoldingWay};
 
-use crate::spread::op_at;
-use fault_witnesses::clean_steps::is_orderly;
-use sloth_base::app::Func;
-use sloth_base::list::List;
-use sloth_base::memory::NoMemory;
+use fault_witnesses::is_orderly;
+use sloth_base::{Func, List, NoMemory};
 use std::alloc::Global;
-use task_verify::held_resources::held_after;
-use task_verify::ways::{jump_of, next_of};
+use task_verify::{held_after, jump_of, next_of};
 
 /// A way through a body, by the numbers of its items, and the resources that are held behind the last of them, in the order in which they were taken.
 #[derive(Drop)]
@@ -79,7 +75,7 @@ fn held_on_way(
         if !leads(func, &held, item, way_place(way, goal, number + 1)) {
             return Ok(None);
         }
-        held = held_after(held, op_at(func, item))?;
+        held = held_after(held, func.op(item))?;
     }
     Ok(Some(List::from_vec(held)))
 }

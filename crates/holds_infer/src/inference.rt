@@ -8,12 +8,8 @@ ghost use Rattle.holds_infer.specs.InferErrors.{InferErrorIs};
 ghost use Rattle.holds_infer.specs.declared.inference.InferError.TheVariants.{Memory as OutOfMemory};
 
 use crate::bodies::body_fillings;
-use call_graph::ranking::Ranks;
-use sloth_base::app::App;
-use sloth_base::config::Config;
-use sloth_base::list::List;
-use sloth_base::memory::NoMemory;
-use sloth_base::refusal::BuildError;
+use call_graph::Ranks;
+use sloth_base::{App, BuildError, Config, List, NoMemory};
 use std::alloc::Global;
 use task_verify::verify;
 

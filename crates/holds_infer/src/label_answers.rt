@@ -8,15 +8,10 @@ ghost use Rattle.holds_infer.specs.LabelAnswers.{is_list_rule, TellsWays, TellsB
 use crate::other_rules::other_rule;
 use crate::other_ways::other_ways;
 use crate::reason_lines::{other_ways_lines, rule_lines};
-use crate::sources::{FillError, fill_source};
 use crate::way_fillings::way_filled;
-use call_graph::ranking::Ranks;
-use fault_witnesses::chains::function_at;
-use sloth_base::app::App;
-use sloth_base::config::Config;
-use sloth_base::list::List;
-use sloth_base::memory::NoMemory;
-use sloth_base::refusal::{Code, Refusal};
+use crate::{FillError, fill_source};
+use call_graph::Ranks;
+use sloth_base::{App, Code, Config, List, NoMemory, Refusal};
 use sloth_source::Ranked;
 use std::alloc::Global;
 use why_text::{fault_of, ranked_of};
@@ -40,7 +35,7 @@ fn ways_of(alloc: Global, config: &Config, app: &App) -> Result<Option<List<u8>>
     ensures { IfOk result (λ found. IfSome found (TellsWays config.now app.now)) }
 {
     for body in 0..app.funcs.items().len() {
-        let func = function_at(app, body);
+        let func = app.function(body);
         if let Some(ways) = other_ways(alloc, func)? {
             let text = other_ways_lines(alloc, config, func, &ways)?;
             return Ok(Some(List::from_vec(text)));

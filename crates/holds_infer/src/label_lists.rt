@@ -2,10 +2,7 @@
 ghost use Rattle.std.specs.Prelude.{◌≡◌, IfOk};
 ghost use Rattle.holds_infer.specs.Places.{list_at};
 
-use sloth_base::app::Label;
-use sloth_base::list::List;
-use sloth_base::memory::NoMemory;
-use sloth_base::numbers::ResId;
+use sloth_base::{Label, List, NoMemory, ResId};
 use std::alloc::Global;
 
 /// The list at a place, empty where it has none.

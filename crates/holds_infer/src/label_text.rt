@@ -7,9 +7,7 @@ use crate::line_ends::line_end;
 use crate::resources::write_resources;
 use asm_lines::SourceLine;
 use asm_scopes::{is_label, name_of};
-use sloth_base::config::Config;
-use sloth_base::memory::NoMemory;
-use sloth_base::numbers::ResId;
+use sloth_base::{Config, NoMemory, ResId};
 
 fn write_label(
     out: &mut Vec<u8>,

@@ -2,8 +2,7 @@
 ghost use Rattle.std.specs.Prelude.{◌≡◌};
 ghost use Rattle.holds_infer.specs.LabelLines.{line_end};
 
-use asm_lines::cutting::line_of;
-use text_pieces::bytes::after;
+use text_pieces::{after, line_of};
 
 /// The CR before the LF of a line that has one.
 pub fn line_end(part: &[u8], is_last: bool) -> &[u8]

@@ -4,16 +4,13 @@ ghost use Rattle.sloth_base.specs.Named.{function};
 ghost use Rattle.code_rules.specs.AppRange.{AppInRange};
 ghost use Rattle.call_graph.specs.Ranks.{RanksOf};
 
-use call_graph::ranking::Ranks;
-use fault_witnesses::body_lists::{KeptList, body_lists};
+use call_graph::Ranks;
+use fault_witnesses::KeptList;
+use fault_witnesses::body_lists::body_lists;
 use least_fault::{fault_if, merge};
-use sloth_base::app::{App, Func, Item};
-use sloth_base::config::Config;
-use sloth_base::memory::NoMemory;
-use sloth_base::refusal::{Code, Part, Refusal};
+use sloth_base::{App, Code, Config, Func, Item, NoMemory, Part, Refusal};
 use std::alloc::Global;
-use task_verify::held_resources::{is_leave_with_resource, is_second_take, is_wrong_release};
-use task_verify::items::item_faults;
+use task_verify::{is_leave_with_resource, is_second_take, is_wrong_release, item_faults};
 
 // V8 to V10 of an item before which these are held.
 fn held_fault(ranks: &Ranks, item: &Item, held: &[u32]) -> Option<Refusal> {

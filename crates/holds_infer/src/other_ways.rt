@@ -6,11 +6,10 @@ ghost use Rattle.holds_infer.specs.LabelWays.{AreOtherWays};
 
 use crate::body_ways::{Meeting, body_ways, resources};
 use crate::holding_ways::{HoldingWay, holding_way};
-use sloth_base::app::Func;
-use sloth_base::memory::NoMemory;
+use sloth_base::{Func, NoMemory};
 use std::alloc::Global;
-use task_verify::held_resources::is_held;
-use text_pieces::growth::push;
+use task_verify::is_held;
+use text_pieces::push;
 
 /// A label by its number, and two ways to it that hold different resources.
 #[derive(Drop)]

@@ -4,21 +4,18 @@ ghost use Rattle.holds_infer.specs.LabelAnswers.{led_line, holding_lines, label_
 
 use crate::holding_ways::HoldingWay;
 use crate::other_ways::OtherWays;
-use command_line::last_line::code_text;
-use sloth_base::app::Func;
-use sloth_base::config::Config;
-use sloth_base::memory::NoMemory;
-use sloth_base::refusal::Refusal;
+use command_line::code_text;
+use sloth_base::{Config, Func, NoMemory, Refusal};
 use std::alloc::Global;
-use why_text::{
-    label_line, label_name, push_bytes, push_list_line, push_number, push_way_line, push_word,
-};
+use text_pieces::line;
+use text_pieces::pieces::Piece::{Number, Word};
+use why_text::{label_line, label_name, push_list_line, push_way_line};
 
 fn push_led(text: &mut Vec<u8>, func: &Func, items: &[usize]) -> Result<(), NoMemory>
     ensures { OnOk result (text.new.items ≡ text.old.items ++ led_line func.now items.now) }
 {
     if items.is_empty() {
-        return push_bytes(text, b"way -\n");
+        return line!(text; Word(b"way -\n"));
     }
     push_way_line(text, func, items)
 }
@@ -39,10 +36,8 @@ fn push_holding(
 fn push_label(text: &mut Vec<u8>, func: &Func, label: usize) -> Result<(), NoMemory>
     ensures { OnOk result (text.new.items ≡ text.old.items ++ label_line func.now label) }
 {
-    push_bytes(text, b"label")?;
-    push_number(text, label_line(func, label))?;
-    push_word(text, label_name(func, label))?;
-    push_bytes(text, b"\n")
+    let line = label_line(func, label);
+    line!(text; Word(b"label "), Number(line), Word(b" "), Word(label_name(func, label)), Word(b"\n"))
 }
 
 fn push_ways(
@@ -75,10 +70,7 @@ pub fn other_ways_lines(
 fn push_rule(text: &mut Vec<u8>, refusal: Refusal) -> Result<(), NoMemory>
     ensures { OnOk result (text.new.items ≡ text.old.items ++ rule_line refusal) }
 {
-    push_bytes(text, b"rule")?;
-    push_number(text, refusal.line)?;
-    push_word(text, code_text(refusal.code))?;
-    push_bytes(text, b"\n")
+    line!(text; Word(b"rule "), Number(refusal.line), Word(b" "), Word(code_text(refusal.code)), Word(b"\n"))
 }
 
 /// The line of a rule, and these lines.
@@ -87,6 +79,6 @@ pub fn rule_lines(alloc: Global, refusal: Refusal, behind: &[u8]) -> Result<Vec<
 {
     let mut text = Vec::new(alloc);
     push_rule(&mut text, refusal)?;
-    push_bytes(&mut text, behind)?;
+    line!(&mut text; Word(behind))?;
     Ok(text)
 }

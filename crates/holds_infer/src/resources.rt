@@ -3,9 +3,7 @@ ghost use Rattle.std.specs.Prelude.{◌≡◌, ◌++◌, codes, OnOk};
 ghost use Rattle.std.specs.List.{flat_map};
 ghost use Rattle.holds_infer.specs.LabelLines.{resource_name, resource_names};
 
-use sloth_base::config::Config;
-use sloth_base::memory::NoMemory;
-use sloth_base::numbers::{RES_SCHEDULER, ResId};
+use sloth_base::{Config, NoMemory, RES_SCHEDULER, ResId};
 
 fn resource_name(config: &Config, resource: ResId) -> &[u8]
     ensures { result.now ≡ resource_name config.now resource }

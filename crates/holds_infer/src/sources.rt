@@ -7,10 +7,8 @@ ghost use Rattle.sloth_source.specs.SourceText.{HasApp};
 ghost use Rattle.holds_infer.specs.FilledSource.{IsFilledSource, FillErrorIs, fill_error, no_lists_error};
 ghost use Rattle.holds_infer.specs.declared.sources.FillError.TheVariants.{Memory as OutOfMemory};
 
-use crate::filling::fill;
-use crate::inference::{InferError, infer};
-use sloth_base::memory::NoMemory;
-use sloth_base::refusal::{BuildError, Refusal};
+use crate::{InferError, fill, infer};
+use sloth_base::{BuildError, NoMemory, Refusal};
 use sloth_source::{Ranked, read_ranked};
 use std::alloc::Global;
 

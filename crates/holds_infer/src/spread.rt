@@ -1,20 +1,15 @@
 //! The held lists at the items of a body, spread along its ways.
 ghost use Rattle.std.specs.Prelude.{◌≡◌, ◌==◌, ℕ, ◌<◌, length, get_or, None, IfOk, OnOk};
 ghost use Rattle.std.specs.List.{list_any};
-ghost use Rattle.sloth_base.specs.Named.{item_of};
 ghost use Rattle.code_rules.specs.Code.{is_in};
 ghost use Rattle.holds_infer.specs.RightLists.{HasItsLabels};
 ghost use Rattle.holds_infer.specs.Spread.{list_behind, list_after, IsListVisit, AreLists, AreSpreading};
 
 use crate::label_lists::list_at;
-use sloth_base::app::{Call, Func, Op};
-use sloth_base::list::List;
-use sloth_base::memory::NoMemory;
-use sloth_base::numbers::ResId;
-use sloth_base::service::Service;
+use sloth_base::{Call, Func, List, NoMemory, Op, ResId, Service};
 use std::alloc::Global;
-use task_verify::ways::{jump_of, next_of};
-use text_pieces::growth::push;
+use task_verify::{jump_of, next_of};
+use text_pieces::push;
 
 fn is_one_of(held: &[ResId], resource: u32) -> bool
     ensures { result ≡ list_any (λ taken. taken == resource) held.now }
@@ -80,14 +75,6 @@ fn visit(
     Ok(())
 }
 
-/// What item `number` does.
-pub fn op_at(func: &Func, number: usize) -> Op
-    requires { number < length func.now.items }
-    ensures { result ≡ (item_of func.now number).op }
-{
-    func.items.items()[number].op
-}
-
 // Spreads the lists of the places that are kept.
 fn spread(
     alloc: Global,
@@ -103,7 +90,7 @@ fn spread(
         match pending.pop() {
             None => return Ok(()),
             Some(from) => {
-                let behind = list_after(alloc, list_at(lists, from), op_at(func, from))?;
+                let behind = list_after(alloc, list_at(lists, from), func.op(from))?;
                 visit(
                     alloc,
                     lists,

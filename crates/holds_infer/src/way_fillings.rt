@@ -6,11 +6,9 @@ ghost use Rattle.holds_infer.specs.WayLists.{IsWayFilling, AreWayFillings, IsWay
 
 use crate::bodies::relisted_func;
 use crate::body_ways::body_ways;
-use sloth_base::app::{App, Func};
-use sloth_base::list::List;
-use sloth_base::memory::NoMemory;
+use sloth_base::{App, Func, List, NoMemory};
 use std::alloc::Global;
-use text_pieces::growth::push;
+use text_pieces::push;
 
 fn way_filling(alloc: Global, func: &Func) -> Result<Func, NoMemory>
     requires { HasItsLabels func.now }

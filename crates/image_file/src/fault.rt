@@ -2,7 +2,7 @@
 ghost use Rattle.std.specs.Prelude.{◌≡◌};
 ghost use Rattle.image_file.specs.declared.fault.FileError.TheVariants.{Fault, Memory};
 
-use sloth_base::memory::NoMemory;
+use sloth_base::NoMemory;
 use std::alloc::{AllocError, AllocFailed};
 
 /// A fault of a file, by its code. The first in this order is told.

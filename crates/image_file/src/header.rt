@@ -3,8 +3,8 @@ ghost use Rattle.std.specs.Prelude.{◌≡◌, IfSome, IfNone, Decides, codes, t
 ghost use Rattle.image_file.specs.Faults.{HasMagic};
 ghost use Rattle.image_file.specs.Reading.{HasSizes, NoSizes};
 
-use crate::numbers::u32_at;
-pub use crate::sizes::Sizes;
+pub use crate::Sizes;
+use crate::u32_at;
 
 // Whether the file begins as an image file without counters does.
 fn has_plain_magic(bytes: &[u8]) -> bool

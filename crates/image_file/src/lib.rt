@@ -24,5 +24,13 @@ pub mod read;
 pub mod sizes;
 pub mod write;
 
-pub use read::read_image;
-pub use write::write_image;
+pub use elf_fault::{ElfError, ElfFault};
+pub use fault::{ImageError, ImageFault};
+pub use mark_services::service_limit;
+pub use marks::{are_ascending, read_marks};
+pub use names::are_right_names;
+pub use number_fields::{put_u16, put_u32};
+pub use numbers::u32_at;
+pub use read::{Outline, read_image, read_parts};
+pub use sizes::Sizes;
+pub use write::{put_marks, put_names, write_image};

@@ -2,7 +2,7 @@
 ghost use Rattle.std.specs.Prelude.{◌≡◌, ◌++◌, OnOk};
 ghost use Rattle.image_file.specs.Fields.{magic_bytes};
 
-use sloth_base::memory::NoMemory;
+use sloth_base::NoMemory;
 
 /// Appends the magic bytes of an image with so many counters.
 pub fn put_magic(file: &mut Vec<u8>, counters: u32) -> Result<(), NoMemory>

@@ -7,11 +7,10 @@ ghost use Rattle.sloth_base.specs.declared.image.MarkKind.{MarkKind as KindOfMar
 ghost use Rattle.sloth_base.specs.Limits.{body_limit, mark_limit};
 ghost use Rattle.sloth_base.specs.MemoryMap.{memory_bytes};
 
-use crate::fault::{ImageError, ImageFault};
-pub use crate::mark_services::service_limit;
-use crate::numbers::{u16_at, u32_at};
-use sloth_base::image::{Mark, MarkKind};
-use sloth_base::memory_map::MEMORY_BASE;
+use crate::numbers::u16_at;
+pub use crate::service_limit;
+use crate::{ImageError, ImageFault, u32_at};
+use sloth_base::{MEMORY_BASE, Mark, MarkKind};
 use std::alloc::Global;
 
 /// So many marks from `at` on, of an image of so many services, functions and bytes of memory.

@@ -5,8 +5,8 @@ ghost use Rattle.image_file.specs.Reading.{NamesStand, IsNamesError, NameEnds};
 ghost use Rattle.sloth_base.specs.ImageRange.{AreNames, AreNamesApart};
 ghost use Rattle.image_file.specs.Parts.{AreRightNames};
 
-use crate::fault::{ImageError, ImageFault};
-use sloth_base::name::{Name, is_name};
+use crate::{ImageError, ImageFault};
+use sloth_base::{Name, is_name};
 use std::alloc::Global;
 
 /// Names, and where they end.

@@ -3,7 +3,7 @@ ghost use Rattle.std.specs.Prelude.{◌≡◌, ◌++◌, OnOk};
 ghost use Rattle.image_file.specs.Fields.{four_bytes, two_bytes};
 
 use byteorder::{ByteOrder, LittleEndian};
-use sloth_base::memory::NoMemory;
+use sloth_base::NoMemory;
 
 /// Appends a number in four bytes.
 #[tactic(auto, unfolding(crate::specs::Fields::four_bytes))]

@@ -8,14 +8,13 @@ ghost use Rattle.sloth_base.specs.declared.image.Image.{Image as ImageOf};
 ghost use Rattle.image_file.specs.declared.fault.ImageFault.{ImageFault as FaultOf};
 ghost use Rattle.image_file.specs.declared.fault.FileError.TheVariants as failed_by;
 
-use crate::fault::{ImageError, ImageFault};
 use crate::file_end::is_followed;
-use crate::header::{Sizes, has_magic, read_sizes};
-use crate::marks::{are_ascending, read_marks, service_limit};
-use crate::names::{are_right_names, read_names};
-use sloth_base::image::{Image, Mark};
-use sloth_base::list::List;
-use sloth_base::name::Name;
+use crate::header::{has_magic, read_sizes};
+use crate::names::read_names;
+use crate::{
+    ImageError, ImageFault, Sizes, are_ascending, are_right_names, read_marks, service_limit,
+};
+use sloth_base::{Image, List, Mark, Name};
 use std::alloc::Global;
 
 /// The image of a file, or the file's first fault.

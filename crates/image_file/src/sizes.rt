@@ -2,8 +2,7 @@
 ghost use Rattle.std.specs.Prelude.{◌≡◌, Decides};
 ghost use Rattle.image_file.specs.Limits.{SizesFit, header_size};
 
-use sloth_base::limits::{BODY_LIMIT, COUNTER_LIMIT, MARK_LIMIT, TASK_LIMIT};
-use sloth_base::memory_map::MEMORY_BYTES;
+use sloth_base::{BODY_LIMIT, COUNTER_LIMIT, MARK_LIMIT, MEMORY_BYTES, TASK_LIMIT};
 
 /// The numbers of tasks, functions, counters, bytes of memory and marks.
 #[derive(Clone, Copy)]

@@ -11,7 +11,7 @@ ghost use Rattle.sloth_base.specs.MemoryMap.{controller_bytes, line_count};
 mod line_bytes;
 
 use line_bytes::LineBytes;
-use sloth_base::numbers::Line;
+use sloth_base::Line;
 use std::marker::Model;
 
 /// The controller. Contracts see its three lists of bytes.

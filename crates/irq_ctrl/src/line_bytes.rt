@@ -3,8 +3,7 @@ ghost use Rattle.std.specs.Prelude.{◌≡◌, ◌<◌, ◌==◌, slice_set, sli
 ghost use Rattle.std.specs.Option.{ForSome};
 ghost use Rattle.sloth_base.specs.MemoryMap.{controller_bytes, line_count};
 
-use sloth_base::memory_map::{ENABLED_OFFSET, LEVELS_OFFSET, LINE_COUNT};
-use sloth_base::numbers::Line;
+use sloth_base::{ENABLED_OFFSET, LEVELS_OFFSET, LINE_COUNT, Line};
 use std::marker::Model;
 
 /// The bytes of the lines. Contracts see three lists.

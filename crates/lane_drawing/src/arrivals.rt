@@ -4,9 +4,10 @@ ghost use Rattle.sloth_base.specs.Limits.{name_limit};
 ghost use Rattle.lane_drawing.specs.Scale.{IsScale};
 ghost use Rattle.lane_drawing.specs.Arrivals.{arrival_class, arrival_end, arrival_line};
 
-use crate::scale::{Scale, push_pixels};
-use sloth_base::event::Arrival;
-use trace_text::line_text::LineText;
+use crate::Scale;
+use crate::scale::push_pixels;
+use sloth_base::Arrival;
+use trace_text::LineText;
 
 fn arrival_class(lost: bool) -> &'static [u8]
     ensures is { result.now ≡ arrival_class lost }

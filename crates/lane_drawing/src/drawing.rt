@@ -6,10 +6,10 @@ ghost use Rattle.lane_drawing.specs.Bars.{IsBarInside};
 ghost use Rattle.lane_drawing.specs.Scale.{IsScale};
 ghost use Rattle.lane_drawing.specs.Drawing.{look_class, look_word, look_height, bar_front, bar_line, lane_line};
 
-use crate::bars::{Bar, Look};
-use crate::scale::{Scale, push_pixels};
-use sloth_base::memory::NoMemory;
-use trace_text::line_text::LineText;
+use crate::scale::push_pixels;
+use crate::{Bar, Look, Scale};
+use sloth_base::NoMemory;
+use trace_text::LineText;
 
 fn look_class(look: Look) -> &'static [u8]
     ensures is { result.now ≡ look_class look }

@@ -3,9 +3,10 @@ ghost use Rattle.std.specs.Prelude.{◌≡◌, ◌≤◌, ◌++◌, OnOk, map};
 ghost use Rattle.lane_drawing.specs.Scale.{IsScale, first_multiple, last_multiple};
 ghost use Rattle.lane_drawing.specs.Drawing.{all_lines, head_line, style_lines, count_line, axis_line, axis_lines, legend_line, legend_lines};
 
-use crate::scale::{Scale, push_pixels};
-use sloth_base::memory::NoMemory;
-use trace_text::line_text::LineText;
+use crate::Scale;
+use crate::scale::push_pixels;
+use sloth_base::NoMemory;
+use trace_text::LineText;
 
 // The first line, with the size in pixels: so many rows behind the axis, and the legend.
 #[tactic(auto, unfolding(crate::specs::Drawing::head_line))]

@@ -17,10 +17,12 @@ pub mod signs;
 pub mod strip;
 pub mod task_looks;
 
-pub use crate::arrivals::arrival_line;
-pub use crate::bars::{Bar, Look};
-pub use crate::marks::{expiry_line, wake_line};
-pub use crate::scale::Scale;
-pub use crate::strip::Strip;
+pub use arrivals::arrival_line;
+pub use bars::{Bar, Look};
 pub use drawing::{push_bar, push_lane, push_name};
 pub use frame::{push_axis, push_head, push_legend};
+pub use marks::{expiry_line, wake_line};
+pub use scale::Scale;
+pub use signs::{is_over, is_woken};
+pub use strip::Strip;
+pub use task_looks::task_look;

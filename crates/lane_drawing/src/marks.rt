@@ -4,8 +4,9 @@ ghost use Rattle.sloth_base.specs.Limits.{name_limit};
 ghost use Rattle.lane_drawing.specs.Scale.{IsScale};
 ghost use Rattle.lane_drawing.specs.Marks.{wake_line, expiry_line};
 
-use crate::scale::{Scale, push_pixels};
-use trace_text::line_text::LineText;
+use crate::Scale;
+use crate::scale::push_pixels;
+use trace_text::LineText;
 
 /// A thin line at a count, from the middle of the lane of who wakes a task to that of the task.
 #[tactic(auto, unfolding(crate::specs::Marks::wake_line))]

@@ -3,7 +3,7 @@ ghost use Rattle.std.specs.Prelude.{◌≡◌, ◌≤◌, ◌+◌, ◌++◌, len
 ghost use Rattle.sloth_base.specs.Limits.{picture_limit, count_limit};
 ghost use Rattle.lane_drawing.specs.Scale.{IsScale, span, place, pixels, axis_step, steps, first_step, first_multiple, last_multiple};
 
-use trace_text::line_text::LineText;
+use trace_text::LineText;
 
 /// The counts of a picture: from one to below another, in a chart that begins so many pixels from the left.
 #[derive(Clone, Copy)]

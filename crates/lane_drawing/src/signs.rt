@@ -2,7 +2,7 @@
 ghost use Rattle.std.specs.Prelude.{◌≡◌};
 ghost use Rattle.lane_drawing.specs.Signs.{is_waiting, is_ready, is_woken, is_over};
 
-use osek_scheduler::state::TaskState;
+use osek_scheduler::TaskState;
 
 fn is_waiting(state: TaskState) -> bool
     ensures { result ≡ is_waiting state }

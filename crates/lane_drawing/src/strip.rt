@@ -2,8 +2,8 @@
 ghost use Rattle.std.specs.Prelude.{◌≡◌, ◌++◌, OnOk, true, false};
 ghost use Rattle.lane_drawing.specs.Strips.{IsFreshStrip, ShowsMore, last_bar};
 
-use crate::bars::{Bar, Look};
-use sloth_base::memory::NoMemory;
+use crate::{Bar, Look};
+use sloth_base::NoMemory;
 use std::alloc::Global;
 use std::marker::Model;
 

@@ -2,8 +2,8 @@
 ghost use Rattle.std.specs.Prelude.{◌≡◌};
 ghost use Rattle.lane_drawing.specs.TaskLooks.{active_look, task_look};
 
-use crate::bars::Look;
-use osek_scheduler::state::TaskState;
+use crate::Look;
+use osek_scheduler::TaskState;
 
 fn active_look(runs: bool, kernel: bool) -> Look
     ensures { result ≡ active_look runs kernel }

@@ -9,7 +9,7 @@ ghost use Rattle.std.specs.Prelude.{◌≡◌};
 ghost use Rattle.least_fault.specs.Order.{is_before};
 ghost use Rattle.least_fault.specs.Search.{lesser, merge, fault_if};
 
-use sloth_base::refusal::{Code, Part, Refusal};
+use sloth_base::{Code, Part, Refusal};
 
 /// Whether a refusal stands no later than another: on an earlier line, or on the same line with no greater number.
 pub fn precedes(first: Refusal, second: Refusal) -> bool

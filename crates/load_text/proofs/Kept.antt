@@ -8,7 +8,6 @@ use Rattle.std.proofs.lemmas.List.Elements.{All-nil, All-cons, All-append}
 use Rattle.sloth_base.specs.declared.refusal.Part.TheVariants.{Load}
 use Rattle.sloth_base.specs.declared.refusal.Code.TheVariants.{L2, L3, L4}
 use Rattle.sloth_base.specs.Owners.{IsOwned}
-use Rattle.sloth_base.specs.Limits.{count_limit}
 use Rattle.least_fault.specs.Order.{NoFault}
 use Rattle.least_fault.proofs.Nowhere.{case_false}
 use Rattle.sloth_base.proofs.Owners.{task_owned}
@@ -17,7 +16,7 @@ use Rattle.trace_text.proofs.Kept.{found-below, line-owned, some-of, without}
 use Rattle.load_text.specs.declared.entry.Entry.{Entry}
 use Rattle.load_text.specs.declared.entry.Form.{Form}
 use Rattle.load_text.specs.declared.entry.Form.TheVariants as form
-use Rattle.load_text.specs.LoadText.{is_entry, form_of, number_of, owner_text, owner_by, owner_of, entry_of, is_of, is_form, is_said, is_outside, is_l2, is_l3, is_l4, LineFault}
+use Rattle.load_text.specs.LoadText.{load_limit, is_entry, form_of, number_of, owner_text, owner_by, owner_of, entry_of, is_of, is_form, is_said, is_outside, is_l2, is_l3, is_l4, LineFault}
 use Rattle.load_text.specs.Loads.{said, IsNumber, AreApart, IsLoad}
 
 -- ---- owners
@@ -73,13 +72,13 @@ apart-append (entry ∷ load) new h e =
 -- ---- one entry more
 
 module _ (tasks counters : List (List ℕ)) (before : List Entry) (n : ℕ) (line : List ℕ) (none : NoFault (LineFault tasks counters before n line)) (is : is_entry line ≡ true) where
-  in-range : (nat_lt (number_of line) 1 ≡ false) × (nat_lt count_limit (number_of line) ≡ false)
+  in-range : (nat_lt (number_of line) 1 ≡ false) × (nat_lt load_limit (number_of line) ≡ false)
   in-range =
       let l4 = case_false Load (is_l4 line) n L4 (λ r f. none r (inr (inr (inr f)))) in
-      or_parts (nat_lt (number_of line) 1) (nat_lt count_limit (number_of line)) (without (is_entry line) (is_outside line) is l4)
+      or_parts (nat_lt (number_of line) 1) (nat_lt load_limit (number_of line)) (without (is_entry line) (is_outside line) is l4)
 
-  pub number-fits : number_of line ≤ count_limit
-  number-fits = ltb-false count_limit (number_of line) in-range.1
+  pub number-fits : number_of line ≤ load_limit
+  number-fits = ltb-false load_limit (number_of line) in-range.1
 
   owner-is : (k : ℕ) × (owner_of tasks counters line ≡ Some k)
   owner-is =

@@ -5,16 +5,19 @@ use Rattle.std.specs.List.{list_any, before_first, after_first}
 use Rattle.sloth_base.specs.declared.refusal.Part.TheVariants.{Load}
 use Rattle.sloth_base.specs.declared.refusal.Code.TheVariants as code
 use Rattle.sloth_base.specs.declared.refusal.Refusal.{Refusal}
-use Rattle.sloth_base.specs.Limits.{count_limit}
 use Rattle.least_fault.specs.Search.{Somewhere}
 use Rattle.least_fault.specs.Cases.{CaseOf}
 use Rattle.text_pieces.specs.Bytes.{is_name}
 use Rattle.text_pieces.specs.Digits.{value_from}
-use Rattle.asm_lines.specs.Lines.{lines}
+use Rattle.text_pieces.specs.Lines.{lines}
 use Rattle.trace_text.specs.ArrivalsText.{is_comment, are_digits, named_among, owner_line}
 use Rattle.load_text.specs.declared.entry.Entry.{Entry}
 use Rattle.load_text.specs.declared.entry.Form.{Form}
 use Rattle.load_text.specs.declared.entry.Form.TheVariants as form
+
+-- the greatest number of a line: counts of 31 bits
+abbrev pub load_limit : ℕ
+load_limit = 2147483647
 
 -- ---- a line
 
@@ -111,9 +114,9 @@ is_said before f (Some owner) = list_any (is_of f owner) before
 abbrev pub is_l3 : (tasks counters : List (List ℕ)) → List Entry → List ℕ → Bool
 is_l3 tasks counters before line = is_entry line && is_said before (form_of line) (owner_of tasks counters line)
 
--- a number outside 1 to 1,000,000
+-- a number outside 1 to `load_limit`
 abbrev pub is_outside : List ℕ → Bool
-is_outside line = nat_lt (number_of line) 1 || nat_lt count_limit (number_of line)
+is_outside line = nat_lt (number_of line) 1 || nat_lt load_limit (number_of line)
 
 -- L4: a number out of range
 abbrev pub is_l4 : List ℕ → Bool

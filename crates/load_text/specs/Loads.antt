@@ -4,11 +4,10 @@ use Rattle.std.specs.List.{AllByRecursion}
 use Rattle.sloth_base.specs.declared.event.Arrival.{Arrival}
 use Rattle.sloth_base.specs.declared.lines.Owners.{Owners}
 use Rattle.sloth_base.specs.Owners.{IsOwned}
-use Rattle.sloth_base.specs.Limits.{count_limit}
 use Rattle.load_text.specs.declared.entry.Entry.{Entry}
 use Rattle.load_text.specs.declared.entry.Form.{Form}
 use Rattle.load_text.specs.declared.entry.Form.TheVariants as form
-use Rattle.load_text.specs.LoadText.{is_of}
+use Rattle.load_text.specs.LoadText.{load_limit, is_of}
 
 -- ---- what is said
 
@@ -31,9 +30,9 @@ deadline load t = said form.Deadline t load
 
 -- ---- in range
 
--- each number is one of counts
+-- each number is one of counts, of 31 bits
 abbrev pub IsNumber : Entry → Type 0
-IsNumber entry = (1 ≤ entry.number) × (entry.number ≤ count_limit)
+IsNumber entry = (1 ≤ entry.number) × (entry.number ≤ load_limit)
 
 -- none of these entries is of the form and the owner of this one
 abbrev pub IsNew : List Entry → Entry → Type 0
@@ -44,7 +43,7 @@ abbrev pub AreApart : List Entry → Type 0
 AreApart [] = Unit {0}
 AreApart (entry ∷ load) = IsNew load entry × AreApart load
 
--- entries of owned lines, no two of one form and owner, with numbers from 1 to 1,000,000
+-- entries of owned lines, no two of one form and owner, with numbers in range
 pub record IsLoad (owners : Owners) (load : List Entry) : Type 0 where
   pub numbers : All IsNumber load
   pub owned : All (λ entry. IsOwned owners entry.owner) load

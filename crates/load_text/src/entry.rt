@@ -1,6 +1,9 @@
 //! What one line of a load says.
 
-use sloth_base::numbers::Line;
+use sloth_base::Line;
+
+/// The greatest number of a line: counts of 31 bits.
+pub const LOAD_LIMIT: u32 = 2_147_483_647;
 
 /// What is said of an owner.
 #[derive(Clone, Copy)]
@@ -13,7 +16,7 @@ pub enum Form {
     Deadline,
 }
 
-/// A number of counts, 1 to 1,000,000, that is said of the task or the counter of a line.
+/// A number of counts, 1 to `LOAD_LIMIT`, that is said of the task or the counter of a line.
 #[derive(Clone, Copy)]
 pub struct Entry {
     pub form: Form,

@@ -1,21 +1,17 @@
 //! A line of a load, and its faults: L1 to L4.
 ghost use Rattle.std.specs.Prelude.{◌≡◌, ◌≤◌};
 ghost use Rattle.std.specs.List.{list_any};
-ghost use Rattle.sloth_base.specs.Limits.{count_limit};
 ghost use Rattle.least_fault.specs.Search.{IsSearchResult};
 ghost use Rattle.text_pieces.specs.Digits.{capped_value};
-ghost use Rattle.load_text.specs.LoadText.{form_named, is_entry, form_of, number_of, owner_by, owner_of, entry_of, is_form, is_of, is_said, is_outside};
+ghost use Rattle.load_text.specs.LoadText.{load_limit, form_named, is_entry, form_of, number_of, owner_by, owner_of, entry_of, is_form, is_of, is_said, is_outside};
 ghost use Rattle.load_text.specs.LoadText.{is_l1, is_l2, is_l3, is_l4, LineFault, owner_text, number_text, form_text};
 
-use crate::entry::{Entry, Form};
+use crate::entry::LOAD_LIMIT;
+use crate::{Entry, Form};
 use least_fault::{fault_if, merge};
-use sloth_base::limits::COUNT_LIMIT;
-use sloth_base::name::Name;
-use sloth_base::numbers::Line;
-use sloth_base::refusal::{Code, Part, Refusal};
-use text_pieces::bytes::{before, behind, is_name, same};
-use text_pieces::numerals::value;
-use trace_text::arrival_line::{are_digits, is_comment, owner_line, task_line};
+use sloth_base::{Code, Line, Name, Part, Refusal};
+use text_pieces::{before, behind, is_name, same, value};
+use trace_text::{are_digits, is_comment, owner_line, task_line};
 
 /// The form that a word names.
 #[tactic(auto, unfolding(crate::specs::LoadText::form_named))]
@@ -94,9 +90,9 @@ fn owner_of(tasks: &[Name], counters: &[Name], line: &[u8]) -> Option<u8>
     owner_by(tasks, counters, form_of(line), owner_text(line))
 }
 
-/// The entry of a line, whose number is at most 1,000,000.
+/// The entry of a line, whose number is at most `LOAD_LIMIT`.
 pub fn entry_of(tasks: &[Name], counters: &[Name], line: &[u8]) -> Entry
-    requires { number_of line.now ≤ count_limit }
+    requires { number_of line.now ≤ load_limit }
     ensures { result ≡ entry_of tasks.now counters.now line.now }
 {
     let number = number(line) as u32;
@@ -170,7 +166,7 @@ fn is_outside(line: &[u8]) -> bool
     ensures { result ≡ is_outside line.now }
 {
     let number = number(line);
-    number < 1 || u64::from(COUNT_LIMIT) < number
+    number < 1 || u64::from(LOAD_LIMIT) < number
 }
 
 fn is_l4(line: &[u8]) -> bool

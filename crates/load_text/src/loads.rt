@@ -2,8 +2,8 @@
 ghost use Rattle.std.specs.Prelude.{◌≡◌};
 ghost use Rattle.load_text.specs.Loads.{said, distance, work, deadline};
 
-use crate::entry::{Entry, Form};
 use crate::load_line::is_of;
+use crate::{Entry, Form};
 
 // The number of the first entry of a form and an owner.
 fn said(form: Form, owner: u8, load: &[Entry]) -> Option<u32>

@@ -6,14 +6,11 @@ ghost use Rattle.trace_text.specs.ArrivalsText.{owners_read};
 ghost use Rattle.load_text.specs.LoadText.{entries_of, load_in, LineFault, LinesFault, LoadFault};
 ghost use Rattle.load_text.specs.Loads.{IsLoad};
 
-use crate::entry::Entry;
+use crate::Entry;
 use crate::load_line::{entry_of, is_entry, line_fault};
-use sloth_base::memory::NoMemory;
-use sloth_base::name::Name;
-use sloth_base::refusal::BuildError;
+use sloth_base::{BuildError, Name, NoMemory};
 use std::alloc::Global;
-use text_pieces::growth::push;
-use trace_text::arrivals::lines;
+use text_pieces::{lines, push};
 
 // One more entry, at the end.
 fn push_entry(read: &mut Vec<Entry>, entry: Entry) -> Result<(), NoMemory>
@@ -66,7 +63,7 @@ fn read_lines(
 }
 
 /// The load of a text of at most 4,294,967,294 bytes, with the names of the tasks and of the counters; or its least fault: L1 for a line of no
-/// form, L2 for a name that no owner has, L3 for a second line of one form and name, L4 for a number outside 1 to 1,000,000.
+/// form, L2 for a name that no owner has, L3 for a second line of one form and name, L4 for a number outside 1 to 2,147,483,647.
 pub fn read_load(
     alloc: Global,
     text: &[u8],

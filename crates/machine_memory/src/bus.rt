@@ -10,8 +10,7 @@ ghost use Rattle.sloth_base.specs.declared.app.Width.TheVariants as kind;
 ghost use Rattle.sloth_base.specs.MemoryMap.{line_count};
 
 use rv32_instr::{Bad, Instr};
-use sloth_base::app::Width;
-use sloth_base::numbers::Line;
+use sloth_base::{Line, Width};
 
 /// Memory as loads and stores see it, with an interrupt controller or without one.
 pub trait Bus {

@@ -7,10 +7,9 @@ ghost use Rattle.sloth_base.specs.MemoryMap.{memory_bytes};
 ghost use Rattle.machine_memory.specs.Fresh.{ram_of};
 ghost use Rattle.machine_memory.specs.Place.{bytes_at, with_bytes};
 
-use crate::ram::Ram;
+use crate::Ram;
 use rv32_instr::{Instr, decode};
-use sloth_base::app::Width;
-use sloth_base::memory::NoMemory;
+use sloth_base::{NoMemory, Width};
 use std::alloc::Global;
 use std::marker::Model;
 

@@ -15,5 +15,7 @@ pub mod sloth;
 pub mod vectors;
 
 pub use bus::Bus;
+pub use place::{Place, extended, locate};
+pub use ram::Ram;
 pub use sloth::SlothBus;
 pub use vectors::vector;

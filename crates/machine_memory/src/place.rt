@@ -5,8 +5,7 @@ ghost use Rattle.sloth_base.specs.Arithmetic.{size_of, extended_number};
 ghost use Rattle.machine_memory.specs.Place.{IsPlace, bare_memory};
 
 use rv32_instr::Bad;
-use sloth_base::app::Width;
-use sloth_base::memory_map::{CONTROLLER_BASE, CONTROLLER_BYTES, MEMORY_BASE, MEMORY_END};
+use sloth_base::{CONTROLLER_BASE, CONTROLLER_BYTES, MEMORY_BASE, MEMORY_END, Width};
 
 /// An offset in RAM, or in the controller.
 #[derive(Clone, Copy)]

@@ -7,9 +7,7 @@ ghost use Rattle.machine_memory.specs.Place.{bytes_at, with_bytes};
 ghost use Rattle.machine_memory.specs.Fresh.{ram_of};
 
 use crate::front::{byte_in, half_in, put_byte, put_half, put_word, reach, word_in};
-use sloth_base::app::Width;
-use sloth_base::memory::NoMemory;
-use sloth_base::memory_map::MEMORY_BYTES;
+use sloth_base::{MEMORY_BYTES, NoMemory, Width};
 use std::alloc::Global;
 use std::marker::Model;
 

@@ -6,16 +6,11 @@ ghost use Rattle.sloth_base.specs.ImageRange.{InFormat};
 ghost use Rattle.sloth_base.specs.MemoryMap.{line_count};
 ghost use Rattle.machine_memory.specs.Fresh.{sloth_start};
 
-use crate::bus::Bus;
 use crate::code_ram::CodeRam;
-use crate::place::{Place, extended, locate};
+use crate::{Bus, Place, extended, locate};
 use irq_ctrl::Controller;
 use rv32_instr::{Bad, Instr};
-use sloth_base::app::Width;
-use sloth_base::image::Image;
-use sloth_base::memory::NoMemory;
-use sloth_base::memory_map::LEVELS_OFFSET;
-use sloth_base::numbers::Line;
+use sloth_base::{Image, LEVELS_OFFSET, Line, NoMemory, Width};
 use std::alloc::Global;
 use std::marker::Model;
 

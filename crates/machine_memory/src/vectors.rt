@@ -2,8 +2,7 @@
 ghost use Rattle.std.specs.Prelude.{◌≡◌, ◌+◌, ◌*◌, ◌%◌};
 ghost use Rattle.sloth_base.specs.MemoryMap.{vectors_base};
 
-use sloth_base::memory_map::VECTORS_BASE;
-use sloth_base::numbers::Line;
+use sloth_base::{Line, VECTORS_BASE};
 
 /// The address of a line's vector word.
 pub fn vector(line: Line) -> u32

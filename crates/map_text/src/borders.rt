@@ -3,9 +3,8 @@ ghost use Rattle.std.specs.Prelude.{◌≡◌, ◌≤◌, ◌+◌, All, drop, le
 ghost use Rattle.sloth_base.specs.MemoryMap.{memory_end, vectors_base};
 ghost use Rattle.map_text.specs.Borders.{HasBorders, borders_of, stacks_base, stacks_end};
 
-use sloth_base::memory_map::{MEMORY_BASE, VECTORS_BASE};
-use sloth_region::extent::Extent;
-use sloth_region::map::Map;
+use sloth_base::{MEMORY_BASE, VECTORS_BASE};
+use sloth_region::{Extent, Map};
 
 /// The place of the zone of data among the extents of a map.
 const DATA: usize = 2;

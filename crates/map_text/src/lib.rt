@@ -27,6 +27,12 @@ pub mod segments;
 mod text;
 pub mod totals;
 
-pub use crate::piece_rows::{Kind, Row};
-pub use crate::totals::Part;
+pub use borders::{Borders, Range, borders_of, code_range};
+pub use line_rows::{LineRow, body_end, item_address};
+pub use object_names::{counter_name, function_name, symbol_name};
+pub use piece_names::{block_symbol, copied, joined};
+pub use piece_rows::{Kind, Row};
+pub use rows::map_rows;
+pub use segments::{Segment, code_segment, data_segment, words_segment};
 pub use text::map_text;
+pub use totals::Part;

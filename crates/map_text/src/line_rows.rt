@@ -3,9 +3,7 @@ ghost use Rattle.std.specs.Prelude.{◌≡◌, ◌≤◌, ◌+◌, ◌++◌, IfO
 ghost use Rattle.sloth_base.specs.Limits.{item_limit};
 ghost use Rattle.map_text.specs.LineRows.{body_rows, first_rows, item_address, item_count, item_rows, last_row, line_rows};
 
-use sloth_base::app::{Func, Item};
-use sloth_base::memory_map::WORD;
-use sloth_base::places::Places;
+use sloth_base::{Func, Item, Places, WORD};
 use std::alloc::{AllocError, Global};
 
 /// An address, and the line of the source that it comes from.

@@ -1,29 +1,24 @@
 //! The lines of a map.
 ghost use Rattle.std.specs.Prelude.{◌≡◌, ◌<◌, ◌++◌, IfOk, OnOk, length};
 ghost use Rattle.sloth_base.specs.Blocks.{block_object, block_service};
-ghost use Rattle.map_text.specs.MapText.{behind_part, need_line, object_text, part_text, piece_text, row_line, service_text, sum_line, total_line};
+ghost use Rattle.map_text.specs.MapText.{behind_part, need_line, object_text, part_text, piece_name, piece_text, piece_word, row_line, service_text, sum_line, total_line};
 
-use crate::object_names::{
-    alarm_name, counter_name, function_name, resource_name, symbol_name, task_name,
+use crate::object_names::{alarm_name, resource_name};
+use crate::totals::part_sum;
+use crate::{Kind, Part, Row, counter_name, function_name, symbol_name};
+use sloth_base::{
+    App, BLOCK_COUNT, Bounds, Config, NoMemory, ObjectKind, Service, block_object, block_service,
 };
-use crate::piece_rows::{Kind, Row};
-use crate::totals::{Part, part_sum};
-use itoa::Buffer;
-use sloth_base::app::App;
-use sloth_base::config::Config;
-use sloth_base::memory::NoMemory;
-use sloth_base::places::{BLOCK_COUNT, Bounds, block_object, block_service};
-use sloth_base::service::{ObjectKind, Service};
 use std::alloc::Global;
-use trace_text::line_text::LineText;
+use text_pieces::pieces::Piece::{Number, Sum, Word};
+use text_pieces::{line, text};
+use trace_text::LineText;
 
 // Appends two texts.
-fn push_both(text: &mut Vec<u8>, one: &[u8], other: &[u8]) -> Result<(), NoMemory>
+fn push_both<'x>(text: &mut Vec<u8>, one: &'x [u8], other: &'x [u8]) -> Result<(), NoMemory>
     ensures { OnOk result (text.new.items ≡ text.old.items ++ (one.now ++ other.now)) }
 {
-    text.extend_from_slice(one)?;
-    text.extend_from_slice(other)?;
-    Ok(())
+    line!(text; Word(one), Word(other))
 }
 
 // Appends the object of a service, if it has one, behind a blank.
@@ -37,7 +32,7 @@ fn push_object(
 {
     match kind {
         ObjectKind::Nothing => Ok(()),
-        ObjectKind::Task => push_both(text, b" ", task_name(config, number as usize)),
+        ObjectKind::Task => push_both(text, b" ", config.task_name(number as usize)),
         ObjectKind::Resource => push_both(text, b" ", resource_name(config, number)),
         ObjectKind::Alarm => push_both(text, b" ", alarm_name(config, number as usize)),
     }
@@ -71,12 +66,38 @@ fn block_text(alloc: Global, config: &Config, number: usize) -> Result<Vec<u8>, 
     service_text(alloc, config, block_service(number), block_object(number))
 }
 
-// Appends a text.
-fn push(text: &mut Vec<u8>, more: &[u8]) -> Result<(), NoMemory>
-    ensures { OnOk result (text.new.items ≡ text.old.items ++ more.now) }
+// The word of a piece, and a blank where a name follows.
+fn piece_word(kind: Kind) -> &'static [u8]
+    ensures { result.now ≡ piece_word kind }
 {
-    text.extend_from_slice(more)?;
-    Ok(())
+    match kind {
+        Kind::Words => b"words",
+        Kind::Vectors => b"vectors",
+        Kind::Boot => b"boot",
+        Kind::Idle => b"idle",
+        Kind::Prologue => b"prologue ",
+        Kind::Tick => b"tick ",
+        Kind::Service => b"service ",
+        Kind::Code => b"code ",
+        Kind::Data => b"data ",
+        Kind::End => b"end",
+        Kind::Shared => b"shared",
+        Kind::Stack => b"stack ",
+        Kind::Between => b"between",
+    }
+}
+
+// The name of what a piece is for, which is no service.
+fn piece_name<'a>(config: &'a Config, app: &'a App, kind: Kind, number: usize) -> &'a [u8]
+    ensures { result.now ≡ piece_name config.now app.now kind number }
+{
+    match kind {
+        Kind::Prologue | Kind::Stack => config.task_name(number),
+        Kind::Tick => counter_name(config, number),
+        Kind::Code => function_name(app, number),
+        Kind::Data => symbol_name(app, number),
+        _ => b"",
+    }
 }
 
 // Appends what stands in a row.
@@ -90,22 +111,15 @@ fn push_piece(
     ensures { OnOk result (text.new.items ≡ text.old.items ++ piece_text config.now app.now row.now.kind row.now.number) }
 {
     match row.kind {
-        Kind::Words => push(text, b"words"),
-        Kind::Vectors => push(text, b"vectors"),
-        Kind::Boot => push(text, b"boot"),
-        Kind::Idle => push(text, b"idle"),
-        Kind::Prologue => push_both(text, b"prologue ", task_name(config, row.number)),
-        Kind::Tick => push_both(text, b"tick ", counter_name(config, row.number)),
         Kind::Service => {
             let service = block_text(alloc, config, row.number)?;
             push_both(text, b"service ", service.as_slice())
         }
-        Kind::Code => push_both(text, b"code ", function_name(app, row.number)),
-        Kind::Data => push_both(text, b"data ", symbol_name(app, row.number)),
-        Kind::End => push(text, b"end"),
-        Kind::Shared => push(text, b"shared"),
-        Kind::Stack => push_both(text, b"stack ", task_name(config, row.number)),
-        Kind::Between => push(text, b"between"),
+        kind => push_both(
+            text,
+            piece_word(kind),
+            piece_name(config, app, kind, row.number),
+        ),
     }
 }
 
@@ -136,13 +150,8 @@ pub fn need_line(
     requires { task < length bounds.now.bytes }
     ensures { IfOk result (λ line. line.items ≡ need_line config.now bounds.now task) }
 {
-    let mut buffer = Buffer::new();
-    let mut line = Vec::from_slice(alloc, b"need ")?;
-    line.extend_from_slice(task_name(config, task))?;
-    line.extend_from_slice(b" ")?;
-    line.extend_from_slice(buffer.format(bounds.bytes.items()[task]).as_bytes())?;
-    line.extend_from_slice(b"\n")?;
-    Ok(line)
+    let bytes = bounds.bytes.items()[task];
+    text!(alloc; Word(b"need "), Word(config.task_name(task)), Word(b" "), Number(bytes), Word(b"\n"))
 }
 
 // What the rows of a part take together.
@@ -172,22 +181,13 @@ fn behind_part(part: Part) -> &'static [u8]
 pub fn total_line(alloc: Global, rows: &[Row], part: Part) -> Result<Vec<u8>, NoMemory>
     ensures { IfOk result (λ line. line.items ≡ total_line rows.now part) }
 {
-    let mut buffer = Buffer::new();
-    let mut line = Vec::from_slice(alloc, part_text(part))?;
-    line.extend_from_slice(b" ")?;
-    line.extend_from_slice(buffer.format(part_sum(part, rows)).as_bytes())?;
-    line.extend_from_slice(behind_part(part))?;
-    line.extend_from_slice(b"\n")?;
-    Ok(line)
+    let sum = Sum(part_sum(part, rows));
+    text!(alloc; Word(part_text(part)), Word(b" "), sum, Word(behind_part(part)), Word(b"\n"))
 }
 
 /// The line of the bytes of all rows.
 pub fn sum_line(alloc: Global, sum: u128) -> Result<Vec<u8>, NoMemory>
     ensures { IfOk result (λ line. line.items ≡ sum_line sum) }
 {
-    let mut buffer = Buffer::new();
-    let mut line = Vec::from_slice(alloc, b"sum ")?;
-    line.extend_from_slice(buffer.format(sum).as_bytes())?;
-    line.extend_from_slice(b"\n")?;
-    Ok(line)
+    text!(alloc; Word(b"sum "), Sum(sum), Word(b"\n"))
 }

@@ -1,21 +1,9 @@
 //! The names of objects, bodies and symbols by their numbers, each empty where there is none of the number.
 ghost use Rattle.std.specs.Prelude.{◌≡◌, get_or};
-ghost use Rattle.sloth_base.specs.Named.{alarm_declaration, counter_declaration, declaration, function, no_symbol};
+ghost use Rattle.sloth_base.specs.Named.{alarm_declaration, counter_declaration, function, no_symbol};
 ghost use Rattle.map_text.specs.PieceNames.{resource_name};
 
-use sloth_base::app::App;
-use sloth_base::config::Config;
-use sloth_base::numbers::RES_SCHEDULER;
-
-/// The name of a task.
-pub fn task_name(config: &Config, number: usize) -> &[u8]
-    ensures { result.now ≡ (declaration config.now number).name }
-{
-    match config.tasks.items().get(number) {
-        Some(task) => task.name.bytes(),
-        None => b"",
-    }
-}
+use sloth_base::{App, Config, RES_SCHEDULER};
 
 /// The name of a counter.
 pub fn counter_name(config: &Config, number: usize) -> &[u8]

@@ -4,12 +4,10 @@ ghost use Rattle.sloth_base.specs.Blocks.{block_object, block_service};
 ghost use Rattle.sloth_base.specs.ServiceCodes.{object_kind, service_name};
 ghost use Rattle.map_text.specs.PieceNames.{block_symbol, joined, service_symbol};
 
-use crate::object_names::{alarm_name, resource_name, task_name};
-use sloth_base::config::Config;
-use sloth_base::list::List;
-use sloth_base::memory::NoMemory;
-use sloth_base::places::{BLOCK_COUNT, block_object, block_service};
-use sloth_base::service::{ObjectKind, Service};
+use crate::object_names::{alarm_name, resource_name};
+use sloth_base::{
+    BLOCK_COUNT, Config, List, NoMemory, ObjectKind, Service, block_object, block_service,
+};
 use std::alloc::Global;
 
 /// Two names, joined by `$`, which no name of a text has.
@@ -42,7 +40,7 @@ fn service_symbol(
     let name = service.name();
     match service.object_kind() {
         ObjectKind::Nothing => joined(alloc, b"kernel", name),
-        ObjectKind::Task => joined(alloc, name, task_name(config, number as usize)),
+        ObjectKind::Task => joined(alloc, name, config.task_name(number as usize)),
         ObjectKind::Resource => joined(alloc, name, resource_name(config, number)),
         ObjectKind::Alarm => joined(alloc, name, alarm_name(config, number as usize)),
     }

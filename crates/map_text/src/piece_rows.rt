@@ -2,7 +2,7 @@
 ghost use Rattle.std.specs.Prelude.{◌≡◌, ◌++◌, OnOk, IfOk, drop, length};
 ghost use Rattle.map_text.specs.PieceRows.{first_at, row_to, rows_between};
 
-use sloth_base::config::Config;
+use sloth_base::Config;
 use std::alloc::{AllocError, Global};
 
 /// What stands in an extent.

@@ -8,12 +8,10 @@ ghost use Rattle.map_text.specs.Listable.{IsListable};
 ghost use Rattle.mem_map.specs.Stacks.{address_behind_data};
 ghost use Rattle.map_text.specs.Rows.{address_behind_code, code_places, first_starts, last_starts, numbered_starts, routine_starts, single_start, starts_of};
 
-use crate::piece_rows::{Kind, Start, tick_count};
-use sloth_base::config::Config;
-use sloth_base::lines::FIRST_COUNTER_LINE;
-use sloth_base::memory_map::{BOOT_BASE, MEMORY_BASE, VECTORS_BASE, WORD};
-use sloth_region::extent::Extent;
-use sloth_region::map::Map;
+use crate::Kind;
+use crate::piece_rows::{Start, tick_count};
+use sloth_base::{BOOT_BASE, Config, FIRST_COUNTER_LINE, MEMORY_BASE, VECTORS_BASE, WORD};
+use sloth_region::{Extent, Map};
 use std::alloc::{AllocError, Global};
 
 /// The place of the zone of code among the extents of a map.

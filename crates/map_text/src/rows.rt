@@ -3,11 +3,11 @@ ghost use Rattle.std.specs.Prelude.{◌≡◌, ◌++◌, OnOk, IfOk, length};
 ghost use Rattle.map_text.specs.Rows.{has_basic, map_rows, own_rows, row_of, shared_rows, sum_of};
 ghost use Rattle.map_text.specs.Listable.{IsListable};
 
-use crate::piece_rows::{Kind, Row, rows_between};
+use crate::piece_rows::rows_between;
 use crate::piece_starts::{DATA, STACKS, behind, extent_at, starts};
-use sloth_base::config::{Config, TaskDecl};
-use sloth_region::extent::Extent;
-use sloth_region::map::Map;
+use crate::{Kind, Row};
+use sloth_base::{Config, TaskDecl};
+use sloth_region::{Extent, Map};
 use std::alloc::{AllocError, Global};
 
 // The row of an extent.

@@ -2,8 +2,8 @@
 ghost use Rattle.std.specs.Prelude.{◌≡◌, max};
 ghost use Rattle.sloth_base.specs.MemoryMap.{memory_base, vectors_base};
 
-use crate::borders::Borders;
-use sloth_base::memory_map::{MEMORY_BASE, VECTORS_BASE};
+use crate::Borders;
+use sloth_base::{MEMORY_BASE, VECTORS_BASE};
 
 /// A segment may be read and written, or read and executed.
 const WRITTEN: u32 = 6;

@@ -8,16 +8,12 @@ ghost use Rattle.map_text.specs.Listable.{IsListable};
 ghost use Rattle.map_text.specs.MapText.{HasMap, IsMapText, lines_with, map_text, need_lines, row_line, total_line};
 
 use crate::lines::{need_line, row_line, sum_line, total_line};
-use crate::piece_rows::Row;
-use crate::rows::{map_rows, sum_of};
-use crate::totals::{PARTS, Part, filled_rows};
+use crate::rows::sum_of;
+use crate::totals::{PARTS, filled_rows};
+use crate::{Part, Row, map_rows};
 use mem_map::plan;
-use sloth_base::app::App;
-use sloth_base::config::Config;
-use sloth_base::memory::NoMemory;
-use sloth_base::places::Bounds;
-use sloth_base::refusal::BuildError;
-use sloth_region::map::Map;
+use sloth_base::{App, Bounds, BuildError, Config, NoMemory};
+use sloth_region::Map;
 use sloth_source::{Source, read};
 use std::alloc::Global;
 

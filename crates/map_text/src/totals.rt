@@ -2,7 +2,7 @@
 ghost use Rattle.std.specs.Prelude.{◌≡◌, ◌++◌, OnOk, IfOk};
 ghost use Rattle.map_text.specs.Totals.{between_rows, bytes_in, filled_rows, gap_rows, is_part, part_of, part_sum};
 
-use crate::piece_rows::{Kind, Row};
+use crate::{Kind, Row};
 use std::alloc::{AllocError, Global};
 
 /// A part of an image.

@@ -3,9 +3,8 @@ ghost use Rattle.std.specs.Prelude.{◌≡◌, ◌≤◌, ◌<◌, ◌+◌, ◌-
 ghost use Rattle.rv32_instr.specs.Range.{InRange, AreInRange, IsSigned};
 ghost use Rattle.masked_code.specs.Pieces.{saving_code, restoring_code, clearing_code, words_clearing_code};
 
-use rv32_instr::asm::{ZERO, addi, lw, sw};
-use rv32_instr::{Instr, InstrKind};
-use sloth_base::numbers::Reg;
+use rv32_instr::{Instr, InstrKind, ZERO, addi, lw, sw};
+use sloth_base::Reg;
 use std::alloc::AllocError;
 
 /// The first register of a context.

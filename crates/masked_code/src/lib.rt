@@ -7,3 +7,5 @@
 #![tactic(auto)]
 
 pub mod emit;
+
+pub use emit::{X5, clear, clear_words, past, restore, save};

@@ -5,9 +5,7 @@ ghost use Rattle.sloth_base.specs.Limits.{task_limit, counter_limit};
 ghost use Rattle.sloth_base.specs.MemoryMap.{line_count};
 ghost use Rattle.mem_map.specs.Starts.{starts, end_of, code_byte_count};
 
-use sloth_base::lines::FIRST_COUNTER_LINE;
-use sloth_base::memory_map::{LINE_COUNT, WORD};
-use sloth_base::places::BLOCK_COUNT;
+use sloth_base::{BLOCK_COUNT, FIRST_COUNTER_LINE, LINE_COUNT, WORD};
 
 // Those of the lines of counters: their ticks. All others go to the idle loop.
 fn with_ticks(idle: u32, ticks: &[u32]) -> [u32; LINE_COUNT]

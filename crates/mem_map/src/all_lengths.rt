@@ -6,15 +6,10 @@ ghost use Rattle.sloth_base.specs.Blocks.{block_count};
 ghost use Rattle.sloth_base.specs.Limits.{counter_limit, alarm_limit};
 ghost use Rattle.mem_map.specs.Lengths.{AreLengths, wanted_length};
 
-use crate::called_blocks::wanted_blocks;
+use crate::wanted_blocks;
 use code_lengths::{block_length, boot_length, start_length, tick_length};
 use rv32_expand::sizes;
-use sloth_base::app::App;
-use sloth_base::config::Config;
-use sloth_base::list::List;
-use sloth_base::memory::NoMemory;
-use sloth_base::numbers::TaskId;
-use sloth_base::places::BLOCK_COUNT;
+use sloth_base::{App, BLOCK_COUNT, Config, List, NoMemory, TaskId};
 use std::alloc::{AllocError, Global};
 
 /// How many instructions each piece of the code of an image has.

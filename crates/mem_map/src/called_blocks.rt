@@ -3,8 +3,7 @@ ghost use Rattle.std.specs.Prelude.{ℕ, ◌≡◌, ◌<◌, ◌||◌, false, ge
 ghost use Rattle.sloth_base.specs.Blocks.{block_count};
 ghost use Rattle.mem_map.specs.Wanted.{is_call_of, is_called_by, is_wanted, wanted_blocks};
 
-use sloth_base::app::{App, Func, Op};
-use sloth_base::places::{BLOCK_COUNT, block_number};
+use sloth_base::{App, BLOCK_COUNT, Func, Op, block_number};
 
 // What the operation calls is wanted too.
 fn mark_call(wanted: &mut [bool; BLOCK_COUNT], op: Op)

@@ -6,8 +6,7 @@ ghost use Rattle.rv32_expand.specs.InPlace.{mark_of, result_register};
 ghost use Rattle.mem_map.specs.Sections.{marks_of, addresses, HaveOwnAddresses};
 
 use rv32_instr::Block;
-use sloth_base::app::Op;
-use sloth_base::image::{Mark, MarkKind};
+use sloth_base::{Mark, MarkKind, Op};
 use std::alloc::{AllocError, Global};
 
 // The register of an item's result, or 0.

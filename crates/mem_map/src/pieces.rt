@@ -2,7 +2,7 @@
 ghost use Rattle.std.specs.Prelude.{◌≡◌, ◌<◌, IfOk};
 ghost use Rattle.mem_map.specs.Starts.{starts, end_of};
 
-use sloth_base::list::List;
+use sloth_base::List;
 use std::alloc::{AllocError, Global};
 
 /// The address of each piece, and the address behind the last one.

@@ -3,8 +3,7 @@ ghost use Rattle.std.specs.Prelude.{◌≡◌, ◌≤◌, ◌<◌, ◌+◌, ◌-
 ghost use Rattle.sloth_region.specs.Region.{aligned, first_free_address};
 ghost use Rattle.mem_map.specs.Run.{run, room_for, AreRun};
 
-use sloth_region::extent::Extent;
-use sloth_region::region::{Full, Region};
+use sloth_region::{Extent, Full, Region};
 use std::alloc::{AllocError, Global};
 
 /// Places the next `len` bytes in a region that has room for them.

@@ -18,13 +18,11 @@ use crate::lengths::{code_in_bytes, item_counts, symbol_lengths};
 use crate::pieces::{Pieces, place_pieces};
 use crate::stacks::{stack_lengths, task_parts};
 use crate::zones::plan_zones;
-use sloth_base::app::App;
-use sloth_base::config::Config;
-use sloth_base::list::List;
-use sloth_base::memory::NoMemory;
-use sloth_base::memory_map::{BOOT_BASE, LINE_COUNT, VECTORS_BASE, WORD};
-use sloth_base::places::{BLOCK_COUNT, Bounds, Places};
-use sloth_region::map::Map;
+use sloth_base::{
+    App, BLOCK_COUNT, BOOT_BASE, Bounds, Config, LINE_COUNT, List, NoMemory, Places, VECTORS_BASE,
+    WORD,
+};
+use sloth_region::Map;
 use stack_bounds::offsets;
 use std::alloc::{AllocError, Global};
 

@@ -3,8 +3,8 @@ ghost use Rattle.std.specs.Prelude.{◌≡◌, ◌<◌, ◌≤◌, ◌+◌, leng
 ghost use Rattle.sloth_base.specs.Limits.{task_limit};
 ghost use Rattle.mem_map.specs.StackParts.{no_extent, own_before, first_own, stack_number, HasStack};
 
-use sloth_base::config::TaskDecl;
-use sloth_region::extent::Extent;
+use sloth_base::TaskDecl;
+use sloth_region::Extent;
 
 /// How many of the tasks before this one are extended.
 fn own_before(tasks: &[TaskDecl], end: usize) -> usize

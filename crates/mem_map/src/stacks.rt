@@ -6,10 +6,8 @@ ghost use Rattle.mem_map.specs.StackParts.{first_own, HasStack};
 ghost use Rattle.mem_map.specs.Stacks.{AreStackLengths, AreStacksBefore};
 
 use crate::stack_parts::{first_own, part_of};
-use sloth_base::config::TaskDecl;
-use sloth_base::list::List;
-use sloth_base::places::Bounds;
-use sloth_region::extent::Extent;
+use sloth_base::{Bounds, List, TaskDecl};
+use sloth_region::Extent;
 use std::alloc::{AllocError, Global};
 
 /// The length of the shared stack is a multiple of this.

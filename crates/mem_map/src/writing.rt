@@ -4,7 +4,7 @@ ghost use Rattle.sloth_base.specs.MemoryMap.{memory_base};
 ghost use Rattle.mem_map.specs.Sections.{code_bytes, with_bytes, linked_memory, block_section, IsSectionInside};
 
 use rv32_instr::{Block, Instr, encode};
-use sloth_base::memory_map::MEMORY_BASE;
+use sloth_base::MEMORY_BASE;
 
 /// Writes these bytes from a place on.
 pub fn write(memory: &mut [u8], at: usize, bytes: &[u8])

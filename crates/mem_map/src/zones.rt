@@ -7,12 +7,8 @@ ghost use Rattle.mem_map.specs.Run.{room_for, run};
 ghost use Rattle.mem_map.specs.Zones.{data_zone};
 
 use crate::placing::{place_all, put};
-use sloth_base::list::List;
-use sloth_base::memory::NoMemory;
-use sloth_base::memory_map::{MEMORY_END, WORD, WORDS_BASE};
-use sloth_region::extent::Extent;
-use sloth_region::map::Map;
-use sloth_region::region::Region;
+use sloth_base::{List, MEMORY_END, NoMemory, WORD, WORDS_BASE};
+use sloth_region::{Extent, Map, Region};
 use std::alloc::Global;
 
 /// The bytes behind the first word of RAM.

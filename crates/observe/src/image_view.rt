@@ -1,12 +1,10 @@
 //! What a run is observed by, and the event of a part of a run.
 
 use crate::mark_table::MarkTable;
-use sloth_base::event::{Event, Stamp, Stamped};
-use sloth_base::image::{Mark, MarkKind};
-use sloth_base::lines::{FIRST_COUNTER_LINE, LineKind, Owners};
-use sloth_base::numbers::Line;
-use sloth_base::service::Service;
-use sloth_base::step::Step;
+use sloth_base::lines::Owners;
+use sloth_base::{
+    Event, FIRST_COUNTER_LINE, Line, LineKind, Mark, MarkKind, Service, Stamp, Stamped, Step,
+};
 use std::marker::Model;
 
 /// The marks of an image and the owners of lines.

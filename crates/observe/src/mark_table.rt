@@ -2,9 +2,7 @@
 ghost use Rattle.std.specs.Prelude.{◌≡◌, true, IfOk, IfSome};
 ghost use Rattle.observe.specs.MarkTable.{entry_place, number_at, number_in, IsPlaced, IsMarkTable};
 
-use sloth_base::image::Mark;
-use sloth_base::memory::NoMemory;
-use sloth_base::memory_map::MEMORY_BYTES;
+use sloth_base::{MEMORY_BYTES, Mark, NoMemory};
 use std::alloc::Global;
 use std::marker::Model;
 

@@ -8,12 +8,8 @@ ghost use Rattle.sloth_base.specs.ImageRange.{AreAscending};
 use crate::image_view::ImageView;
 use crate::mark_table::MarkTable;
 use crate::touches::{Touches, skip_early, skip_late};
-use sloth_base::event::{Arrival, Stamp, Stamped};
-use sloth_base::image::Image;
 use sloth_base::lines::Owners;
-use sloth_base::memory::NoMemory;
-use sloth_base::numbers::Line;
-use sloth_base::step::Step;
+use sloth_base::{Arrival, Image, Line, NoMemory, Stamp, Stamped, Step};
 use std::alloc::Global;
 
 /// The events of the steps that it was fed. It keeps the image's marks and the arrivals lent, and one open stretch.

@@ -2,8 +2,7 @@
 ghost use Rattle.std.specs.Prelude.{◌≡◌, ◌+◌, ◌<◌, filter, not, true, false, replicate, IfSome, slice_get, slice_set};
 ghost use Rattle.observe.specs.Touches.{was_touched};
 
-use sloth_base::event::Arrival;
-use sloth_base::numbers::Line;
+use sloth_base::{Arrival, Line};
 use std::marker::Model;
 
 /// For each line the count after the last step that touched it, or 0. Contracts see these 256 numbers.

@@ -6,7 +6,7 @@ ghost use Rattle.oil_lex.specs.Bytes.{class_of};
 ghost use Rattle.oil_lex.specs.Pieces.{begins_hex, is_comment_end};
 ghost use Rattle.oil_lex.specs.Front.{is_passed, comment_length};
 
-use text_pieces::bytes::continues_word;
+use text_pieces::continues_word;
 
 /// What a byte begins.
 #[derive(Clone, Copy)]

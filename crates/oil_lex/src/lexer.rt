@@ -6,12 +6,12 @@ ghost use Rattle.oil_lex.specs.Pieces.{TextPiece, IsCutInto};
 ghost use Rattle.oil_lex.specs.Tokens.{Lexeme, AreTokens, AreSlices, TextFault, lexeme, tokens_by, IsNoFault, RefusedBy};
 ghost use Rattle.oil_lex.specs.Cutting.{HasCut, IsStopped};
 
+use crate::Token;
 use crate::front::first_piece;
-use crate::kinds::Token;
 use crate::pieces::{Meaning, line_ends, meaning_of};
-use sloth_base::refusal::{BuildError, Part, Refusal};
+use sloth_base::{BuildError, Part, Refusal};
 use std::alloc::Global;
-use text_pieces::growth::push;
+use text_pieces::push;
 
 /// Adds the token that the piece is, if it is one.
 fn keep<'a>(

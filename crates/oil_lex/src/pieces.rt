@@ -3,9 +3,9 @@
 ghost use Rattle.std.specs.Prelude.{◌≡◌, ◌≤◌, length};
 ghost use Rattle.oil_lex.specs.Tokens.{meaning, line_ends};
 
-use crate::kinds::TokenKind;
-use sloth_base::refusal::Code;
-use text_pieces::numerals::value;
+use crate::TokenKind;
+use sloth_base::Code;
+use text_pieces::value;
 
 /// What a piece of a text is.
 #[derive(Clone, Copy)]

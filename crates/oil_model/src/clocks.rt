@@ -4,19 +4,14 @@ ghost use Rattle.sloth_base.specs.MemoryMap.{line_count};
 ghost use Rattle.oil_table.specs.Objects.{names_of};
 ghost use Rattle.oil_model.specs.Clocks.{declared_counter, counters_of, number_of_value, number_named, mask_named_by, action_of, started, declared_alarm, alarms_of};
 
-use oil_parse::tree::{OilAttr, OilObject, OilValue};
+use oil_parse::{OilAttr, OilObject, OilValue};
 use oil_rules::{first_block, first_in, number_in};
 use oil_table::{
     EventTable, first_is, first_number, first_use, is_of_kind, mask_of_value, names_of,
 };
-use sloth_base::config::{Action, AlarmDecl, CounterDecl};
-use sloth_base::limits::TICK_LIMIT;
-use sloth_base::memory::NoMemory;
-use sloth_base::name::Name;
-use sloth_base::numbers::TaskId;
+use sloth_base::{Action, AlarmDecl, CounterDecl, Name, NoMemory, TICK_LIMIT, TaskId};
 use std::alloc::Global;
-use text_pieces::growth::push;
-use text_pieces::names::Names;
+use text_pieces::{Names, push};
 
 /// The counters and alarms of a configuration.
 #[derive(Drop)]

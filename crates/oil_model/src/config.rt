@@ -4,16 +4,11 @@ ghost use Rattle.std.specs.List.{list_any};
 ghost use Rattle.sloth_base.specs.Limits.{resource_limit};
 ghost use Rattle.oil_model.specs.Configs.{resource_names, resource_number, listed_resource, with_number, with_resource, resources_of, declared_task, tasks_of};
 
-use oil_parse::tree::{OilAttr, OilObject, OilValue};
+use oil_parse::{OilAttr, OilObject, OilValue};
 use oil_table::{EventTable, event_mask, first_is, first_number, is_of_kind, is_use, is_used};
-use sloth_base::config::TaskDecl;
-use sloth_base::list::List;
-use sloth_base::memory::NoMemory;
-use sloth_base::name::Name;
-use sloth_base::numbers::ResId;
+use sloth_base::{List, Name, NoMemory, ResId, TaskDecl};
 use std::alloc::Global;
-use text_pieces::growth::push;
-use text_pieces::names::Names;
+use text_pieces::{Names, push};
 
 /// One name more, if the object is a resource.
 fn add_resource_name(

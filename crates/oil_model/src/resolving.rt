@@ -15,15 +15,12 @@ ghost use Rattle.oil_model.specs.Configs.{resource_names, config_of, IsConfig};
 
 use crate::clocks::{Clocks, clocks_of};
 use crate::config::{resource_names, tasks_of};
-use oil_parse::tree::{OilObject, OilTree};
+use oil_parse::{OilObject, OilTree};
 use oil_rules::judge;
 use oil_table::{EventTable, events_of, has_scheduler, names_of};
-use sloth_base::config::{Config, EventDecl};
-use sloth_base::list::List;
-use sloth_base::memory::NoMemory;
-use sloth_base::refusal::{BuildError, Refusal};
+use sloth_base::{BuildError, Config, EventDecl, List, NoMemory, Refusal};
 use std::alloc::Global;
-use text_pieces::names::Names;
+use text_pieces::Names;
 
 fn config_of(
     alloc: Global,

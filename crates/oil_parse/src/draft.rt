@@ -7,11 +7,9 @@ ghost use Rattle.oil_parse.specs.Machine.{partial_tree_after, whole_object, noth
 ghost use Rattle.oil_parse.specs.Parser.{draft};
 
 use crate::machine::{Construct, Expect, Shape};
-use crate::tree::{OilAttr, OilObject, OilValue};
+use crate::{OilAttr, OilObject, OilValue};
 use oil_lex::{Token, TokenKind};
-use sloth_base::list::List;
-use sloth_base::memory::NoMemory;
-use sloth_base::name::Name;
+use sloth_base::{List, Name, NoMemory};
 use std::alloc::Global;
 use std::mem;
 

@@ -14,3 +14,4 @@ mod parser;
 pub mod tree;
 
 pub use parser::{one_tree, parse, words_of_tree};
+pub use tree::{OilAttr, OilObject, OilTree, OilValue};

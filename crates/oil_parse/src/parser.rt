@@ -13,13 +13,12 @@ ghost use Rattle.oil_parse.specs.Steps.{IsShallow};
 ghost use Rattle.oil_parse.specs.Machine.{too_big};
 ghost use Rattle.oil_parse.specs.Parser.{IsTokenStep, StopsWith};
 
+use crate::OilTree;
 use crate::draft::Draft;
 use crate::machine::{Expect, Shape, next, shape_of};
-use crate::tree::OilTree;
 use least_fault::lesser;
 use oil_lex::Token;
-use sloth_base::list::List;
-use sloth_base::refusal::{BuildError, Code, Part, Refusal};
+use sloth_base::{BuildError, Code, List, Part, Refusal};
 use std::alloc::Global;
 
 /// What was read so far, what may come next, the last token's line and the least refusal.

@@ -1,7 +1,6 @@
 //! The tree of an OIL text.
 
-use sloth_base::list::List;
-use sloth_base::name::Name;
+use sloth_base::{List, Name};
 
 /// The value of an attribute.
 #[derive(Drop)]

@@ -2,9 +2,9 @@
 ghost use Rattle.std.specs.Prelude.{◌≡◌, option_copied};
 ghost use Rattle.oil_rules.specs.AlarmFaults.{lacks_inner, place_behind, lacks_behind, lacks_part, sets_event, is_unlisted};
 
-use crate::blocks::{first_block, is_inner_use, is_used_in};
-use crate::named_task::NamedTask;
-use oil_parse::tree::OilAttr;
+use crate::blocks::is_inner_use;
+use crate::{NamedTask, first_block, is_used_in};
+use oil_parse::OilAttr;
 use oil_table::{Place, block_place, first_use};
 
 fn lacks_inner(place: Place, inner: &[OilAttr]) -> bool

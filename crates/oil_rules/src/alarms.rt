@@ -5,14 +5,12 @@ ghost use Rattle.oil_rules.specs.Blocks.{blocks_of};
 ghost use Rattle.oil_table.specs.AlarmCounters.{limits_of};
 ghost use Rattle.oil_rules.specs.AlarmFaults.{BlockFault, PartFault, AlarmFault};
 
-use crate::alarm_faults::lacks_part;
 use crate::block_faults::block_faults;
-use crate::blocks::blocks_of;
+use crate::{blocks_of, lacks_part};
 use least_fault::{fault_if, merge};
-use oil_parse::tree::OilObject;
+use oil_parse::OilObject;
 use oil_table::{CounterLimits, TaskEvents, is_of_kind};
-use sloth_base::memory::NoMemory;
-use sloth_base::refusal::{Code, Part, Refusal};
+use sloth_base::{Code, NoMemory, Part, Refusal};
 use std::alloc::Global;
 
 fn faults_in_blocks(

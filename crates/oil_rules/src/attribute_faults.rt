@@ -4,15 +4,13 @@ ghost use Rattle.oil_table.specs.declared.table.Attribute.TheVariants.{Resource}
 ghost use Rattle.least_fault.specs.Search.{IsSearchResult, Somewhere};
 ghost use Rattle.oil_rules.specs.AttributeFaults.{opened_place, place_by, is_missing, misses_value, refers_to_none, is_refused, RowFault, AttributeFault};
 
-use crate::front::Front;
+use crate::Front;
 use least_fault::{fault_if, merge};
-use oil_parse::tree::{OilAttr, OilValue};
-use oil_table::table::allows;
-use oil_table::{Attribute, EarlierUses, Place, attribute_of, block_place, is_second};
-use sloth_base::memory::NoMemory;
-use sloth_base::refusal::{Code, Part, Refusal};
+use oil_parse::{OilAttr, OilValue};
+use oil_table::{Attribute, EarlierUses, Place, allows, attribute_of, block_place, is_second};
+use sloth_base::{Code, NoMemory, Part, Refusal};
 use std::alloc::Global;
-use text_pieces::bytes::same;
+use text_pieces::same;
 
 /// The place of the block behind an attribute of the own block; else as before.
 pub fn opened(place: Place, inner: Place, attr: &OilAttr) -> Place

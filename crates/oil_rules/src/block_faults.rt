@@ -4,15 +4,13 @@ ghost use Rattle.least_fault.specs.Search.{IsSearchResult, Somewhere};
 ghost use Rattle.oil_rules.specs.AlarmFaults.{InsideFault, BlockFault};
 
 use crate::alarm_faults::is_unlisted;
-use crate::blocks::Block;
-use crate::named_task::NamedTask;
+use crate::{Block, NamedTask};
 use least_fault::{fault_if, merge};
-use oil_parse::tree::OilAttr;
+use oil_parse::OilAttr;
 use oil_table::{
     EarlierUses, Limits, Place, TaskEvents, attribute_of, block_place, is_beyond, is_second,
 };
-use sloth_base::memory::NoMemory;
-use sloth_base::refusal::{Code, Part, Refusal};
+use sloth_base::{Code, NoMemory, Part, Refusal};
 use std::alloc::Global;
 
 fn inner_fault(

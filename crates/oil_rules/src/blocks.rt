@@ -3,13 +3,12 @@ ghost use Rattle.std.specs.Prelude.{◌≡◌, IfOk, take, option_copied};
 ghost use Rattle.std.specs.List.{take_while, prefix_len};
 ghost use Rattle.oil_rules.specs.Blocks.{is_inner, blocks_of, first_block, is_inner_use, is_used_in, first_in, number_in};
 
-use oil_parse::tree::OilAttr;
+use oil_parse::OilAttr;
 use oil_table::{is_use, number_of};
-use sloth_base::memory::NoMemory;
+use sloth_base::NoMemory;
 use std::alloc::Global;
 use std::marker::Model;
-use text_pieces::bytes::same;
-use text_pieces::growth::push;
+use text_pieces::{push, same};
 
 /// An attribute of an object's own block, and those in the block behind its value.
 #[derive(Drop)]

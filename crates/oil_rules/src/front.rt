@@ -6,10 +6,9 @@ ghost use Rattle.oil_rules.specs.TaskFaults.{has_priority};
 ghost use Rattle.oil_rules.specs.Fronts.{priority_of};
 
 use indexmap::IndexSet;
-use oil_parse::tree::OilObject;
-use oil_table::sets::insert;
-use oil_table::{first_number, is_of_kind};
-use sloth_base::memory::NoMemory;
+use oil_parse::OilObject;
+use oil_table::{first_number, insert, is_of_kind};
+use sloth_base::NoMemory;
 use std::alloc::Global;
 use std::marker::Model;
 

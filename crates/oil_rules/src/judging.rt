@@ -7,18 +7,15 @@ ghost use Rattle.oil_rules.specs.ObjectFaults.{is_known};
 ghost use Rattle.oil_rules.specs.TreeFaults.{TaskFaults, KnownObjectFault, ObjectFault, TreeFault};
 ghost use Rattle.oil_rules.specs.ModelFaults.{ModelFault};
 
+use crate::Front;
 use crate::alarms::faults_of_alarms;
 use crate::attribute_faults::attribute_faults;
-use crate::front::Front;
 use crate::object_faults::{kind_fault, known_fault};
 use crate::task_faults::task_faults;
 use least_fault::{fault_if, merge};
-use oil_parse::tree::{OilObject, OilTree};
-use oil_table::events::events_without_bit;
-use oil_table::table::{is_nowhere, place_of};
-use oil_table::{EventTable, is_of_kind};
-use sloth_base::memory::NoMemory;
-use sloth_base::refusal::{Code, Part, Refusal};
+use oil_parse::{OilObject, OilTree};
+use oil_table::{EventTable, events_without_bit, is_nowhere, is_of_kind, place_of};
+use sloth_base::{Code, NoMemory, Part, Refusal};
 use std::alloc::Global;
 
 fn faults_of_task<'t>(

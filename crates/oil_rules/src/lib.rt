@@ -18,6 +18,12 @@ pub mod object_faults;
 pub mod references;
 pub mod task_faults;
 
-pub use blocks::{first_block, first_in, number_in};
+pub use alarm_faults::lacks_part;
+pub use attribute_faults::{is_refused, opened, place_by, refers_to_none};
+pub use blocks::{Block, blocks_of, first_block, first_in, is_used_in, number_in};
 pub use front::Front;
 pub use judging::judge;
+pub use named_task::NamedTask;
+pub use object_faults::{is_above, is_doubled, is_strange_mode, lacks_attribute};
+pub use references::References;
+pub use task_faults::{is_given_with, repeats_priority};

@@ -4,8 +4,8 @@ ghost use Rattle.oil_table.specs.Objects.{object_named};
 ghost use Rattle.oil_rules.specs.Blocks.{first_in};
 ghost use Rattle.oil_rules.specs.AlarmFaults.{leaves_out, is_left_out};
 
-use crate::blocks::first_in;
-use oil_parse::tree::{OilAttr, OilValue};
+use crate::first_in;
+use oil_parse::{OilAttr, OilValue};
 use oil_table::TaskEvents;
 use std::marker::Model;
 

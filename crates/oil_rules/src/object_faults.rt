@@ -5,15 +5,12 @@ ghost use Rattle.std.specs.List.{list_any};
 ghost use Rattle.oil_table.specs.Objects.{is_of_kind, is_declaration, is_declared};
 ghost use Rattle.oil_rules.specs.ObjectFaults.{is_double_of, shares_name, is_doubled, is_endless, is_idle, lacks_task_attribute, lacks_attribute, is_strange_mode, is_clock_above, is_above, KindFault, KnownFault};
 
-use crate::front::Front;
+use crate::Front;
 use least_fault::{fault_if, merge};
-use oil_parse::tree::OilObject;
-use oil_table::object_limits::{comes_behind, is_clock_more};
-use oil_table::table::{is_nowhere, place_of};
-use oil_table::{declares, is_of_kind, is_used};
-use sloth_base::limits::{EVENT_LIMIT, NAME_LIMIT, RESOURCE_LIMIT, TASK_LIMIT};
-use sloth_base::refusal::{Code, Part, Refusal};
-use text_pieces::bytes::same;
+use oil_parse::OilObject;
+use oil_table::{comes_behind, declares, is_clock_more, is_nowhere, is_of_kind, is_used, place_of};
+use sloth_base::{Code, EVENT_LIMIT, NAME_LIMIT, Part, RESOURCE_LIMIT, Refusal, TASK_LIMIT};
+use text_pieces::same;
 
 fn is_second_of_its_name(front: &Front, object: &OilObject) -> bool
     ensures { result ≡ is_declared front.now object.now.kind object.now.name }

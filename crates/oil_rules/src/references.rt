@@ -5,13 +5,12 @@ ghost use Rattle.oil_rules.specs.TaskFaults.{shares_bit};
 ghost use Rattle.oil_rules.specs.References.{ReferenceContext, refers_to_clash};
 ghost use Rattle.oil_rules.specs.KeptReferences.{is_to, is_clash};
 
-use oil_parse::tree::OilAttr;
+use oil_parse::OilAttr;
 use oil_table::{EventTable, event_word};
-use sloth_base::memory::NoMemory;
+use sloth_base::NoMemory;
 use std::alloc::Global;
 use std::marker::Model;
-use text_pieces::bytes::same;
-use text_pieces::growth::push;
+use text_pieces::{push, same};
 
 /// An event that a task refers to.
 #[derive(Drop)]

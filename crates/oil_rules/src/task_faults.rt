@@ -4,13 +4,11 @@ ghost use Rattle.least_fault.specs.Search.{IsSearchResult, Somewhere};
 ghost use Rattle.oil_table.specs.Objects.{is_use, is_used, number_of};
 ghost use Rattle.oil_rules.specs.TaskFaults.{is_taken, TaskFault};
 
-use crate::front::Front;
-use crate::references::References;
+use crate::{Front, References};
 use least_fault::{fault_if, merge};
-use oil_parse::tree::OilAttr;
+use oil_parse::OilAttr;
 use oil_table::{EventTable, is_use, number_of};
-use sloth_base::memory::NoMemory;
-use sloth_base::refusal::{Code, Part, Refusal};
+use sloth_base::{Code, NoMemory, Part, Refusal};
 use std::alloc::Global;
 
 fn is_taken(front: &Front, priority: Option<u32>) -> bool

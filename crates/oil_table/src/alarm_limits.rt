@@ -2,8 +2,8 @@
 ghost use Rattle.std.specs.Prelude.{◌≡◌};
 ghost use Rattle.oil_table.specs.Beyond.{is_number_beyond, is_value_beyond, is_beyond};
 
-use crate::table::Attribute;
-use oil_parse::tree::{OilAttr, OilValue};
+use crate::Attribute;
+use oil_parse::{OilAttr, OilValue};
 
 /// The least cycle and the greatest value of a counter.
 #[derive(Clone, Copy)]

@@ -3,16 +3,12 @@ ghost use Rattle.std.specs.Prelude.{◌≡◌, IfOk, codes, find};
 ghost use Rattle.oil_table.specs.Objects.{is_declaration, object_of_value};
 ghost use Rattle.oil_table.specs.AlarmCounters.{limit_by, limits_in, limits_given, limits_of, limits_among};
 
-use crate::alarm_limits::Limits;
-use crate::numbers::names_of;
-use crate::objects::{first_number, first_use, is_of_kind};
-use oil_parse::tree::{OilAttr, OilObject, OilValue};
-use sloth_base::limits::TICK_LIMIT;
-use sloth_base::memory::NoMemory;
+use crate::{Limits, first_number, first_use, is_of_kind, names_of};
+use oil_parse::{OilAttr, OilObject, OilValue};
+use sloth_base::{NoMemory, TICK_LIMIT};
 use std::alloc::Global;
 use std::marker::Model;
-use text_pieces::growth::push;
-use text_pieces::names::Names;
+use text_pieces::{Names, push};
 
 /// The limits in the place of those of a counter that is missing.
 const WIDEST: Limits = Limits {

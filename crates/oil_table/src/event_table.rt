@@ -2,9 +2,9 @@
 ghost use Rattle.std.specs.Prelude.{◌≡◌, map};
 ghost use Rattle.oil_table.specs.Events.{mask_named};
 
-use sloth_base::config::EventDecl;
+use sloth_base::EventDecl;
 use std::marker::Model;
-use text_pieces::names::Names;
+use text_pieces::Names;
 
 /// The events of a tree, with the numbers of their names.
 #[derive(Drop)]

@@ -6,13 +6,10 @@ ghost use Rattle.oil_table.specs.Events.{is_event, number_bits, number_masks, fr
 
 use crate::{first_is, first_number, is_of_kind, is_used};
 use least_fault::{fault_if, merge};
-use oil_parse::tree::OilObject;
-use sloth_base::config::EventDecl;
-use sloth_base::memory::NoMemory;
-use sloth_base::name::Name;
-use sloth_base::refusal::{Code, Part, Refusal};
+use oil_parse::OilObject;
+use sloth_base::{Code, EventDecl, Name, NoMemory, Part, Refusal};
 use std::alloc::Global;
-use text_pieces::growth::push;
+use text_pieces::push;
 
 /// The bits of a mask, the lowest first.
 const BITS: [u32; 32] = [

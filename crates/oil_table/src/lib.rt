@@ -29,13 +29,17 @@ pub mod uses;
 pub use alarm_limits::{Limits, is_beyond};
 pub use counter_limits::CounterLimits;
 pub use event_table::EventTable;
-pub use events::events_of;
+pub use events::{events_of, events_without_bit, lacks_bit, number_masks, taken_more};
 pub use masks::{event_mask, mask_of_value};
 pub use numbers::names_of;
+pub use object_limits::{comes_behind, is_clock_more};
 pub use objects::{
     declares, first_is, first_number, first_use, has_scheduler, is_of_kind, is_use, is_used,
     number_of,
 };
-pub use table::{Attribute, Place, attribute_of, block_place, is_single, is_word};
+pub use sets::insert;
+pub use table::{
+    Attribute, Place, allows, attribute_of, block_place, is_nowhere, is_single, is_word, place_of,
+};
 pub use task_events::{TaskEvents, event_word};
 pub use uses::{EarlierUses, is_second};

@@ -2,9 +2,8 @@
 ghost use Rattle.std.specs.Prelude.{◌≡◌};
 ghost use Rattle.oil_table.specs.Masks.{mask_of_value, listed_mask, event_mask};
 
-use crate::event_table::EventTable;
-use crate::is_use;
-use oil_parse::tree::{OilAttr, OilValue};
+use crate::{EventTable, is_use};
+use oil_parse::{OilAttr, OilValue};
 
 /// The mask of the event that a value names, or 0.
 pub fn mask_of_value(events: &EventTable, value: &OilValue) -> u32

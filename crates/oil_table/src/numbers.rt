@@ -2,11 +2,11 @@
 ghost use Rattle.std.specs.Prelude.{◌≡◌, IfOk};
 ghost use Rattle.oil_table.specs.Objects.{names_of};
 
-use crate::objects::is_of_kind;
-use oil_parse::tree::OilObject;
-use sloth_base::memory::NoMemory;
+use crate::is_of_kind;
+use oil_parse::OilObject;
+use sloth_base::NoMemory;
 use std::alloc::Global;
-use text_pieces::names::Names;
+use text_pieces::Names;
 
 /// The names of the objects of a kind. Objects of a kind are numbered in the order of the text.
 pub fn names_of<'t>(

@@ -2,9 +2,9 @@
 ghost use Rattle.std.specs.Prelude.{◌≡◌, ◌&&◌, ◌||◌, ◌==◌, bytes_eq, codes};
 ghost use Rattle.sloth_base.specs.Limits.{counter_limit, alarm_limit};
 
-use oil_parse::tree::OilObject;
-use sloth_base::limits::{ALARM_LIMIT, COUNTER_LIMIT};
-use text_pieces::bytes::same;
+use oil_parse::OilObject;
+use sloth_base::{ALARM_LIMIT, COUNTER_LIMIT};
+use text_pieces::same;
 
 /// Whether the object is of this kind, and comes behind so many.
 pub fn comes_behind(kind: &[u8], limit: usize, count: usize, object: &OilObject) -> bool

@@ -2,9 +2,9 @@
 ghost use Rattle.std.specs.Prelude.{◌≡◌, codes, find, option_copied};
 ghost use Rattle.oil_table.specs.Objects.{is_use, is_used, first_is, number_of, first_number, is_declaration, has_scheduler, os_scheduler, is_of_kind};
 
-use crate::table::is_word;
-use oil_parse::tree::{OilAttr, OilObject, OilValue};
-use text_pieces::bytes::same;
+use crate::is_word;
+use oil_parse::{OilAttr, OilObject, OilValue};
+use text_pieces::same;
 
 /// Whether this is a use of the attribute in the object's own block.
 pub fn is_use(attr: &OilAttr, name: &[u8]) -> bool

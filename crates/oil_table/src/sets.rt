@@ -3,7 +3,7 @@ ghost use Rattle.std.specs.Prelude.{◌≡◌, OnOk};
 ghost use Rattle.indexmap.specs.IndexSet.{insert_key};
 
 use indexmap::IndexSet;
-use sloth_base::memory::NoMemory;
+use sloth_base::NoMemory;
 use std::alloc::AllocError;
 use std::hash::Hash;
 

@@ -2,9 +2,9 @@
 ghost use Rattle.std.specs.Prelude.{◌≡◌, ◌&&◌, bytes_eq};
 ghost use Rattle.oil_table.specs.Table.{place_of, is_hook, is_flag, os_attribute, task_attribute, counter_attribute, alarm_attribute, setting_attribute, wakeup_attribute, only_attribute, attribute_of, is_single, allows_word, allows_number, is_allowed, is_word, activation_place, alarm_place, block_place, is_nowhere};
 
-use oil_parse::tree::{OilAttr, OilValue};
-use sloth_base::limits::{PRIORITY_LIMIT, TICK_LIMIT};
-use text_pieces::bytes::same;
+use oil_parse::{OilAttr, OilValue};
+use sloth_base::{PRIORITY_LIMIT, TICK_LIMIT};
+use text_pieces::same;
 
 /// Where attributes stand: in an object of a kind, or in the block of AUTOSTART = TRUE or of an action. No attribute may stand anywhere else.
 #[derive(Clone, Copy)]

@@ -3,14 +3,13 @@ ghost use Rattle.std.specs.Prelude.{◌≡◌, ◌||◌, ◌&&◌, ◌==◌, ℕ
 ghost use Rattle.std.specs.List.{list_any};
 ghost use Rattle.oil_table.specs.ListedEvents.{event_word, lists_event, tasks_among, attrs_at, is_listing, task_of_value, task_of};
 
-use crate::objects::{is_of_kind, is_use};
-use crate::sets::insert;
+use crate::{insert, is_of_kind, is_use};
 use indexmap::IndexSet;
-use oil_parse::tree::{OilAttr, OilObject, OilValue};
-use sloth_base::memory::NoMemory;
+use oil_parse::{OilAttr, OilObject, OilValue};
+use sloth_base::NoMemory;
 use std::alloc::Global;
 use std::marker::Model;
-use text_pieces::names::Names;
+use text_pieces::Names;
 
 /// The tasks among some objects, found by their names, and the events that they list, each with the number of its task.
 pub struct TaskEvents<'t> {

@@ -4,11 +4,10 @@ ghost use Rattle.std.specs.List.{list_any};
 ghost use Rattle.oil_table.specs.Objects.{is_use_at};
 ghost use Rattle.oil_table.specs.Uses.{is_second};
 
-use crate::sets::insert;
-use crate::table::{Attribute, is_single};
+use crate::{Attribute, insert, is_single};
 use indexmap::IndexSet;
-use oil_parse::tree::OilAttr;
-use sloth_base::memory::NoMemory;
+use oil_parse::OilAttr;
+use sloth_base::NoMemory;
 use std::alloc::Global;
 use std::marker::Model;
 

@@ -7,12 +7,10 @@ ghost use Rattle.osek_scheduler.specs.Services.{allows_absolute, allows_cycle, a
 ghost use Rattle.osek_scheduler.specs.Outcomes.{other_decision, plan_in, alarm_setting_decision, value_decision, alarm_use_decision};
 ghost use Rattle.osek_scheduler.specs.Outcomes.{plan};
 
+use crate::Store;
 use crate::services::{answers, goes_on};
-use crate::store::Store;
-use osek_scheduler::change::TaskChange;
-use osek_scheduler::plan::{Other, Plan};
-use sloth_base::config::Config;
-use sloth_base::service::{E_OK, E_OS_NOFUNC, E_OS_STATE, E_OS_VALUE};
+use osek_scheduler::{Other, Plan, TaskChange};
+use sloth_base::{Config, E_OK, E_OS_NOFUNC, E_OS_STATE, E_OS_VALUE};
 
 // Whether an alarm is in use.
 fn is_in_use(store: &Store, a: u32) -> bool

@@ -3,7 +3,7 @@ ghost use Rattle.std.specs.Prelude.{◌≡◌, ◌<◌, ◌^◌};
 ghost use Rattle.sloth_base.specs.Arithmetic.{branch_holds, complement, extended_number, number_result, register_result, size_of};
 ghost use Rattle.code_rules.specs.AppRange.{IsNumberOf};
 
-use sloth_base::app::{AluKind, BranchKind, ImmKind, Width};
+use sloth_base::{AluKind, BranchKind, ImmKind, Width};
 
 /// The result of an operation on two registers.
 pub fn register_result(kind: AluKind, a: u32, b: u32) -> u32

@@ -2,9 +2,8 @@
 ghost use Rattle.std.specs.Prelude.{◌≡◌, ◌<◌, length, get_or, set, map, IfOk};
 ghost use Rattle.osek_scheduler.specs.State.{no_alarm, no_counter, opening_clock};
 
-use osek_scheduler::state::{Alarm, Counter};
-use sloth_base::config::Config;
-use sloth_base::memory::NoMemory;
+use osek_scheduler::{Alarm, Counter};
+use sloth_base::{Config, NoMemory};
 use std::alloc::{AllocError, Global};
 use std::marker::Model;
 

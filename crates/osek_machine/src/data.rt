@@ -4,8 +4,7 @@ ghost use Rattle.sloth_base.specs.Arithmetic.{size_of};
 ghost use Rattle.osek_scheduler.specs.Meaning.{loaded_word, number_of, bytes_after_store};
 
 use crate::arithmetic::extended;
-use sloth_base::app::Width;
-use sloth_base::memory::NoMemory;
+use sloth_base::{NoMemory, Width};
 use std::alloc::Global;
 use std::marker::Model;
 

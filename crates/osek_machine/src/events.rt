@@ -7,16 +7,11 @@ ghost use Rattle.osek_scheduler.specs.Next.{is_position};
 ghost use Rattle.osek_machine.specs.Running.{back_plan, entry_change, entry_plan, running_plan, serving_plan};
 ghost use Rattle.osek_machine.specs.PlanSteps.{IsRead, answer_plan, leave_plan};
 
-use crate::items::{own_operation, run_plan};
-use crate::priority::{is_active, is_ready, is_top};
+use crate::priority::{is_ready, is_top};
 use crate::room::TaskRoom;
-use crate::services::{call_in, call_plan};
-use crate::store::Store;
-use osek_scheduler::change::TaskChange;
-use osek_scheduler::plan::{Other, Plan};
-use sloth_base::app::{App, Func};
-use sloth_base::config::Config;
-use sloth_base::service::Service;
+use crate::{Store, call_in, call_plan, is_active, own_operation, run_plan};
+use osek_scheduler::{Other, Plan, TaskChange};
+use sloth_base::{App, Config, Func, Service};
 
 // Whether a body is that of a task.
 fn is_body_of(func: &Func, t: u32) -> bool

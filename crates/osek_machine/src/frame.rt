@@ -2,7 +2,7 @@
 ghost use Rattle.std.specs.Prelude.{◌≡◌, ◌<◌, ◌≤◌, length, replicate, set, slice_get};
 ghost use Rattle.sloth_base.specs.Limits.{frame_limit};
 
-use sloth_base::limits::FRAME_LIMIT;
+use sloth_base::FRAME_LIMIT;
 use std::marker::Model;
 
 /// A function that was entered, with room for `FRAME_LIMIT` words.

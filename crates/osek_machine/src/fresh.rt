@@ -2,7 +2,7 @@
 ghost use Rattle.std.specs.Prelude.{◌≡◌, ◌<◌, [], ◌∷◌, length};
 ghost use Rattle.sloth_base.specs.Limits.{task_limit};
 
-use sloth_base::limits::TASK_LIMIT;
+use sloth_base::TASK_LIMIT;
 use std::marker::Model;
 
 /// The tasks that admitted arrivals made Ready since the last event of another kind, with room for `TASK_LIMIT`. The newest is the first.

@@ -3,8 +3,7 @@ ghost use Rattle.std.specs.Prelude.{◌≡◌, ◌<◌, ◌++◌, [], ◌∷◌,
 ghost use Rattle.sloth_base.specs.Limits.{ceiling_count};
 ghost use Rattle.code_rules.specs.Code.{is_last, without_last};
 
-use sloth_base::limits::CEILING_COUNT;
-use sloth_base::memory::NoMemory;
+use sloth_base::{CEILING_COUNT, NoMemory};
 use std::alloc::Global;
 use std::marker::Model;
 

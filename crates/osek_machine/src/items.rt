@@ -8,13 +8,10 @@ ghost use Rattle.osek_machine.specs.Running.{IsComputed, next_operation, own_ope
 
 use crate::arithmetic::{branch_holds, number_result, register_result};
 use crate::frame::FrameRoom;
-use crate::priority::is_active;
 use crate::room::TaskRoom;
-use crate::store::Store;
-use osek_scheduler::change::TaskChange;
-use osek_scheduler::plan::{Other, Plan};
-use sloth_base::app::{App, Func, Op, Width};
-use sloth_base::numbers::Reg;
+use crate::{Store, is_active};
+use osek_scheduler::{Other, Plan, TaskChange};
+use sloth_base::{App, Func, Op, Reg, Width};
 
 // A value is written to a register.
 fn write_plan(rd: Reg, value: u32) -> Plan

@@ -32,4 +32,9 @@ pub mod stack;
 pub mod store;
 pub mod ticks;
 
+pub use events::{answer_plan, back_plan, entry_plan, leave_plan, running_plan};
+pub use items::{own_operation, run_plan};
 pub use osek::{NotARun, Osek};
+pub use priority::{is_active, is_idle, is_next_tick, no_ticks};
+pub use services::{call_in, call_plan};
+pub use store::{Store, is_suspended};

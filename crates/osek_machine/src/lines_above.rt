@@ -6,10 +6,9 @@ ghost use Rattle.sloth_base.specs.MemoryMap.{line_count};
 ghost use Rattle.osek_scheduler.specs.Priority.{rank};
 ghost use Rattle.osek_machine.specs.Above.{is_above, is_line_above};
 
+use crate::Store;
 use crate::priority::{is_ready, rank};
-use crate::store::Store;
-use sloth_base::config::Config;
-use sloth_base::lines::FIRST_COUNTER_LINE;
+use sloth_base::{Config, FIRST_COUNTER_LINE};
 
 // The line of the first counter; the others follow it.
 const FIRST_COUNTER: u32 = FIRST_COUNTER_LINE as u32;

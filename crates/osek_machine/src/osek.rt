@@ -15,18 +15,13 @@ ghost use Rattle.osek_machine.specs.Plans.{HasPlanRoom};
 ghost use Rattle.osek_machine.specs.PlanSteps.{followed_state};
 ghost use Rattle.osek_machine.specs.Steps.{IsSound, Machine};
 
-use crate::events::{answer_plan, back_plan, entry_plan, leave_plan, running_plan};
 use crate::lines_above::lines_above;
-use crate::priority::{is_idle, is_next_tick, no_ticks};
-use crate::store::Store;
-use crate::ticks;
-use osek_scheduler::plan::Plan;
-use osek_scheduler::state::TaskState;
-use sloth_base::app::App;
-use sloth_base::config::Config;
-use sloth_base::event::Event;
-use sloth_base::memory::NoMemory;
-use sloth_base::numbers::TaskId;
+use crate::{
+    Store, answer_plan, back_plan, entry_plan, is_idle, is_next_tick, leave_plan, no_ticks,
+    running_plan, ticks,
+};
+use osek_scheduler::{Plan, TaskState};
+use sloth_base::{App, Config, Event, NoMemory, TaskId};
 use std::alloc::Global;
 use std::marker::Model;
 
@@ -35,14 +30,14 @@ use std::marker::Model;
 pub struct NotARun;
 
 /// The abstract scheduler of a configuration and its task code. Contracts see these and the system as it stands.
-pub struct Osek {
-    config: Config,
-    app: App,
+pub struct Osek<'t> {
+    config: &'t Config,
+    app: &'t App,
     store: Store,
 }
 
 // Written out: what is derived is proved anew wherever a value is let go.
-impl Drop for Osek {
+impl Drop for Osek<'_> {
     fn drop(self) {
         let Osek {
             config: _,
@@ -52,14 +47,14 @@ impl Drop for Osek {
     }
 }
 
-impl Model for Osek {
+impl<'t> Model for Osek<'t> {
     ghost use Rattle.osek_machine.specs.Steps.{IsSound, Machine};
 
     ghost Value = { Machine };
 
-    ghost view = { λ o. record { config = o.config; app = o.app; system = o.store } };
+    ghost view = { λ o. record { config = o.config.now; app = o.app.now; system = o.store } };
 
-    ghost invariant = { λ o. IsSound o.config o.app o.store };
+    ghost invariant = { λ o. IsSound o.config.now o.app.now o.store };
 }
 
 // Carries out a plan of a task, if there is one.
@@ -196,17 +191,14 @@ fn step(config: &Config, app: &App, store: &mut Store, event: &Event) -> Result<
     }
 }
 
-impl Osek {
+impl<'t> Osek<'t> {
     /// The scheduler before the system has started. All memory of later steps is taken here.
-    pub fn boot(alloc: Global, config: &Config, app: &App) -> Result<Osek, NoMemory>
+    pub fn boot(alloc: Global, config: &'t Config, app: &'t App) -> Result<Osek<'t>, NoMemory>
         requires { WellFormed config.now app.now }
         ensures { IfOk result (λ o. o ≡ record { config = config.now; app = app.now; system = opening config.now app.now }) }
     {
-        Ok(Osek {
-            config: config.copy(alloc)?,
-            app: app.copy(alloc)?,
-            store: Store::opening(alloc, config, app)?,
-        })
+        let store = Store::opening(alloc, config, app)?;
+        Ok(Osek { config, app, store })
     }
 
     /// One event. Where it has no next state, nothing has changed. Takes no memory.
@@ -217,7 +209,7 @@ impl Osek {
         ensures none { OnErr result ((next : System) → OsekStep self.old.config self.old.app event.now self.old.system next → ⊥) }
         ensures same { OnErr result (self.new ≡ self.old) }
     {
-        step(&self.config, &self.app, &mut self.store, event)
+        step(self.config, self.app, &mut self.store, event)
     }
 
     /// The state of a task of the configuration. Takes no memory.
@@ -233,7 +225,7 @@ impl Osek {
         requires { task < length self.now.config.tasks }
         ensures { (line : ℕ) → bit_at result line ≡ cond (is_line_above self.now.config self.now.system task line) 1 0 }
     {
-        lines_above(&self.config, &self.store, task.0)
+        lines_above(self.config, &self.store, task.0)
     }
 
     /// The configuration. Takes no memory.
@@ -241,14 +233,14 @@ impl Osek {
         ensures is { result.now ≡ self.now.config }
         ensures sound { IsSound self.now.config self.now.app self.now.system }
     {
-        &self.config
+        self.config
     }
 
     /// The task code. Takes no memory.
     pub fn app(&self) -> &App
         ensures { result.now ≡ self.now.app }
     {
-        &self.app
+        self.app
     }
 
     /// The system as it stands. Takes no memory.

@@ -6,11 +6,10 @@ ghost use Rattle.code_rules.specs.Code.{is_in};
 ghost use Rattle.osek_scheduler.specs.State.{counter};
 ghost use Rattle.osek_scheduler.specs.Next.{all_below, is_due, is_next_tick, is_ready, is_top, no_ticks, yields_to};
 
+use crate::Store;
 use crate::room::TaskRoom;
-use crate::store::Store;
-use osek_scheduler::ceilings::{ceiling, highest};
-use osek_scheduler::state::TaskState;
-use sloth_base::config::{Config, TaskDecl};
+use osek_scheduler::{TaskState, ceiling, highest};
+use sloth_base::{Config, TaskDecl};
 
 /// Whether a task in this state is Ready.
 pub fn is_ready(state: TaskState) -> bool

@@ -13,11 +13,8 @@ ghost use Rattle.osek_scheduler.specs.Changes.{changed_task, woken_task_state};
 use crate::frame::FrameRoom;
 use crate::held_resources::Held;
 use crate::stack::Stack;
-use osek_scheduler::change::TaskChange;
-use osek_scheduler::state::TaskState;
-use sloth_base::memory::NoMemory;
-use sloth_base::numbers::Reg;
-use sloth_base::service::E_OK;
+use osek_scheduler::{TaskChange, TaskState};
+use sloth_base::{E_OK, NoMemory, Reg};
 use std::alloc::Global;
 use std::marker::Model;
 

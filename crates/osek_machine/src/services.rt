@@ -9,14 +9,11 @@ ghost use Rattle.osek_machine.specs.Running.{call_in, call_plan};
 
 use crate::alarms::{cancel_alarm, get_alarm, set_absolute, set_relative};
 use crate::room::TaskRoom;
-use crate::store::{Store, is_suspended};
-use osek_scheduler::change::TaskChange;
-use osek_scheduler::plan::{Other, Plan};
-use osek_scheduler::state::TaskState;
-use sloth_base::app::{Call, Op};
-use sloth_base::config::Config;
-use sloth_base::numbers::RES_SCHEDULER;
-use sloth_base::service::{E_OK, E_OS_LIMIT, E_OS_STATE, ObjectKind, Service};
+use crate::{Store, is_suspended};
+use osek_scheduler::{Other, Plan, TaskChange, TaskState};
+use sloth_base::{
+    Call, Config, E_OK, E_OS_LIMIT, E_OS_STATE, ObjectKind, Op, RES_SCHEDULER, Service,
+};
 
 // The state of a task; one that is not there is Suspended.
 fn state_of(store: &Store, t: u32) -> TaskState

@@ -7,8 +7,7 @@ ghost use Rattle.osek_scheduler.specs.Changes.{frames_at_item, with_word, outer_
 ghost use Rattle.osek_machine.specs.Frames.{HasWord, CanMove};
 
 use crate::frame::FrameRoom;
-use sloth_base::limits::BODY_LIMIT;
-use sloth_base::memory::NoMemory;
+use sloth_base::{BODY_LIMIT, NoMemory};
 use std::alloc::Global;
 use std::marker::Model;
 

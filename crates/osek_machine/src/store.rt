@@ -17,12 +17,8 @@ use crate::clock::ClockRoom;
 use crate::data::Data;
 use crate::fresh::Fresh;
 use crate::room::TaskRoom;
-use osek_scheduler::change::TaskChange;
-use osek_scheduler::plan::{Other, Plan};
-use osek_scheduler::state::{Alarm, Counter, TaskState};
-use sloth_base::app::{App, Width};
-use sloth_base::config::Config;
-use sloth_base::memory::NoMemory;
+use osek_scheduler::{Alarm, Counter, Other, Plan, TaskChange, TaskState};
+use sloth_base::{App, Config, NoMemory, Width};
 use std::alloc::{AllocError, Global};
 use std::marker::Model;
 

@@ -7,10 +7,9 @@ ghost use Rattle.osek_scheduler.specs.Steps.{due_state};
 ghost use Rattle.osek_machine.specs.Clocked.{IsClocked, NamesTask};
 ghost use Rattle.osek_machine.specs.Ticks.{acted_system, alarm_ticked_system, alarms_ticked_system, ticked_system};
 
-use crate::store::{Store, is_suspended};
-use osek_scheduler::change::TaskChange;
-use osek_scheduler::state::{Alarm, Counter};
-use sloth_base::config::{Action, Config};
+use crate::{Store, is_suspended};
+use osek_scheduler::{Alarm, Counter, TaskChange};
+use sloth_base::{Action, Config};
 
 // The value behind one.
 fn next_value(max: u32, value: u32) -> u32

@@ -3,8 +3,7 @@ ghost use Rattle.std.specs.Prelude.{◌≡◌, map, filter};
 ghost use Rattle.osek_scheduler.specs.Priority.{ceiling, greatest, highest_priority};
 ghost use Rattle.code_rules.specs.Code.{is_in};
 
-use sloth_base::config::{Config, TaskDecl};
-use sloth_base::numbers::RES_SCHEDULER;
+use sloth_base::{Config, RES_SCHEDULER, TaskDecl};
 
 // Whether a task lists a resource.
 fn lists(task: &TaskDecl, resource: u32) -> bool

@@ -1,6 +1,6 @@
 //! Changes of a task.
 
-use sloth_base::numbers::Reg;
+use sloth_base::Reg;
 
 /// A change of one task. All but the first two, `Start` and `Resume` are changes of the task that runs.
 #[derive(Clone, Copy)]

@@ -19,3 +19,8 @@ pub mod laws;
 pub mod plan;
 pub mod state;
 pub mod validity;
+
+pub use ceilings::{ceiling, highest};
+pub use change::TaskChange;
+pub use plan::{Other, Plan};
+pub use state::{Alarm, Counter, TaskState};

@@ -1,7 +1,7 @@
 //! What an event of the running task does.
 
-use crate::change::TaskChange;
-use sloth_base::app::Width;
+use crate::TaskChange;
+use sloth_base::Width;
 
 /// What an event of one task does to another task, to an alarm, or to the data.
 #[derive(Clone, Copy)]

@@ -11,10 +11,7 @@ ghost use Rattle.prio_levels.specs.Levels.{lists, ceiling, AreCeilings, AreLevel
 ghost use Rattle.sloth_base.specs.PriorityLevels.{level_among};
 ghost use Rattle.sloth_base.specs.Limits.{task_limit};
 
-use sloth_base::config::{Config, TaskDecl};
-use sloth_base::limits::{CEILING_COUNT, TASK_LIMIT};
-use sloth_base::numbers::RES_SCHEDULER;
-use sloth_base::places::Levels;
+use sloth_base::{CEILING_COUNT, Config, Levels, RES_SCHEDULER, TASK_LIMIT, TaskDecl};
 
 /// The level of a priority: how many of the tasks have no greater one.
 fn level_of(tasks: &[TaskDecl], priority: u32) -> usize

@@ -3,8 +3,7 @@ ghost use Rattle.std.specs.Prelude.{◌≡◌};
 ghost use Rattle.sloth_base.specs.Options.{is_number};
 ghost use Rattle.raised_sections.specs.Walks.{chains_itself};
 
-use sloth_base::app::{Func, Op};
-use sloth_base::service::Service;
+use sloth_base::{Func, Op, Service};
 
 fn is_of_task(func: &Func, task: u32) -> bool
     ensures { result ≡ is_number task func.now.task }

@@ -11,3 +11,5 @@
 
 pub mod chaining;
 pub mod laws;
+
+pub use chaining::chains_itself;

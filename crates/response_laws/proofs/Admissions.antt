@@ -2,7 +2,7 @@
 use Rattle.std.proofs.Common.{◌≡◌, ℕ, ◌+◌, ◌-◌, ◌/◌, ◌<◌, ◌≤◌, ◌⊎◌, ◌&&◌, not, List, [], ◌∷◌, ◌++◌, length, map, Bool, true, false, cond, leb, ltb, refl, sym, ap, ◌∙◌, subst, arith, inl, inr, append_assoc, append-nil, is_some, Option, Some, None, le-div_iff_mul-le}
 use Rattle.std.specs.Prelude.{AllPairs, IsTrue}
 use Rattle.std.specs.List.{AllByRecursion}
-use Rattle.std.proofs.lemmas.Bool.{cases_Bool, cases_eq, cases_lt, false≢true, le-leb, lt-ltb, eq-eqb, and_from}
+use Rattle.std.proofs.lemmas.Bool.{cases_Bool, cases_eq, cases_lt, false≢true, true≢false, le-leb, lt-ltb, eq-eqb, and_from}
 use Rattle.std.proofs.lemmas.List.{get_or-set_same}
 use Rattle.std.proofs.lemmas.List.Elements.{recursion_from_All, All-from_recursion}
 use Rattle.sloth_base.specs.Options.{is_number}
@@ -147,9 +147,13 @@ module _ (load : List Entry) (line d : ℕ) (is : distance load line ≡ Some d)
 
 module _ (config : Config) (app : App) (load : List Entry) (n more t r d : ℕ) (arrivals : List Arrival) (events : List Stamped) (wf : WellFormed config app)
     (osek : OsekRun config app events) (in_time : InTime config n arrivals events) (positive : HasDistances load) (keeps : KeepDistances load arrivals)
-    (responds : RespondsWithin config app n more t r events) (made_so : is_made_by_arrivals config app t ≡ true) (is_distance : distance load t ≡ Some d) (short : r ≤ d) where
+    (responds : RespondsWithin config app n more t r true events) (made_so : is_made_by_arrivals config app t ≡ true) (is_distance : distance load t ≡ Some d) (short : r ≤ d) where
   w : Facts config app
   w = facts config app wf
+
+  -- nothing is asked of what makes the task Ready
+  anywhere : {P : Type 0} → true ≡ false → P
+  anywhere e = absurd (true≢false e)
 
   -- ---- since when the task has been due
 
@@ -263,7 +267,7 @@ module _ (config : Config) (app : App) (load : List Entry) (n more t r d : ℕ) 
           let at : events ≡ before ++ one ∷ (o.group ++ o.next ∷ (o.rest ++ other ∷ rest)) =
           is ∙ ap (λ es. before ++ one ∷ (es ++ other ∷ rest)) o.are ∙ ap (λ es. before ++ one ∷ es) (append_assoc o.group (o.next ∷ o.rest) (other ∷ rest)) in
           let stay = (each_append (λ e. is_left t e.event ≡ false) o.group (o.next ∷ o.rest) (subst (AllByRecursion (λ e. is_left t e.event ≡ false)) o.are none)).0 in
-          let spans = (responds.pends before o.group (o.rest ++ other ∷ rest) one o.next found first at leads makes stay o.other).spans in
+          let spans = (responds.pends before o.group (o.rest ++ other ∷ rest) one o.next found first one.stamp.at at leads makes anywhere (inl refl) stay o.other).spans in
           let in_one = (each_append (λ x. IsOrdered x o.next) before (one ∷ o.group)
           (placed (before ++ one ∷ o.group) o.next (o.rest ++ other ∷ rest) (at ∙ sym (append_assoc before (one ∷ o.group) (o.next ∷ (o.rest ++ other ∷ rest)))))).1.0 in
           let until = admits_before one o.next in_one o.other (is_admit_of one admits_one) in
@@ -303,7 +307,7 @@ module _ (config : Config) (app : App) (load : List Entry) (n more t r d : ℕ) 
               is ∙ ap (λ es. before ++ one ∷ (behind ++ other ∷ es)) o.are ∙ ap (λ es. before ++ one ∷ es) (sym (append_assoc behind (other ∷ o.group) (o.next ∷ o.rest))) in
               let stay = each_joined (λ e. is_left t e.event ≡ false) behind (other ∷ o.group) none
               (stays t other (is_admit_of other admits_other), each_so (λ e. is_admit e ≡ true) (λ e. is_left t e.event ≡ false) (stays t) o.group o.admits) in
-              let ends = (responds.pends before (behind ++ other ∷ o.group) o.rest one o.next found first at leads makes stay o.other).ends in
+              let ends = (responds.pends before (behind ++ other ∷ o.group) o.rest one o.next found first one.stamp.at at leads makes anywhere (inl refl) stay o.other).ends in
               let in_other = (each_append (λ x. IsOrdered x o.next) behind (other ∷ o.group)
               (each_append (λ x. IsOrdered x o.next) before (one ∷ (behind ++ other ∷ o.group))
               (placed (before ++ one ∷ (behind ++ other ∷ o.group)) o.next o.rest
@@ -318,7 +322,7 @@ module _ (config : Config) (app : App) (load : List Entry) (n more t r d : ℕ) 
       not_long many = by (cut behind other rest leaving.front leaving.left leaving.rest leaving.parts)
         where
           leaving : LeavesBefore t (one.stamp.at + r) (behind ++ other ∷ rest)
-          leaving = responds.leaves before (behind ++ other ∷ rest) one found first is leads makes many
+          leaving = responds.leaves before (behind ++ other ∷ rest) one found first one.stamp.at is leads makes anywhere (inl refl) many
 
           by : Cut behind other rest leaving.front leaving.left leaving.rest → ⊥
           by (at_one same) = false≢true (ap (is_left t) (sym admits_other ∙ ap (λ (e : Stamped). e.event) same) ∙ leaving.leaves)

@@ -43,7 +43,7 @@ none_at k line (e ∷ events) below =
     omega (arith, rest, more, here)
 
 module _ (config : Config) (n : ℕ) (arrivals : List Arrival) (events : List Stamped) (in_time : InTime config n arrivals events) where
-  few_at : (k line : ℕ) → admits_at k line events ≤ arrivals_at k line arrivals
+  pub few_at : (k line : ℕ) → admits_at k line events ≤ arrivals_at k line arrivals
   few_at k line = by in_time.admitted
     where
       all : (m : ℕ) → AreAllAdmitted m arrivals events → k < m → admits_at k line events ≤ arrivals_at k line arrivals

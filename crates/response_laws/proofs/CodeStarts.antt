@@ -1,8 +1,10 @@
 -- What lower tasks bring into busy periods is within the starts that the task code fits.
-use Rattle.std.proofs.Common.{◌≡◌, ℕ, ◌+◌, ◌<◌, List, [], ◌∷◌, true, sym, subst, is_some}
+use Rattle.std.proofs.Common.{◌≡◌, ℕ, ◌+◌, ◌<◌, ◌≤◌, List, [], ◌∷◌, Bool, true, false, cond, refl, sym, subst, arith, is_some}
 use Rattle.std.specs.List.{AllByRecursion}
 use Rattle.sloth_base.specs.Events.{is_boot, served_task}
-use Rattle.osek_scheduler.specs.State.{System, opening}
+use Rattle.osek_scheduler.specs.declared.state.TaskState.TheVariants as mode
+use Rattle.osek_scheduler.specs.State.{System, opening, task}
+use Rattle.raised_sections.specs.Sections.{IsLower}
 use Rattle.osek_scheduler.proofs.Facts.{Facts, facts}
 use Rattle.osek_scheduler.proofs.Leading.{follows_leads}
 use Rattle.osek_scheduler.proofs.Steps.{opening_valid}
@@ -18,9 +20,13 @@ use Rattle.response_laws.specs.Walked.{FitsItem}
 use Rattle.response_laws.specs.Makers.{activation_weights, setting_weights}
 use Rattle.response_laws.specs.Starts.{IsWithinStart, SomeIsWithin, begun_item}
 use Rattle.response_laws.specs.CodeStarts.{CodeFitsStarts}
-use Rattle.response_laws.proofs.Linked.{Known, Linked, each_so, stages_linked, stages_known}
+use Rattle.response_laws.proofs.Linked.{Known, Linked, each_so, each_both, stages_linked, stages_known}
 use Rattle.response_laws.proofs.Making.{items_activate, items_set}
 use Rattle.response_laws.proofs.LowerSpending.{spent_in, lower_spend}
+use Rattle.response_laws.specs.Never.{OthersSleep}
+use Rattle.response_laws.specs.Shares.{LowerSpendWithin}
+use Rattle.response_laws.specs.Starts.{IsSectionWithin}
+use Rattle.response_laws.proofs.Absent.{at_most, absent_within}
 use Rattle.response_laws.proofs.Seen.{Seen}
 use Rattle.response_laws.proofs.SingleStarts.{within_one, within_served, within_leaving}
 use Rattle.response_laws.proofs.SectionStarts.{sections_within}
@@ -28,31 +34,28 @@ use Rattle.response_laws.proofs.SectionStarts.{sections_within}
 -- ---- a run
 
 pub code_fits_starts : CodeFitsStarts
-code_fits_starts config app size longest late n weights arrivals events h once starts start wf osek timed most spends within weighs ends fits = record {
+code_fits_starts config app size longest late n weights comes arrivals events h once starts start wf osek timed most spends within weighs ends sleeps fits = record {
   some = fits.some;
-  opens = each_so (Seen config app size longest)
+  opens = each_so Awaken
       (λ x. is_other config h x ≡ true → (i : ℕ) × (i < starts) × ((start i).is_boot ≡ true → is_boot x.stamped.event ≡ true) × IsWithinStart config h (begun_item longest (start i)) late (start i) x)
-      (within_one config app w size longest weights weighs ends h late once starts start fits) (run_stages config app events) seen;
-  serves = each_so (Seen config app size longest)
+      (λ x s. within_one config app w size longest weights weighs ends h late once starts start comes fits x s.0 s.1) (run_stages config app events) awaken;
+  serves = each_so Awaken
       (λ x. is_other config h x ≡ true → is_some (served_task x.stamped.event) ≡ true → SomeIsWithin config h starts start (charged x + longest) 0 x)
-      (within_served config app w size longest weights weighs ends h late once starts start fits) (run_stages config app events) seen;
-  leaves = λ on. each_so (Seen config app size longest)
+      (λ x s. within_served config app w size longest weights weighs ends h late once starts start comes fits x s.0 s.1) (run_stages config app events) awaken;
+  leaves = λ on. each_so Awaken
       (λ x. is_left h x.stamped.event ≡ true → SomeIsWithin config h starts start longest late x × SomeIsWithin config h starts start (charged x + longest) 0 x)
-      (λ x s. within_leaving config app w size longest weights weighs ends h late once starts start fits x s on) (run_stages config app events) seen;
-  section = λ b lower raised.
-      let s = fits.sections b lower raised in (
-        s.0,
-        s.1,
-        s.2,
-        s.3,
-        sections_within config app w size longest weights weighs ends h b lower (run_stages config app events) (opening config app)
-            (stages_linked config app 0 (opening config app) events) seen (λ before xs behind is. spent_in config app size longest n b arrivals events wf osek timed (spends b lower.0) before xs behind is)
-            (lower_spend config app size longest n h arrivals events wf osek timed most spends) raised (start s.0) s.4,
-      );
+      (λ x s. within_leaving config app w size longest weights weighs ends h late once starts start comes fits x s.0 s.1 on) (run_stages config app events) awaken;
+  section = λ b lower raised. section_of b lower raised (comes b) refl;
 }
   where
     w : Facts config app
     w = facts config app wf
+
+    run : List Stage
+    run = run_stages config app events
+
+    few : LowerSpendWithin config h longest run
+    few = lower_spend config app size longest n h arrivals events wf osek timed most spends
 
     known : AllByRecursion (Known config app) (run_stages config app events)
     known =
@@ -75,3 +78,31 @@ code_fits_starts config app size longest late n weights arrivals events h once s
     seen =
         all_seen 0 (opening config app) (run_stages config app events) (stages_linked config app 0 (opening config app) events) known (opening_placed config app) within
         (λ t j. items_activate config app events t j wf osek) (λ t j. items_set config app events t j wf osek)
+
+    Awaken : Stage → Type 0
+    Awaken x = Seen config app size longest x × OthersSleep comes x.found
+
+    awaken : AllByRecursion Awaken run
+    awaken = each_both (Seen config app size longest) (λ x. OthersSleep comes x.found) run seen sleeps
+
+    -- the section of a task that never comes has none of its events
+    section_of : (b : ℕ) → IsLower config h b → (raised c : Bool) → comes b ≡ c
+        → (i : ℕ) × (i < starts) × ((start i).is_boot ≡ false) × (cond raised late 0 ≤ (start i).lead) × IsSectionWithin config h run b raised (start i)
+    section_of b lower raised true is =
+        let s = fits.sections b lower is raised in (
+          s.0,
+          s.1,
+          s.2,
+          s.3,
+          sections_within config app w size longest weights weighs ends h b lower run (opening config app)
+              (stages_linked config app 0 (opening config app) events) seen (λ before xs behind is. spent_in config app size longest n b arrivals events wf osek timed (spends b lower.0) before xs behind is)
+              few raised (start s.0) s.4,
+        )
+    section_of b lower raised false is =
+        let s = fits.some in (
+          s.0,
+          s.1,
+          s.2,
+          (let le = s.4 in let part = at_most raised late in omega (arith, le, part)),
+          absent_within config app h b longest run few known (each_so (λ x. OthersSleep comes x.found) (λ x. (task x.found b).state ≡ mode.Suspended) (λ x others. others b is) run sleeps) raised (start s.0) s.3,
+        )

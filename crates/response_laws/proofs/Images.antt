@@ -1,5 +1,5 @@
 -- The runs of an image respond in time, by what its builder promises of them.
-use Rattle.std.proofs.Common.{ℕ, ◌+◌, ◌<◌, ◌≤◌, List, [], length, Bool, refl, arith, ◌≡◌, true}
+use Rattle.std.proofs.Common.{ℕ, ◌+◌, ◌<◌, List, [], length, Bool, refl, arith, ◌≡◌, true}
 use Rattle.std.specs.List.{AllByRecursion}
 use Rattle.sloth_base.specs.declared.config.Config.{Config}
 use Rattle.sloth_base.specs.declared.app.App.{App}
@@ -17,7 +17,7 @@ use Rattle.event_weights.specs.Items.{length_of}
 use Rattle.event_weights.specs.Pace.{ItemSizes, AreAtMost}
 use Rattle.event_weights.proofs.BodyLengths.{short}
 use Rattle.sim_induction.specs.Paced.{KeepsPace, InPace}
-use Rattle.sim_induction.specs.Sound.{Sound, IsSoundRun, events_of}
+use Rattle.sim_induction.specs.Sound.{AreComing, Sound, IsSoundRun, events_of}
 use Rattle.sim_induction.specs.Spent.{SpendsOnItems}
 use Rattle.sim_induction.specs.Weighed.{Weighed}
 use Rattle.run_counts.specs.Laws.{IsWithinWeights}
@@ -29,8 +29,6 @@ use Rattle.run_counts.proofs.Shared as shared
 use Rattle.run_counts.proofs.Staged.{keeps_weights}
 use Rattle.sloth_base.specs.declared.event.Arrival.{Arrival}
 use Rattle.sloth_base.specs.declared.image.Image.{Image}
-use Rattle.sloth_base.specs.Arrivals.{AreArrivals}
-use Rattle.sloth_base.specs.Limits.{count_limit}
 use Rattle.sloth_base.specs.Owners.{owners_in}
 use Rattle.code_rules.specs.AppRange.{IsTaskCode}
 use Rattle.load_text.specs.Loads.{KeepDistances}
@@ -43,7 +41,9 @@ use Rattle.response_laws.specs.Response.{RespondsWithin, EntersOnce}
 use Rattle.response_laws.specs.Demand.{Costs, Start}
 use Rattle.response_laws.specs.Arrivals.{HasDistances}
 use Rattle.response_laws.specs.SoundRuns.{item_instructions, NoStretchIsAbove, KeepsWork, FitsRounds, ImagesRespond, ImagesRespondByCode}
-use Rattle.response_laws.proofs.Linked.{Known, stages_known}
+use Rattle.response_laws.specs.Never.{AreClosed, OthersSleep, NoneComes}
+use Rattle.response_laws.proofs.Never.{others_never_come}
+use Rattle.response_laws.proofs.Linked.{Known, each_so, stages_known}
 use Rattle.response_laws.proofs.Loaded.{respond_under_load}
 use Rattle.response_laws.proofs.Expiring.{ticks_make_as_alarms_expire}
 use Rattle.response_laws.proofs.CodeStarts.{code_fits_starts}
@@ -51,10 +51,10 @@ use Rattle.response_laws.proofs.LowerSpending.{lower_spend}
 use Rattle.response_laws.proofs.SoundRuns.{all_charged, bounds_rounds, all_brief}
 
 -- an image, whose longest item has so many instructions
-module _ (config : Config) (app : App) (image : Image) (weights : List BodyWeights) (load : List Entry) (arrivals : List Arrival) (n late longest h r : ℕ)
-    (cuts : ℕ → Bool) (costs : Costs) (once : Bool) (starts : ℕ) (start : ℕ → Start) (enters : once ≡ true → EntersOnce config h cuts) (wf : WellFormed config app) (sound : Sound config app image)
+module _ (config : Config) (app : App) (image : Image) (weights : List BodyWeights) (load : List Entry) (comes : ℕ → Bool) (arrivals : List Arrival) (n late longest h r : ℕ)
+    (cuts : ℕ → Bool) (costs : Costs) (once boot : Bool) (starts : ℕ) (start : ℕ → Start) (enters : once ≡ true → EntersOnce config h cuts) (wf : WellFormed config app) (sound : Sound config app image)
     (weighed : Weighed config app image) (pace : InPace config app image) (counts : AreCounts app weights) (positive : 0 < longest)
-    (most : AreAtMost (length_of counts.0) longest) (code : IsTaskCode app) (are : AreArrivals (owners_in config) arrivals) (few : n ≤ count_limit) where
+    (most : AreAtMost (length_of counts.0) longest) (code : IsTaskCode app) (are : AreComing (owners_in config) arrivals) where
   abbrev events : List Stamped
   events = events_of image arrivals n
 
@@ -62,10 +62,10 @@ module _ (config : Config) (app : App) (image : Image) (weights : List BodyWeigh
   size = length_of counts.0
 
   run : IsSoundRun config app image arrivals n
-  run = sound.each arrivals n are few
+  run = sound.each arrivals n are
 
   pacing : KeepsPace config app size longest n events
-  pacing = (pace.paced counts.0 counts.1).each arrivals n longest are few most
+  pacing = (pace.paced counts.0 counts.1).each arrivals n longest are most
 
   within : AllByRecursion (IsWithinWeights config app size longest) (run_stages config app events)
   within = keeps_weights config app size longest n events run.osek pacing
@@ -80,47 +80,56 @@ module _ (config : Config) (app : App) (image : Image) (weights : List BodyWeigh
   leads = follows_leads config app [] (opening config app) events run.osek.0 run.osek.1
 
   spends : (t : ℕ) → t < length config.tasks → SpendsOnItems config app size longest t events
-  spends t lt = (pace.spent counts.0 counts.1).each arrivals n longest t are few lt
+  spends t lt = (pace.spent counts.0 counts.1).each arrivals n longest t are lt
 
   known : AllByRecursion (Known config app) (run_stages config app events)
   known = stages_known config app (facts config app wf) 0 (opening config app) run.osek.0 events (opening_ordered config app) (opening_valid config app) leads
 
-  responds : NoStretchIsAbove config app late → HasDistances load → KeepDistances load arrivals → KeepsWork config load cuts (run_stages config app events)
-      → FitsRounds config app weights load h cuts costs → HaveStarts config h longest late once starts start (run_stages config app events)
-      → ((i : ℕ) → i < starts → IsStartFor config load late (longest + late) h r once costs (run_stages config app events) (start i))
-      → RespondsWithin config app n (longest + late) h r events
-  responds above distances keeps works rounds have fit =
-      respond_under_load config app load n late (longest + late) (longest + late) longest arrivals events h r cuts costs once starts start enters wf run.osek run.in_time
+  -- tasks that do not come sleep all along
+  sleeps : KeepDistances load arrivals → AreClosed config app load comes → AllByRecursion (λ x. OthersSleep comes x.found) (run_stages config app events)
+  sleeps keeps closed =
+      each_so (λ x. NoneComes load comes x.found × NoneComes load comes x.next) (λ x. OthersSleep comes x.found) (λ x none. none.0.asleep) (run_stages config app events)
+      (others_never_come config app load comes n arrivals events wf run.osek run.in_time keeps closed)
+
+  responds : NoStretchIsAbove config app late → HasDistances load → KeepDistances load arrivals → AreClosed config app load comes → KeepsWork config load cuts (run_stages config app events)
+      → FitsRounds config app weights load comes h cuts costs → HaveStarts config h longest late once starts start (run_stages config app events)
+      → ((i : ℕ) → i < starts → IsStartFor config load late (longest + late) h r once boot costs (run_stages config app events) (start i))
+      → RespondsWithin config app n (longest + late) h r boot events
+  responds above distances keeps closed works rounds have fit =
+      respond_under_load config app load n late (longest + late) (longest + late) longest arrivals events h r cuts costs once boot starts start enters wf run.osek run.in_time
       (record {
-        brief = all_brief config app late events above (weighed.each arrivals n are few) [] events (opening config app) run.osek.0 refl refl leads;
+        brief = all_brief config app late events above (weighed.each arrivals n are) [] events (opening config app) run.osek.0 refl refl leads;
         reaches = λ some. let end = pacing.reaches_within late above.stretches some in omega (arith, end);
       })
       (omega arith) (all_charged config app size longest most positive late above (run_stages config app events) known within)
       distances keeps (shared.shares config app size longest n arrivals events wf run.osek run.in_time pacing)
       (lower_spend config app size longest n h arrivals events wf run.osek run.in_time most spends)
-      (bounds_rounds config app size longest n weights load arrivals events h cuts costs wf run.osek run.in_time (weighed.each arrivals n are few) spends weighs ends works rounds)
+      (bounds_rounds config app size longest n weights load arrivals events h cuts costs wf run.osek run.in_time (weighed.each arrivals n are) spends weighs ends works comes known
+      (sleeps keeps closed) rounds)
       have fit
 
-  have_starts : FitsStarts config app longest late weights h once starts start → HaveStarts config h longest late once starts start (run_stages config app events)
-  have_starts fits = code_fits_starts config app size longest late n weights arrivals events h once starts start wf run.osek run.in_time most spends within weighs ends fits
+  have_starts : KeepDistances load arrivals → AreClosed config app load comes → FitsStarts config app longest late weights comes h once starts start → HaveStarts config h longest late once starts start (run_stages config app events)
+  have_starts keeps closed fits =
+      code_fits_starts config app size longest late n weights comes arrivals events h once starts start wf run.osek run.in_time most spends within weighs ends (sleeps keeps closed) fits
 
   alarms : (is_set : ℕ → Bool) (s : Start) → MarksAlarms app is_set → HasExpiries config is_set s → HasAlarms (run_stages config app events) s
   alarms is_set s marks has = ticks_make_as_alarms_expire config app events is_set s wf run.osek marks has
 
 pub images_respond : ImagesRespond
-images_respond config app image weights load arrivals n late h r cuts costs once starts start enters wf code sound weighed pace counts are few above positive keeps works rounds have fit =
-    responds config app image weights load arrivals n late item_instructions h r cuts costs once starts start enters wf sound weighed pace counts (omega arith)
-    (short app code counts.0 counts.1) code are few above positive keeps works rounds have fit
+images_respond config app image weights load comes arrivals n late h r cuts costs once boot starts start enters wf code sound weighed pace counts are above positive keeps closed works rounds have fit =
+    responds config app image weights load comes arrivals n late item_instructions h r cuts costs once boot starts start enters wf sound weighed pace counts (omega arith)
+    (short app code counts.0 counts.1) code are above positive keeps closed works rounds have fit
 
 pub images_respond_by_code : ImagesRespondByCode
-images_respond_by_code config app image weights load arrivals n late longest h r cuts is_set costs once starts start enters wf code sound weighed pace counts marks is_longest are few above positive keeps works rounds fits each =
+images_respond_by_code config app image weights load comes arrivals n late longest h r cuts is_set costs once boot starts start enters wf code sound weighed pace counts marks is_longest are above positive keeps closed works rounds
+    fits each =
     let most = is_longest.none_longer counts.0 counts.1 in
-    responds config app image weights load arrivals n late longest h r cuts costs once starts start enters wf sound weighed pace counts is_longest.some most code are few
-    above positive keeps works rounds
-    (have_starts config app image weights load arrivals n late longest h r cuts costs once starts start enters wf sound weighed pace counts is_longest.some most code are few fits)
+    responds config app image weights load comes arrivals n late longest h r cuts costs once boot starts start enters wf sound weighed pace counts is_longest.some most code are
+    above positive keeps closed works rounds
+    (have_starts config app image weights load comes arrivals n late longest h r cuts costs once boot starts start enters wf sound weighed pace counts is_longest.some most code are keeps closed fits)
     (λ i lt. record {
       arrivals = (each i lt).arrivals;
-      alarms = alarms config app image weights load arrivals n late longest h r cuts costs once starts start enters wf sound weighed pace counts is_longest.some most code are few
+      alarms = alarms config app image weights load comes arrivals n late longest h r cuts costs once boot starts start enters wf sound weighed pace counts is_longest.some most code are
           is_set (start i) marks (each i lt).expiries;
       enough = (each i lt).enough;
       lasts = (each i lt).lasts;

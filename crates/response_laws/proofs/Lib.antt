@@ -2,6 +2,7 @@ pub mod Sums
 pub mod Linked
 pub mod Ordering
 pub mod Steps
+pub mod Counters
 pub mod Shares
 pub mod RoundSums
 pub mod Attributed
@@ -47,7 +48,11 @@ pub mod SingleStarts
 pub mod SectionStarts
 pub mod CodeStarts
 pub mod Ticks
+pub mod Suspended
 pub mod Unmade
+pub mod Awake
+pub mod Absent
+pub mod Never
 pub mod AlarmSteps
 pub mod Expiring
 pub mod Masks

@@ -61,6 +61,10 @@ pub each_so : {X : Type 0} (P Q : X → Type 0) → ((x : X) → P x → Q x) �
 each_so P Q f [] h = tt
 each_so P Q f (x ∷ xs) h = (f x h.0, each_so P Q f xs h.1)
 
+pub each_both : {X : Type 0} (P Q : X → Type 0) (xs : List X) → AllByRecursion P xs → AllByRecursion Q xs → AllByRecursion (λ x. P x × Q x) xs
+each_both P Q [] h k = tt
+each_both P Q (x ∷ xs) h k = ((h.0, k.0), each_both P Q xs h.1 k.1)
+
 pub last_end-append : (at : ℕ) (xs ys : List Stage) → last_end at (xs ++ ys) ≡ last_end (last_end at xs) ys
 last_end-append at [] ys = refl
 last_end-append at (x ∷ xs) ys = last_end-append (end_of x) xs ys

@@ -34,7 +34,7 @@ use Rattle.response_laws.proofs.RoundEnds.{left_inactive}
 use Rattle.response_laws.proofs.RoundSums.{longer, no_round}
 use Rattle.response_laws.proofs.Steps.{active_declared}
 use Rattle.response_laws.specs.Sums.{count, is_over}
-use Rattle.response_laws.specs.Turns.{is_other, makes_ready, activated, was_set, at_entry, round_behind, if_turn}
+use Rattle.response_laws.specs.Turns.{is_other, comes_at, activated, was_set, at_entry, round_behind, if_turn}
 use Rattle.response_laws.specs.Busy.{IsBusyPeriod, is_quiet, LeavesFirst, IsLeaving}
 use Rattle.response_laws.specs.Demand.{Costs, Start}
 use Rattle.response_laws.specs.Bounded.{BeginsWithin, IsWithinInflow, StartsSo, EndsSoon, StartsInOne, left_of, left_over}
@@ -59,19 +59,19 @@ use Rattle.response_laws.proofs.OneEvent.{no_others, no_admissions, section_fron
 use Rattle.response_laws.proofs.LeavingShares.{at_most_itself, rest_own, rest_of, LeavesWithin, step_left, step_admit, has_leaving}
 
 module _ (config : Config) (app : App) (load : List Entry) (n late more heaviest longest : ℕ) (arrivals : List Arrival) (events : List Stamped) (h r : ℕ)
-    (cuts : ℕ → Bool) (costs : Costs) (once : Bool) (starts : ℕ) (start : ℕ → Start) (enters : once ≡ true → EntersOnce config h cuts) (wf : WellFormed config app) (osek : OsekRun config app events)
+    (cuts : ℕ → Bool) (costs : Costs) (once boot : Bool) (starts : ℕ) (start : ℕ → Start) (enters : once ≡ true → EntersOnce config h cuts) (wf : WellFormed config app) (osek : OsekRun config app events)
     (in_time : InTime config n arrivals events) (pace : HasPace n late more events) (fits : more ≤ heaviest)
     (charges : AreCharged heaviest (run_stages config app events)) (positive : HasDistances load) (keeps : KeepDistances load arrivals)
     (brief : LowerSpendWithin config h longest (run_stages config app events))
     (have : HaveStarts config h longest late once starts start (run_stages config app events))
-    (fit : (i : ℕ) → i < starts → IsStartFor config load late heaviest h r once costs (run_stages config app events) (start i)) where
+    (fit : (i : ℕ) → i < starts → IsStartFor config load late heaviest h r once boot costs (run_stages config app events) (start i)) where
   module _ (first : Stage) (period : List Stage) (busy : IsBusyPeriod config h once (run_stages config app events) first period) where
     -- a beginning of the period is a part of the run
     part : (front rest : List Stage) → period ≡ front ++ rest → run_stages config app events ≡ busy.before ++ ((first ∷ front) ++ (rest ++ busy.behind))
     part front rest is =
         busy.part ∙ ap (λ zs. busy.before ++ first ∷ (zs ++ busy.behind)) is ∙ ap (λ zs. busy.before ++ first ∷ zs) (append_assoc front rest busy.behind)
 
-    within : (s : Start) → IsStartFor config load late heaviest h r once costs (run_stages config app events) s → (s.is_boot ≡ true → busy.before ≡ [])
+    within : (s : Start) → IsStartFor config load late heaviest h r once boot costs (run_stages config app events) s → (s.is_boot ≡ true → busy.before ≡ [])
         → (front rest : List Stage) → period ≡ front ++ rest
         → AllByRecursion (BeginsWithin s.counts first) front → total (lower_counts config h) front + left_of once h (share_of config h) front ≤ s.inflow.front
         → ((j : ℕ) → is_over config h j ≡ true → others config h (activated j) (first ∷ front) + left_over once h (activated j) (first ∷ front) ≤ s.inflow.acts j)
@@ -98,7 +98,7 @@ module _ (config : Config) (app : App) (load : List Entry) (n late more heaviest
     -- an event may stand in front of where the first one ends
     soon_late : (lead : ℕ) → late ≤ lead → EndsSoon h lead first (first ∷ period)
     soon_late lead le =
-        each_so (λ x. end_of first ≤ x.stamped.stamp.at + late) (λ x. makes_ready h x ≡ true → end_of first ≤ x.stamped.stamp.at + lead)
+        each_so (λ x. end_of first ≤ x.stamped.stamp.at + late) (λ x. comes_at h x ≡ true → end_of first ≤ x.stamped.stamp.at + lead)
         (λ x near _. omega (arith, near, le)) (first ∷ period)
         (near_period config app load n late more heaviest arrivals events osek in_time pace fits charges positive keeps busy.before first period busy.behind busy.part)
 
@@ -194,6 +194,7 @@ module _ (config : Config) (app : App) (load : List Entry) (n late more heaviest
 
     abbrev StartsInSome : Type 0
     StartsInSome = (i : ℕ) × (i < starts) × StartsSo config h once (start i) first period × EndsSoon h (start i).lead first (first ∷ period)
+        × ((start i).is_boot ≡ true → busy.before ≡ [])
 
     with_sections : is_quiet config h first.found ≡ true → (b : ℕ) → IsLower config h b → AreOfSection config h b (first ∷ period) → StartsInSome
     with_sections quiet b lower section = by (is_admit first.stamped) refl section
@@ -220,6 +221,7 @@ module _ (config : Config) (app : App) (load : List Entry) (n late more heaviest
                   let le = s.4.sets busy.before (rest ++ busy.behind) j (first ∷ front) over (part front rest is) of_front in
                   let none = nothing_over quiet (was_set j) front rest is in omega (arith, le, none))),
               soon (start s.0).lead s.3,
+              λ boots. absurd (true≢false (sym boots ∙ s.2)),
             )
 
         -- with its first stage at the latest the task is raised
@@ -244,7 +246,7 @@ module _ (config : Config) (app : App) (load : List Entry) (n late more heaviest
     record OneStart : Type 0 where
       which : ℕ
       there : which < starts
-      boot : (start which).is_boot ≡ true → AllByRecursion (λ x. is_boot x.stamped.event ≡ false) (first ∷ period) → ⊥
+      has_boot : (start which).is_boot ≡ true → AllByRecursion (λ x. is_boot x.stamped.event ≡ false) (first ∷ period) → ⊥
       front : others config h charged period + begun_item longest (start which) ≤ (start which).inflow.front
       soon : EndsSoon h (start which).lead first (first ∷ period)
       acts : (j : ℕ) → is_over config h j ≡ true → others config h (activated j) (first ∷ period) ≤ (start which).inflow.acts j
@@ -267,7 +269,7 @@ module _ (config : Config) (app : App) (load : List Entry) (n late more heaviest
             record {
               which = fits.0;
               there = fits.1;
-              boot = λ boots none. true≢false (sym (fits.2 boots) ∙ none.0);
+              has_boot = λ boots none. true≢false (sym (fits.2 boots) ∙ none.0);
               front = let le = zero charged in let most = fits.3.front in omega (arith, le, most);
               soon = soon_late (start fits.0).lead fits.3.lead;
               acts = λ j over. let le = own (activated j) in let most = fits.3.acts j over in omega (arith, le, most);
@@ -280,7 +282,7 @@ module _ (config : Config) (app : App) (load : List Entry) (n late more heaviest
             record {
               which = some.0;
               there = some.1;
-              boot = λ is. absurd (true≢false (sym is ∙ some.2));
+              has_boot = λ is. absurd (true≢false (sym is ∙ some.2));
               front = let le = zero charged in let most = some.3 in let item = ap {B = ℕ} (λ b. cond b 0 longest) some.2 in omega (arith, le, most, item);
               soon = soon_late (start some.0).lead some.4;
               acts = λ j over. let le = own (activated j) in omega (arith, le);
@@ -307,7 +309,7 @@ module _ (config : Config) (app : App) (load : List Entry) (n late more heaviest
         record {
           which = fits.0;
           there = fits.1;
-          boot = λ boots. absurd (true≢false (sym boots ∙ fits.2));
+          has_boot = λ boots. absurd (true≢false (sym boots ∙ fits.2));
           front = let le = own charged in let most = fits.3.front in let item = ap {B = ℕ} (λ b. cond b 0 longest) fits.2 in omega (arith, le, most, item);
           soon =
               subst (λ zs. EndsSoon h (start fits.0).lead first (first ∷ zs)) (sym is)
@@ -325,7 +327,7 @@ module _ (config : Config) (app : App) (load : List Entry) (n late more heaviest
         boots_here : (start one.which).is_boot ≡ true → (is_boot first.stamped.event ≡ true) ⊎ (is_boot first.stamped.event ≡ false) → is_boot first.stamped.event ≡ true
         boots_here on (inl boots) = boots
         boots_here on (inr off) =
-            absurd (one.boot on (off, no_boots (end_of first) first.next period links known.1 (has_started config app first.stamped.event first.found first.next known.0.step)))
+            absurd (one.has_boot on (off, no_boots (end_of first) first.next period links known.1 (has_started config app first.stamped.event first.found first.next known.0.step)))
 
         no_admit : (e : Event) → is_boot e ≡ true → is_some (admitted_line e) ≡ false
         no_admit event.Boot boots = refl
@@ -361,7 +363,7 @@ module _ (config : Config) (app : App) (load : List Entry) (n late more heaviest
           let whole = ap (others config h charged) is in
           let parts = total-append (λ x. cond (is_other config h x) (charged x) 0) front rest in
           omega (arith, whole, parts) in
-          within (start one.which) (fit one.which one.there) (λ boots. at_boot busy.before refl (one.boot boots)) front rest is begins
+          within (start one.which) (fit one.which one.there) (λ boots. at_boot busy.before refl (one.has_boot boots)) front rest is begins
           (let a = one.front in
           let none = nothing_over_behind quiet front rest is in
           let ahead = one_front config h (first ∷ front) rest (subst (λ zs. AreOfOne config h (first ∷ zs)) is alone) in
@@ -372,6 +374,7 @@ module _ (config : Config) (app : App) (load : List Entry) (n late more heaviest
           (λ j over.
           let a = smaller (was_set j) in let b = one.sets j over in let none = nothing_over quiet (was_set j) front rest is in omega (arith, a, b, none))),
       one.soon,
+      λ boots. at_boot busy.before refl (one.has_boot boots),
     )
 
     starts_in : is_quiet config h first.found ≡ true → Comes config h (first ∷ period)
@@ -440,6 +443,7 @@ module _ (config : Config) (app : App) (load : List Entry) (n late more heaviest
           let few = over_few (was_set j) (first ∷ front) in
           omega (arith, none, le, most, few))),
       found.soon,
+      λ boots. absurd (true≢false (sym boots ∙ found.no_boot_start)),
     )
       where
         all_within : AllByRecursion (LeavesWithin config h longest late starts start) (first ∷ period)
@@ -480,7 +484,7 @@ module _ (config : Config) (app : App) (load : List Entry) (n late more heaviest
                       subst (λ zs. EndsSoon h (start rest.which).lead first (first ∷ zs)) (sym at.are)
                       (soon_active config app n h arrivals events wf osek in_time busy.before first at.group at.left at.rest busy.behind
                       (busy.part ∙ ap (λ zs. busy.before ++ first ∷ (zs ++ busy.behind)) at.are) (admits, at.admits)
-                      (left_no_admit h at.left.stamped.event at.leaves) (start rest.which).lead leaving.active);
+                      (left_no_admit h at.left.stamped.event at.leaves) (start rest.which).lead at.leaves leaving.active);
                   acts = λ j over. let a = step_admit config app (facts config app wf) h (activated j) first period admits in let b = rest.acts j over in omega (arith, a, b);
                   sets = λ j over. let a = step_admit config app (facts config app wf) h (was_set j) first period admits in let b = rest.sets j over in omega (arith, a, b);
                 }
@@ -500,7 +504,7 @@ module _ (config : Config) (app : App) (load : List Entry) (n late more heaviest
   all_start first period busy = starts_so first period busy busy.begins
 
 pub respond_under_load : RespondsUnderLoad
-respond_under_load config app load n late more heaviest longest arrivals events h r cuts costs once starts start enters wf osek in_time pace fits charges positive keeps shared brief bounds have fit =
-    respond_in_time config app n late more arrivals events h r cuts costs once starts start enters wf osek in_time pace shared bounds
-    (all_start config app load n late more heaviest longest arrivals events h r cuts costs once starts start enters wf osek in_time pace fits charges positive keeps brief have fit)
+respond_under_load config app load n late more heaviest longest arrivals events h r cuts costs once boot starts start enters wf osek in_time pace fits charges positive keeps shared brief bounds have fit =
+    respond_in_time config app n late more arrivals events h r cuts costs once boot starts start enters wf osek in_time pace shared bounds
+    (all_start config app load n late more heaviest longest arrivals events h r cuts costs once boot starts start enters wf osek in_time pace fits charges positive keeps brief have fit)
     (λ i lt. (fit i lt).enough) (λ i lt. (fit i lt).lasts)

@@ -19,7 +19,7 @@ use Rattle.osek_scheduler.proofs.Apart.{at_least_static, rank_active, rank_ready
 use Rattle.osek_scheduler.proofs.Facts.{Facts, facts}
 use Rattle.osek_scheduler.proofs.Leading.{follows_leads}
 use Rattle.osek_scheduler.proofs.Steps.{step_valid, opening_valid, asleep_at}
-use Rattle.osek_blocking.proofs.Ordering.{opening_ordered, effect}
+use Rattle.osek_blocking.proofs.Ordering.{opening_ordered}
 use Rattle.raised_sections.proofs.FrameEffects.{frame_effect}
 use Rattle.raised_sections.specs.Sections.{operation_at, is_schedule}
 use Rattle.raised_sections.proofs.Placed.{Placed, step_placed, opening_placed}

@@ -34,30 +34,32 @@ use Rattle.run_counts.specs.Stages.{Stage, end_of, stage, stages, state_behind, 
 use Rattle.run_counts.specs.OwnCounts.{IsOwn}
 use Rattle.run_counts.proofs.Owned.{HasParts, run_owned}
 use Rattle.response_laws.specs.Busy.{LeavesFirst}
-use Rattle.response_laws.specs.Turns.{makes_ready}
+use Rattle.osek_scheduler.specs.Priority.{NoTicks}
+use Rattle.response_laws.specs.Turns.{makes_ready, comes_at, is_counter}
+use Rattle.response_laws.proofs.Counters.{made_alone, calm_group, served_calm, left_calm}
 use Rattle.response_laws.specs.Bounded.{EndsSoon}
 use Rattle.response_laws.proofs.Ordering.{ahead}
-use Rattle.response_laws.proofs.Linked.{Known, Linked, last_state, linked_front, linked_behind, each_append, each_joined, each_so, stages_linked, stages_known}
+use Rattle.response_laws.proofs.Linked.{Known, Linked, last_state, linked_front, linked_behind, each_append, each_joined, each_so, each_both, stages_linked, stages_known}
 use Rattle.response_laws.proofs.Settled.{admit_active}
 use Rattle.response_laws.proofs.Blocking.{IsLowService}
 
 -- ---- two cuts of a list
 
--- the event at which one cut is made is that of the other cut, stands in front of it, or behind it
-pub data Cut (a : List Stamped) (x : Stamped) (p b : List Stamped) (y : Stamped) (q : List Stamped) : Type 0 where
+-- what one cut is made at is that of the other cut, stands in front of it, or behind it
+pub data Cut {X : Type 0} (a : List X) (x : X) (p b : List X) (y : X) (q : List X) : Type 0 where
   at_one : x ≡ y → Cut a x p b y q
-  in_front : (mid : List Stamped) → b ≡ a ++ x ∷ mid → p ≡ mid ++ y ∷ q → Cut a x p b y q
-  behind_it : (mid : List Stamped) → a ≡ b ++ y ∷ mid → q ≡ mid ++ x ∷ p → Cut a x p b y q
+  in_front : (mid : List X) → b ≡ a ++ x ∷ mid → p ≡ mid ++ y ∷ q → Cut a x p b y q
+  behind_it : (mid : List X) → a ≡ b ++ y ∷ mid → q ≡ mid ++ x ∷ p → Cut a x p b y q
 
-abbrev head_or : Stamped → List Stamped → Stamped
+abbrev pub head_or : {X : Type 0} → X → List X → X
 head_or d [] = d
 head_or d (x ∷ xs) = x
 
-abbrev tail_of : List Stamped → List Stamped
+abbrev pub tail_of : {X : Type 0} → List X → List X
 tail_of [] = []
 tail_of (x ∷ xs) = xs
 
-pub cut : (a : List Stamped) (x : Stamped) (p b : List Stamped) (y : Stamped) (q : List Stamped) → a ++ x ∷ p ≡ b ++ y ∷ q → Cut a x p b y q
+pub cut : {X : Type 0} (a : List X) (x : X) (p b : List X) (y : X) (q : List X) → a ++ x ∷ p ≡ b ++ y ∷ q → Cut a x p b y q
 cut [] x p [] y q e = at_one (ap (head_or x) e)
 cut [] x p (z ∷ b) y q e = in_front b (ap (λ v. v ∷ b) (sym (ap (head_or x) e))) (ap tail_of e)
 cut (w ∷ a) x p [] y q e = behind_it a (ap (λ v. v ∷ a) (ap (head_or w) e)) (sym (ap tail_of e))
@@ -346,29 +348,57 @@ module _ (config : Config) (app : App) (n h : ℕ) (arrivals : List Arrival) (ev
         (linked_behind 0 (opening config app) before (first ∷ (group ++ y ∷ (rest ++ behind)))
         (subst (Linked 0 (opening config app)) whole_is (stages_linked config app 0 (opening config app) events))).2 admits.1
 
+    y_known : Known config app y
+    y_known = (each_append (Known config app) (before ++ first ∷ group) (y ∷ (rest ++ behind)) (known (before ++ first ∷ group) (rest ++ behind) y at_y)).1.0
+
+    -- where no counter is due in front of it, none arrived with these
+    no_arrivals : NoTicks config y.found → AllByRecursion (λ x. is_counter x.stamped.event ≡ false) (first ∷ group)
+    no_arrivals calm = calm_group config app first.start first.found (first ∷ group) (refl, refl, group_links) group_known admits (subst (NoTicks config) y_found calm)
+      where
+        on : Linked first.start first.found (first ∷ (group ++ y ∷ (rest ++ behind)))
+        on = (refl, refl, (linked_behind 0 (opening config app) before (first ∷ (group ++ y ∷ (rest ++ behind))) (subst (Linked 0 (opening config app)) whole_is (stages_linked config app 0 (opening config app) events))).2)
+
+        group_links : Linked (end_of first) first.next group
+        group_links = linked_front (end_of first) first.next group (y ∷ (rest ++ behind)) on.2
+
+        y_found : y.found ≡ last_state first.found (first ∷ group)
+        y_found = (linked_behind (end_of first) first.next group (y ∷ (rest ++ behind)) on.2).1
+
+        group_known : AllByRecursion (Known config app) (first ∷ group)
+        group_known =
+            (each_append (Known config app) (first ∷ group) (y ∷ (rest ++ behind))
+            (each_append (Known config app) before ((first ∷ group) ++ y ∷ (rest ++ behind))
+            (subst (AllByRecursion (Known config app)) whole_is
+            (stages_known config app (facts config app wf) 0 (opening config app) osek.0 events (opening_ordered config app) (opening_valid config app) leads))).1).0
+
     soon_from : end_of first ≤ y.stamped.stamp.from
     soon_from = let le = begins (before ++ first ∷ group) (rest ++ behind) y at_y other in let same = start_is in omega (arith, le, same)
 
     soon_behind : EndsSoon h lead first (y ∷ rest)
     soon_behind =
-        each_so (λ x. y.stamped.stamp.from ≤ x.stamped.stamp.at) (λ x. makes_ready h x ≡ true → end_of first ≤ x.stamped.stamp.at + lead)
+        each_so (λ x. y.stamped.stamp.from ≤ x.stamped.stamp.at) (λ x. comes_at h x ≡ true → end_of first ≤ x.stamped.stamp.at + lead)
         (λ x le makes. let from = soon_from in omega (arith, le, from)) (y ∷ rest)
         (each_append (λ x. y.stamped.stamp.from ≤ x.stamped.stamp.at) (y ∷ rest) behind (moments_behind (before ++ first ∷ group) (rest ++ behind) y at_y other)).0
 
     -- before a moment that makes h Ready, where a service behind admissions is of a task below h
     pub soon_served : IsLowService config h y → EndsSoon h lead first ((first ∷ group) ++ y ∷ rest)
     soon_served low =
-        each_joined (λ x. makes_ready h x ≡ true → end_of first ≤ x.stamped.stamp.at + lead) (first ∷ group) (y ∷ rest)
-        (each_so (λ x. makes_ready h x ≡ true → y.stamped.stamp.from < x.stamped.stamp.at) (λ x. makes_ready h x ≡ true → end_of first ≤ x.stamped.stamp.at + lead)
-        (λ x later makes. let less = later makes in let from = soon_from in omega (arith, less, from)) (first ∷ group)
-        (group_later before (first ∷ group) y (rest ++ behind) whole_is admits low)) soon_behind
+        each_joined (λ x. comes_at h x ≡ true → end_of first ≤ x.stamped.stamp.at + lead) (first ∷ group) (y ∷ rest)
+        (each_so (λ x. (makes_ready h x ≡ true → y.stamped.stamp.from < x.stamped.stamp.at) × (is_counter x.stamped.event ≡ false))
+        (λ x. comes_at h x ≡ true → end_of first ≤ x.stamped.stamp.at + lead)
+        (λ x both comes. let less = both.0 (made_alone (makes_ready h x) (is_counter x.stamped.event) both.1 comes) in let from = soon_from in omega (arith, less, from)) (first ∷ group)
+        (each_both (λ x. makes_ready h x ≡ true → y.stamped.stamp.from < x.stamped.stamp.at) (λ x. is_counter x.stamped.event ≡ false) (first ∷ group)
+        (group_later before (first ∷ group) y (rest ++ behind) whole_is admits low)
+        (no_arrivals (served_calm config app y low.caller y_known.step low.serves)))) soon_behind
 
     -- or where h itself is Active as the period begins
-    pub soon_active : IsActive first.found h → EndsSoon h lead first ((first ∷ group) ++ y ∷ rest)
-    soon_active active =
-        each_joined (λ x. makes_ready h x ≡ true → end_of first ≤ x.stamped.stamp.at + lead) (first ∷ group) (y ∷ rest)
-        (each_so (λ x. makes_ready h x ≡ true → ⊥) (λ x. makes_ready h x ≡ true → end_of first ≤ x.stamped.stamp.at + lead) (λ x never makes. absurd (never makes)) (first ∷ group)
-        (none_made config app h first.start first.found (first ∷ group) (refl, refl, links_on) known_on admits active)) soon_behind
+    pub soon_active : is_left h y.stamped.event ≡ true → IsActive first.found h → EndsSoon h lead first ((first ∷ group) ++ y ∷ rest)
+    soon_active left active =
+        each_joined (λ x. comes_at h x ≡ true → end_of first ≤ x.stamped.stamp.at + lead) (first ∷ group) (y ∷ rest)
+        (each_so (λ x. (makes_ready h x ≡ true → ⊥) × (is_counter x.stamped.event ≡ false)) (λ x. comes_at h x ≡ true → end_of first ≤ x.stamped.stamp.at + lead)
+        (λ x both comes. absurd (both.0 (made_alone (makes_ready h x) (is_counter x.stamped.event) both.1 comes))) (first ∷ group)
+        (each_both (λ x. makes_ready h x ≡ true → ⊥) (λ x. is_counter x.stamped.event ≡ false) (first ∷ group)
+        (none_made config app h first.start first.found (first ∷ group) (refl, refl, links_on) known_on admits active) (no_arrivals (left_calm config app y h y_known.step left)))) soon_behind
       where
         links_on : Linked (end_of first) first.next group
         links_on =

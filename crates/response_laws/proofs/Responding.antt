@@ -13,7 +13,7 @@ use Rattle.sloth_base.specs.declared.event.Event.TheVariants as event
 use Rattle.sloth_base.specs.declared.event.Stamped.{Stamped}
 use Rattle.code_rules.specs.WellFormed.{WellFormed}
 use Rattle.osek_scheduler.specs.declared.state.TaskState.TheVariants as mode
-use Rattle.osek_scheduler.specs.State.{System, task, opening}
+use Rattle.osek_scheduler.specs.State.{System, task, counter, opening}
 use Rattle.osek_scheduler.specs.Next.{is_ready}
 use Rattle.osek_scheduler.specs.Priority.{IsDue}
 use Rattle.osek_scheduler.specs.InTime.{IsOrdered, StandsBefore, InTime, is_admit}
@@ -29,18 +29,35 @@ use Rattle.run_counts.specs.Rounds.{is_left, total}
 use Rattle.run_counts.specs.OwnCounts.{IsShared}
 use Rattle.event_weights.specs.Events.{has_frames}
 use Rattle.response_laws.specs.Sums.{count}
-use Rattle.response_laws.specs.Turns.{as_said, is_ready_for, is_made, makes_ready, has_grown, activated, was_set}
+use Rattle.sloth_base.specs.Options.{is_number}
+use Rattle.response_laws.specs.Turns.{ticking_counter, is_counter, comes_at, as_said, is_ready_for, is_made, makes_ready, has_grown, activated, was_set}
 use Rattle.response_laws.specs.Busy.{is_quiet, LeavesFirst, IsLeaving, LeavesOnce}
 use Rattle.response_laws.specs.Demand.{Costs, Start, acts_due, sets_due, IsEnough}
 use Rattle.response_laws.specs.Bounded.{BoundsRounds, EndsSoon, StartsInOne}
-use Rattle.response_laws.specs.Response.{LeavesBefore, EndsWithin, HasPace, EntersOnce, LastsWithin, RespondsInTime}
-use Rattle.response_laws.proofs.Linked.{Known, last_state, last_end, each_append, each_joined, each_so, last_end-append, stages_linked, stages_known, stages-append, leads_to, behind_is}
+use Rattle.response_laws.specs.Response.{IsEdge, LeavesBefore, EndsWithin, HasPace, EntersOnce, IsAsked, IsCounted, LastsWithin, RespondsInTime}
+use Rattle.response_laws.proofs.Counters.{arrived, on_along}
+use Rattle.response_laws.proofs.Passing.{Cut, at_one, in_front, behind_it, cut, head_or, tail_of}
+use Rattle.response_laws.proofs.Linked.{Linked, linked_front, linked_behind, Known, last_state, last_end, each_append, each_joined, each_so, last_end-append, stages_linked, stages_known, stages-append, leads_to, behind_is}
 use Rattle.response_laws.proofs.Ordering.{ordered_front, ends_before, all_end}
 use Rattle.response_laws.proofs.Sums.{total-append}
 use Rattle.response_laws.proofs.Period.{Calm, quiet_calm, leaving_calm, period_holds}
 use Rattle.response_laws.proofs.Begun.{Begun, Scan, scanned, pending, nothing, scan}
 use Rattle.response_laws.proofs.Staying.{stays_due}
 use Rattle.response_laws.proofs.Starting.{opening_quiet, due_busy, IsBusy, over_itself}
+
+or_right : (a b : Bool) → b ≡ true → (a || b) ≡ true
+or_right true b is = refl
+or_right false b is = is
+
+-- what holds of all but the last of these holds of those in front of any of them
+prefix : {X : Type 0} (P : X → Type 0) (xs : List X) (y : X) (ys rs : List X) (z : X) → rs ++ z ∷ [] ≡ xs ++ y ∷ ys → AllByRecursion P rs → AllByRecursion P xs
+prefix P [] y ys rs z e each = tt
+prefix P (x ∷ xs) y ys [] z e each = absurd (none xs (ap tail_of e))
+  where
+    none : (zs : List _) → [] ≡ zs ++ y ∷ ys → ⊥
+    none [] e = cc
+    none (z ∷ zs) e = cc
+prefix P (x ∷ xs) y ys (r ∷ rs) z e each = (subst P (ap (head_or r) e) each.0, prefix P xs y ys rs z (ap tail_of e) each.1)
 
 -- ---- what ends near a moment
 
@@ -145,11 +162,11 @@ lefts h xs = count (λ x. is_left h x.stamped.event) xs
 -- ---- the response
 
 module _ (config : Config) (app : App) (n late more : ℕ) (arrivals : List Arrival) (events : List Stamped) (h r : ℕ) (cuts : ℕ → Bool) (costs : Costs)
-    (once : Bool) (starts : ℕ) (start : ℕ → Start) (enters : once ≡ true → EntersOnce config h cuts) (wf : WellFormed config app)
+    (once boot : Bool) (starts : ℕ) (start : ℕ → Start) (enters : once ≡ true → EntersOnce config h cuts) (wf : WellFormed config app)
     (run : OsekRun config app events) (in_time : InTime config n arrivals events) (pace : HasPace n late more events)
     (shared : AllByRecursion (IsShared config) (run_stages config app events))
     (bounds : BoundsRounds config h cuts costs (run_stages config app events)) (ways : StartsInOne config h once starts start (run_stages config app events))
-    (enough : (i : ℕ) → i < starts → IsEnough config h once costs (start i)) (lasts : (i : ℕ) → i < starts → LastsWithin h r (start i)) where
+    (enough : (i : ℕ) → i < starts → IsCounted boot (start i) → IsEnough config h once costs (start i)) (lasts : (i : ℕ) → i < starts → IsCounted boot (start i) → LastsWithin h r (start i)) where
   whole : AreStepsTo config app events (opening config app) run.0
   whole = follows_leads config app [] (opening config app) events run.0 run.1
 
@@ -157,41 +174,44 @@ module _ (config : Config) (app : App) (n late more : ℕ) (arrivals : List Arri
   known = stages_known config app (facts config app wf) 0 (opening config app) run.0 events (opening_ordered config app) (opening_valid config app) whole
 
   -- where it is made it has a round
-  has_round : (i : ℕ) → i < starts → h < length config.tasks → 1 ≤ acts_due config h costs (start i) h + sets_due config h costs (start i) h
+  has_round : (i : ℕ) → i < starts → IsCounted boot (start i) → h < length config.tasks → 1 ≤ acts_due config h costs (start i) h + sets_due config h costs (start i) h
       → 1 ≤ (start i).firsts h + (start i).nexts h
-  has_round i lt declared made = by (cases_Bool once)
+  has_round i lt counted declared made = by (cases_Bool once)
     where
       by : (once ≡ true) ⊎ (once ≡ false) → 1 ≤ (start i).firsts h + (start i).nexts h
-      by (inl on) = let number = ((enough i lt).entered on).number in omega (arith, number, made)
+      by (inl on) = let number = ((enough i lt counted).entered on).number in omega (arith, number, made)
       by (inr off) =
           let other = ap (λ b. b && (h == h)) off in
-          let acts = (enough i lt).firsts h declared (over_itself config h) other in
-          let sets = (enough i lt).nexts h declared (over_itself config h) other in
+          let acts = (enough i lt counted).firsts h declared (over_itself config h) other in
+          let sets = (enough i lt counted).nexts h declared (over_itself config h) other in
           omega (arith, acts, sets, made)
 
-  -- a period of the run, in which task h is made Ready, ends in time, and its first stage soon
+  -- a period of the run that counts, in which task h is made Ready, ends in time, and its first stage soon
   ends_by : (before : List Stage) (first : Stage) (period behind : List Stage) → run_stages config app events ≡ before ++ ((first ∷ period) ++ behind)
       → (is_quiet config h first.found ≡ true) ⊎ ((once ≡ true) × IsLeaving config h first period) → AllByRecursion (IsBusy config h) period
-      → (once ≡ true → LeavesOnce h first period) → h < length config.tasks → 1 ≤ total (activated h) (first ∷ period) + total (was_set h) (first ∷ period)
-      → (lead : ℕ) × EndsSoon h lead first (first ∷ period) × (last_end (end_of first) period + lead ≤ end_of first + r)
-  ends_by before first period behind part begins busy low declared made =
+      → (once ≡ true → LeavesOnce h first period) → (before ≡ [] → boot ≡ true) → h < length config.tasks → 1 ≤ total (activated h) (first ∷ period) + total (was_set h) (first ∷ period)
+      → (lead : ℕ) × EndsSoon h lead first (first ∷ period) × (last_end (end_of first) period + lead ≤ end_of first + r) × (0 < r)
+  ends_by before first period behind part begins busy low asked declared made =
       let way = ways first period (record { before = before; behind = behind; part = part; begins = begins; busy = busy; leaves_once = low }) in
+      let counted : IsCounted boot (start way.0) = λ boots. asked (way.4 boots) in
       let holds = period_holds config app h cuts costs (run_stages config app events) bounds (facts config app wf) (opening config app)
-      (stages_linked config app 0 (opening config app) events) known shared (start way.0) once (λ on. (enters on).whole) (enough way.0 way.1) before first (calm begins) period behind
+      (stages_linked config app 0 (opening config app) events) known shared (start way.0) once (λ on. (enters on).whole) (enough way.0 way.1 counted) before first (calm begins) period behind
       part way.2 low in
       let over = over_itself config h in
       let acts = holds.few.acts h declared over in
       let sets = holds.few.sets h declared over in
-      let lasting = lasts way.0 way.1 (has_round way.0 way.1 declared (omega (arith, acts, sets, made))) in
+      let lasting = lasts way.0 way.1 counted (has_round way.0 way.1 counted declared (omega (arith, acts, sets, made))) in
       let ends = holds.ends in
-      ((start way.0).lead, way.3, omega (arith, lasting, ends))
+      let most = lasting.1 in
+      ((start way.0).lead, way.3, omega (arith, most, ends), lasting.0)
     where
       calm : (is_quiet config h first.found ≡ true) ⊎ ((once ≡ true) × IsLeaving config h first period) → Calm config h once first.found
       calm (inl quiet) = quiet_calm config h once first.found quiet
       calm (inr (on, leaving)) = subst (λ b. Calm config h b first.found) (sym on) (leaving_calm config h first.found leaving.alone leaving.active)
 
   module _ (before behind : List Stamped) (made : Stamped) (found s : System) (is : events ≡ before ++ made ∷ behind)
-      (leads : AreStepsTo config app before (opening config app) found) (makes : MakesReady config app h made.event found s) where
+      (leads : AreStepsTo config app before (opening config app) found) (makes : MakesReady config app h made.event found s)
+      (asked : IsAsked boot config app h (before ++ made ∷ [])) where
     abbrev up : List Stamped
     up = before ++ made ∷ []
 
@@ -284,6 +304,41 @@ module _ (config : Config) (app : App) (n late more : ℕ) (arrivals : List Arri
         by (pending on busy beginning one) = absurd (never up refl busy)
         by (nothing busy none) = absurd (never up refl busy)
 
+    -- a period that begins with the first event of the run has no quiet state behind boot
+    counts_so : begun.before ≡ [] → boot ≡ true
+    counts_so none = by (cases_Bool boot)
+      where
+        at_quiet : (b : Stamped) (fs : List Stamped) (e : Stamped) (es : List Stamped) (found : System) → up ≡ (b ∷ fs) ++ e ∷ es
+            → AreStepsTo config app (b ∷ fs) (opening config app) found → is_quiet config h found ≡ true
+            → (first : Stage) (behind : List Stage) → stages config app 0 (opening config app) up ≡ first ∷ behind → AllByRecursion (IsBusy config h) behind → ⊥
+        at_quiet b fs e es found parts leads quiet first behind same busy =
+            true≢false (sym quiet ∙ ap (is_quiet config h) (sym (leads_to config app 0 (opening config app) found (b ∷ fs) leads)) ∙ there.0)
+          where
+            tail_of : List Stage → List Stage
+            tail_of [] = []
+            tail_of (x ∷ xs) = xs
+
+            first_of : Stage
+            first_of = stage config app 0 (opening config app) b
+
+            further : List Stage
+            further = stages config app (end_of first_of) first_of.next fs
+
+            here : Stage
+            here = stage config app (last_end 0 (stages config app 0 (opening config app) (b ∷ fs))) (last_state (opening config app) (stages config app 0 (opening config app) (b ∷ fs))) e
+
+            is_behind : behind ≡ further ++ here ∷ stages config app (end_of here) here.next es
+            is_behind = ap tail_of (sym same ∙ ap (stages config app 0 (opening config app)) parts ∙ stages-append config app 0 (opening config app) (b ∷ fs) (e ∷ es))
+
+            there : AllByRecursion (IsBusy config h) (here ∷ stages config app (end_of here) here.next es)
+            there = (each_append (IsBusy config h) further (here ∷ stages config app (end_of here) here.next es) (subst (AllByRecursion (IsBusy config h)) is_behind busy)).1
+
+        by : (boot ≡ true) ⊎ (boot ≡ false) → boot ≡ true
+        by (inl on) = on
+        by (inr off) =
+            let a = asked off in
+            absurd (at_quiet a.boot a.front a.here a.rest a.found a.parts a.leads a.quiet begun.first begun.behind (begun.parts ∙ ap (λ bs. bs ++ begun.first ∷ begun.behind) none) begun.busy)
+
     -- a sum over the stages from the first one on has that of the making
     has_making : (f : Stage → ℕ) → f making ≤ total f (begun.first ∷ begun.behind)
     has_making f = last_in begun.before begun.first begun.behind (sym (begun.parts) ∙ front_is)
@@ -315,27 +370,91 @@ module _ (config : Config) (app : App) (n late more : ℕ) (arrivals : List Arri
         (sym (last_of-append making begun.before begun.first begun.behind) ∙ ap (last_of making) (sym begun.parts ∙ front_is) ∙ last_of-append making past making [])
         (at_last P begun.first begun.behind each)
 
+    -- the period begins near each edge of the making
+    near_edge : (edge lead : ℕ) → IsEdge before made edge → EndsSoon h lead begun.first (begun.first ∷ begun.behind) → end_of begun.first ≤ edge + lead
+    near_edge edge lead (inl same) soon =
+        let le = at_making (λ x. comes_at h x ≡ true → end_of begun.first ≤ x.stamped.stamp.at + lead) soon
+        (ap (λ b. b || is_counter made.event)
+        (and_from (not (is_ready (task making.found h).state)) (is_ready (task making.next h).state) (not_from_false (is_ready (task making.found h).state) not_before) ready)) in
+        omega (arith, le, same)
+    near_edge edge lead (inr t) soon = let le = by (cut earlier arrival (later ++ making ∷ []) begun.before begun.first begun.behind whole_is) in let same = t.is in omega (arith, le, same)
+      where
+        earlier : List Stage
+        earlier = stages config app 0 (opening config app) t.front
+
+        arrival : Stage
+        arrival = stage config app (last_end 0 earlier) (last_state (opening config app) earlier) t.arrival
+
+        later : List Stage
+        later = stages config app (end_of arrival) arrival.next t.rest
+
+        past_is : past ≡ earlier ++ arrival ∷ later
+        past_is = ap (stages config app 0 (opening config app)) t.parts ∙ stages-append config app 0 (opening config app) t.front (t.arrival ∷ t.rest)
+
+        split_is : front ≡ earlier ++ arrival ∷ (later ++ making ∷ [])
+        split_is = front_is ∙ ap (λ zs. zs ++ making ∷ []) past_is ∙ append_assoc earlier (arrival ∷ later) (making ∷ [])
+
+        whole_is : earlier ++ arrival ∷ (later ++ making ∷ []) ≡ begun.before ++ begun.first ∷ begun.behind
+        whole_is = sym split_is ∙ begun.parts
+
+        known_on : AllByRecursion (Known config app) (arrival ∷ (later ++ making ∷ []))
+        known_on = (each_append (Known config app) earlier (arrival ∷ (later ++ making ∷ [])) (subst (AllByRecursion (Known config app)) split_is known_front)).1
+
+        links_on : Linked (end_of arrival) arrival.next (later ++ making ∷ [])
+        links_on =
+            (linked_behind 0 (opening config app) earlier (arrival ∷ (later ++ making ∷ []))
+            (subst (Linked 0 (opening config app)) split_is (stages_linked config app 0 (opening config app) up))).2
+
+        no_ticks : (at : ℕ) (x : System) (es : List Stamped) → AllByRecursion (λ (e : Stamped). is_number t.counter (ticking_counter e.event) ≡ false) es
+            → AllByRecursion (λ x. is_number t.counter (ticking_counter x.stamped.event) ≡ false) (stages config app at x es)
+        no_ticks at x [] none = tt
+        no_ticks at x (e ∷ es) none = (none.0, no_ticks (end_of (stage config app at x e)) (state_behind config app e.event x) es none.1)
+
+        near_arrival : (comes_at h arrival ≡ true → end_of begun.first ≤ t.arrival.stamp.at + lead) → end_of begun.first ≤ t.arrival.stamp.at + lead
+        near_arrival soon = soon (or_right (makes_ready h arrival) (is_counter t.arrival.event) (ap is_counter t.arrives))
+
+        calm_begin : (is_quiet config h begun.first.found ≡ true) ⊎ ((once ≡ true) × IsLeaving config h begun.first begun.behind) → Calm config h once begun.first.found
+        calm_begin (inl quiet) = quiet_calm config h once begun.first.found quiet
+        calm_begin (inr (on, leaving)) = subst (λ b. Calm config h b begun.first.found) (sym on) (leaving_calm config h begun.first.found leaving.alone leaving.active)
+
+        by : Cut earlier arrival (later ++ making ∷ []) begun.before begun.first begun.behind → end_of begun.first ≤ t.arrival.stamp.at + lead
+        by (at_one same) = near_arrival (subst (λ x. comes_at h x ≡ true → end_of begun.first ≤ x.stamped.stamp.at + lead) (sym same) soon.0)
+        by (behind_it mid is rest) =
+            near_arrival
+            (each_append (λ x. comes_at h x ≡ true → end_of begun.first ≤ x.stamped.stamp.at + lead) mid (arrival ∷ (later ++ making ∷ []))
+            (subst (AllByRecursion (λ x. comes_at h x ≡ true → end_of begun.first ≤ x.stamped.stamp.at + lead)) rest soon.1)).1.0
+        by (in_front mid is rest) =
+            let due = arrived config app t.counter arrival known_on.0 t.arrives in
+            let none = prefix (λ x. is_number t.counter (ticking_counter x.stamped.event) ≡ false) mid begun.first begun.behind later making rest
+            (no_ticks (end_of arrival) arrival.next t.rest t.none) in
+            let links = subst (Linked (end_of arrival) arrival.next) rest links_on in
+            let there = (each_append (Known config app) mid (begun.first ∷ begun.behind) (subst (AllByRecursion (Known config app)) rest known_on.1)).0 in
+            let on = on_along config app t.counter (end_of arrival) arrival.next mid (linked_front (end_of arrival) arrival.next mid (begun.first ∷ begun.behind) links) there none due.0 in
+            let found_so = (linked_behind (end_of arrival) arrival.next mid (begun.first ∷ begun.behind) links).1 in
+            let zero = (calm_begin begun.begins).counters t.counter due.1 in
+            let one = ap {B = ℕ} (λ b. cond b 1 0) (subst (λ (x : System). (counter x t.counter).due ≡ true) (sym found_so) on) in
+            absurd (omega (arith, zero, one))
+
     -- the last count of the events up to the making is that of the first and those behind it
     at_is : at ≡ last_end (end_of begun.first) begun.behind
     at_is = ap (last_end 0) begun.parts ∙ last_end-append 0 begun.before (begun.first ∷ begun.behind)
 
     -- from the first event on the period goes on as long as the task does not leave
-    goes_on : (period further : List Stage) → stages config app at s behind ≡ period ++ further → AllByRecursion (IsBusy config h) period
-        → (once ≡ true → LeavesOnce h begun.first (begun.behind ++ period)) → (last_end at period ≤ made.stamp.at + r) × (last_end at period ≤ end_of begun.first + r)
-    goes_on period further same busy low =
+    goes_on : (edge : ℕ) → IsEdge before made edge → (period further : List Stage) → stages config app at s behind ≡ period ++ further → AllByRecursion (IsBusy config h) period
+        → (once ≡ true → LeavesOnce h begun.first (begun.behind ++ period)) → (last_end at period ≤ edge + r) × (last_end at period ≤ end_of begun.first + r) × (0 < r)
+    goes_on edge has period further same busy low =
         let acts = has_making (activated h) in
         let sets = has_making (was_set h) in
         let one = makes_one in
         let more_acts = total-append (activated h) begun.behind period in
         let more_sets = total-append (was_set h) begun.behind period in
         let here = ends_by begun.before begun.first (begun.behind ++ period) further part (begins begun.begins)
-        (each_joined (IsBusy config h) begun.behind period begun.busy busy) low makes.declared (omega (arith, acts, sets, one, more_acts, more_sets)) in
+        (each_joined (IsBusy config h) begun.behind period begun.busy busy) low counts_so makes.declared (omega (arith, acts, sets, one, more_acts, more_sets)) in
         let joined = last_end-append (end_of begun.first) begun.behind period ∙ ap (λ k. last_end k period) (sym at_is) in
-        let IsSoon : Stage → Type 0 = λ x. makes_ready h x ≡ true → end_of begun.first ≤ x.stamped.stamp.at + here.0 in
-        let near = at_making IsSoon (each_append IsSoon (begun.first ∷ begun.behind) period here.1).0
-        (and_from (not (is_ready (task making.found h).state)) (is_ready (task making.next h).state) (not_from_false (is_ready (task making.found h).state) not_before) ready) in
+        let IsSoon : Stage → Type 0 = λ x. comes_at h x ≡ true → end_of begun.first ≤ x.stamped.stamp.at + here.0 in
+        let near = near_edge edge here.0 has (each_append IsSoon (begun.first ∷ begun.behind) period here.1).0 in
         let ends = here.2 in
-        (omega (arith, ends, joined, near), omega (arith, ends, joined))
+        (omega (arith, ends, joined, near), omega (arith, ends, joined), here.3)
       where
         part : run_stages config app events ≡ begun.before ++ ((begun.first ∷ (begun.behind ++ period)) ++ further)
         part =
@@ -408,9 +527,9 @@ module _ (config : Config) (app : App) (n late more : ℕ) (arrivals : List Arri
         (each_append (λ x. end_of x ≤ e.stamp.from) begun.before (begun.first ∷ begun.behind) (subst (AllByRecursion (λ x. end_of x ≤ e.stamp.from)) begun.parts all)).1.0
 
     -- an event in front of which the task has not left
-    pub pends : (first : List Stamped) (e : Stamped) (rest : List Stamped) → behind ≡ first ++ e ∷ rest → AllByRecursion (λ x. is_left h x.event ≡ false) first
-        → is_admit e ≡ false → EndsWithin r made.stamp.at e
-    pends first e rest parts none other =
+    pub pends : (edge : ℕ) → IsEdge before made edge → (first : List Stamped) (e : Stamped) (rest : List Stamped) → behind ≡ first ++ e ∷ rest → AllByRecursion (λ x. is_left h x.event ≡ false) first
+        → is_admit e ≡ false → EndsWithin r edge e
+    pends edge has first e rest parts none other =
         let halves = leads-parts config app first (e ∷ rest) s run.0 (subst (λ es. AreStepsTo config app es s run.0) parts behind_leads) in
         let due = due_on config app late h makes.declared at s halves.0 first halves.1 (inl makes.behind) none in
         let xs = stages config app at s first in
@@ -419,7 +538,7 @@ module _ (config : Config) (app : App) (n late more : ℕ) (arrivals : List Arri
         let busy_last : IsBusy config h last = due_busy config h (last_state s xs) makes.declared (subst (λ x. IsDue x h) (sym reached) due.1) in
         let there = ap (stages config app at s) parts ∙ stages-append config app at s first (e ∷ rest)
         ∙ sym (append_assoc xs (last ∷ []) (stages config app (end_of last) last.next rest)) in
-        let le = goes_on (xs ++ last ∷ []) (stages config app (end_of last) last.next rest) there
+        let le = goes_on edge has (xs ++ last ∷ []) (stages config app (end_of last) last.next rest) there
         (each_joined (IsBusy config h) xs (last ∷ []) due.0 (busy_last, tt))
         (λ on ahead further end same.
         let le = prefix_few (begun.first ∷ (begun.behind ++ xs)) last ahead further end
@@ -434,10 +553,19 @@ module _ (config : Config) (app : App) (n late more : ℕ) (arrivals : List Arri
         let short = le.1 in
         record { ends = omega (arith, soon, ends); spans = omega (arith, short, ends, from) }
 
-    pub responds : made.stamp.at + r + more ≤ n → LeavesBefore h (made.stamp.at + r) behind
-    responds many = by (leaving config app late h behind)
+    pub some : 0 < r
+    some =
+        (goes_on made.stamp.at (inl refl) [] (stages config app at s behind) refl tt
+        (λ on ahead further end same.
+        let le = whole_few ahead further end (begun.first ∷ (begun.behind ++ [])) same in
+        let own = begun.few on in
+        let both = total-append (λ x. cond (is_left h x.stamped.event) 1 0) begun.behind [] in
+        omega (arith, le, own, both))).2
+
+    pub responds : (edge : ℕ) → IsEdge before made edge → edge + r + more ≤ n → LeavesBefore h (edge + r) behind
+    responds edge has many = by (leaving config app late h behind)
       where
-        by : Leaving config app late h behind → LeavesBefore h (made.stamp.at + r) behind
+        by : Leaving config app late h behind → LeavesBefore h (edge + r) behind
         by (leaves first left rest parts none leaves_h) = record {
           front = first;
           left = left;
@@ -445,11 +573,11 @@ module _ (config : Config) (app : App) (n late more : ℕ) (arrivals : List Arri
           parts = parts;
           first = none;
           leaves = leaves_h;
-          in_time = (pends first left rest parts none (left_no_admit h left leaves_h)).ends;
+          in_time = (pends edge has first left rest parts none (left_no_admit h left leaves_h)).ends;
         }
         by (leaves_not none) =
             let due = due_on config app late h makes.declared at s run.0 behind behind_leads (inl makes.behind) none in
-            let le = (goes_on (stages config app at s behind) [] (sym (append-nil (stages config app at s behind))) due.0
+            let le = (goes_on edge has (stages config app at s behind) [] (sym (append-nil (stages config app at s behind))) due.0
             (λ on ahead further end e.
             let le = whole_few ahead further end (begun.first ∷ (begun.behind ++ stages config app at s behind)) e in
             let own = begun.few on in
@@ -464,9 +592,11 @@ module _ (config : Config) (app : App) (n late more : ℕ) (arrivals : List Arri
             absurd (omega (arith, le, end, last, no_less, enough_counts))
 
 pub respond_in_time : RespondsInTime
-respond_in_time config app n late more arrivals events h r cuts costs once starts start enters wf run in_time pace shared bounds ways enough lasts = record {
-  leaves = λ before behind made found s is leads makes many.
-      responds config app n late more arrivals events h r cuts costs once starts start enters wf run in_time pace shared bounds ways enough lasts before behind made found s is leads makes many;
-  pends = λ before front rest made e found s is leads makes none other.
-      pends config app n late more arrivals events h r cuts costs once starts start enters wf run in_time pace shared bounds ways enough lasts before (front ++ e ∷ rest) made found s is leads makes front e rest refl none other;
+respond_in_time config app n late more arrivals events h r cuts costs once boot starts start enters wf run in_time pace shared bounds ways enough lasts = record {
+  some = λ before behind made found s is leads makes asked.
+      some config app n late more arrivals events h r cuts costs once boot starts start enters wf run in_time pace shared bounds ways enough lasts before behind made found s is leads makes asked;
+  leaves = λ before behind made found s edge is leads makes asked has many.
+      responds config app n late more arrivals events h r cuts costs once boot starts start enters wf run in_time pace shared bounds ways enough lasts before behind made found s is leads makes asked edge has many;
+  pends = λ before front rest made e found s edge is leads makes asked has none other.
+      pends config app n late more arrivals events h r cuts costs once boot starts start enters wf run in_time pace shared bounds ways enough lasts before (front ++ e ∷ rest) made found s is leads makes asked edge has front e rest refl none other;
 }

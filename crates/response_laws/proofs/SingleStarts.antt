@@ -13,7 +13,7 @@ use Rattle.osek_scheduler.specs.State.{Task, System, sleeping_task, task}
 use Rattle.osek_scheduler.specs.Services.{ServiceOutcome, GoesOn, Leaves}
 use Rattle.osek_scheduler.specs.Steps.{OsekStep, IsServiceStep}
 use Rattle.osek_scheduler.specs.Valid.{InState}
-use Rattle.osek_scheduler.specs.Apart.{static_priority}
+use Rattle.osek_scheduler.specs.Apart.{IsActive, static_priority}
 use Rattle.osek_scheduler.proofs.Facts.{Facts}
 use Rattle.osek_scheduler.proofs.Steps.{autostarted_at}
 use Rattle.raised_sections.specs.Sections.{operation_at, IsLower}
@@ -39,6 +39,8 @@ use Rattle.response_laws.proofs.Attributed.{declared_by_step}
 use Rattle.response_laws.proofs.Blocking.{admitted_no_other}
 use Rattle.response_laws.proofs.Counting.{counted_going, counted_lighter}
 use Rattle.response_laws.proofs.SectionShares.{executed_fits, leaving_fits}
+use Rattle.response_laws.specs.Never.{OthersSleep}
+use Rattle.response_laws.proofs.Awake.{active_comes}
 use Rattle.response_laws.proofs.Steps.{activated_between, set_between, not_activated, not_set, starting_sets_none}
 use Rattle.response_laws.proofs.Uncounted.{booted_acts, itself, no_call_counts, runs_no_call}
 use Rattle.response_laws.proofs.Seen.{position, Seen, stands_reached, entry_acts, entry_sets}
@@ -56,6 +58,7 @@ module _ (config : Config) (app : App) (w : Facts config app) (size : ItemSizes)
   module _ (x : Stage) (s : Seen config app size longest x) where
     -- what a service of task t has, and where it stands
     record Serving (t : ℕ) : Type 0 where
+      active : IsActive x.found t
       charge : charged x ≤ ending_at weights (position x t)
       acts : (j : ℕ) → activated j x ≤ ending_at (activation_weights app t j) (position x t)
       sets : (j : ℕ) → was_set j x ≤ ending_at (setting_weights app j) (position x t)
@@ -70,6 +73,7 @@ module _ (config : Config) (app : App) (w : Facts config app) (size : ItemSizes)
     called t served status is step =
         let ran : is_executed t x.stamped.event ≡ true = ap (is_executed t) is ∙ itself t in
         record {
+          active = step.1.1.at.active;
           charge =
               let le = executed_fits config app w size longest weights weighs ends (charged x) x.found x.next x.stamped.event t s.known.step s.within ran in
               let more = lighter config app w size longest weights weighs ends (position x t) in
@@ -87,6 +91,7 @@ module _ (config : Config) (app : App) (w : Facts config app) (size : ItemSizes)
     left_with t served is step =
         let left : is_left t x.stamped.event ≡ true = ap (is_left t) is ∙ itself t in
         record {
+          active = step.1.1.at.active;
           charge = leaving_fits config app w size longest weights weighs ends (charged x) x.found x.next x.stamped.event t s.known.step s.within left;
           acts = λ j. (s.acts t j).leaves left;
           sets = λ j. (s.sets t j).leaves left;
@@ -94,7 +99,8 @@ module _ (config : Config) (app : App) (w : Facts config app) (size : ItemSizes)
           call = at_call t served (Leaves step.1.0) step.1.1;
         }
 
-  module _ (late : ℕ) (once : Bool) (starts : ℕ) (start : ℕ → Start) (fits : FitsStarts config app longest late weights h once starts start) (x : Stage) (s : Seen config app size longest x) where
+  module _ (late : ℕ) (once : Bool) (starts : ℕ) (start : ℕ → Start) (comes : ℕ → Bool) (fits : FitsStarts config app longest late weights comes h once starts start)
+      (x : Stage) (s : Seen config app size longest x) (sleeps : OthersSleep comes x.found) where
     abbrev Opens : Type 0
     Opens = (i : ℕ) × (i < starts) × ((start i).is_boot ≡ true → is_boot x.stamped.event ≡ true) × IsWithinStart config h (begun_item longest (start i)) late (start i) x
 
@@ -165,7 +171,7 @@ module _ (config : Config) (app : App) (w : Facts config app) (size : ItemSizes)
     -- the room of a service of a lower task
     room_of : (t : ℕ) → IsLower config h t → Serving x s t
         → HaveServiceRoom config h longest late starts start (ending_at weights (position x t)) (λ j. ending_at (activation_weights app t j) (position x t)) (λ j. ending_at (setting_weights app j) (position x t))
-    room_of t lower v = fits.serves t lower (position x t) v.there v.call
+    room_of t lower v = fits.serves t lower (active_comes comes x.found sleeps t v.active) (position x t) v.there v.call
 
     lower_call : (t : ℕ) (served : Service) (status : ℕ) → x.stamped.event ≡ event.Call t served status → OsekStep config app (event.Call t served status) x.found x.next
         → is_other config h x ≡ true → IsLower config h t

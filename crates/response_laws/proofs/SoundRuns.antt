@@ -36,6 +36,8 @@ use Rattle.response_laws.proofs.Once.{rounds_make_once}
 use Rattle.response_laws.specs.Arrivals.{AreCharged}
 use Rattle.response_laws.specs.SoundRuns.{NoStretchIsAbove, KeepsWork, FitsRounds}
 use Rattle.response_laws.specs.Walked.{FirstRoundsSum, LaterRoundsSum}
+use Rattle.response_laws.specs.Never.{OthersSleep}
+use Rattle.response_laws.proofs.Awake.{opener_comes}
 use Rattle.response_laws.proofs.Linked.{Known, each_append, each_so}
 use Rattle.response_laws.proofs.RoundEnds.{rounds_make_within}
 use Rattle.response_laws.proofs.Settings.{clean_tasks_have_settings}
@@ -77,12 +79,23 @@ module _ (config : Config) (app : App) (size : ItemSizes) (longest n : ℕ) (wei
     (cuts : ℕ → Bool) (costs : Costs) (wf : WellFormed config app) (osek : OsekRun config app events) (timed : InTime config n arrivals events)
     (weighed : AreWithinWeights config app events) (spends : (t : ℕ) → t < length config.tasks → SpendsOnItems config app size longest t events)
     (weighs : WeighsItems app size weights) (ends : WeighsEndings app size weights) (works : KeepsWork config load cuts (run_stages config app events))
-    (fits : FitsRounds config app weights load h cuts costs) where
+    (comes : ℕ → Bool) (known : AllByRecursion (Known config app) (run_stages config app events)) (sleeps : AllByRecursion (λ x. OthersSleep comes x.found) (run_stages config app events))
+    (fits : FitsRounds config app weights load comes h cuts costs) where
   abbrev run : List Stage
   run = run_stages config app events
 
   each_spanned : AllByRecursion (IsSpannedWithin config app) run
   each_spanned = run_spanned config app events osek weighed
+
+  -- what is known of a stage of the run
+  there : (P : Stage → Type 0) → AllByRecursion P run → (before behind : List Stage) (opens : Stage) → run ≡ before ++ opens ∷ behind → P opens
+  there P all before behind opens is = (each_append P before (opens ∷ behind) (subst (AllByRecursion P) is all)).1.0
+
+  -- a task with a round comes
+  opener : (t : ℕ) (before behind : List Stage) (opens : Stage) → run ≡ before ++ opens ∷ behind → opens_round (cuts t) t opens.stamped.event ≡ true → comes t ≡ true
+  opener t before behind opens is begins =
+      opener_comes comes opens.found (there (λ x. OthersSleep comes x.found) sleeps before behind opens is) t config app (cuts t) opens.stamped.event opens.next
+      (there (Known config app) known before behind opens is).step begins
 
   -- a round that begins in either way opens one
   first_opens : (t : ℕ) (x : Stage) → begins_first t x ≡ true → opens_round (cuts t) t x.stamped.event ≡ true
@@ -110,16 +123,16 @@ module _ (config : Config) (app : App) (size : ItemSizes) (longest n : ℕ) (wei
   bounds_rounds = record {
     firsts = λ t lt over before behind opens is begun.
         let round = own_first config app size longest n weights load arrivals events cuts wf osek timed weighs ends works t lt (spends t lt) before behind opens is (fits.first_round t)
-        (fits.firsts t lt over) begun (first_opens t opens begun) in
+        (fits.firsts t lt over (opener t before behind opens is (first_opens t opens begun))) begun (first_opens t opens begun) in
         let front = entry_few t false before behind opens is
         (λ entry. not-true (has_frames (task opens.found t).frames) (and_parts (at_entry t opens) (not (has_frames (task opens.found t).frames)) begun).1) in
-        let whole = fits.first t in
+        let whole = fits.first t (opener t before behind opens is (first_opens t opens begun)) in
         omega (arith, round, front, whole);
     nexts = λ t lt over before behind opens is begun.
         let round = own_next config app size longest n weights load arrivals events cuts wf osek timed weighs ends works t lt (spends t lt) before behind opens is (fits.next_round t)
-        (fits.nexts t lt over) begun (next_opens t opens begun) in
+        (fits.nexts t lt over (opener t before behind opens is (next_opens t opens begun))) begun (next_opens t opens begun) in
         let front = entry_few t true before behind opens is (λ entry. again t opens begun entry) in
-        let whole = fits.next t in
+        let whole = fits.next t (opener t before behind opens is (next_opens t opens begun)) in
         omega (arith, round, front, whole);
     ticks = λ c.
         each_so (IsSpannedWithin config app) (λ x. at_tick c x ≡ true → spanned x ≤ costs.tick c)
@@ -127,10 +140,16 @@ module _ (config : Config) (app : App) (size : ItemSizes) (longest n : ℕ) (wei
         let le = tick_spanned config app c x within is in
         let whole = fits.tick c in
         omega (arith, le, whole)) run each_spanned;
-    first_acts = λ k j over made. first_makes k j over.0 (fits.first_acts k j over made);
-    next_acts = λ k j over made. next_makes k j over.0 (fits.next_acts k j over made);
-    first_sets = λ k j over made. (rounds_make_within config app events k j (cuts k) (costs.first_sets k j) wf osek).first_sets (fits.first_sets k j over made);
-    next_sets = λ k j over made. (rounds_make_within config app events k j (cuts k) (costs.next_sets k j) wf osek).next_sets (fits.next_sets k j over made);
+    first_acts = λ k j over made before behind opens is begun.
+        first_makes k j over.0 (fits.first_acts k j over made (opener k before behind opens is (first_opens k opens begun))) before behind opens is begun;
+    next_acts = λ k j over made before behind opens is begun.
+        next_makes k j over.0 (fits.next_acts k j over made (opener k before behind opens is (next_opens k opens begun))) before behind opens is begun;
+    first_sets = λ k j over made before behind opens is begun.
+        (rounds_make_within config app events k j (cuts k) (costs.first_sets k j) wf osek).first_sets
+        (fits.first_sets k j over made (opener k before behind opens is (first_opens k opens begun))) before behind opens is begun;
+    next_sets = λ k j over made before behind opens is begun.
+        (rounds_make_within config app events k j (cuts k) (costs.next_sets k j) wf osek).next_sets
+        (fits.next_sets k j over made (opener k before behind opens is (next_opens k opens begun))) before behind opens is begun;
     settings = λ t lt over is. clean_tasks_have_settings config app events t wf osek (fits.clean t lt over is);
   }
     where

@@ -299,13 +299,13 @@ module _ (config : Config) (app : App) (c : ℕ) where
       (record { activates = λ x t h. h; sets = λ x t events h. h; stores = λ x symbols h. h; sets_alarms = λ x a new h. h }) c 0 config.alarms
       (counted_on_state c (counter_declaration config c).max s) (written_same s _ refl)
 
-  tick_of_other : (s : System) (d : ℕ) → (d == c) ≡ false → (counter (ticked_state config d s) c).due ≡ (counter s c).due
+  pub tick_of_other : (s : System) (d : ℕ) → (d == c) ≡ false → (counter (ticked_state config d s) c).due ≡ (counter s c).due
   tick_of_other s d other =
       alarms_keep (DueAsBefore config app c s) (besides config app c s) d 0 config.alarms (counted_on_state d (counter_declaration config d).max s)
       (written_other s d _ other)
 
   -- what a stage does to whether the counter is due
-  abbrev Balance : Event → System → System → Type 0
+  abbrev pub Balance : Event → System → System → Type 0
   Balance e s next =
       (cond (is_number c (ticking_counter e)) 1 0 ≤ due_count c s)
       × (cond (is_number c (ticking_counter e)) 1 0 + due_count c next ≤ cond (is_number (counter_line c) (admitted_line e)) 1 0 + due_count c s)
@@ -336,7 +336,7 @@ module _ (config : Config) (app : App) (c : ℕ) where
       })
       e next
 
-  balance : (e : Event) (s next : System) → OsekStep config app e s next → Balance e s next
+  pub balance : (e : Event) (s next : System) → OsekStep config app e s next → Balance e s next
   balance e s next h = by (cases_Bool (is_number c (ticking_counter e))) (cases_Bool (is_number (counter_line c) (admitted_line e)))
     where
       by : (is_number c (ticking_counter e) ≡ true) ⊎ (is_number c (ticking_counter e) ≡ false)

@@ -35,5 +35,5 @@ FindSuspended config app n more t r d events =
 abbrev pub AdmissionsFindSuspended : Type 0
 AdmissionsFindSuspended = (config : Config) (app : App) (load : List Entry) (n more t r d : ℕ) (arrivals : List Arrival) (events : List Stamped)
     → WellFormed config app → OsekRun config app events → InTime config n arrivals events → HasDistances load → KeepDistances load arrivals
-    → RespondsWithin config app n more t r events → is_made_by_arrivals config app t ≡ true → distance load t ≡ Some d → r ≤ d
+    → RespondsWithin config app n more t r true events → is_made_by_arrivals config app t ≡ true → distance load t ≡ Some d → r ≤ d
     → FindSuspended config app n more t r d events

@@ -7,7 +7,7 @@ use Rattle.osek_scheduler.specs.Next.{is_due}
 use Rattle.run_counts.specs.Stages.{Stage, spanned, end_of}
 use Rattle.run_counts.specs.Rounds.{total}
 use Rattle.response_laws.specs.Sums.{total_where, count, is_over}
-use Rattle.response_laws.specs.Turns.{at_tick, at_admission, is_other, begins_first, begins_next, round_behind, if_turn, if_entry, makes_ready, activated, was_set}
+use Rattle.response_laws.specs.Turns.{at_tick, at_admission, is_other, begins_first, begins_next, round_behind, if_turn, if_entry, comes_at, activated, was_set}
 use Rattle.response_laws.specs.Busy.{IsBusyPeriod}
 use Rattle.response_laws.specs.Shares.{share_of, lower_counts}
 use Rattle.response_laws.specs.Demand.{Costs, Inflow, Start}
@@ -82,12 +82,13 @@ abbrev pub StartsSo : Config → (h : ℕ) → (once : Bool) → Start → (firs
 StartsSo config h once s first period =
     (front rest : List Stage) → period ≡ front ++ rest → AllByRecursion (BeginsWithin s.counts first) front → IsWithinInflow config h once s.inflow first front
 
--- from each moment at which one of these stages makes task h Ready, the first stage of the period ends within so many counts
+-- from each moment at which one of these stages makes task h Ready, or a counter due, the first stage of the period ends within so many counts
 abbrev pub EndsSoon : (h lead : ℕ) → (first : Stage) → List Stage → Type 0
-EndsSoon h lead first xs = AllByRecursion (λ x. makes_ready h x ≡ true → end_of first ≤ x.stamped.stamp.at + lead) xs
+EndsSoon h lead first xs = AllByRecursion (λ x. comes_at h x ≡ true → end_of first ≤ x.stamped.stamp.at + lead) xs
 
--- each busy period of the run starts in one of these ways, and soon
+-- each busy period of the run starts in one of these ways, and soon; with boot only where it begins with the first event of the run
 abbrev pub StartsInOne : Config → (h : ℕ) → (once : Bool) → (starts : ℕ) → (ℕ → Start) → List Stage → Type 0
 StartsInOne config h once starts start run =
-    (first : Stage) (period : List Stage) → IsBusyPeriod config h once run first period
+    (first : Stage) (period : List Stage) (busy : IsBusyPeriod config h once run first period)
     → (i : ℕ) × (i < starts) × StartsSo config h once (start i) first period × EndsSoon h (start i).lead first (first ∷ period)
+    × ((start i).is_boot ≡ true → busy.before ≡ [])

@@ -28,6 +28,7 @@ use Rattle.response_laws.specs.Sums.{is_over}
 use Rattle.response_laws.specs.Demand.{Start}
 use Rattle.response_laws.specs.Walked.{SectionsSum}
 use Rattle.response_laws.specs.Once.{IsShutOut}
+use Rattle.response_laws.specs.Never.{OthersSleep}
 use Rattle.response_laws.specs.Makers.{activation_weights, setting_weights}
 use Rattle.response_laws.specs.Starts.{begun_item, HaveStarts}
 
@@ -79,15 +80,15 @@ abbrev pub is_call : Op → Bool
 is_call (op.Serve call) = true
 is_call _ = false
 
--- For each way in which a lower task, by its code, may come into a busy period of h there is a start. But for services and sections they come with its
+-- For each way in which a lower task that comes, by its code, may come into a busy period of h there is a start. But for services and sections they come with its
 -- first event, in front of all its counts.
-pub record FitsStarts (config : Config) (app : App) (longest late : ℕ) (weights : List BodyWeights) (h : ℕ) (once : Bool) (starts : ℕ) (start : ℕ → Start) : Type 0 where
+pub record FitsStarts (config : Config) (app : App) (longest late : ℕ) (weights : List BodyWeights) (comes : ℕ → Bool) (h : ℕ) (once : Bool) (starts : ℕ) (start : ℕ → Start) : Type 0 where
   pub some : (i : ℕ) × (i < starts) × ((start i).is_boot ≡ false) × (longest ≤ (start i).inflow.front) × (late ≤ (start i).lead)
   pub boots : SomeHasRoom config h longest starts start true 0 late (autostarted config) none
   -- a service, with which the task may leave
-  pub serves : (t : ℕ) → IsLower config h t → (at : Position) → Reaches app t at → is_call (operation_at app at) ≡ true
+  pub serves : (t : ℕ) → IsLower config h t → comes t ≡ true → (at : Position) → Reaches app t at → is_call (operation_at app at) ≡ true
       → HaveServiceRoom config h longest late starts start (ending_at weights at) (λ j. ending_at (activation_weights app t j) at) (λ j. ending_at (setting_weights app j) at)
-  pub sections : (b : ℕ) → IsLower config h b → (raised : Bool)
+  pub sections : (b : ℕ) → IsLower config h b → comes b ≡ true → (raised : Bool)
       → (i : ℕ) × (i < starts) × ((start i).is_boot ≡ false) × (cond raised late 0 ≤ (start i).lead) × HasSections config app longest weights h b raised (start i)
   -- where h is entered once: a service with which it may leave
   pub leaves : once ≡ true → (at : Position) → Reaches app h at → is_call (operation_at app at) ≡ true
@@ -96,8 +97,8 @@ pub record FitsStarts (config : Config) (app : App) (longest late : ℕ) (weight
 -- In every run of well-formed task code that keeps the pace, and in which no task spends more on an item than that has, what lower tasks bring into busy
 -- periods is within starts that the task code fits.
 abbrev pub CodeFitsStarts : Type 0
-CodeFitsStarts = (config : Config) (app : App) (size : ItemSizes) (longest late n : ℕ) (weights : List BodyWeights) (arrivals : List Arrival) (events : List Stamped) (h : ℕ) (once : Bool) (starts : ℕ) (start : ℕ → Start)
+CodeFitsStarts = (config : Config) (app : App) (size : ItemSizes) (longest late n : ℕ) (weights : List BodyWeights) (comes : ℕ → Bool) (arrivals : List Arrival) (events : List Stamped) (h : ℕ) (once : Bool) (starts : ℕ) (start : ℕ → Start)
     → WellFormed config app → OsekRun config app events → InTime config n arrivals events → AreAtMost size longest
     → ((t : ℕ) → t < length config.tasks → SpendsOnItems config app size longest t events) → AllByRecursion (IsWithinWeights config app size longest) (run_stages config app events)
-    → WeighsItems app size weights → WeighsEndings app size weights → FitsStarts config app longest late weights h once starts start
+    → WeighsItems app size weights → WeighsEndings app size weights → AllByRecursion (λ x. OthersSleep comes x.found) (run_stages config app events) → FitsStarts config app longest late weights comes h once starts start
     → HaveStarts config h longest late once starts start (run_stages config app events)

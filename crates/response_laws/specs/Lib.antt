@@ -18,3 +18,4 @@ pub mod Expiries
 pub mod Settings
 pub mod SoundRuns
 pub mod Admissions
+pub mod Never

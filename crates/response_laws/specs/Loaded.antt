@@ -20,7 +20,7 @@ use Rattle.response_laws.specs.Demand.{Costs, Start, IsEnough}
 use Rattle.response_laws.specs.Bounded.{BoundsRounds}
 use Rattle.response_laws.specs.Arrivals.{HasDistances, AreCharged, admission_window}
 use Rattle.response_laws.specs.Starts.{HaveStarts}
-use Rattle.response_laws.specs.Response.{HasPace, EntersOnce, LastsWithin, RespondsWithin}
+use Rattle.response_laws.specs.Response.{HasPace, EntersOnce, IsCounted, LastsWithin, RespondsWithin}
 
 -- a start has at least the arrivals that fit into it
 abbrev pub HasArrivals : (load : List Entry) (late heaviest : ℕ) → Start → Type 0
@@ -34,21 +34,22 @@ pub record HasAlarms (run : List Stage) (s : Start) : Type 0 where
   pub sets : (c j : ℕ) (before xs behind : List Stage) → run ≡ before ++ (xs ++ behind) → (s.is_boot ≡ true → before ≡ []) → count (at_tick c) xs ≤ s.inflow.arrivals (counter_line c)
       → total_where (at_tick c) (was_set j) xs ≤ s.inflow.alarm_sets c j
 
--- a start with the arrivals and alarms that fit into it, with enough, and no longer than r with what stands in front where task h has a round in it
-pub record IsStartFor (config : Config) (load : List Entry) (late heaviest h r : ℕ) (once : Bool) (costs : Costs) (run : List Stage) (s : Start) : Type 0 where
+-- A start with the arrivals and alarms that fit into it; and with enough, and no longer than r with what stands in front where task h has a round in it, if
+-- it counts.
+pub record IsStartFor (config : Config) (load : List Entry) (late heaviest h r : ℕ) (once boot : Bool) (costs : Costs) (run : List Stage) (s : Start) : Type 0 where
   pub arrivals : HasArrivals load late heaviest s
   pub alarms : HasAlarms run s
-  pub enough : IsEnough config h once costs s
-  pub lasts : LastsWithin h r s
+  pub enough : IsCounted boot s → IsEnough config h once costs s
+  pub lasts : IsCounted boot s → LastsWithin h r s
 
 -- In every run of well-formed task code whose arrivals keep a load, whose rounds are within the costs, and in which lower tasks come into busy periods as
 -- one of the starts says, task h responds within the longest of the starts in which it has a round, and an event.
 abbrev pub RespondsUnderLoad : Type 0
 RespondsUnderLoad = (config : Config) (app : App) (load : List Entry) (n late more heaviest longest : ℕ) (arrivals : List Arrival) (events : List Stamped) (h r : ℕ)
-    (cuts : ℕ → Bool) (costs : Costs) (once : Bool) (starts : ℕ) (start : ℕ → Start)
+    (cuts : ℕ → Bool) (costs : Costs) (once boot : Bool) (starts : ℕ) (start : ℕ → Start)
     → (once ≡ true → EntersOnce config h cuts) → WellFormed config app → OsekRun config app events → InTime config n arrivals events → HasPace n late more events → more ≤ heaviest
     → AreCharged heaviest (run_stages config app events) → HasDistances load → KeepDistances load arrivals
     → AllByRecursion (IsShared config) (run_stages config app events) → LowerSpendWithin config h longest (run_stages config app events)
     → BoundsRounds config h cuts costs (run_stages config app events) → HaveStarts config h longest late once starts start (run_stages config app events)
-    → ((i : ℕ) → i < starts → IsStartFor config load late heaviest h r once costs (run_stages config app events) (start i))
-    → RespondsWithin config app n more h r events
+    → ((i : ℕ) → i < starts → IsStartFor config load late heaviest h r once boot costs (run_stages config app events) (start i))
+    → RespondsWithin config app n more h r boot events

@@ -96,6 +96,15 @@ is_made again j x = not (is_ready_for again (task x.found j)) && is_ready_for ag
 abbrev pub makes_ready : (j : ℕ) → Stage → Bool
 makes_ready j x = not (is_ready (task x.found j).state) && is_ready (task x.next j).state
 
+-- the event is the arrival of a counter
+abbrev pub is_counter : Event → Bool
+is_counter (event.Due c) = true
+is_counter e = false
+
+-- the event makes task j Ready, or a counter due
+abbrev pub comes_at : (j : ℕ) → Stage → Bool
+comes_at j x = makes_ready j x || is_counter x.stamped.event
+
 -- 1 where the event makes task j Ready to begin anew, else 0
 abbrev pub activated : (j : ℕ) → Stage → ℕ
 activated j x = cond (is_made false j x) 1 0

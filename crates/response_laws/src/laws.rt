@@ -1,4 +1,5 @@
 //! The laws of response times.
+ghost use Rattle.response_laws.specs.Never.{OthersNeverCome};
 ghost use Rattle.response_laws.specs.Arrivals.{ArrivalsAreFew, AdmissionsAreFew};
 ghost use Rattle.response_laws.specs.Starts.{PeriodsStartSo};
 ghost use Rattle.response_laws.specs.Walked.{RoundsFollowWalks};
@@ -102,4 +103,10 @@ pub fn images_respond_by_code()
 /// where an event that is no arrival follows, or the run has so many instructions more as the response asks for, or the distance is that much more.
 pub fn admissions_find_suspended()
     ensures { AdmissionsFindSuspended }
+{}
+
+/// In every run of well-formed task code whose arrivals keep a load, a task stays Suspended that neither starts with the system nor arrives, that no task which comes
+/// activates or chains, and no alarm of a counter that arrives.
+pub fn others_never_come()
+    ensures { OthersNeverCome }
 {}

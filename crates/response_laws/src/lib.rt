@@ -20,7 +20,9 @@
 //!   above its caller Ready, a service passes over what came while it was running alone (`proofs/Passing`).
 //! - With costs of rounds and starts (`specs/Demand`, `specs/Bounded`) that are enough, a task responds within the longest start in which it has a round, and
 //!   what stands in front (`runs_respond_in_time`; `specs/Response`); under a load (`runs_respond_under_load`; `specs/Loaded`); in every run of an image
-//!   (`images_respond`; `specs/SoundRuns`).
+//!   (`images_respond`; `specs/SoundRuns`). The response to a tick counts from the arrival of its counter
+//!   (`IsEdge` of `specs/Response`), which is due from there on, so that no period begins between.
+//! - Tasks that nothing which comes makes Ready stay Suspended (`others_never_come`; `specs/Never`), and costs and starts need not hold them.
 //! - What lower tasks bring into a period follows from their code (`code_fits_starts`; `specs/CodeStarts`), so the response time of a task does
 //!   (`images_respond_by_code`).
 //! - A task that nothing but its arrivals makes Ready (`specs/Made`), and that responds within their distance, is Suspended where the next one is admitted, so none

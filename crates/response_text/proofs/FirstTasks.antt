@@ -1,40 +1,29 @@
 -- The lines of the first tasks.
-use Rattle.std.proofs.Common.{◌≡◌, ◌+◌, ◌<◌, ◌||◌, ℕ, zero, suc, List, [], ◌++◌, refl, ap, ◌∙◌, arith, Option}
+use Rattle.std.proofs.Common.{◌≡◌, ◌+◌, ◌<◌, ◌||◌, ℕ, zero, suc, List, [], ◌++◌, refl, ap, ◌∙◌, arith}
 use Rattle.std.proofs.Math.Numerals.{add-one}
 use Rattle.sloth_base.specs.declared.config.Config.{Config}
 use Rattle.sloth_base.specs.declared.app.App.{App}
 use Rattle.load_text.specs.declared.entry.Entry.{Entry}
 use Rattle.load_text.specs.Loads.{deadline}
-use Rattle.response_text.specs.RunLines.{run_line, run_lines}
+use Rattle.response_text.specs.declared.told.Response.{Response}
 use Rattle.response_text.specs.Lines.{is_open, response_at, response_line, response_lines, has_open}
 
-pub no_lines : (config : Config) (app : App) (load : List Entry) (responses : List (Option ℕ)) → response_lines config app load responses 0 ≡ []
+pub no_lines : (config : Config) (app : App) (load : List Entry) (responses : List Response) → response_lines config app load responses 0 ≡ []
 unfolding response_lines
 no_lines config app load responses = refl
 
-pub one_line_more : (config : Config) (app : App) (load : List Entry) (responses : List (Option ℕ)) (t : ℕ)
+pub one_line_more : (config : Config) (app : App) (load : List Entry) (responses : List Response) (t : ℕ)
     → response_lines config app load responses (t + 1) ≡ response_lines config app load responses t ++ response_line config app load t (response_at responses t)
 unfolding response_lines
 one_line_more config app load responses t = ap (response_lines config app load responses) (add-one t)
 
-pub one_more_open : (load : List Entry) (responses : List (Option ℕ)) (t : ℕ)
+pub one_more_open : (load : List Entry) (responses : List Response) (t : ℕ)
     → has_open load responses (t + 1) ≡ (has_open load responses t || is_open (response_at responses t) (deadline load t))
 one_more_open load responses t = ap (has_open load responses) (add-one t)
 
--- ---- those that runs keep
-
-pub no_run_lines : (config : Config) (app : App) (load : List Entry) (responses : List (Option ℕ)) → run_lines config app load responses 0 ≡ []
-unfolding run_lines
-no_run_lines config app load responses = refl
-
-pub one_run_line_more : (config : Config) (app : App) (load : List Entry) (responses : List (Option ℕ)) (t : ℕ)
-    → run_lines config app load responses (t + 1) ≡ run_lines config app load responses t ++ run_line config app load t (response_at responses t)
-unfolding run_lines
-one_run_line_more config app load responses t = ap (run_lines config app load responses) (add-one t)
-
 -- ---- lines of the same responses
 
-pub same_lines : (config : Config) (app : App) (load : List Entry) (one other : List (Option ℕ)) (n : ℕ)
+pub same_lines : (config : Config) (app : App) (load : List Entry) (one other : List Response) (n : ℕ)
     → ((t : ℕ) → t < n → response_at one t ≡ response_at other t) → response_lines config app load one n ≡ response_lines config app load other n
 unfolding response_lines
 same_lines config app load one other zero e = refl
@@ -42,15 +31,7 @@ same_lines config app load one other (suc n) e =
     ap (λ l. l ++ response_line config app load n (response_at one n)) (same_lines config app load one other n (λ t lt. e t (omega (arith, lt))))
     ∙ ap (λ l. response_lines config app load other n ++ l) (ap (response_line config app load n) (e n (omega arith)))
 
-pub same_run_lines : (config : Config) (app : App) (load : List Entry) (one other : List (Option ℕ)) (n : ℕ)
-    → ((t : ℕ) → t < n → response_at one t ≡ response_at other t) → run_lines config app load one n ≡ run_lines config app load other n
-unfolding run_lines
-same_run_lines config app load one other zero e = refl
-same_run_lines config app load one other (suc n) e =
-    ap (λ l. l ++ run_line config app load n (response_at one n)) (same_run_lines config app load one other n (λ t lt. e t (omega (arith, lt))))
-    ∙ ap (λ l. run_lines config app load other n ++ l) (ap (run_line config app load n) (e n (omega arith)))
-
-pub same_open : (load : List Entry) (one other : List (Option ℕ)) (n : ℕ) → ((t : ℕ) → t < n → response_at one t ≡ response_at other t)
+pub same_open : (load : List Entry) (one other : List Response) (n : ℕ) → ((t : ℕ) → t < n → response_at one t ≡ response_at other t)
     → has_open load one n ≡ has_open load other n
 same_open load one other zero e = refl
 same_open load one other (suc n) e =

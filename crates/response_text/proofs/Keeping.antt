@@ -1,5 +1,5 @@
 -- Runs keep what is told.
-use Rattle.std.proofs.Common.{◌≡◌, ◌∙◌, ℕ, ◌+◌, true, List, length, Option, Some, sym, ap, subst}
+use Rattle.std.proofs.Common.{◌≡◌, ◌∙◌, ℕ, ◌+◌, ◌<◌, Bool, true, false, List, length, Option, Some, sym, ap, subst}
 use Rattle.std.proofs.lemmas.Bool.{and_parts, leb-true}
 use Rattle.std.proofs.lemmas.List.{length-map}
 use Rattle.sloth_base.specs.declared.config.Config.{Config}
@@ -14,7 +14,10 @@ use Rattle.load_text.specs.declared.entry.Entry.{Entry}
 use Rattle.load_text.specs.declared.entry.Form.TheVariants as form
 use Rattle.load_text.specs.Loads.{distance, IsLoad}
 use Rattle.trace_text.specs.ArrivalsText.{owners_read}
-use Rattle.sim_induction.specs.Sound.{events_of}
+use Rattle.sloth_base.specs.declared.image.Image.{Image}
+use Rattle.sim_induction.specs.Paced.{InPace}
+use Rattle.sim_induction.specs.Weighed.{Weighed}
+use Rattle.sim_induction.specs.Sound.{Sound, events_of}
 use Rattle.run_windows.specs.RunWindows.{IsRunResponse}
 use Rattle.response_laws.specs.Made.{is_made_by_arrivals}
 use Rattle.response_laws.specs.SoundRuns.{IsLongestItem, NoStretchIsAbove}
@@ -22,9 +25,10 @@ use Rattle.response_laws.proofs.Admissions.{admissions_find_suspended}
 use Rattle.run_responses.proofs.Meeting.{some_said, images_meet_bounds}
 use Rattle.run_costs.specs.declared.record.RunCosts.{RunCosts}
 use Rattle.run_costs.specs.RunRecord.{IsRunRecord}
-use Rattle.run_costs.proofs.Sizes.{longest_is, late_is}
-use Rattle.response_text.specs.Lines.{is_within_limit, keeps_arrivals}
-use Rattle.response_text.specs.RunResponseText.{AreRunResponses, RunsKeepResponses, RunsLoseNone}
+use Rattle.run_responses.proofs.Sizes.{longest_is, late_is}
+use Rattle.response_text.specs.Lines.{is_within_limit, keeps_arrivals, response_at}
+use Rattle.response_text.specs.declared.told.Response.{Response}
+use Rattle.response_text.specs.ResponseText.{ImageKeepsNumbers, ImageLosesNone, AreResponses, RunsKeepResponses}
 
 -- the owners of lines are those whose names are read
 pub owned : (config : Config) (load : List Entry) → IsLoad (owners_read (task_names config) (counter_names config)) load → IsLoad (owners_in config) load
@@ -34,23 +38,35 @@ owned config load is =
     let O : ℕ → ℕ → Owners = λ t c. record { tasks = t; counters = c } in
     subst (λ o. IsLoad o load) (ap (λ t. O t (length (counter_names config))) tasks ∙ ap (O (length config.tasks)) counters) is
 
-pub runs_keep : (config : Config) (app : App) (load : List Entry) → WellFormed config app → IsLoad (owners_in config) load → (costs : RunCosts) → IsRunRecord config app load costs
-    → (responses : List (Option ℕ)) → AreRunResponses costs.longest costs.late costs.costs (length config.tasks) responses
-    → RunsKeepResponses config app load costs.longest costs.late responses
-runs_keep config app load code in_load costs are responses all image arrivals n h r cuts sound weighed pace come few keeps cut works there told =
-    let is : IsRunResponse costs.longest costs.late costs.costs h (Some r) = subst (IsRunResponse costs.longest costs.late costs.costs h) told (all.each h there) in
-    let item : IsLongestItem app costs.longest = subst (IsLongestItem app) (sym are.longest.2) (longest_is app are.longest.0 are.longest.1) in
-    let stretch : NoStretchIsAbove config app costs.late = subst (NoStretchIsAbove config app) (sym are.late.2) (late_is config app are.late.0 code are.late.1) in
-    images_meet_bounds config app image load arrivals n costs.late costs.longest h r cuts costs.costs code (config, code.in_range) sound weighed pace item stretch come few in_load keeps cut works
-    are.costs there is.0.told is.0.within
+module _ (config : Config) (app : App) (load : List Entry) (code : WellFormed config app) (in_load : IsLoad (owners_in config) load) where
+  numbers_kept : (costs : RunCosts) → IsRunRecord config app load costs → (boot : Bool) (number : ℕ → Option ℕ)
+      → ((t : ℕ) → t < length config.tasks → IsRunResponse costs.longest costs.late costs.costs t boot (number t))
+      → (image : Image) → Sound config app image → Weighed config app image → InPace config app image
+      → ImageKeepsNumbers config app image load costs.longest costs.late boot number
+  numbers_kept costs are boot number all image sound weighed pace arrivals n h r cuts come keeps cut works there told =
+      let is : IsRunResponse costs.longest costs.late costs.costs h boot (Some r) = subst (IsRunResponse costs.longest costs.late costs.costs h boot) told (all h there) in
+      let item : IsLongestItem app costs.longest = subst (IsLongestItem app) (sym are.longest.2) (longest_is app are.longest.0 are.longest.1) in
+      let stretch : NoStretchIsAbove config app costs.late = subst (NoStretchIsAbove config app) (sym are.late.2) (late_is config app are.late.0 code are.late.1) in
+      images_meet_bounds config app image load arrivals n costs.late costs.longest h r boot cuts costs.costs code (config, code.in_range) sound weighed pace item stretch come in_load keeps cut
+      works are.costs there is.0.told is.0.within
 
--- and so no arrival is lost of a task that keeps its arrivals
-pub lose_none : (config : Config) (app : App) (load : List Entry) → WellFormed config app → IsLoad (owners_in config) load → (longest late : ℕ) (responses : List (Option ℕ))
-    → RunsKeepResponses config app load longest late responses → RunsLoseNone config app load longest late responses
-lose_none config app load code in_load longest late responses respond image arrivals n t r d cuts sound weighed pace come few keeps cut works there told is_distance kept =
-    let run = sound.each arrivals n come few in
-    let said = subst (λ (o : Option ℕ). keeps_arrivals config app load t o ≡ true) told kept in
-    let both = and_parts (is_made_by_arrivals config app t) (is_within_limit (Some r) (distance load t)) said in
-    admissions_find_suspended config app load n (longest + late) t r d arrivals (events_of image arrivals n) code run.osek run.in_time
-    (λ line. some_said form.Every line load in_load.numbers) keeps (respond image arrivals n t r cuts sound weighed pace come few keeps cut works there told)
-    both.0 is_distance (leb-true r d (subst (λ (o : Option ℕ). is_within_limit (Some r) o ≡ true) is_distance both.1))
+  -- and so no arrival is lost of a task that keeps its arrivals
+  none_lost : (longest late : ℕ) (number : ℕ → Option ℕ) (image : Image) → Sound config app image → ImageKeepsNumbers config app image load longest late true number
+      → ImageLosesNone config app image load longest late number
+  none_lost longest late number image sound respond arrivals n t r d cuts come keeps cut works there told is_distance kept =
+      let run = sound.each arrivals n come in
+      let said = subst (λ (o : Option ℕ). keeps_arrivals config app load t o ≡ true) told kept in
+      let both = and_parts (is_made_by_arrivals config app t) (is_within_limit (Some r) (distance load t)) said in
+      admissions_find_suspended config app load n (longest + late) t r d arrivals (events_of image arrivals n) code run.osek run.in_time
+      (λ line. some_said form.Every line load in_load.numbers) keeps (respond arrivals n t r cuts come keeps cut works there told)
+      both.0 is_distance (leb-true r d (subst (λ (o : Option ℕ). is_within_limit (Some r) o ≡ true) is_distance both.1))
+
+  pub runs_keep : (costs : RunCosts) → IsRunRecord config app load costs → (responses : List Response)
+      → AreResponses costs.longest costs.late costs.costs (length config.tasks) responses → RunsKeepResponses config app load costs.longest costs.late responses
+  runs_keep costs are responses all image sound weighed pace =
+      let anywhere = numbers_kept costs are true (λ t. (response_at responses t).anywhere) (λ t lt. (all.each t lt).anywhere) image sound weighed pace in
+      record {
+        anywhere = anywhere;
+        behind = numbers_kept costs are false (λ t. (response_at responses t).behind) (λ t lt. (all.each t lt).behind) image sound weighed pace;
+        lossless = none_lost costs.longest costs.late (λ t. (response_at responses t).anywhere) image sound anywhere;
+      }

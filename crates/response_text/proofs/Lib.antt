@@ -2,6 +2,6 @@ pub mod FirstTasks
 mod PartLines
 mod Keeping
 pub mod OneText
-mod OneRunText
 pub mod Refused
 mod Unread
+mod Numbered

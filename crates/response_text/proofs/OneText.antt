@@ -1,21 +1,34 @@
 -- Texts have one answer at most.
-use Rattle.std.proofs.Common.{◌≡◌, ◌∙◌, ℕ, ◌<◌, List, ◌++◌, length, Option, sym, ap, subst, arith}
+use Rattle.std.proofs.Common.{◌≡◌, ◌∙◌, ℕ, ◌<◌, true, false, List, ◌++◌, length, Option, sym, ap, subst}
 use Rattle.sloth_base.specs.declared.config.Config.{Config}
 use Rattle.sloth_base.specs.declared.app.App.{App}
 use Rattle.sloth_source.proofs.Unique.{one_meaning}
 use Rattle.load_text.specs.declared.entry.Entry.{Entry}
-use Rattle.response_bounds.specs.declared.costs.Costs.{Costs}
-use Rattle.response_bounds.specs.Responses.{IsDemand}
-use Rattle.response_costs.proofs.OneCosts.{one_costs}
+use Rattle.run_windows.specs.declared.costs.Costs.{Costs}
+use Rattle.run_windows.specs.RunWindows.{IsRunBound}
+use Rattle.run_windows.specs.Demand.{IsDemand}
+use Rattle.run_windows.proofs.OneLeast.{one_least}
+use Rattle.run_windows.proofs.OneBound.{one_demand}
+use Rattle.run_costs.specs.declared.record.RunCosts.{RunCosts}
+use Rattle.run_costs.proofs.OneCosts.{one_record}
 use Rattle.response_text.specs.declared.told.Told.{Told}
+use Rattle.response_text.specs.declared.told.Response.{Response}
 use Rattle.response_text.specs.Lines.{response_at, response_lines, demand_line, has_open}
-use Rattle.response_text.specs.ResponseText.{AreResponses, told_of, HasResponses, HasLoadResponses, OneText}
+use Rattle.response_text.specs.ResponseText.{IsTaskResponse, AreResponses, told_of, HasResponses, HasLoadResponses, OneText}
 use Rattle.response_text.proofs.FirstTasks.{same_lines, same_open}
-use Rattle.response_bounds.proofs.OneResponse.{one_response, one_demand}
+
+-- a task has one response
+one_response : (longest late : ℕ) (costs : Costs) (t : ℕ) (one other : Response) → IsTaskResponse longest late costs t one → IsTaskResponse longest late costs t other → one ≡ other
+one_response longest late costs t one other a b =
+    let anywhere = one_least (IsRunBound longest late costs t true) one.anywhere other.anywhere a.anywhere b.anywhere in
+    let behind = one_least (IsRunBound longest late costs t false) one.behind other.behind a.behind b.behind in
+    let F : Option ℕ → Response = λ x. record { anywhere = x; behind = one.behind } in
+    let G : Option ℕ → Response = λ x. record { anywhere = other.anywhere; behind = x } in
+    ap F anywhere ∙ ap G behind
 
 module _ (config : Config) (app : App) (load : List Entry) where
   -- the same is told of the same responses and demand
-  same_told : (one other : List (Option ℕ)) (p q : Option ℕ) → ((t : ℕ) → t < length config.tasks → response_at one t ≡ response_at other t) → p ≡ q
+  same_told : (one other : List Response) (p q : Option ℕ) → ((t : ℕ) → t < length config.tasks → response_at one t ≡ response_at other t) → p ≡ q
       → told_of config app load one p ≡ told_of config app load other q
   same_told one other p q each e =
       let count = length config.tasks in
@@ -25,14 +38,14 @@ module _ (config : Config) (app : App) (load : List Entry) where
 
   one_told : (one other : Told) → HasResponses config app load one → HasResponses config app load other → one ≡ other
   one_told one other a b =
-      let costs = one_costs config app load a.costs b.costs a.are_costs b.are_costs in
-      let there : AreResponses a.costs (length config.tasks) b.responses = subst (λ (c : Costs). AreResponses c (length config.tasks) b.responses) (sym costs) b.are_responses in
-      let demand : IsDemand a.costs b.demand = subst (λ (c : Costs). IsDemand c b.demand) (sym costs) b.is_demand in
-      let count = a.are_costs.tasks.count in
+      let costs : a.costs ≡ b.costs = one_record config app load a.costs b.costs a.are_costs b.are_costs in
+      let there : AreResponses a.costs.longest a.costs.late a.costs.costs (length config.tasks) b.responses =
+      subst (λ (c : RunCosts). AreResponses c.longest c.late c.costs (length config.tasks) b.responses) (sym costs) b.are_responses in
+      let demand : IsDemand a.costs.costs b.demand = subst (λ (c : RunCosts). IsDemand c.costs b.demand) (sym costs) b.is_demand in
       a.is
       ∙ (same_told a.responses b.responses a.demand b.demand
-      (λ t lt. one_response a.costs t (omega (arith, lt, count)) (response_at a.responses t) (response_at b.responses t) (a.are_responses.each t lt) (there.each t lt))
-      (one_demand a.costs a.demand b.demand a.is_demand demand) ∙ sym b.is)
+      (λ t lt. one_response a.costs.longest a.costs.late a.costs.costs t (response_at a.responses t) (response_at b.responses t) (a.are_responses.each t lt) (there.each t lt))
+      (one_demand a.costs.costs a.demand b.demand a.is_demand demand) ∙ sym b.is)
 
 one_for : (config : Config) (app : App) (load : List ℕ) (one other : Told) → HasLoadResponses config app load one → HasLoadResponses config app load other → one ≡ other
 one_for config app load one other a b =

@@ -3,8 +3,8 @@ use Rattle.std.proofs.Common.{◌≡◌, ◌∙◌, ℕ, ◌+◌, List, [], ◌+
 use Rattle.std.proofs.lemmas.List.{append_assoc, append-nil}
 use Rattle.std.proofs.Math.Numerals.{add-one}
 use Rattle.sloth_base.specs.declared.config.Config.{Config}
-use Rattle.response_bounds.specs.declared.costs.Costs.{Costs}
-use Rattle.response_bounds.specs.Windows.{Numbers}
+use Rattle.run_windows.specs.declared.costs.Costs.{Costs}
+use Rattle.run_windows.specs.Windows.{Numbers}
 use Rattle.response_text.specs.Parts.{round_line, round_lines, tick_line, tick_lines}
 
 pub no_rounds : (config : Config) (costs : Costs) (n : Numbers) → round_lines config costs n 0 ≡ []

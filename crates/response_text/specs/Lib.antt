@@ -3,5 +3,3 @@ pub mod Lines
 pub mod Parts
 pub mod ResponseText
 pub mod TaskText
-pub mod RunLines
-pub mod RunResponseText

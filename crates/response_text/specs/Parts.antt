@@ -1,26 +1,30 @@
--- Of what the response of a task is made: a line for its start, for each kind of rounds and for each counter that ticks.
-use Rattle.std.specs.Prelude.{ℕ, zero, suc, ◌==◌, nat_lt, Bool, false, cond, List, [], ◌++◌, codes, get_or, Option, Some, None}
+-- Of what the number of a window is made: a line for its start, for each part in front of all, for each kind of rounds and for each counter that ticks.
+use Rattle.std.specs.Prelude.{ℕ, zero, suc, ◌<◌, ◌==◌, ◌≡◌, not, cond, Bool, true, false, List, [], ◌++◌, codes, get_or, Option, Some, None}
 use Rattle.sloth_base.specs.declared.config.Config.{Config}
 use Rattle.sloth_base.specs.Named.{declaration, counter_declaration}
-use Rattle.response_bounds.specs.declared.costs.CounterCosts.{CounterCosts}
-use Rattle.response_bounds.specs.declared.costs.Costs.{Costs}
-use Rattle.response_bounds.specs.declared.window.Start.{Start}
-use Rattle.response_bounds.specs.declared.window.Start.TheVariants as start
-use Rattle.response_bounds.specs.declared.longest.Longest.{Longest}
-use Rattle.response_bounds.specs.Arrivals.{arrivals}
-use Rattle.response_bounds.specs.Costs.{task}
-use Rattle.response_bounds.specs.Windows.{Numbers, numbers_of}
+use Rattle.run_windows.specs.declared.costs.CounterCosts.{CounterCosts}
+use Rattle.run_windows.specs.declared.costs.Costs.{Costs}
+use Rattle.run_windows.specs.declared.window.Start.{Start}
+use Rattle.run_windows.specs.declared.window.Start.TheVariants as start
+use Rattle.run_windows.specs.declared.longest.Longest.{Longest}
+use Rattle.run_windows.specs.declared.parts.Parts.{Parts}
+use Rattle.run_windows.specs.Arrivals.{arrivals}
+use Rattle.run_windows.specs.Costs.{task}
+use Rattle.run_windows.specs.Windows.{Numbers, numbers_of}
+use Rattle.run_windows.specs.RunWindows.{IsNumber}
+use Rattle.run_windows.specs.Longest.{AreParts}
+use Rattle.run_costs.specs.declared.record.RunCosts.{RunCosts}
 use Rattle.response_text.specs.Lines.{number_words}
 
 -- ---- a line
 
--- a number up to 4,000,000; a greater one stands for all that has no end
-abbrev pub told_number : ℕ → Option ℕ
-told_number n = cond (nat_lt 4000000 n) None (Some n)
+-- so many counts in front of all; no line of none
+abbrev pub front_line : (word : List ℕ) → (counts : ℕ) → List ℕ
+front_line word counts = cond (counts == 0) [] (word ++ (number_words (Some counts) ++ codes "\n"))
 
 -- so many of this cost
 abbrev pub some_line : (name word : List ℕ) → (n : ℕ) → (cost : Option ℕ) → List ℕ
-some_line name word n cost = ((name ++ word) ++ number_words (told_number n)) ++ (number_words cost ++ codes "\n")
+some_line name word n cost = ((name ++ word) ++ number_words (Some n)) ++ (number_words cost ++ codes "\n")
 
 -- no line of none
 abbrev pub part_line : (name word : List ℕ) → (n : ℕ) → (cost : Option ℕ) → List ℕ
@@ -34,30 +38,32 @@ start_word start.Boot = codes " boot"
 start_word (start.Activation j) = codes " activation "
 start_word (start.Setting j) = codes " event "
 start_word (start.Section k) = codes " section "
-start_word (start.Joining k) = codes " round "
 
--- the task that is made, or that is at it
+-- the task of which it is
 abbrev pub start_name : Config → Start → List ℕ
 start_name config start.Free = []
 start_name config start.Boot = []
 start_name config (start.Activation j) = (declaration config j).name
 start_name config (start.Setting j) = (declaration config j).name
 start_name config (start.Section k) = (declaration config k).name
-start_name config (start.Joining k) = (declaration config k).name
 
-abbrev pub start_line : Config → Start → (front : ℕ) → List ℕ
-start_line config s front = ((codes "start" ++ start_word s) ++ start_name config s) ++ (number_words (told_number front) ++ codes "\n")
+abbrev pub start_line : Config → Start → List ℕ
+start_line config s = (codes "start" ++ start_word s) ++ (start_name config s ++ codes "\n")
+
+-- what stands in front of all
+abbrev pub front_lines : Parts → List ℕ
+front_lines p = (front_line (codes "stretch") p.stretch ++ front_line (codes "service") p.service) ++ (front_line (codes "item") p.item ++ front_line (codes "section") p.section)
 
 -- ---- rounds
 
--- only a task that waits has rounds of both kinds
-abbrev pub first_word : (waits : Bool) → List ℕ
-first_word waits = cond waits (codes " first") []
+-- only a task whose turns WaitEvents cut has rounds of both kinds
+abbrev pub first_word : (cut : Bool) → List ℕ
+first_word cut = cond cut (codes " first") []
 
 -- the rounds of a task that begin with its first item, and those that begin behind a WaitEvent
 abbrev pub round_line : Config → Costs → Numbers → (t : ℕ) → List ℕ
 round_line config costs n t =
-    part_line (declaration config t).name (first_word (task costs t).waits) (n t).activations (task costs t).first
+    part_line (declaration config t).name (first_word (task costs t).is_cut) (n t).activations (task costs t).first
     ++ part_line (declaration config t).name (codes " next") (n t).settings (task costs t).next
 
 -- those of the first tasks, so many of them
@@ -85,16 +91,24 @@ tick_lines config costs counts (suc c) = tick_lines config costs counts c ++ tic
 
 -- ---- all
 
--- the lines of all that comes within a window
-abbrev pub part_lines : Config → Costs → (tasks counters : ℕ) → Longest → List ℕ
-part_lines config costs tasks counters l =
-    (start_line config l.start l.front ++ round_lines config costs (numbers_of l.numbers) tasks) ++ tick_lines config costs l.counts counters
+-- the lines of all parts of a window
+abbrev pub part_lines : Config → Costs → (tasks counters : ℕ) → Start → Parts → List ℕ
+part_lines config costs tasks counters s p =
+    ((start_line config s ++ front_lines p) ++ round_lines config costs (numbers_of p.numbers) tasks) ++ tick_lines config costs p.counts counters
 
--- nothing makes the task
-abbrev pub is_never : (response : Option ℕ) → Bool
-is_never (Some r) = r == 0
-is_never None = false
+-- there is a window with something in it
+abbrev pub has_parts : Option Longest → Bool
+has_parts (Some l) = not (l.number == 0)
+has_parts None = false
 
--- where something makes it
-abbrev pub made_lines : Config → Costs → (tasks counters : ℕ) → Longest → List ℕ
-made_lines config costs tasks counters l = cond (is_never l.response) [] (part_lines config costs tasks counters l)
+-- its number is that of a window, and not 0
+abbrev pub IsNumbered : RunCosts → (h : ℕ) → Option Longest → Type 0
+IsNumbered costs h (Some l) = IsNumber costs.longest costs.late costs.costs h l.opens l.start (Some l.number) × (0 < l.number)
+IsNumbered costs h None = ⊥
+
+-- These are the lines of the parts of task h's longest window, where they are shown.
+abbrev pub IsPartText : Config → RunCosts → (tasks counters h : ℕ) → (shown : Bool) → Option Longest → List ℕ → Type 0
+IsPartText config costs tasks counters h false l text = text ≡ []
+IsPartText config costs tasks counters h true None text = ⊥
+IsPartText config costs tasks counters h true (Some l) text =
+    (p : Parts) × AreParts costs.longest costs.late costs.costs h l p × (text ≡ part_lines config costs.costs tasks counters l.start p)

@@ -1,35 +1,57 @@
 -- What the command `response` tells of one task.
-use Rattle.std.specs.Prelude.{ℕ, ◌≡◌, List, ◌++◌, length, Option, Some, None}
+use Rattle.std.specs.Prelude.{ℕ, ◌==◌, ◌&&◌, ◌≡◌, not, Bool, true, false, List, ◌++◌, length, Option, Some, None}
 use Rattle.sloth_base.specs.declared.config.Config.{Config}
 use Rattle.sloth_base.specs.declared.app.App.{App}
 use Rattle.sloth_source.specs.Texts.{AreAccepted}
 use Rattle.sloth_source.specs.TaskNames.{task_named}
 use Rattle.load_text.specs.declared.entry.Entry.{Entry}
 use Rattle.load_text.specs.Loads.{deadline}
-use Rattle.response_bounds.specs.declared.costs.Costs.{Costs}
-use Rattle.response_bounds.specs.declared.longest.Longest.{Longest}
-use Rattle.response_bounds.specs.Responses.{IsLongest}
-use Rattle.response_costs.specs.CostsOf.{AreCosts}
+use Rattle.run_windows.specs.declared.longest.Longest.{Longest}
+use Rattle.run_windows.specs.Longest.{number_of, IsLongest}
+use Rattle.run_costs.specs.declared.record.RunCosts.{RunCosts}
+use Rattle.run_costs.specs.RunRecord.{IsRunRecord}
 use Rattle.response_text.specs.declared.told.Told.{Told}
+use Rattle.response_text.specs.declared.told.Response.{Response}
 use Rattle.response_text.specs.Inputs.{IsLoadOf}
 use Rattle.response_text.specs.Lines.{is_open, response_line}
-use Rattle.response_text.specs.Parts.{made_lines}
+use Rattle.response_text.specs.Parts.{has_parts, IsPartText}
 
--- the line of a task, of what its response is made, and whether its deadline is open
-abbrev pub told_of_task : Config → App → List Entry → Costs → (t : ℕ) → Longest → Told
-told_of_task config app load costs t l =
-    record {
-      text = response_line config app load t l.response ++ made_lines config costs (length config.tasks) (length config.counters) l;
-      is_open = is_open l.response (deadline load t);
-    }
+-- the response that these windows tell
+abbrev pub response_of : (anywhere behind : Option Longest) → Response
+response_of anywhere behind = record { anywhere = number_of anywhere; behind = number_of behind }
 
--- This is told of the response of task t: the longest window's parts add up to it.
+abbrev pub same_number : Option ℕ → Option ℕ → Bool
+same_number (Some n) (Some m) = n == m
+same_number None None = true
+same_number n m = false
+
+-- behind boot parts are shown where that number is another one
+abbrev pub shows_behind : (anywhere behind : Option Longest) → Bool
+shows_behind anywhere behind = has_parts behind && not (same_number (number_of anywhere) (number_of behind))
+
+-- the parts of a longest window of all, and those of one of all but boot's
+pub record AreBothParts (config : Config) (costs : RunCosts) (t : ℕ) (anywhere behind : Option Longest) (text : List ℕ) : Type 0 where
+  pub parts : List ℕ
+  pub are_parts : IsPartText config costs (length config.tasks) (length config.counters) t (has_parts anywhere) anywhere parts
+  pub further : List ℕ
+  pub are_further : IsPartText config costs (length config.tasks) (length config.counters) t (shows_behind anywhere behind) behind further
+  pub is : text ≡ parts ++ further
+
+-- the line of a task, and such parts
+abbrev pub task_lines : Config → App → List Entry → (t : ℕ) → Response → (parts : List ℕ) → Told
+task_lines config app load t r parts = record { text = response_line config app load t r ++ parts; is_open = is_open r (deadline load t) }
+
+-- This is told of the response of task t: its line, and the parts of longest windows, which add up to its numbers.
 pub record HasParts (config : Config) (app : App) (load : List Entry) (t : ℕ) (told : Told) : Type 0 where
-  pub costs : Costs
-  pub are_costs : AreCosts config app load costs
-  pub longest : Longest
-  pub is_longest : IsLongest costs t longest
-  pub is : told ≡ told_of_task config app load costs t longest
+  pub costs : RunCosts
+  pub are_costs : IsRunRecord config app load costs
+  pub anywhere : Option Longest
+  pub is_longest : IsLongest costs.longest costs.late costs.costs t true anywhere
+  pub behind : Option Longest
+  pub is_behind : IsLongest costs.longest costs.late costs.costs t false behind
+  pub parts : List ℕ
+  pub are_parts : AreBothParts config costs t anywhere behind parts
+  pub is : told ≡ task_lines config app load t (response_of anywhere behind) parts
 
 -- it is told of the task, if there is one
 abbrev pub HasPartsOf : Config → App → List Entry → (task : Option ℕ) → Option Told → Type 0

@@ -8,9 +8,7 @@ ghost use Rattle.sloth_base.specs.DeclaredNames.{task_names, counter_names};
 ghost use Rattle.response_text.specs.Inputs.{IsLoadOf};
 
 use load_text::{Entry, read_load};
-use sloth_base::config::Config;
-use sloth_base::declared_names::{counter_names, task_names};
-use sloth_base::refusal::BuildError;
+use sloth_base::{BuildError, Config, counter_names, task_names};
 use std::alloc::Global;
 
 /// The load that a text of at most 4,294,967,294 bytes is for a configuration, or its least fault (L1 to L4).

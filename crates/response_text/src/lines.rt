@@ -2,18 +2,17 @@
 ghost use Rattle.std.specs.Prelude.{◌≡◌, ◌<◌, ◌≤◌, ◌++◌, [], cond, length, codes, decimal, OnOk, IfOk};
 ghost use Rattle.sloth_base.specs.Limits.{task_limit};
 ghost use Rattle.load_text.specs.Loads.{deadline, distance};
-ghost use Rattle.response_text.specs.Lines.{number_words, is_within, is_within_limit, is_open, deadline_words, keeps_arrivals, kept_words, response_words, response_at, response_line, response_lines, demand_line, has_open};
+ghost use Rattle.response_text.specs.Lines.{number_words, is_never, made_words, response_words, is_within, is_within_limit, is_met, is_met_behind, verdict_word, deadline_words, is_open, keeps_arrivals, lossless_words, task_words, response_at, response_line, response_lines, demand_line, has_open};
 
 use crate::made::is_made_by_arrivals;
+use crate::told::Response;
 use itoa::Buffer;
 use load_text::{Entry, deadline_of, distance_of};
-use sloth_base::app::App;
-use sloth_base::config::Config;
-use sloth_base::memory::NoMemory;
+use sloth_base::{App, Config, NoMemory};
 use std::alloc::Global;
 
 /// A word, and a number behind it.
-pub fn push_number(text: &mut Vec<u8>, word: &[u8], number: u32) -> Result<(), NoMemory>
+pub fn push_counts(text: &mut Vec<u8>, word: &[u8], number: u32) -> Result<(), NoMemory>
     ensures { OnOk result (text.new.items ≡ text.old.items ++ (word.now ++ decimal number)) }
 {
     let mut buffer = Buffer::new();
@@ -23,90 +22,157 @@ pub fn push_number(text: &mut Vec<u8>, word: &[u8], number: u32) -> Result<(), N
 }
 
 /// A number behind a space.
-pub fn push_response(text: &mut Vec<u8>, response: Option<u32>) -> Result<(), NoMemory>
-    ensures { OnOk result (text.new.items ≡ text.old.items ++ number_words response) }
+pub fn push_number(text: &mut Vec<u8>, number: Option<u32>) -> Result<(), NoMemory>
+    ensures { OnOk result (text.new.items ≡ text.old.items ++ number_words number) }
 {
-    match response {
-        Some(counts) => push_number(text, b" ", counts),
+    match number {
+        Some(counts) => push_counts(text, b" ", counts),
         None => {
-            text.extend_from_slice(b" endless")?;
+            text.extend_from_slice(b" none")?;
             Ok(())
         }
     }
 }
 
-fn is_within(response: Option<u32>, limit: u32) -> bool
-    ensures { result ≡ is_within response limit }
+// ---- a response
+
+fn is_never(number: Option<u32>) -> bool
+    ensures { result ≡ is_never number }
 {
-    match response {
+    match number {
+        Some(counts) => counts == 0,
+        None => false,
+    }
+}
+
+fn push_made(text: &mut Vec<u8>, number: Option<u32>) -> Result<(), NoMemory>
+    ensures { OnOk result (text.new.items ≡ text.old.items ++ made_words number) }
+{
+    if is_never(number) {
+        text.extend_from_slice(b" never")?;
+    } else {
+        push_number(text, number)?;
+    }
+    Ok(())
+}
+
+// A number behind boot.
+fn push_behind(text: &mut Vec<u8>, number: Option<u32>) -> Result<(), NoMemory>
+    ensures { OnOk result (text.new.items ≡ text.old.items ++ (codes " behind" ++ made_words number)) }
+{
+    text.extend_from_slice(b" behind")?;
+    push_made(text, number)?;
+    Ok(())
+}
+
+fn push_response(text: &mut Vec<u8>, response: Response) -> Result<(), NoMemory>
+    ensures { OnOk result (text.new.items ≡ text.old.items ++ response_words response) }
+{
+    if is_never(response.anywhere) {
+        text.extend_from_slice(b" never")?;
+    } else {
+        push_number(text, response.anywhere)?;
+        push_behind(text, response.behind)?;
+    }
+    Ok(())
+}
+
+// ---- deadlines
+
+fn is_within(number: Option<u32>, limit: u32) -> bool
+    ensures { result ≡ is_within number limit }
+{
+    match number {
         Some(counts) => counts <= limit,
         None => false,
     }
 }
 
-fn is_within_limit(response: Option<u32>, limit: Option<u32>) -> bool
-    ensures { result ≡ is_within_limit response limit }
+fn is_within_limit(number: Option<u32>, limit: Option<u32>) -> bool
+    ensures { result ≡ is_within_limit number limit }
 {
     match limit {
-        Some(limit) => is_within(response, limit),
+        Some(limit) => is_within(number, limit),
         None => false,
     }
 }
 
-/// Whether there is a deadline that the response is not within.
-pub fn is_open(response: Option<u32>, deadline: Option<u32>) -> bool
+fn is_met(response: Response, limit: u32) -> bool
+    ensures { result ≡ is_met response limit }
+{
+    !is_never(response.anywhere) && is_within(response.anywhere, limit)
+}
+
+fn is_met_behind(response: Response, limit: u32) -> bool
+    ensures { result ≡ is_met_behind response limit }
+{
+    !is_never(response.anywhere) && is_within(response.behind, limit)
+}
+
+/// Whether there is a deadline that is not met, wherever the task is made or behind boot.
+pub fn is_open(response: Response, deadline: Option<u32>) -> bool
     ensures { result ≡ is_open response deadline }
 {
     match deadline {
-        Some(limit) => !is_within(response, limit),
+        Some(limit) => !(is_met(response, limit) || is_met_behind(response, limit)),
         None => false,
     }
 }
 
-fn verdict_word(met: bool) -> &'static [u8]
-    ensures { result.now ≡ cond met (codes " met ") (codes " open ") }
+fn verdict_word(met: bool, behind: bool) -> &'static [u8]
+    ensures { result.now ≡ verdict_word met behind }
 {
-    if met { b" met " } else { b" open " }
+    if met {
+        b" met "
+    } else if behind {
+        b" boot "
+    } else {
+        b" open "
+    }
 }
 
-/// Whether the deadline is met, if there is one.
-pub fn push_deadline(
+// Whether the deadline is met, if there is one.
+fn push_deadline(
     text: &mut Vec<u8>,
-    response: Option<u32>,
+    response: Response,
     deadline: Option<u32>,
 ) -> Result<(), NoMemory>
     ensures { OnOk result (text.new.items ≡ text.old.items ++ deadline_words response deadline) }
 {
     match deadline {
-        Some(limit) => push_number(text, verdict_word(is_within(response, limit)), limit),
+        Some(limit) => {
+            let word = verdict_word(is_met(response, limit), is_met_behind(response, limit));
+            push_counts(text, word, limit)
+        }
         None => Ok(()),
     }
 }
 
-/// That a task keeps its arrivals, where it does.
-pub fn push_kept(text: &mut Vec<u8>, kept: bool) -> Result<(), NoMemory>
-    ensures { OnOk result (text.new.items ≡ text.old.items ++ kept_words kept) }
+// ---- a line
+
+// That a task keeps its arrivals, where it does.
+fn push_lossless(text: &mut Vec<u8>, kept: bool) -> Result<(), NoMemory>
+    ensures { OnOk result (text.new.items ≡ text.old.items ++ lossless_words kept) }
 {
     if kept {
-        text.extend_from_slice(b" kept")?;
+        text.extend_from_slice(b" lossless")?;
     }
     Ok(())
 }
 
-/// Whether each arrival of a task finds it Suspended: nothing else makes it Ready, and its response is at most their distance.
-pub fn keeps_arrivals(
+// Whether each arrival of a task finds it Suspended: nothing else makes it Ready, and its response is at most their distance.
+fn keeps_arrivals(
     config: &Config,
     app: &App,
     load: &[Entry],
     task: u32,
-    response: Option<u32>,
+    number: Option<u32>,
 ) -> bool
     requires few { length config.now.tasks ≤ task_limit }
     requires there { task < length config.now.tasks }
-    ensures { result ≡ keeps_arrivals config.now app.now load.now task response }
+    ensures { result ≡ keeps_arrivals config.now app.now load.now task number }
 {
-    is_made_by_arrivals(config, app, task)
-        && is_within_limit(response, distance_of(load, task as u8))
+    is_made_by_arrivals(config, app, task) && is_within_limit(number, distance_of(load, task as u8))
 }
 
 // What stands behind the name of a task.
@@ -116,25 +182,29 @@ fn push_words(
     app: &App,
     load: &[Entry],
     task: u32,
-    response: Option<u32>,
+    response: Response,
 ) -> Result<(), NoMemory>
     requires few { length config.now.tasks ≤ task_limit }
     requires there { task < length config.now.tasks }
-    ensures { OnOk result (text.new.items ≡ text.old.items ++ response_words config.now app.now load.now task response) }
+    ensures { OnOk result (text.new.items ≡ text.old.items ++ task_words config.now app.now load.now task response) }
 {
     push_response(text, response)?;
     push_deadline(text, response, deadline_of(load, task as u8))?;
-    push_kept(text, keeps_arrivals(config, app, load, task, response))?;
+    let kept = keeps_arrivals(config, app, load, task, response.anywhere);
+    push_lossless(text, kept)?;
     Ok(())
 }
 
 /// The response of a task; none behind the last one.
-pub fn response_at(responses: &[Option<u32>], task: u32) -> Option<u32>
+pub fn response_at(responses: &[Response], task: u32) -> Response
     ensures { result ≡ response_at responses.now task }
 {
     match responses.get(task as usize) {
         Some(response) => *response,
-        None => None,
+        None => Response {
+            anywhere: None,
+            behind: None,
+        },
     }
 }
 
@@ -146,7 +216,7 @@ pub fn push_line(
     app: &App,
     load: &[Entry],
     task: u32,
-    response: Option<u32>,
+    response: Response,
 ) -> Result<(), NoMemory>
     requires few { length config.now.tasks ≤ task_limit }
     requires there { task < length config.now.tasks }
@@ -164,7 +234,7 @@ pub fn response_lines(
     config: &Config,
     app: &App,
     load: &[Entry],
-    responses: &[Option<u32>],
+    responses: &[Response],
 ) -> Result<Vec<u8>, NoMemory>
     requires few { length config.now.tasks ≤ task_limit }
     ensures { IfOk result (λ text. text.items ≡ response_lines config.now app.now load.now responses.now (length config.now.tasks)) }
@@ -188,13 +258,13 @@ pub fn push_demand(text: &mut Vec<u8>, demand: Option<u32>) -> Result<(), NoMemo
     ensures { OnOk result (text.new.items ≡ text.old.items ++ demand_line demand) }
 {
     text.extend_from_slice(b"demand")?;
-    push_response(text, demand)?;
+    push_number(text, demand)?;
     text.extend_from_slice(b"\n")?;
     Ok(())
 }
 
 // Whether the deadline of a task is open.
-fn is_open_at(load: &[Entry], responses: &[Option<u32>], task: u32) -> bool
+fn is_open_at(load: &[Entry], responses: &[Response], task: u32) -> bool
     requires { task < 256 }
     ensures { result ≡ is_open (response_at responses.now task) (deadline load.now task) }
 {
@@ -202,7 +272,7 @@ fn is_open_at(load: &[Entry], responses: &[Option<u32>], task: u32) -> bool
 }
 
 /// Whether that of one of the first tasks is, so many of them.
-pub fn has_open(load: &[Entry], responses: &[Option<u32>], count: u32) -> bool
+pub fn has_open(load: &[Entry], responses: &[Response], count: u32) -> bool
     requires { count ≤ 256 }
     ensures { result ≡ has_open load.now responses.now count }
 {

@@ -5,9 +5,7 @@ ghost use Rattle.sloth_base.specs.Named.{declaration};
 ghost use Rattle.response_laws.specs.Made.{is_making, makes, has_maker, is_named, is_activating, is_plain, is_made_by_arrivals};
 ghost use Rattle.response_laws.specs.Ticks.{activates};
 
-use sloth_base::app::{App, Func, Item, Op};
-use sloth_base::config::{Action, AlarmDecl, Config, TaskDecl};
-use sloth_base::service::Service;
+use sloth_base::{Action, AlarmDecl, App, Config, Func, Item, Op, Service, TaskDecl};
 
 // Whether an operation activates the task, or chains it.
 fn is_making(task: u32, op: Op) -> bool

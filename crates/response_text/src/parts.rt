@@ -1,29 +1,18 @@
-//! Of what the response of a task is made.
-ghost use Rattle.std.specs.Prelude.{◌≡◌, ◌++◌, [], length, codes, OnOk};
+//! Of what the number of a task's longest window is made.
+ghost use Rattle.std.specs.Prelude.{◌≡◌, ◌++◌, [], true, Some, length, codes, OnOk, IfOk};
 ghost use Rattle.sloth_base.specs.Named.{declaration, counter_declaration};
-ghost use Rattle.response_bounds.specs.Windows.{numbers_of};
+ghost use Rattle.run_windows.specs.Settling.{TakeCounts};
+ghost use Rattle.run_windows.specs.Windows.{numbers_of};
 ghost use Rattle.response_text.specs.Lines.{number_words};
-ghost use Rattle.response_text.specs.Parts.{told_number, some_line, part_line, start_word, start_name, start_line, first_word, round_line, round_lines, counter_costs, tick_line, tick_lines, part_lines, is_never, made_lines};
+ghost use Rattle.response_text.specs.Parts.{front_line, some_line, part_line, start_word, start_name, start_line, front_lines, first_word, round_line, round_lines, counter_costs, tick_line, tick_lines, part_lines, has_parts, IsNumbered, IsPartText};
 
-use crate::lines::push_response;
-use response_bounds::arrivals::arrivals;
-use response_bounds::costs::{Costs, CounterCosts};
-use response_bounds::level::task;
-use response_bounds::longest::Longest;
-use response_bounds::rounds::number_of;
-use response_bounds::window::{Made, Start};
-use sloth_base::config::Config;
-use sloth_base::memory::NoMemory;
-
-fn told_number(number: u32) -> Option<u32>
-    ensures { result ≡ told_number number }
-{
-    if 4_000_000 < number {
-        None
-    } else {
-        Some(number)
-    }
-}
+use crate::lines::push_number;
+use run_costs::RunCosts;
+use run_windows::arrivals::arrivals;
+use run_windows::rounds::number_of;
+use run_windows::{Costs, CounterCosts, Longest, Made, Parts, Start, task, window_parts};
+use sloth_base::{Config, NoMemory};
+use std::alloc::Global;
 
 // A name and a word behind it.
 fn push_named(text: &mut Vec<u8>, name: &[u8], word: &[u8]) -> Result<(), NoMemory>
@@ -38,7 +27,7 @@ fn push_named(text: &mut Vec<u8>, name: &[u8], word: &[u8]) -> Result<(), NoMemo
 fn push_last(text: &mut Vec<u8>, number: Option<u32>) -> Result<(), NoMemory>
     ensures { OnOk result (text.new.items ≡ text.old.items ++ (number_words number ++ codes "\n")) }
 {
-    push_response(text, number)?;
+    push_number(text, number)?;
     text.extend_from_slice(b"\n")?;
     Ok(())
 }
@@ -54,7 +43,7 @@ fn push_some(
     ensures { OnOk result (text.new.items ≡ text.old.items ++ some_line name.now word.now number cost) }
 {
     push_named(text, name, word)?;
-    push_response(text, told_number(number))?;
+    push_number(text, Some(number))?;
     push_last(text, cost)?;
     Ok(())
 }
@@ -93,7 +82,6 @@ fn start_word(start: Start) -> &'static [u8]
         Start::Activation(_) => b" activation ",
         Start::Setting(_) => b" event ",
         Start::Section(_) => b" section ",
-        Start::Joining(_) => b" round ",
     }
 }
 
@@ -106,23 +94,42 @@ fn start_name(config: &Config, start: Start) -> &[u8]
         Start::Activation(made) => task_name(config, made),
         Start::Setting(made) => task_name(config, made),
         Start::Section(raised) => task_name(config, raised),
-        Start::Joining(running) => task_name(config, running),
     }
 }
 
-fn push_start(text: &mut Vec<u8>, config: &Config, start: Start, front: u32) -> Result<(), NoMemory>
-    ensures { OnOk result (text.new.items ≡ text.old.items ++ start_line config.now start front) }
+fn push_start(text: &mut Vec<u8>, config: &Config, start: Start) -> Result<(), NoMemory>
+    ensures { OnOk result (text.new.items ≡ text.old.items ++ start_line config.now start) }
 {
     push_named(text, b"start", start_word(start))?;
-    text.extend_from_slice(start_name(config, start))?;
-    push_last(text, told_number(front))?;
+    push_named(text, start_name(config, start), b"\n")?;
     Ok(())
 }
 
-fn first_word(waits: bool) -> &'static [u8]
-    ensures { result.now ≡ first_word waits }
+// So many counts in front of all; no line of none.
+fn push_front(text: &mut Vec<u8>, word: &[u8], counts: u32) -> Result<(), NoMemory>
+    ensures { OnOk result (text.new.items ≡ text.old.items ++ front_line word.now counts) }
 {
-    if waits { b" first" } else { b"" }
+    if counts != 0 {
+        text.extend_from_slice(word)?;
+        push_last(text, Some(counts))?;
+    }
+    Ok(())
+}
+
+fn push_fronts(text: &mut Vec<u8>, parts: &Parts) -> Result<(), NoMemory>
+    ensures { OnOk result (text.new.items ≡ text.old.items ++ front_lines parts.now) }
+{
+    push_front(text, b"stretch", parts.stretch)?;
+    push_front(text, b"service", parts.service)?;
+    push_front(text, b"item", parts.item)?;
+    push_front(text, b"section", parts.section)?;
+    Ok(())
+}
+
+fn first_word(cut: bool) -> &'static [u8]
+    ensures { result.now ≡ first_word cut }
+{
+    if cut { b" first" } else { b"" }
 }
 
 // The rounds of a task.
@@ -138,7 +145,7 @@ fn push_round(
     let name = task_name(config, t);
     let made = number_of(numbers, t);
     let costs = task(costs, t);
-    let word = first_word(costs.waits);
+    let word = first_word(costs.is_cut);
     push_part(text, name, word, made.activations, costs.first)?;
     push_part(text, name, b" next", made.settings, costs.next)?;
     Ok(())
@@ -215,42 +222,73 @@ fn push_ticks(
     Ok(())
 }
 
+// All parts of a window.
 fn push_parts(
     text: &mut Vec<u8>,
     config: &Config,
     costs: &Costs,
-    longest: &Longest,
+    start: Start,
+    parts: &Parts,
 ) -> Result<(), NoMemory>
     ensures { OnOk result (text.new.items ≡ text.old.items
-        ++ part_lines config.now costs.now (length config.now.tasks) (length config.now.counters) longest.now) }
+        ++ part_lines config.now costs.now (length config.now.tasks) (length config.now.counters) start parts.now) }
 {
-    push_start(text, config, longest.start, longest.front)?;
-    push_rounds(text, config, costs, longest.numbers.items())?;
-    push_ticks(text, config, costs, longest.counts)?;
+    push_start(text, config, start)?;
+    push_fronts(text, parts)?;
+    push_rounds(text, config, costs, parts.numbers.items())?;
+    push_ticks(text, config, costs, parts.counts)?;
     Ok(())
 }
 
-fn is_never(response: Option<u32>) -> bool
-    ensures { result ≡ is_never response }
+// Those of a window with something in it.
+fn window_text(
+    alloc: Global,
+    config: &Config,
+    found: &RunCosts,
+    h: usize,
+    window: Longest,
+) -> Result<Vec<u8>, NoMemory>
+    requires costs { TakeCounts found.now.costs }
+    requires number { IsNumbered found.now h (Some window) }
+    ensures { IfOk result (λ text. IsPartText config.now found.now (length config.now.tasks) (length config.now.counters) h true (Some window) text.items) }
 {
-    match response {
-        Some(counts) => counts == 0,
+    let parts = window_parts(alloc, found.longest, found.late, &found.costs, h, window)?;
+    let mut text = Vec::new(alloc);
+    push_parts(&mut text, config, &found.costs, window.start, &parts)?;
+    Ok(text)
+}
+
+/// Whether there is a window with something in it.
+pub fn has_parts(window: Option<Longest>) -> bool
+    ensures { result ≡ has_parts window }
+{
+    match window {
+        Some(window) => window.number != 0,
         None => false,
     }
 }
 
-/// The lines of all that comes within the longest window of a task, where something makes it.
-pub fn push_made(
-    text: &mut Vec<u8>,
+/// The lines of the parts of a task's longest window, where they are shown.
+pub fn part_text(
+    alloc: Global,
     config: &Config,
-    costs: &Costs,
-    longest: &Longest,
-) -> Result<(), NoMemory>
-    ensures { OnOk result (text.new.items ≡ text.old.items
-        ++ made_lines config.now costs.now (length config.now.tasks) (length config.now.counters) longest.now) }
+    found: &RunCosts,
+    h: usize,
+    shown: bool,
+    window: Option<Longest>,
+) -> Result<Vec<u8>, NoMemory>
+    requires costs { TakeCounts found.now.costs }
+    requires shown { shown ≡ true → IsNumbered found.now h window }
+    ensures { IfOk result (λ text. IsPartText config.now found.now (length config.now.tasks) (length config.now.counters) h shown window text.items) }
 {
-    if !is_never(longest.response) {
-        push_parts(text, config, costs, longest)?;
+    match window {
+        Some(window) => {
+            if shown {
+                window_text(alloc, config, found, h, window)
+            } else {
+                Ok(Vec::new(alloc))
+            }
+        }
+        None => Ok(Vec::new(alloc)),
     }
-    Ok(())
 }

@@ -1,56 +1,93 @@
 //! The lines of one task's response, from the texts.
-ghost use Rattle.std.specs.Prelude.{◌≡◌, ◌<◌, ◌≤◌, length, IfOk, IfErr};
+ghost use Rattle.std.specs.Prelude.{◌≡◌, ◌<◌, ◌≤◌, true, false, length, IfOk, IfErr};
 ghost use Rattle.sloth_base.specs.Limits.{task_limit};
 ghost use Rattle.least_fault.specs.Order.{ErrorIs};
 ghost use Rattle.call_graph.specs.Ranks.{RanksOf};
 ghost use Rattle.load_text.specs.LoadText.{LoadFault};
 ghost use Rattle.sloth_base.specs.DeclaredNames.{task_names, counter_names};
-ghost use Rattle.response_bounds.specs.Settling.{TakeCounts};
-ghost use Rattle.response_bounds.specs.Responses.{IsLongest};
-ghost use Rattle.response_costs.specs.CostsOf.{AreCosts};
+ghost use Rattle.run_windows.specs.Settling.{TakeCounts};
+ghost use Rattle.run_windows.specs.Longest.{IsLongest};
+ghost use Rattle.run_costs.specs.RunRecord.{IsRunRecord};
 ghost use Rattle.response_text.specs.Inputs.{InputsErrorIs};
 ghost use Rattle.sloth_source.specs.TaskNames.{task_named};
-ghost use Rattle.response_text.specs.TaskText.{told_of_task, HasParts, HasPartsOf, HasLoadParts, IsTaskText};
+ghost use Rattle.response_text.specs.TaskText.{same_number, shows_behind, AreBothParts, task_lines, HasParts, HasPartsOf, HasLoadParts, IsTaskText};
 
+use crate::Told;
 use crate::inputs::load_of;
 use crate::lines::{is_open, push_line};
-use crate::parts::push_made;
-use crate::told::Told;
-use call_graph::ranking::Ranks;
+use crate::parts::{has_parts, part_text};
+use crate::text::response_of;
+use crate::told::Response;
+use call_graph::Ranks;
 use load_text::{Entry, deadline_of};
-use response_bounds::costs::Costs;
-use response_bounds::longest::Longest;
-use response_bounds::longest_window;
-use response_costs::response_costs;
-use sloth_base::app::App;
-use sloth_base::config::Config;
-use sloth_base::list::List;
-use sloth_base::memory::NoMemory;
-use sloth_base::refusal::BuildError;
+use run_costs::{RunCosts, run_costs};
+use run_windows::longest::number_of;
+use run_windows::{Longest, longest_window};
+use sloth_base::{App, BuildError, Config, List, NoMemory};
 use sloth_source::{read_checked, task_named};
 use std::alloc::Global;
-use task_verify::verified::Verified;
+use task_verify::Verified;
 
-// The lines of a task and its longest window.
-fn told_of_task(
+fn same_number(one: Option<u32>, other: Option<u32>) -> bool
+    ensures { result ≡ same_number one other }
+{
+    match one {
+        Some(counts) => match other {
+            Some(more) => counts == more,
+            None => false,
+        },
+        None => other.is_none(),
+    }
+}
+
+// Whether the parts behind boot are shown.
+fn shows_behind(anywhere: Option<Longest>, behind: Option<Longest>) -> bool
+    ensures { result ≡ shows_behind anywhere behind }
+{
+    has_parts(behind) && !same_number(number_of(anywhere), number_of(behind))
+}
+
+// The parts of both windows.
+fn both_parts(
+    alloc: Global,
+    config: &Config,
+    found: &RunCosts,
+    task: usize,
+    anywhere: Option<Longest>,
+    behind: Option<Longest>,
+) -> Result<Vec<u8>, NoMemory>
+    requires take { TakeCounts found.now.costs }
+    requires anywhere { IsLongest found.now.longest found.now.late found.now.costs task true anywhere }
+    requires behind { IsLongest found.now.longest found.now.late found.now.costs task false behind }
+    ensures { IfOk result (λ text. AreBothParts config.now found.now task anywhere behind text.items) }
+{
+    let mut text = part_text(alloc, config, found, task, has_parts(anywhere), anywhere)?;
+    let shown = shows_behind(anywhere, behind);
+    let further = part_text(alloc, config, found, task, shown, behind)?;
+    text.extend_from_slice(&further)?;
+    Ok(text)
+}
+
+// The line of a task, and the parts.
+fn task_lines(
     alloc: Global,
     config: &Config,
     app: &App,
     load: &[Entry],
-    costs: &Costs,
     task: u32,
-    longest: &Longest,
+    response: Response,
+    parts: &[u8],
 ) -> Result<Told, NoMemory>
     requires few { length config.now.tasks ≤ task_limit }
     requires there { task < length config.now.tasks }
-    ensures { IfOk result (λ told. told ≡ told_of_task config.now app.now load.now costs.now task longest.now) }
+    ensures { IfOk result (λ told. told ≡ task_lines config.now app.now load.now task response parts.now) }
 {
     let mut text = Vec::new(alloc);
-    push_line(&mut text, config, app, load, task, longest.response)?;
-    push_made(&mut text, config, costs, longest)?;
+    push_line(&mut text, config, app, load, task, response)?;
+    text.extend_from_slice(parts)?;
     Ok(Told {
         text: List::from_vec(text),
-        is_open: is_open(longest.response, deadline_of(load, task as u8)),
+        is_open: is_open(response, deadline_of(load, task as u8)),
     })
 }
 
@@ -60,17 +97,20 @@ fn told_by(
     config: &Config,
     app: &App,
     load: &[Entry],
-    costs: &Costs,
+    found: &RunCosts,
     task: u32,
 ) -> Result<Told, NoMemory>
     requires few { length config.now.tasks ≤ task_limit }
     requires there { task < length config.now.tasks }
-    requires costs { AreCosts config.now app.now load.now costs.now }
-    requires take { TakeCounts costs.now }
+    requires costs { IsRunRecord config.now app.now load.now found.now }
     ensures { IfOk result (λ told. HasParts config.now app.now load.now task told) }
 {
-    let longest = longest_window(alloc, costs, task as usize)?;
-    told_of_task(alloc, config, app, load, costs, task, &longest)
+    let (longest, late, number) = (found.longest, found.late, task as usize);
+    let anywhere = longest_window(alloc, longest, late, &found.costs, number, true)?;
+    let behind = longest_window(alloc, longest, late, &found.costs, number, false)?;
+    let parts = both_parts(alloc, config, found, number, anywhere, behind)?;
+    let response = response_of(anywhere, behind);
+    task_lines(alloc, config, app, load, task, response, &parts)
 }
 
 // Those of task code that keeps all rules.
@@ -85,8 +125,8 @@ fn checked_text(
     requires there { task < length verified.now.config.tasks }
     ensures { IfOk result (λ told. HasParts verified.now.config verified.now.app load.now task told) }
 {
-    let costs = response_costs(alloc, verified.config(), verified.app(), ranks, load)?;
-    told_by(alloc, verified.config(), verified.app(), load, &costs, task)
+    let found = run_costs(alloc, verified.config(), verified.app(), ranks, load)?;
+    told_by(alloc, verified.config(), verified.app(), load, &found, task)
 }
 
 // Those of the task of a name, if there is one.

@@ -1,41 +1,75 @@
 //! The lines of responses, from the texts.
 ghost use Rattle.std.specs.Prelude.{◌≡◌, ◌<◌, ◌≤◌, length, IfOk, IfErr};
 ghost use Rattle.sloth_base.specs.Limits.{task_limit};
+ghost use Rattle.sloth_base.specs.DeclaredNames.{task_names, counter_names};
+ghost use Rattle.sloth_base.specs.Owners.{owners_in};
 ghost use Rattle.least_fault.specs.Order.{ErrorIs};
+ghost use Rattle.code_rules.specs.WellFormed.{WellFormed};
 ghost use Rattle.call_graph.specs.Ranks.{RanksOf};
 ghost use Rattle.load_text.specs.LoadText.{LoadFault};
-ghost use Rattle.sloth_base.specs.DeclaredNames.{task_names, counter_names};
-ghost use Rattle.response_bounds.specs.Settling.{TakeCounts};
-ghost use Rattle.response_costs.specs.CostsOf.{AreCosts};
+ghost use Rattle.load_text.specs.Loads.{IsLoad};
+ghost use Rattle.run_windows.specs.Settling.{TakeCounts};
 ghost use Rattle.response_text.specs.Inputs.{InputsErrorIs};
-ghost use Rattle.response_text.specs.ResponseText.{AreResponses, told_of, HasResponses, HasLoadResponses, IsResponseText};
+ghost use Rattle.run_costs.specs.RunRecord.{IsRunRecord};
+ghost use Rattle.response_text.specs.TaskText.{response_of};
+ghost use Rattle.response_text.specs.ResponseText.{IsTaskResponse, AreResponses, told_of, HasResponses, HasLoadResponses, IsResponseText};
 
+use crate::Told;
 use crate::inputs::load_of;
 use crate::lines::{has_open, push_demand, response_lines};
-use crate::told::Told;
-use call_graph::ranking::Ranks;
+use crate::told::Response;
+use call_graph::Ranks;
 use load_text::Entry;
-use response_bounds::costs::Costs;
-use response_bounds::{demand, response};
-use response_costs::response_costs;
-use sloth_base::app::App;
-use sloth_base::config::Config;
-use sloth_base::list::List;
-use sloth_base::memory::NoMemory;
-use sloth_base::refusal::BuildError;
+use run_costs::{RunCosts, run_costs};
+use run_windows::longest::number_of;
+use run_windows::{Costs, Longest, demand, longest_window};
+use sloth_base::{App, BuildError, Config, List, NoMemory};
 use sloth_source::read_checked;
 use std::alloc::Global;
-use task_verify::verified::Verified;
-use text_pieces::growth::push;
+use task_verify::Verified;
+use text_pieces::push;
 
-// The responses of all tasks, so many of them.
-fn responses(alloc: Global, costs: &Costs, count: u32) -> Result<Vec<Option<u32>>, NoMemory>
+/// The response that these windows tell.
+pub fn response_of(anywhere: Option<Longest>, behind: Option<Longest>) -> Response
+    ensures { result ≡ response_of anywhere behind }
+{
+    Response {
+        anywhere: number_of(anywhere),
+        behind: number_of(behind),
+    }
+}
+
+// The response of a task.
+fn response(
+    alloc: Global,
+    longest: u32,
+    late: u32,
+    costs: &Costs,
+    task: usize,
+) -> Result<Response, NoMemory>
+    requires take { TakeCounts costs.now }
+    requires there { task < length costs.now.tasks }
+    ensures { IfOk result (IsTaskResponse longest late costs.now task) }
+{
+    let anywhere = longest_window(alloc, longest, late, costs, task, true)?;
+    let behind = longest_window(alloc, longest, late, costs, task, false)?;
+    Ok(response_of(anywhere, behind))
+}
+
+// Those of all tasks.
+fn responses(
+    alloc: Global,
+    longest: u32,
+    late: u32,
+    costs: &Costs,
+) -> Result<Vec<Response>, NoMemory>
     requires { TakeCounts costs.now }
-    ensures { IfOk result (λ responses. AreResponses costs.now count responses.items) }
+    ensures { IfOk result (λ responses. AreResponses longest late costs.now (length costs.now.tasks) responses.items) }
 {
     let mut responses = Vec::new(alloc);
-    for task in 0..count {
-        push(&mut responses, response(alloc, costs, task as usize)?)?;
+    for task in 0..costs.tasks.items().len() {
+        let response = response(alloc, longest, late, costs, task)?;
+        push(&mut responses, response)?;
     }
     Ok(responses)
 }
@@ -46,7 +80,7 @@ fn told_of(
     config: &Config,
     app: &App,
     load: &[Entry],
-    responses: &[Option<u32>],
+    responses: &[Response],
     demand: Option<u32>,
 ) -> Result<Told, NoMemory>
     requires few { length config.now.tasks ≤ task_limit }
@@ -66,15 +100,15 @@ fn told_by(
     config: &Config,
     app: &App,
     load: &[Entry],
-    costs: &Costs,
+    found: &RunCosts,
 ) -> Result<Told, NoMemory>
-    requires few { length config.now.tasks ≤ task_limit }
-    requires costs { AreCosts config.now app.now load.now costs.now }
-    requires take { TakeCounts costs.now }
+    requires well_formed { WellFormed config.now app.now }
+    requires in_load { IsLoad (owners_in config.now) load.now }
+    requires costs { IsRunRecord config.now app.now load.now found.now }
     ensures { IfOk result (λ told. HasResponses config.now app.now load.now told) }
 {
-    let responses = responses(alloc, costs, config.tasks.items().len() as u32)?;
-    let demand = demand(alloc, costs)?;
+    let responses = responses(alloc, found.longest, found.late, &found.costs)?;
+    let demand = demand(alloc, &found.costs)?;
     told_of(alloc, config, app, load, &responses, demand)
 }
 
@@ -85,11 +119,12 @@ fn checked_text(
     ranks: &Ranks,
     load: &[Entry],
 ) -> Result<Told, NoMemory>
-    requires { RanksOf verified.now.app ranks.now }
+    requires belong { RanksOf verified.now.app ranks.now }
+    requires in_load { IsLoad (owners_in verified.now.config) load.now }
     ensures { IfOk result (λ told. HasResponses verified.now.config verified.now.app load.now told) }
 {
-    let costs = response_costs(alloc, verified.config(), verified.app(), ranks, load)?;
-    told_by(alloc, verified.config(), verified.app(), load, &costs)
+    let found = run_costs(alloc, verified.config(), verified.app(), ranks, load)?;
+    told_by(alloc, verified.config(), verified.app(), load, &found)
 }
 
 // The same, where the error is that of texts.
@@ -99,7 +134,8 @@ fn text_of(
     ranks: &Ranks,
     load: &[Entry],
 ) -> Result<Told, BuildError>
-    requires { RanksOf verified.now.app ranks.now }
+    requires belong { RanksOf verified.now.app ranks.now }
+    requires in_load { IsLoad (owners_in verified.now.config) load.now }
     ensures told { IfOk result (λ told. HasResponses verified.now.config verified.now.app load.now told) }
     ensures memory { IfErr result (λ error. error ≡ BuildError.Memory) }
 {
@@ -122,8 +158,9 @@ fn text_for(
     text_of(alloc, verified, ranks, &load)
 }
 
-/// The lines of the responses of all tasks under a load, and whether a deadline is open, of texts of at most 4,294,967,294 bytes; or the first refusal
-/// (O1 to O15, A1 to A7, V1 to V12, then L1 to L4).
+/// The lines of the responses of all tasks in runs that keep a load, and of its demand, and whether a deadline is open, of texts of at most 4,294,967,294
+/// bytes; or the first refusal (O1 to O15, A1 to A7, V1 to V12, then L1 to L4). Each number is the least that its windows allow, and `none` stands exactly
+/// where there is none.
 pub fn response_text(alloc: Global, oil: &[u8], src: &[u8], load: &[u8]) -> Result<Told, BuildError>
     requires oil { length oil.now < 4294967295 }
     requires src { length src.now < 4294967295 }

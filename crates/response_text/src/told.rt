@@ -1,10 +1,18 @@
 //! What is told.
 
-use sloth_base::list::List;
+use sloth_base::List;
 
 /// The lines, and whether a deadline among them is open.
 #[derive(Drop)]
 pub struct Told {
     pub text: List<u8>,
     pub is_open: bool,
+}
+
+/// Within how many counts a task leaves the processor behind what makes it Ready: 0 where nothing does, none where there is no such number.
+#[derive(Clone, Copy)]
+pub struct Response {
+    pub anywhere: Option<u32>,
+    /// The same, where what makes it is behind boot.
+    pub behind: Option<u32>,
 }

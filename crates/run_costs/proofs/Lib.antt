@@ -1,5 +1,20 @@
-pub mod Sizes
-mod RunTaking
-mod RunMaking
+mod Members
+mod Coming
+mod Raised
+mod Nothing
+mod Uncounted
+mod Topping
+mod Growing
+mod Bodies
+mod Serving
+mod Making
+mod Greatest
+mod Sectioning
+pub mod Taking
+mod Naming
+mod CleanRounds
+mod OneSums
+mod SameCosts
+mod Weighing
 mod Times
-pub mod OneRunCosts
+pub mod OneCosts

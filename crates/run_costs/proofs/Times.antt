@@ -1,5 +1,5 @@
 -- How often sections of lower tasks make tasks Ready, put together.
-use Rattle.std.proofs.Common.{◌≡◌, ℕ, ◌<◌, Bool, true, false, ◌&&◌, not, [], length, Option, Some, refl, ap, sym, ◌∙◌, subst}
+use Rattle.std.proofs.Common.{◌≡◌, ℕ, ◌<◌, Bool, true, false, ◌&&◌, not, length, Option, Some, refl, ap, sym, ◌∙◌, subst}
 use Rattle.std.specs.Prelude.{Decides}
 use Rattle.std.proofs.lemmas.Bool.{and_parts, true≢false, ltb-true, lt-ltb}
 use Rattle.sloth_base.specs.declared.config.Config.{Config}
@@ -14,16 +14,16 @@ use Rattle.walk_sums.specs.declared.counted.Counted.{Counted}
 use Rattle.walk_sums.specs.declared.counted.Counted.TheVariants as counts
 use Rattle.walk_sums.specs.Counted.{one_if, counted_weights}
 use Rattle.walk_sums.specs.Told.{IsToldSum}
-use Rattle.response_bounds.specs.declared.costs.SectionMakings.{SectionMakings}
-use Rattle.response_bounds.specs.Costs.{no_section_makings}
-use Rattle.response_costs.specs.CostsOf.{IsSectionMade}
-use Rattle.response_costs.specs.Sections.{DoesRaised}
-use Rattle.response_costs.specs.SectionSums.{is_lower, is_once, does}
-use Rattle.response_costs.specs.Tops.{IsTop}
-use Rattle.response_costs.proofs.Nothing.{section_none}
-use Rattle.response_costs.proofs.Raised.{raised_decided}
-use Rattle.response_costs.proofs.SameCosts.{same_section_makings}
-use Rattle.run_responses.specs.RunCosts.{IsRunSectionMaking}
+use Rattle.run_windows.specs.declared.costs.SectionMakings.{SectionMakings}
+use Rattle.run_windows.specs.Costs.{no_section_makings}
+use Rattle.run_costs.specs.CostsOf.{IsSectionMade}
+use Rattle.run_costs.specs.Sections.{DoesRaised}
+use Rattle.run_costs.specs.SectionSums.{is_lower, is_once, does}
+use Rattle.run_costs.specs.Tops.{IsTop}
+use Rattle.run_costs.proofs.Nothing.{section_none}
+use Rattle.run_costs.proofs.Raised.{raised_decided}
+use Rattle.run_costs.proofs.SameCosts.{same_section_makings}
+use Rattle.run_costs.specs.RunCosts.{IsRunSectionMaking}
 use Rattle.run_costs.specs.RunRecord.{is_asked, is_limited, times, AreTimes}
 
 module _ (config : Config) (app : App) (h j : ℕ) where
@@ -61,7 +61,7 @@ module _ (config : Config) (app : App) (h j : ℕ) where
           ap (λ b. b && (is_lower config h k && does config h k top)) (not_lower named (is_lower config h j) refl higher)
           ∙ ap (λ b. b && does config h k top) (lt-ltb (static_priority config k) (static_priority config h) low.1)
 
-      counted : IsLower config h k → ¬ (IsLower config h j) → (b d o : Bool) → asked ≡ b → does config h k top ≡ d → Once ≡ o → IsSectionMade config app [] h k o c m
+      counted : IsLower config h k → ¬ (IsLower config h j) → (b d o : Bool) → asked ≡ b → does config h k top ≡ d → Once ≡ o → IsSectionMade config app h k o c m
       counted low higher true d true a is_d l =
           (does config h k top, decided low, e ∙ ap (λ b. times b Once s) a ∙ ap (λ o. times true o s) l ∙ sym (ap (λ x. Some (one_if x)) (sym (ask ∙ same low higher) ∙ a)))
       counted low higher true d false a is_d l = (s, summed a, e ∙ ap (λ b. times b Once s) a ∙ ap (λ o. times true o s) l)
@@ -82,8 +82,8 @@ module _ (config : Config) (app : App) (h j : ℕ) where
       → m.activations ≡ a → m.settings ≡ s → IsRunSectionMaking config app h j k m
   joined k m a s are_a are_s ea es = (
     (λ low higher. record {
-      activations = subst (IsSectionMade config app [] h k (is_once config h j k) (counts.Activations j)) (sym ea) (are_a.0 low higher);
-      settings = subst (IsSectionMade config app [] h k false (counts.Settings j)) (sym es) (are_s.0 low higher);
+      activations = subst (IsSectionMade config app h k (is_once config h j k) (counts.Activations j)) (sym ea) (are_a.0 low higher);
+      settings = subst (IsSectionMade config app h k false (counts.Settings j)) (sym es) (are_s.0 low higher);
     }),
     λ apart. same_section_makings m no_section_makings (ea ∙ are_a.1 apart) (es ∙ are_s.1 apart),
   )

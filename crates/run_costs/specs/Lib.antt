@@ -1,1 +1,10 @@
+pub mod Tops
+pub mod Services
+pub mod Tables
+pub mod Rounds
+pub mod Makings
+pub mod Sections
+pub mod CostsOf
+pub mod SectionSums
+pub mod RunCosts
 pub mod RunRecord

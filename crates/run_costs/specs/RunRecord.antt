@@ -1,5 +1,5 @@
 -- How the record of costs that runs keep is put together.
-use Rattle.std.specs.Prelude.{ℕ, ◌≡◌, ◌&&◌, not, max, cond, Bool, false, List, [], length, Option, Some, None}
+use Rattle.std.specs.Prelude.{ℕ, ◌≡◌, ◌&&◌, not, max, cond, Bool, false, List, length, Option, Some}
 use Rattle.sloth_base.specs.declared.config.Config.{Config}
 use Rattle.sloth_base.specs.declared.app.App.{App}
 use Rattle.load_text.specs.declared.entry.Entry.{Entry}
@@ -12,14 +12,13 @@ use Rattle.walk_sums.specs.declared.tasks.RoundSums.{RoundSums}
 use Rattle.walk_sums.specs.declared.counted.Counted.{Counted}
 use Rattle.bounds_text.specs.Stretches.{running_counts}
 use Rattle.bounds_text.specs.Latency.{heaviest_ending, longest_item}
-use Rattle.response_bounds.specs.declared.costs.AlarmCosts.{AlarmCosts}
-use Rattle.response_bounds.specs.declared.costs.Makings.{Makings}
-use Rattle.response_bounds.specs.Settling.{TakeCounts}
-use Rattle.response_costs.specs.Rounds.{made, many}
-use Rattle.response_costs.specs.CostsOf.{IsSectionMade}
-use Rattle.response_costs.specs.SectionSums.{is_lower, is_once, does}
+use Rattle.run_windows.specs.declared.costs.Makings.{Makings}
+use Rattle.run_windows.specs.Settling.{TakeCounts}
+use Rattle.run_costs.specs.Rounds.{made, many}
+use Rattle.run_costs.specs.CostsOf.{IsSectionMade}
+use Rattle.run_costs.specs.SectionSums.{is_lower, is_once, does}
 use Rattle.run_counts.specs.Counts.{AreCounts}
-use Rattle.run_responses.specs.RunCosts.{AreRunCosts}
+use Rattle.run_costs.specs.RunCosts.{AreRunCosts}
 use Rattle.run_costs.specs.declared.record.RunCosts.{RunCosts}
 
 -- ---- limits
@@ -42,18 +41,14 @@ HasLongestStretch config app late = (weights : List BodyWeights) × AreCounts ap
 
 -- ---- makings
 
--- how often rounds make a task Ready, where nothing is said of their work
+-- how often rounds make a task Ready
 abbrev pub run_making : (once : Bool) → (activations settings : RoundSums) → Makings
 run_making once a s = record {
-  first_activations = made once None a.first;
-  first_settings = made false None s.first;
-  next_activations = made once None a.later;
-  next_settings = made false None s.later;
+  first_activations = made once a.first;
+  first_settings = made false s.first;
+  next_activations = made once a.later;
+  next_settings = made false s.later;
 }
-
--- the alarm may expire at each tick, if an item sets it
-abbrev pub run_alarm : AlarmCosts → AlarmCosts
-run_alarm told = record told { is_cancelled = told.is_set }
 
 -- ---- sections
 
@@ -67,12 +62,12 @@ is_limited config activates h j k = activates && is_once config h j k
 
 -- never where they are not asked, and once where it is once at most
 abbrev pub times : (asked once : Bool) → Sum → Option ℕ
-times asked once s = cond asked (cond once (Some 1) (many None s)) (Some 0)
+times asked once s = cond asked (cond once (Some 1) (many s)) (Some 0)
 
 -- how often sections of task k for h do what counts, of those that make j Ready
 abbrev pub AreTimes : Config → App → (h j : ℕ) → (activates : Bool) → Counted → (k : ℕ) → Option ℕ → Type 0
 AreTimes config app h j activates c k m =
-    (IsLower config h k → ¬ (IsLower config h j) → IsSectionMade config app [] h k (is_limited config activates h j k) c m)
+    (IsLower config h k → ¬ (IsLower config h j) → IsSectionMade config app h k (is_limited config activates h j k) c m)
     × (¬ (IsLower config h k × ¬ (IsLower config h j)) → m ≡ Some 0)
 
 -- ---- all

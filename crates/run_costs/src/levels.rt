@@ -1,59 +1,26 @@
 //! The sections of lower tasks for each task, and what they make.
-ghost use Rattle.std.specs.Prelude.{◌≡◌, ◌<◌, None, [], length, IfOk};
+ghost use Rattle.std.specs.Prelude.{◌<◌, None, [], length, IfOk};
 ghost use Rattle.code_rules.specs.WellFormed.{WellFormed};
 ghost use Rattle.walk_sums.specs.CallOrder.{IsCallOrder};
 ghost use Rattle.walk_sums.specs.KnownBodies.{AreKnownBodies};
 ghost use Rattle.walk_sums.specs.declared.kinds.Kind.TheVariants as kinds;
 ghost use Rattle.walk_sums.specs.Known.{AreSums};
 ghost use Rattle.walk_sums.specs.Weights.{AreWeights};
-ghost use Rattle.response_bounds.specs.Costs.{no_level, no_section, no_section_makings};
-ghost use Rattle.response_costs.specs.CostsOf.{AreEach, IsTaskSection};
-ghost use Rattle.response_costs.specs.Sections.{AllWeigh};
-ghost use Rattle.response_costs.specs.Services.{AreAllNamingTops};
-ghost use Rattle.run_responses.specs.RunCosts.{IsRunSectionMaking, IsRunLevel};
+ghost use Rattle.run_windows.specs.Costs.{no_level, no_section_makings};
+ghost use Rattle.run_costs.specs.CostsOf.{AreEach};
+ghost use Rattle.run_costs.specs.Sections.{AllWeigh};
+ghost use Rattle.run_costs.specs.Services.{AreAllNamingTops};
+ghost use Rattle.run_costs.specs.RunCosts.{IsRunSectionMaking, IsRunLevel};
 
 use crate::section_makings::section_makers;
-use bound_rules::bodies::Body;
-use bound_rules::sizes::Summary;
-use bound_rules::weights::BodyWeights;
-use load_text::Entry;
-use response_bounds::costs::{Level, SectionCosts, SectionMakings};
-use response_costs::sections::sections;
-use response_costs::services::{NamingTops, naming_at};
-use sloth_base::app::App;
-use sloth_base::config::Config;
-use sloth_base::list::List;
-use sloth_base::memory::NoMemory;
+use crate::sections::sections;
+use crate::services::{NamingTops, naming_at};
+use bound_rules::{Body, BodyWeights, Summary};
+use run_windows::{Level, SectionMakings};
+use sloth_base::{App, Config, List, NoMemory};
 use std::alloc::Global;
-use text_pieces::growth::push;
-use walk_sums::kinds::Kind;
-use walk_sums::levels::whole_sums;
-
-fn lower_sections(
-    alloc: Global,
-    config: &Config,
-    app: &App,
-    none: &[Entry],
-    weights: &[BodyWeights],
-    whole: &[Summary],
-    bodies: &[Body],
-    order: &[usize],
-    above: usize,
-) -> Result<Vec<SectionCosts>, NoMemory>
-    requires none { none.now ≡ [] }
-    requires well_formed { WellFormed config.now app.now }
-    requires weigh { AllWeigh app.now weights.now }
-    requires fit { AreWeights app.now weights.now }
-    requires whole { AreSums config.now app.now weights.now kinds.Sections None whole.now }
-    requires bodies { AreKnownBodies config.now app.now bodies.now }
-    requires order { IsCallOrder app.now order.now }
-    requires above { above < length config.now.tasks }
-    ensures { IfOk result (λ list. AreEach (length config.now.tasks) no_section (IsTaskSection config.now app.now [] weights.now above) list.items) }
-{
-    sections(
-        alloc, config, app, none, weights, whole, bodies, order, above,
-    )
-}
+use text_pieces::push;
+use walk_sums::{Kind, whole_sums};
 
 fn makings_for(
     alloc: Global,
@@ -85,7 +52,6 @@ fn level(
     alloc: Global,
     config: &Config,
     app: &App,
-    none: &[Entry],
     weights: &[BodyWeights],
     whole: &[Summary],
     bodies: &[Body],
@@ -93,7 +59,6 @@ fn level(
     tops: &[NamingTops],
     above: usize,
 ) -> Result<Level, NoMemory>
-    requires none { none.now ≡ [] }
     requires well_formed { WellFormed config.now app.now }
     requires weigh { AllWeigh app.now weights.now }
     requires fit { AreWeights app.now weights.now }
@@ -104,9 +69,7 @@ fn level(
     requires above { above < length config.now.tasks }
     ensures { IfOk result (IsRunLevel config.now app.now weights.now above) }
 {
-    let sections = lower_sections(
-        alloc, config, app, none, weights, whole, bodies, order, above,
-    )?;
+    let sections = sections(alloc, config, app, weights, whole, bodies, order, above)?;
     let makings = makings_for(alloc, config, app, bodies, order, tops, above)?;
     Ok(Level {
         sections: List::from_vec(sections),
@@ -118,14 +81,12 @@ fn levels_by(
     alloc: Global,
     config: &Config,
     app: &App,
-    none: &[Entry],
     weights: &[BodyWeights],
     whole: &[Summary],
     bodies: &[Body],
     order: &[usize],
     tops: &[NamingTops],
 ) -> Result<Vec<Level>, NoMemory>
-    requires none { none.now ≡ [] }
     requires well_formed { WellFormed config.now app.now }
     requires weigh { AllWeigh app.now weights.now }
     requires fit { AreWeights app.now weights.now }
@@ -138,25 +99,23 @@ fn levels_by(
     let mut list = Vec::new(alloc);
     for above in 0..config.tasks.items().len() {
         let level = level(
-            alloc, config, app, none, weights, whole, bodies, order, tops, above,
+            alloc, config, app, weights, whole, bodies, order, tops, above,
         )?;
         push(&mut list, level)?;
     }
     Ok(list)
 }
 
-/// The sections for each task, and what they make; `none` is no load.
+/// The sections for each task, and what they make.
 pub fn levels(
     alloc: Global,
     config: &Config,
     app: &App,
-    none: &[Entry],
     weights: &[BodyWeights],
     bodies: &[Body],
     order: &[usize],
     tops: &[NamingTops],
 ) -> Result<Vec<Level>, NoMemory>
-    requires none { none.now ≡ [] }
     requires well_formed { WellFormed config.now app.now }
     requires weigh { AllWeigh app.now weights.now }
     requires fit { AreWeights app.now weights.now }
@@ -166,7 +125,5 @@ pub fn levels(
     ensures { IfOk result (λ list. AreEach (length config.now.tasks) no_level (IsRunLevel config.now app.now weights.now) list.items) }
 {
     let whole = whole_sums(alloc, config, app, weights, Kind::Sections, bodies, order)?;
-    levels_by(
-        alloc, config, app, none, weights, &whole, bodies, order, tops,
-    )
+    levels_by(alloc, config, app, weights, &whole, bodies, order, tops)
 }

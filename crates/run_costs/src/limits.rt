@@ -5,13 +5,11 @@ ghost use Rattle.call_graph.specs.Tables.{HasTaskBody};
 ghost use Rattle.code_rules.specs.WellFormed.{WellFormed};
 ghost use Rattle.run_costs.specs.RunRecord.{longest_of, late_of};
 
-use bound_rules::weights::BodyWeights;
-use bounds_text::latency::{heaviest_ending, longest_item};
-use bounds_text::stretches::running_counts;
+use bound_rules::BodyWeights;
+use bounds_text::{heaviest_ending, longest_item, running_counts};
 use code_lengths::boot_path;
 use event_weights::ItemLengths;
-use sloth_base::app::App;
-use sloth_base::config::Config;
+use sloth_base::{App, Config};
 
 /// The instructions of the longest item, 1 where there is none.
 pub fn longest_of(lengths: &ItemLengths) -> u32

@@ -1,30 +1,98 @@
-//! What the ticks of counters cost, and alarms that may expire at each tick.
-ghost use Rattle.std.specs.Prelude.{◌≡◌, ◌<◌, ◌≤◌, length, get_or, IfOk};
+//! What the ticks of counters cost, and the alarms.
+ghost use Rattle.std.specs.Prelude.{◌≡◌, ◌<◌, ◌≤◌, ◌⊎◌, ℕ, true, length, Decides, IfOk};
 ghost use Rattle.sloth_base.specs.Limits.{alarm_limit, counter_limit};
-ghost use Rattle.response_costs.specs.CostsOf.{AreEach, no_counter, no_alarm, IsAlarm};
-ghost use Rattle.run_responses.specs.RunCosts.{IsRunCounter, IsRunAlarm};
-ghost use Rattle.run_costs.specs.RunRecord.{run_alarm};
+ghost use Rattle.sloth_base.specs.Named.{item_of};
+ghost use Rattle.walk_sums.specs.Counted.{calls_for};
+ghost use Rattle.run_costs.specs.CostsOf.{AreEach, no_counter, Names, task_of, sets_events, no_alarm, IsAlarm};
+ghost use Rattle.run_costs.specs.RunCosts.{IsRunCounter};
+ghost use Rattle.sloth_base.specs.declared.service.Service.TheVariants as service;
 
+use crate::sought::calls_for;
 use code_lengths::tick_path;
 use load_text::{Entry, distance_of};
-use response_bounds::costs::{AlarmCosts, CounterCosts};
-use sloth_base::app::App;
-use sloth_base::config::Config;
-use sloth_base::lines::FIRST_COUNTER_LINE;
-use sloth_base::memory::NoMemory;
+use run_windows::{AlarmCosts, CounterCosts};
+use sloth_base::{Action, App, Config, FIRST_COUNTER_LINE, Func, NoMemory, Service};
 use std::alloc::Global;
-use text_pieces::growth::push;
+use text_pieces::push;
+use walk_sums::function_at;
 
-/// Behind the last one.
-const NO_ALARM: AlarmCosts = AlarmCosts {
-    counter: 0,
-    task: 0,
-    sets_events: false,
-    time: 0,
-    cycle: 0,
-    is_set: false,
-    is_cancelled: false,
-};
+// ---- alarms
+
+// Whether an item of a body calls the service for the alarm.
+fn body_names(service: Service, alarm: u32, func: &Func) -> bool
+    ensures some { result ≡ true → (i : ℕ) × (calls_for alarm service (item_of func.now i).op ≡ true) }
+    ensures none { (i : ℕ) → calls_for alarm service (item_of func.now i).op ≡ true → result ≡ true }
+{
+    for number in 0..func.items.items().len() {
+        if calls_for(alarm, service, func.items.items()[number].op) {
+            return true;
+        }
+    }
+    false
+}
+
+fn is_named(app: &App, service: Service, alarm: u32) -> bool
+    ensures { Decides result (Names app.now service alarm) }
+{
+    for number in 0..app.funcs.items().len() {
+        if body_names(service, alarm, function_at(app, number)) {
+            return true;
+        }
+    }
+    false
+}
+
+fn is_set(app: &App, alarm: u32) -> bool
+    ensures { Decides result (Names app.now service.SetRelAlarm alarm ⊎ Names app.now service.SetAbsAlarm alarm) }
+{
+    is_named(app, Service::SetRelAlarm, alarm) || is_named(app, Service::SetAbsAlarm, alarm)
+}
+
+fn task_of(action: &Action) -> u32
+    ensures { result ≡ task_of action.now }
+{
+    match *action {
+        Action::Activate(task) => task.0,
+        Action::Set(task, _) => task.0,
+    }
+}
+
+fn sets_events(action: &Action) -> bool
+    ensures { result ≡ sets_events action.now }
+{
+    match *action {
+        Action::Activate(_) => false,
+        Action::Set(_, _) => true,
+    }
+}
+
+fn alarm(config: &Config, app: &App, number: usize) -> AlarmCosts
+    requires inside { number < length config.now.alarms }
+    requires few { length config.now.alarms ≤ alarm_limit }
+    ensures { IsAlarm config.now app.now number result }
+{
+    let declared = &config.alarms.items()[number];
+    AlarmCosts {
+        counter: declared.counter,
+        task: task_of(&declared.action),
+        sets_events: sets_events(&declared.action),
+        time: declared.time,
+        cycle: declared.cycle,
+        is_set: is_set(app, number as u32),
+    }
+}
+
+/// Of each alarm.
+pub fn alarms(alloc: Global, config: &Config, app: &App) -> Result<Vec<AlarmCosts>, NoMemory>
+    requires { length config.now.alarms ≤ alarm_limit }
+    ensures { IfOk result (λ list. AreEach (length config.now.alarms) no_alarm (IsAlarm config.now app.now) list.items) }
+{
+    let mut list = Vec::new(alloc);
+    for number in 0..config.alarms.items().len() {
+        push(&mut list, alarm(config, app, number))?;
+    }
+    Ok(list)
+}
 
 fn counter(config: &Config, load: &[Entry], number: usize) -> CounterCosts
     requires few { length config.now.counters ≤ counter_limit }
@@ -56,43 +124,3 @@ pub fn counters(
 }
 
 // ---- alarms
-
-fn alarm_at(told: &[AlarmCosts], number: usize) -> AlarmCosts
-    ensures { result ≡ get_or told.now number no_alarm }
-{
-    match told.get(number) {
-        Some(alarm) => *alarm,
-        None => NO_ALARM,
-    }
-}
-
-fn run_alarm(told: AlarmCosts) -> AlarmCosts
-    ensures { result ≡ run_alarm told }
-{
-    AlarmCosts {
-        counter: told.counter,
-        task: told.task,
-        sets_events: told.sets_events,
-        time: told.time,
-        cycle: told.cycle,
-        is_set: told.is_set,
-        is_cancelled: told.is_set,
-    }
-}
-
-/// Of each alarm, by what is told of it.
-pub fn run_alarms(
-    alloc: Global,
-    config: &Config,
-    app: &App,
-    told: &[AlarmCosts],
-) -> Result<Vec<AlarmCosts>, NoMemory>
-    requires { AreEach (length config.now.alarms) no_alarm (IsAlarm config.now app.now) told.now }
-    ensures { IfOk result (λ list. AreEach (length config.now.alarms) no_alarm (IsRunAlarm config.now app.now) list.items) }
-{
-    let mut list = Vec::new(alloc);
-    for number in 0..config.alarms.items().len() {
-        push(&mut list, run_alarm(alarm_at(told, number)))?;
-    }
-    Ok(list)
-}

@@ -1,5 +1,5 @@
 //! The whole record.
-ghost use Rattle.std.specs.Prelude.{◌≡◌, ◌<◌, ◌≤◌, ℕ, [], false, length, get_or, Decides, IfOk};
+ghost use Rattle.std.specs.Prelude.{◌<◌, ℕ, false, length, get_or, Decides, IfOk};
 ghost use Rattle.code_rules.specs.WellFormed.{WellFormed};
 ghost use Rattle.call_graph.specs.Ranks.{RanksOf};
 ghost use Rattle.event_weights.specs.Items.{AreLengths};
@@ -8,35 +8,28 @@ ghost use Rattle.walk_sums.specs.CallOrder.{IsCallOrder};
 ghost use Rattle.walk_sums.specs.KnownBodies.{AreKnownBodies};
 ghost use Rattle.walk_sums.specs.Rounds.{IsClean};
 ghost use Rattle.walk_sums.specs.Weights.{AreWeights};
-ghost use Rattle.response_bounds.specs.Costs.{no_task};
-ghost use Rattle.response_costs.specs.CostsOf.{AreEach};
-ghost use Rattle.response_costs.specs.Services.{AreAllNamingTops};
-ghost use Rattle.run_responses.specs.RunCosts.{AreRunTaskCosts, AreRunCosts};
+ghost use Rattle.run_windows.specs.Costs.{no_task};
+ghost use Rattle.run_costs.specs.CostsOf.{AreEach};
+ghost use Rattle.run_costs.specs.Services.{AreAllNamingTops};
+ghost use Rattle.run_costs.specs.RunCosts.{AreRunTaskCosts, AreRunCosts};
 ghost use Rattle.run_costs.specs.RunRecord.{IsRunRecord};
 
 use crate::levels::levels;
 use crate::limits::{late_of, longest_of};
 use crate::makings::makings;
-use crate::objects::{counters, run_alarms};
+use crate::objects::{alarms, counters};
+use crate::services::{NamingTops, all_naming_tops, service_tops, services};
 use crate::tasks::tasks;
-use bound_rules::bodies::Body;
-use bound_rules::weights::BodyWeights;
-use call_graph::ranking::Ranks;
+use bound_rules::{Body, BodyWeights};
+use call_graph::Ranks;
 use event_weights::{ItemLengths, lengths};
 use load_text::Entry;
-use response_bounds::costs::{Costs, TaskCosts};
-use response_costs::objects::alarms;
-use response_costs::services::{NamingTops, all_naming_tops, service_tops, services};
 use run_counts::count_weights;
-use sloth_base::app::App;
-use sloth_base::config::Config;
-use sloth_base::list::List;
-use sloth_base::memory::NoMemory;
+use run_windows::{Costs, TaskCosts};
+use sloth_base::{App, Config, List, NoMemory};
 use std::alloc::Global;
 use walk_sums::bodies::bodies;
-use walk_sums::clean::clean_tasks;
-use walk_sums::order::callees_first;
-use walk_sums::steady::steady_tasks;
+use walk_sums::{callees_first, clean_tasks, steady_tasks};
 
 /// Costs that runs keep, where no item has more instructions than `longest`, and no stretch more counts than `late`.
 pub struct RunCosts {
@@ -56,13 +49,12 @@ impl Drop for RunCosts {
     }
 }
 
-// By what is known of walks; `none` is no load.
+// By what is known of walks.
 fn record_by(
     alloc: Global,
     config: &Config,
     app: &App,
     load: &[Entry],
-    none: &[Entry],
     weights: &[BodyWeights],
     bodies: &[Body],
     order: &[usize],
@@ -70,7 +62,6 @@ fn record_by(
     naming: &[NamingTops],
     tasks: List<TaskCosts>,
 ) -> Result<Costs, NoMemory>
-    requires none { none.now ≡ [] }
     requires well_formed { WellFormed config.now app.now }
     requires counts { AreCounts app.now weights.now }
     requires fit { AreWeights app.now weights.now }
@@ -83,11 +74,10 @@ fn record_by(
 {
     let steady = steady_tasks(alloc, config, app, bodies, order)?;
     let makings = makings(alloc, config, app, bodies, order, clean, &steady, naming)?;
-    let levels = levels(alloc, config, app, none, weights, bodies, order, naming)?;
+    let levels = levels(alloc, config, app, weights, bodies, order, naming)?;
     let services = services(alloc, config, app, naming)?;
     let counters = counters(alloc, config, load)?;
-    let told = alarms(alloc, config, app)?;
-    let alarms = run_alarms(alloc, config, app, &told)?;
+    let alarms = alarms(alloc, config, app)?;
     Ok(Costs {
         tasks,
         counters: List::from_vec(counters),
@@ -95,7 +85,6 @@ fn record_by(
         makings: List::from_vec(makings),
         services: List::from_vec(services),
         levels: List::from_vec(levels),
-        boot: 0,
     })
 }
 
@@ -115,7 +104,6 @@ fn costs_of(
     requires order { IsCallOrder app.now order.now }
     ensures { IfOk result (AreRunCosts config.now app.now load.now) }
 {
-    let none = Vec::new(alloc);
     let clean = clean_tasks(alloc, config, app, bodies, order)?;
     let reached = service_tops(alloc, config, app, bodies, order)?;
     let tasks = tasks(
@@ -127,7 +115,6 @@ fn costs_of(
         config,
         app,
         load,
-        &none,
         weights,
         bodies,
         order,

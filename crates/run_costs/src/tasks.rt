@@ -1,41 +1,57 @@
 //! What entries and rounds of tasks cost.
-ghost use Rattle.std.specs.Prelude.{◌≡◌, ◌<◌, ◌≤◌, ℕ, All, [], false, length, get_or, Decides, IfOk};
+ghost use Rattle.std.specs.Prelude.{Some, None, ◌&&◌, ◌≡◌, ◌<◌, ◌≤◌, ℕ, All, [], false, length, get_or, Decides, IfOk};
+ghost use Rattle.sloth_base.specs.Named.{declaration};
 ghost use Rattle.sloth_base.specs.Limits.{task_limit, frame_limit};
-ghost use Rattle.sloth_base.specs.ServiceCodes.{service_of};
 ghost use Rattle.load_text.specs.Loads.{work};
+ghost use Rattle.code_lengths.specs.LongestPaths.{enter_path};
 ghost use Rattle.code_rules.specs.WellFormed.{WellFormed};
 ghost use Rattle.call_graph.specs.Tables.{HasTaskBody};
-ghost use Rattle.event_weights.specs.Events.{enter_counts};
 ghost use Rattle.walk_sums.specs.CallOrder.{IsCallOrder};
 ghost use Rattle.walk_sums.specs.KnownBodies.{AreKnownBodies};
 ghost use Rattle.walk_sums.specs.Rounds.{IsClean};
 ghost use Rattle.walk_sums.specs.Weights.{AreWeights};
-ghost use Rattle.response_bounds.specs.Costs.{no_task};
-ghost use Rattle.response_costs.specs.CostsOf.{AreEach, IsGreatest};
-ghost use Rattle.response_costs.specs.Rounds.{round_cost};
-ghost use Rattle.response_costs.specs.Services.{AreServiceTops, reached_path};
-ghost use Rattle.response_costs.specs.Tables.{AreRoundTables};
+ghost use Rattle.run_windows.specs.Costs.{no_task};
+ghost use Rattle.run_costs.specs.CostsOf.{AreEach, IsGreatest};
+ghost use Rattle.run_costs.specs.Rounds.{with_entry, round_cost};
+ghost use Rattle.run_costs.specs.Services.{AreServiceTops, reached_path};
+ghost use Rattle.run_costs.specs.Tables.{AreRoundTables};
+ghost use Rattle.sloth_base.specs.ServiceCodes.{service_of};
+ghost use Rattle.event_weights.specs.Events.{enter_counts};
 ghost use Rattle.run_windows.specs.RunWindows.{call_path};
-ghost use Rattle.run_responses.specs.RunCosts.{round_entry, raising_counts, counts_once, AreRunTaskCosts};
+ghost use Rattle.run_costs.specs.RunCosts.{round_entry, raising_counts, counts_once, AreRunTaskCosts};
 
-use bound_rules::bodies::Body;
-use bound_rules::marks::is_marked;
-use bound_rules::weights::BodyWeights;
+use crate::rounds::{RoundTables, round_tables, sums_of};
+use crate::sections::priority_of;
+use crate::services::reaches;
+use bound_rules::{Body, BodyWeights, is_marked};
+use code_lengths::entry_path;
 use load_text::{Entry, distance_of, work_of};
-use response_bounds::costs::TaskCosts;
-use response_costs::rounds::{RoundTables, round_tables, sums_of};
-use response_costs::sections::priority_of;
-use response_costs::services::reaches;
-use response_costs::tasks::{entry, is_autostarted, round_cost};
-use run_windows::fronts::call_path;
-use sloth_base::app::App;
-use sloth_base::config::Config;
-use sloth_base::list::List;
-use sloth_base::memory::NoMemory;
-use sloth_base::service::Service;
+use run_windows::{TaskCosts, call_path, plus};
+use sloth_base::{App, Config, List, NoMemory, Service};
+use stack_bounds::body_of;
 use std::alloc::Global;
-use text_pieces::growth::push;
-use walk_sums::sum::Sum;
+use text_pieces::push;
+use walk_sums::Sum;
+
+// The entry of a task, that starts anew or goes on behind a wait.
+fn entry(config: &Config, app: &App, resumed: bool, task: usize) -> u32
+    requires inside { task < length config.now.tasks }
+    requires body { HasTaskBody app.now.funcs task }
+    requires frames { All (λ func. func.frame_words ≤ frame_limit) app.now.funcs }
+    ensures is { result ≡ enter_path config.now app.now resumed task }
+    ensures short { result ≤ 108 }
+{
+    let words = app.funcs.items()[body_of(app.funcs.items(), task)].frame_words;
+    entry_path(config.tasks.items()[task].extended, resumed, words)
+}
+
+// Whether the task is activated as the system starts.
+fn is_autostarted(config: &Config, task: usize) -> bool
+    requires { task < length config.now.tasks }
+    ensures { result ≡ (declaration config.now task).autostart }
+{
+    config.tasks.items()[task].autostart
+}
 
 fn enter_counts(config: &Config, app: &App, resumed: bool, task: usize) -> u32
     requires inside { task < length config.now.tasks }
@@ -56,6 +72,42 @@ fn round_entry(config: &Config, app: &App, clean: bool, resumed: bool, task: usi
     ensures { result ≡ round_entry config.now app.now clean resumed task }
 {
     enter_counts(config, app, clean && resumed, task)
+}
+
+// An entry and so many counts.
+fn with_entry(entry: u32, own: u32) -> Option<u32>
+    ensures { result ≡ with_entry entry own }
+{
+    Some(plus(entry, own))
+}
+
+// An entry and a round that takes so many counts at most, by the load.
+fn bounded_cost(entry: u32, own: u32, sum: Sum) -> Option<u32>
+    ensures { result ≡ round_cost entry (Some own) sum }
+{
+    match sum {
+        Sum::Counts(counts) => with_entry(entry, own.min(counts)),
+        Sum::Huge | Sum::Endless => with_entry(entry, own),
+    }
+}
+
+// An entry and a round of which the load says nothing.
+fn summed_cost(entry: u32, sum: Sum) -> Option<u32>
+    ensures { result ≡ round_cost entry None sum }
+{
+    match sum {
+        Sum::Counts(counts) => with_entry(entry, counts),
+        Sum::Huge | Sum::Endless => None,
+    }
+}
+
+fn round_cost(entry: u32, work: Option<u32>, sum: Sum) -> Option<u32>
+    ensures { result ≡ round_cost entry work sum }
+{
+    match work {
+        Some(own) => bounded_cost(entry, own, sum),
+        None => summed_cost(entry, sum),
+    }
 }
 
 // What an entry and a round cost.
@@ -98,6 +150,14 @@ fn counts_once(config: &Config, clean: bool, task: usize) -> bool
 {
     let task = &config.tasks.items()[task];
     !task.non && !(clean && task.extended)
+}
+
+// Whether rounds of a task are counted from its waits.
+fn is_cut(config: &Config, clean: bool, task: usize) -> bool
+    requires { task < length config.now.tasks }
+    ensures { result ≡ (clean && (declaration config.now task).extended) }
+{
+    clean && config.tasks.items()[task].extended
 }
 
 fn reached_path(all: &[List<u64>], task: usize, code: u8) -> u32
@@ -153,16 +213,14 @@ fn task_costs(
     let next = cost_of(config, app, load, is_clean, true, task, sums.later);
     TaskCosts {
         priority: priority_of(config, task),
-        is_preemptable: counts_once(config, is_clean, task),
+        is_entered_once: counts_once(config, is_clean, task),
         is_autostarted: is_autostarted(config, task),
-        is_clean: false,
-        waits: false,
+        is_cut: is_cut(config, is_clean, task),
         distance: distance_of(load, task as u8),
         first,
         next,
-        entry: raising_counts(config, task),
+        raising: raising_counts(config, task),
         service: longest_service(config, app, services, task),
-        leaving: 0,
     }
 }
 

@@ -209,11 +209,11 @@ own_items_of config app size longest n t cuts weights arrivals events wf run tim
     omega (arith, sums, free)
 
 pub own_in_image : ImagesOwnWithinItems
-own_in_image config app image lengths weights arrivals n t cuts wf code sound pace lengths_are counts are few before behind first is opens =
-    let run = sound.each arrivals n are few in
+own_in_image config app image lengths weights arrivals n t cuts wf code sound pace lengths_are counts are before behind first is opens =
+    let run = sound.each arrivals n are in
     let leads = follows_leads config app [] (opening config app) (events_of image arrivals n) run.osek.0 run.osek.1 in
     let stepped = steps_of config app (events_of image arrivals n) 0 (opening config app) run.osek.0 leads in
     let declared = opens_declared config app t cuts first (step_of config app before behind first (subst (AllByRecursion (IsStep config app)) is stepped)) opens in
-    let spends = (pace.spent lengths lengths_are).each arrivals n 36 t are few declared in
+    let spends = (pace.spent lengths lengths_are).each arrivals n 36 t are declared in
     own_items_of config app (length_of lengths) 36 n t cuts weights arrivals (events_of image arrivals n) wf run.osek run.in_time spends
     (counts_weigh app lengths lengths_are (short app code lengths lengths_are) weights counts) (counts_end app lengths weights counts) before behind first is opens

@@ -6,8 +6,6 @@ use Rattle.sloth_base.specs.declared.app.App.{App}
 use Rattle.sloth_base.specs.declared.event.Arrival.{Arrival}
 use Rattle.sloth_base.specs.declared.event.Stamped.{Stamped}
 use Rattle.sloth_base.specs.declared.image.Image.{Image}
-use Rattle.sloth_base.specs.Arrivals.{AreArrivals}
-use Rattle.sloth_base.specs.Limits.{count_limit}
 use Rattle.sloth_base.specs.Owners.{owners_in}
 use Rattle.code_rules.specs.AppRange.{IsTaskCode}
 use Rattle.code_rules.specs.WellFormed.{WellFormed}
@@ -21,7 +19,7 @@ use Rattle.event_weights.specs.Pace.{ItemSizes, next_size_of, paced_counts}
 use Rattle.run_counts.specs.Counts.{AreCountsBy}
 use Rattle.sim_induction.specs.Paced.{KeepsPace, InPace}
 use Rattle.sim_induction.specs.Spent.{SpendsOnItems}
-use Rattle.sim_induction.specs.Sound.{Sound, events_of}
+use Rattle.sim_induction.specs.Sound.{AreComing, Sound, events_of}
 use Rattle.run_counts.specs.Stages.{Stage, turn_task, is_running, is_turn, unseen, spanned, charged, own, run_stages}
 use Rattle.run_counts.specs.Spending.{WeighsItems}
 use Rattle.run_counts.specs.Rounds.{opens_round, round_of, total, charged_to, weight_of, WeighsEndings}
@@ -145,7 +143,7 @@ abbrev pub ImagesOwnWithinItems : Type 0
 ImagesOwnWithinItems =
     (config : Config) (app : App) (image : Image) (lengths : List (List ℕ)) (weights : List BodyWeights) (arrivals : List Arrival) (n t : ℕ) (cuts : Bool)
     → WellFormed config app → IsTaskCode app → Sound config app image → InPace config app image → AreLengths app lengths → AreCountsBy app lengths weights
-    → AreArrivals (owners_in config) arrivals → n ≤ count_limit
+    → AreComing (owners_in config) arrivals
     → (before behind : List Stage) (first : Stage) → run_stages config app (events_of image arrivals n) ≡ before ++ first ∷ behind
     → opens_round cuts t first.stamped.event ≡ true
     → total (own config t) (round_of cuts t behind)

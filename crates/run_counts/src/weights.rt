@@ -6,14 +6,12 @@ ghost use Rattle.event_weights.specs.Items.{length_of, going_counts, ending_coun
 ghost use Rattle.walk_sums.specs.Weights.{AreWeights};
 ghost use Rattle.run_counts.specs.Counts.{AreBodyCounts, AreCountsBy, AreCounts};
 
-use bound_rules::weights::BodyWeights;
+use bound_rules::BodyWeights;
 use event_weights::{ItemLengths, ending_counts, going_counts, length_of, lengths};
-use sloth_base::app::{App, Func};
-use sloth_base::list::List;
-use sloth_base::memory::NoMemory;
+use sloth_base::{App, Func, List, NoMemory};
 use std::alloc::Global;
-use text_pieces::growth::push;
-use walk_sums::bodies::function_at;
+use text_pieces::push;
+use walk_sums::function_at;
 
 /// The counts of an item behind which its task goes on.
 fn going_at(lengths: &ItemLengths, number: usize, func: &Func, item: usize) -> u32

@@ -6,11 +6,8 @@ ghost use Rattle.sloth_base.specs.Owners.{owners_named};
 ghost use Rattle.sloth_base.specs.Limits.{file_limit};
 ghost use Rattle.run_inputs.specs.RunInputs.{AreRunInputs, AreUnread, image_unread, arrivals_unread};
 
-use image_file::fault::{ImageError, ImageFault};
-use image_file::read_image;
-use sloth_base::event::Arrival;
-use sloth_base::image::Image;
-use sloth_base::refusal::{BuildError, Refusal};
+use image_file::{ImageError, ImageFault, read_image};
+use sloth_base::{Arrival, BuildError, Image, Refusal};
 use std::alloc::Global;
 use trace_text::read_arrivals;
 

@@ -9,11 +9,7 @@ ghost use Rattle.sloth_source.specs.Texts.{AreAccepted};
 ghost use Rattle.run_inputs.specs.Inputs.{AreArrivalsOf, InputsErrorIs};
 ghost use Rattle.sloth_base.specs.DeclaredNames.{task_names, counter_names};
 
-use sloth_base::app::App;
-use sloth_base::config::Config;
-use sloth_base::declared_names::{counter_names, task_names};
-use sloth_base::event::Arrival;
-use sloth_base::refusal::BuildError;
+use sloth_base::{App, Arrival, BuildError, Config, counter_names, task_names};
 use sloth_source::{Source, read};
 use std::alloc::Global;
 use trace_text::read_arrivals;

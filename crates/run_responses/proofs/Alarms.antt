@@ -14,14 +14,13 @@ use Rattle.sloth_base.specs.declared.service.Service.TheVariants as service
 use Rattle.sloth_base.specs.Named.{operation, alarm_declaration, undeclared_alarm}
 use Rattle.sloth_base.specs.ServiceCodes.{is_service}
 use Rattle.walk_sums.specs.Counted.{calls_for}
-use Rattle.response_bounds.specs.declared.costs.AlarmCosts.{AlarmCosts}
-use Rattle.response_bounds.specs.Arrivals
-use Rattle.response_bounds.specs.Arrivals.{arrivals, acts_on}
-use Rattle.response_costs.specs.CostsOf.{AreEach, Names, task_of, no_alarm, IsAlarm}
-use Rattle.response_costs.specs.CostsOf as costs_of
+use Rattle.run_windows.specs.declared.costs.AlarmCosts.{AlarmCosts}
+use Rattle.run_windows.specs.Arrivals
+use Rattle.run_windows.specs.Arrivals.{acts_on}
+use Rattle.run_costs.specs.CostsOf.{AreEach, Names, task_of, no_alarm, IsAlarm}
+use Rattle.run_costs.specs.CostsOf as costs_of
 use Rattle.response_laws.specs.Ticks.{activates, sets_events}
 use Rattle.response_laws.specs.Expiries.{sets_alarm, MarksAlarms, expiries, expiring}
-use Rattle.run_responses.specs.RunCosts.{IsRunAlarm}
 
 -- ---- one alarm
 
@@ -45,37 +44,25 @@ acts_same false c j counter (action.Activate t) = ap (λ b. (counter == c) && b)
 acts_same true c j counter (action.Set t mask) = ap (λ b. (counter == c) && b) (and_true (t == j))
 acts_same false c j counter (action.Set t mask) = ap (λ b. (counter == c) && b) (and_false (t == j))
 
--- and expires as often
-expiries_same : (boot set : Bool) (time cycle ticks : ℕ)
-    → cond set ticks (cond (time == 0) 0 (cond boot (cond (ltb ticks time) 0 (cond (cycle == 0) 1 (1 + (ticks - time) / cycle))) (cond (cycle == 0) (min ticks 1) ((ticks + cycle - 1) / cycle))))
-    ≡ cond (time == 0) (cond set ticks 0)
-    (cond (not (set && (set || (cycle == 0)))) (cond boot (cond (nat_lt ticks time) 0 (cond (cycle == 0) 1 (1 + (ticks - time) / cycle))) (cond (cycle == 0) (min ticks 1) ((ticks + cycle - 1) / cycle))) ticks)
-expiries_same boot false time cycle ticks = refl
-expiries_same boot true time cycle ticks = by (time == 0)
-  where
-    by : (b : Bool) → ticks ≡ cond b ticks ticks
-    by true = refl
-    by false = refl
-
 abbrev count_by : (boot : Bool) → (c j ticks : ℕ) → (sets : Bool) → AlarmCosts → ℕ
 count_by boot c j ticks sets a = cond (acts_on sets c j a) (Arrivals.expiries boot a ticks) 0
 
+-- an alarm of a record expires as often
 abbrev alarm_counts : (boot set : Bool) → (time cycle ticks : ℕ) → ℕ
 alarm_counts boot set time cycle ticks =
-    cond (time == 0) (cond set ticks 0)
-    (cond (not (set && (set || (cycle == 0))))
-    (cond boot (cond (nat_lt ticks time) 0 (cond (cycle == 0) 1 (1 + (ticks - time) / cycle))) (cond (cycle == 0) (min ticks 1) ((ticks + cycle - 1) / cycle))) ticks)
+    cond set ticks
+    (cond (time == 0) 0 (cond boot (cond (nat_lt ticks time) 0 (cond (cycle == 0) 1 (1 + (ticks - time) / cycle))) (cond (cycle == 0) (min ticks 1) ((ticks + cycle - 1) / cycle))))
 
 one_alarm : (config : Config) (app : App) (boot sets : Bool) (c j ticks : ℕ) (d : AlarmDecl) (told : AlarmCosts)
     → told.counter ≡ d.counter → told.task ≡ task_of d.action → told.sets_events ≡ costs_of.sets_events d.action → told.time ≡ d.time → told.cycle ≡ d.cycle
     → cond ((d.counter == c) && test_of sets j d.action) (expiries boot told.is_set d ticks) 0
-    ≡ count_by boot c j ticks sets (record told { is_cancelled = told.is_set })
+    ≡ count_by boot c j ticks sets told
 one_alarm config app boot sets c j ticks d told counter task_is sets_is time cycle =
     sym (ap (λ b. cond b (expiries boot told.is_set d ticks) 0) (acts_same sets c j d.counter d.action))
     ∙ ap (λ n. cond ((n == c) && ((task_of d.action == j) && cond sets (costs_of.sets_events d.action) (not (costs_of.sets_events d.action)))) (expiries boot told.is_set d ticks) 0) (sym counter)
     ∙ ap (λ n. cond ((told.counter == c) && ((n == j) && cond sets (costs_of.sets_events d.action) (not (costs_of.sets_events d.action)))) (expiries boot told.is_set d ticks) 0) (sym task_is)
     ∙ ap (λ b. cond ((told.counter == c) && ((told.task == j) && cond sets b (not b))) (expiries boot told.is_set d ticks) 0) (sym sets_is)
-    ∙ ap (λ n. cond (acts_on sets c j told) n 0) (expiries_same boot told.is_set d.time d.cycle ticks ∙ times)
+    ∙ ap (λ n. cond (acts_on sets c j told) n 0) times
   where
     times : alarm_counts boot told.is_set d.time d.cycle ticks ≡ alarm_counts boot told.is_set told.time told.cycle ticks
     times = ap (λ n. alarm_counts boot told.is_set n d.cycle ticks) (sym time) ∙ ap (λ n. alarm_counts boot told.is_set told.time n ticks) (sym cycle)
@@ -84,14 +71,12 @@ one_alarm config app boot sets c j ticks d told counter task_is sets_is time cyc
 
 -- an alarm of a record is that of a declaration
 pub record IsDeclaredAs (d : AlarmDecl) (set : Bool) (a : AlarmCosts) : Type 0 where
-  pub told : AlarmCosts
-  pub counter : told.counter ≡ d.counter
-  pub task : told.task ≡ task_of d.action
-  pub sets_events : told.sets_events ≡ costs_of.sets_events d.action
-  pub time : told.time ≡ d.time
-  pub cycle : told.cycle ≡ d.cycle
-  pub is : a ≡ record told { is_cancelled = told.is_set }
-  pub marked : told.is_set ≡ set
+  pub counter : a.counter ≡ d.counter
+  pub task : a.task ≡ task_of d.action
+  pub sets_events : a.sets_events ≡ costs_of.sets_events d.action
+  pub time : a.time ≡ d.time
+  pub cycle : a.cycle ≡ d.cycle
+  pub marked : a.is_set ≡ set
 
 module _ (config : Config) (app : App) (boot sets : Bool) (c j ticks : ℕ) (is_set : ℕ → Bool) (d : AlarmDecl) where
   all_alarms : (first : ℕ) (ds : List AlarmDecl) (bs : List AlarmCosts) → length bs ≡ length ds
@@ -103,10 +88,10 @@ module _ (config : Config) (app : App) (boot sets : Bool) (c j ticks : ℕ) (is_
   all_alarms first (e ∷ ds) (a ∷ bs) count each =
       let here = each 0 (omega arith) in
       let z : first + 0 ≡ first = omega arith in
-      let set : here.told.is_set ≡ is_set first = here.marked ∙ ap is_set z in
-      let one = one_alarm config app boot sets c j ticks e here.told here.counter here.task here.sets_events here.time here.cycle in
+      let set : a.is_set ≡ is_set first = here.marked ∙ ap is_set z in
+      let one = one_alarm config app boot sets c j ticks e a here.counter here.task here.sets_events here.time here.cycle in
       let as_set : cond ((e.counter == c) && test_of sets j e.action) (expiries boot (is_set first) e ticks) 0 ≡ count_by boot c j ticks sets a =
-      ap (λ b. cond ((e.counter == c) && test_of sets j e.action) (expiries boot b e ticks) 0) (sym set) ∙ one ∙ ap (count_by boot c j ticks sets) (sym here.is) in
+      ap (λ b. cond ((e.counter == c) && test_of sets j e.action) (expiries boot b e ticks) 0) (sym set) ∙ one in
       let rest = all_alarms (first + 1) ds bs (omega (arith, count))
       (λ i lt. let e : first + suc i ≡ first + 1 + i = omega arith in
       subst (λ m. IsDeclaredAs (get_or ds i d) (is_set m) (get_or bs i no_alarm)) e (each (suc i) (omega (arith, lt)))) in
@@ -115,17 +100,13 @@ module _ (config : Config) (app : App) (boot sets : Bool) (c j ticks : ℕ) (is_
 
 -- ---- those of a configuration
 
-module _ (config : Config) (app : App) (alarms : List AlarmCosts) (are : AreEach (length config.alarms) no_alarm (IsRunAlarm config app) alarms) where
+module _ (config : Config) (app : App) (alarms : List AlarmCosts) (are : AreEach (length config.alarms) no_alarm (IsAlarm config app) alarms) where
   -- the alarms that items set; those behind the last one count as set
   abbrev pub is_set : ℕ → Bool
   is_set a = cond (ltb a (length config.alarms)) (get_or alarms a no_alarm).is_set true
 
   set_inside : (a : ℕ) → a < length config.alarms → is_set a ≡ (get_or alarms a no_alarm).is_set
   set_inside a lt = ap (λ b. cond b (get_or alarms a no_alarm).is_set true) (lt-ltb a (length config.alarms) lt)
-
-  -- what the record says of it
-  set_told : (a : ℕ) (lt : a < length config.alarms) → is_set a ≡ (are.each a lt).0.is_set
-  set_told a lt = set_inside a lt ∙ ap (λ (v : AlarmCosts). v.is_set) (are.each a lt).2
 
   calls_it : (a : ℕ) (o : Op) → sets_alarm a o ≡ true → (calls_for a service.SetRelAlarm o ≡ true) ⊎ (calls_for a service.SetAbsAlarm o ≡ true)
   calls_it a (op.Serve call) e = by (is_service call.service service.SetRelAlarm) (is_service call.service service.SetAbsAlarm) (call.object == a) e
@@ -142,8 +123,8 @@ module _ (config : Config) (app : App) (alarms : List AlarmCosts) (are : AreEach
       inside : a < length config.alarms → sets_alarm a (operation app f i) ≡ true → ⊥
       inside lt sets =
           let told = are.each a lt in
-          let off : told.0.is_set ≡ false = sym (set_told a lt) ∙ none in
-          not_from_Decides told.0.is_set told.1.is_set off (names (calls_it a (operation app f i) sets))
+          let off : (get_or alarms a no_alarm).is_set ≡ false = sym (set_inside a lt) ∙ none in
+          not_from_Decides (get_or alarms a no_alarm).is_set told.is_set off (names (calls_it a (operation app f i) sets))
         where
           names : (calls_for a service.SetRelAlarm (operation app f i) ≡ true) ⊎ (calls_for a service.SetAbsAlarm (operation app f i) ≡ true)
               → Names app service.SetRelAlarm a ⊎ Names app service.SetAbsAlarm a
@@ -170,12 +151,10 @@ module _ (config : Config) (app : App) (alarms : List AlarmCosts) (are : AreEach
       let e : i ≡ 0 + i = omega arith in
       subst (λ m. IsDeclaredAs (alarm_declaration config i) (is_set m) (get_or alarms i no_alarm)) e
       (record {
-        told = told.0;
-        counter = told.1.counter;
-        task = told.1.task;
-        sets_events = told.1.sets_events;
-        time = told.1.time;
-        cycle = told.1.cycle;
-        is = told.2;
-        marked = sym (set_told i lt);
+        counter = told.counter;
+        task = told.task;
+        sets_events = told.sets_events;
+        time = told.time;
+        cycle = told.cycle;
+        marked = sym (set_inside i lt);
       }))

@@ -1,6 +1,5 @@
 -- What lower tasks bring in by their code has a start of the record.
-use Rattle.std.specs.Prelude.{if◌then◌else◌}
-use Rattle.std.proofs.Common.{◌≡◌, ℕ, ◌+◌, ◌<◌, ◌≤◌, ◌⊎◌, ◌==◌, ◌&&◌, ◌||◌, Bool, true, false, cond, max, List, [], ◌∷◌, ◌++◌, length, get_or, refl, sym, ap, ◌∙◌, subst, arith, inl, inr, None, Option, append_assoc, ◌-◌, ltb}
+use Rattle.std.proofs.Common.{if◌then◌else◌, ◌≡◌, ℕ, ◌+◌, ◌<◌, ◌≤◌, ◌⊎◌, ◌==◌, ◌&&◌, ◌||◌, Bool, true, false, cond, max, List, [], ◌∷◌, ◌++◌, length, get_or, refl, sym, ap, ◌∙◌, subst, arith, inl, inr, Option, append_assoc, ◌-◌, ltb}
 use Rattle.std.specs.List.{AllByRecursion}
 use Rattle.std.proofs.lemmas.Bool.{false≢true, true≢false, leb-true, lt-ltb, cases_lt, eqb-true, eq-eqb, le-ltb}
 use Rattle.std.proofs.lemmas.Bool.Decides.{not_from_Decides}
@@ -39,31 +38,31 @@ use Rattle.walk_sums.specs.declared.sum.Sum.TheVariants as sum
 use Rattle.walk_sums.specs.Rounds.{Reaches}
 use Rattle.walk_sums.specs.Counted.{one_if, calls, calls_for, is_ending_counted, counted_weights}
 use Rattle.walk_sums.specs.Told.{IsToldSum}
-use Rattle.response_bounds.specs.declared.costs.Costs.{Costs}
-use Rattle.response_bounds.specs.declared.window.Start.{Start}
-use Rattle.response_bounds.specs.declared.window.Start.TheVariants as start
-use Rattle.response_bounds.specs.Costs.{reckoned, task, section, section_making}
-use Rattle.response_bounds.specs.Windows.{Numbers, is_lower, is_boot, begun_by}
-use Rattle.response_bounds.specs.Starts.{services_of}
-use Rattle.response_bounds.specs.Responses.{start_at}
-use Rattle.response_costs.specs.Sections.{IsRaised, DoesRaised, section_counts}
-use Rattle.response_costs.specs.CostsOf.{IsSectionCosts, IsSectionMade}
+use Rattle.run_windows.specs.declared.costs.Costs.{Costs}
+use Rattle.run_windows.specs.declared.window.Start.{Start}
+use Rattle.run_windows.specs.declared.window.Start.TheVariants as start
+use Rattle.run_windows.specs.Costs.{reckoned, task, section, section_making}
+use Rattle.run_windows.specs.Windows.{Numbers, is_lower, is_boot, begun_by}
+use Rattle.run_costs.specs.Sections.{IsRaised, DoesRaised}
+use Rattle.run_costs.specs.Rounds.{many}
+use Rattle.run_costs.specs.CostsOf.{IsSectionCosts, IsSectionMade}
 use Rattle.response_laws.specs.Sums.{is_over}
 use Rattle.response_laws.specs.Demand
 use Rattle.response_laws.specs.Bounded.{IsOfLevel}
 use Rattle.response_laws.specs.Walked.{SectionsSum}
 use Rattle.response_laws.specs.Once.{IsShutOut}
 use Rattle.response_laws.specs.Makers.{activation_weights, setting_weights}
+use Rattle.run_responses.proofs.Coming.{all_come}
 use Rattle.response_laws.specs.CodeStarts.{HasRoom, SomeHasRoom, none, autostarted, HasSections, is_call, FitsStarts, HaveServiceRoom}
 use Rattle.response_laws.proofs.Counting.{counted_ending, counted_lighter}
-use Rattle.run_responses.specs.RunCosts.{AreRunCosts, AreRunSectionMakings}
+use Rattle.run_costs.specs.RunCosts.{AreRunCosts, AreRunSectionMakings}
 use Rattle.run_windows.specs.declared.fronts.Way.TheVariants as way
-use Rattle.run_windows.specs.RunWindows.{call_words, call_path, may_serve, services_front, is_made_in_front, activation_front, setting_front, served_front, run_starts, IsTold, AreTold}
+use Rattle.run_windows.specs.RunWindows.{call_words, call_path, may_serve, services_front, is_made_in_front, activation_front, setting_front, front_of, lead_of, run_starts, start_at, services_of, IsTold, AreTold}
 use Rattle.run_responses.proofs.Numbers.{told_number, none_told}
 use Rattle.run_responses.proofs.StartLists.{Has, has_free, has_boot, has_activation, has_setting, has_section, made_here, service_here}
 use Rattle.run_responses.proofs.Rounds.{walk_front, many_told, level_upper, counted_task, counts_lighter}
 use Rattle.run_responses.proofs.Reaching.{object_is}
-use Rattle.run_responses.proofs.Windows.{front_of, lead_of, start_by}
+use Rattle.run_responses.proofs.Windows.{start_by}
 
 -- ---- services
 
@@ -140,7 +139,7 @@ module _ (config : Config) (app : App) (w : Facts config app) (load : List Entry
     (there : h < length config.tasks) (told : AreTold costs h)
     (numbers : (opens : Bool) → ℕ → Numbers) (lasting : (opens : Bool) → ℕ → ℕ) where
   abbrev all_starts : List Start
-  all_starts = run_starts costs h
+  all_starts = run_starts costs h true
 
   -- each of them begins in two ways
   abbrev pub ways : ℕ
@@ -275,10 +274,10 @@ module _ (config : Config) (app : App) (w : Facts config app) (load : List Entry
     pub may : may_serve costs h t ≡ true
 
   lower_serves : (t : ℕ) → IsLower config h t → Serves t
-  lower_serves t low = record { declared = low.0; may = ap (λ b. b || ((t == h) && (task costs h).is_preemptable)) (lower_is t low) }
+  lower_serves t low = record { declared = low.0; may = ap (λ b. b || ((t == h) && (task costs h).is_entered_once)) (lower_is t low) }
 
-  own_serves : (task costs h).is_preemptable ≡ true → Serves h
-  own_serves once = record { declared = there; may = by (is_lower costs h h) (h == h) (task costs h).is_preemptable (eq-eqb h h refl) once }
+  own_serves : (task costs h).is_entered_once ≡ true → Serves h
+  own_serves once = record { declared = there; may = by (is_lower costs h h) (h == h) (task costs h).is_entered_once (eq-eqb h h refl) once }
     where
       by : (a b c : Bool) → b ≡ true → c ≡ true → (a || (b && c)) ≡ true
       by true b c e f = refl
@@ -318,7 +317,7 @@ module _ (config : Config) (app : App) (w : Facts config app) (load : List Entry
     Room = HaveServiceRoom config h longest late ways begins (ending_at weights at) (λ j. ending_at (activation_weights app t j) at) (λ j. ending_at (setting_weights app j) at)
 
     -- with the first event, or behind admissions
-    rooms : (s : Start) → Has all_starts s → (is_boot s ≡ true → false ≡ true) → ending_at weights at ≤ served_front costs h s
+    rooms : (s : Start) → Has all_starts s → (is_boot s ≡ true → false ≡ true) → ending_at weights at ≤ front_of false costs h s
         → ((j : ℕ) → is_over config h j ≡ true → ending_at (activation_weights app t j) at ≤ (begun_by costs h s j).activations)
         → ((j : ℕ) → is_over config h j ≡ true → ending_at (setting_weights app j) at ≤ (begun_by costs h s j).settings) → Room
     rooms s has boots front acts sets = (
@@ -330,7 +329,7 @@ module _ (config : Config) (app : App) (w : Facts config app) (load : List Entry
     frees : ((j : ℕ) → is_over config h j ≡ true → one_if ((is_service call.service service.ActivateTask && (call.object == j)) || (is_service call.service service.ChainTask && (call.object == j))) ≤ 0)
         → ((j : ℕ) → is_over config h j ≡ true → one_if (is_service call.service service.SetEvent && (call.object == j)) ≤ 0) → Room
     frees acts sets =
-        rooms start.Free (has_free costs h) (λ e. cc) front_free
+        rooms start.Free (has_free costs h) (λ e. cc) (let le = front_free in omega (arith, le))
         (λ j over. let few = acts j over in let same = acts_few j in omega (arith, few, same))
         (λ j over. let few = sets j over in let same = sets_is j in omega (arith, few, same))
 
@@ -484,14 +483,14 @@ module _ (config : Config) (app : App) (w : Facts config app) (load : List Entry
         by op.Return is e = absurd (false≢true e)
         by o is e = absurd (false≢true e)
 
-    costs_of : IsSectionCosts config app [] weights h b (section costs h b)
+    costs_of : IsSectionCosts config app weights h b (section costs h b)
     costs_of = ((are.levels.each h there).sections.each b low.0).0 low
 
     makings_of_section : (j : ℕ) → IsOfLevel config h j → AreRunSectionMakings config app h j b (section_making costs h b j)
     makings_of_section j over = (((are.levels.each h there).makings.each j over.0).each b low.0).0 low (not_lower j over.1)
 
     -- the sum of a section that is told
-    sum_told : (s : Sum) → IsToldSum (IsSection config app h b) weights s → (section costs h b).counts ≡ section_counts None s
+    sum_told : (s : Sum) → IsToldSum (IsSection config app h b) weights s → (section costs h b).counts ≡ many s
         → (n : ℕ) × (reckoned (section costs h b).counts ≡ n) × SectionsSum config app h b weights n
     sum_told (sum.Counts n) are_told is =
         (n, told_number n (section costs h b).counts is number, are_told.0.none_above)
@@ -528,7 +527,7 @@ module _ (config : Config) (app : App) (w : Facts config app) (load : List Entry
             omega (arith, here, le, rest)
 
     -- by walks
-    made_few : (c : Counted) (o : Option ℕ) → IsSectionMade config app [] h b false c o → IsTold o
+    made_few : (c : Counted) (o : Option ℕ) → IsSectionMade config app h b false c o → IsTold o
         → SectionsSum config app h b (counted_weights c app) (reckoned o)
     made_few c o (sums, is_told, is) number =
         many_told (SectionsSum config app h b (counted_weights c app))
@@ -539,7 +538,7 @@ module _ (config : Config) (app : App) (w : Facts config app) (load : List Entry
     MadeWithin j n = SectionsSum config app h b (activation_weights app b j) n ⊎ (IsShutOut config h b j × (1 ≤ n))
 
     -- once, where no raised position activates the task none
-    made_once : (j : ℕ) (o : Option ℕ) → is_over config h j ≡ true → IsShutOut config h b j → IsSectionMade config app [] h b true (counts.Activations j) o → MadeWithin j (reckoned o)
+    made_once : (j : ℕ) (o : Option ℕ) → is_over config h j ≡ true → IsShutOut config h b j → IsSectionMade config app h b true (counts.Activations j) o → MadeWithin j (reckoned o)
     made_once j o over out (does, decides, is) = by does refl
       where
         by : (d : Bool) → does ≡ d → MadeWithin j (reckoned o)
@@ -565,7 +564,7 @@ module _ (config : Config) (app : App) (w : Facts config app) (load : List Entry
             (told.section_makings j (counted_task config app w load costs are h there j of.0) b (counted_task config app w load costs are h there b low.0)
             (level_upper config app w load costs are h there j of) (lower_is b low)).activations
 
-        by : (non : Bool) → (declaration config b).non ≡ non → (itself : Bool) → (h == j) ≡ itself → IsSectionMade config app [] h b (non || itself) (counts.Activations j) made
+        by : (non : Bool) → (declaration config b).non ≡ non → (itself : Bool) → (h == j) ≡ itself → IsSectionMade config app h b (non || itself) (counts.Activations j) made
             → MadeWithin j (reckoned made)
         by true is itself e once = made_once j made over (inr is) once
         by false is true e once = made_once j made over (inl (sym (eqb-true h j e))) once
@@ -601,9 +600,9 @@ module _ (config : Config) (app : App) (w : Facts config app) (load : List Entry
         )
 
     -- what raises the task
-    raises_preemptable : (declaration config b).non ≡ false → call_path service.GetResource ≤ (task costs b).entry
+    raises_preemptable : (declaration config b).non ≡ false → call_path service.GetResource ≤ (task costs b).raising
     raises_preemptable preemptable =
-        let same = (are.tasks.each b low.0).entry in
+        let same = (are.tasks.each b low.0).raising in
         let takes = ap {B = ℕ} (λ x. cond x 0 (call_path service.GetResource)) preemptable in
         omega (arith, same, takes)
 
@@ -626,7 +625,7 @@ module _ (config : Config) (app : App) (w : Facts config app) (load : List Entry
         }
         fits false i = record {
           counts = known.0;
-          raising = (task costs b).entry;
+          raising = (task costs b).raising;
           sum = known.2;
           takes = λ _ preemptable at reach takes. let few = (takes_few at reach takes).0 in let some = raises_preemptable preemptable in omega (arith, few, some);
           front = let same = known.1 in omega (arith, same);
@@ -677,11 +676,11 @@ module _ (config : Config) (app : App) (w : Facts config app) (load : List Entry
         subst (λ (v : Demand.Start). late ≤ v.lead) (sym at.1) (omega arith),
       )
 
-  pub fits_starts : FitsStarts config app longest late weights h (task costs h).is_preemptable ways begins
+  pub fits_starts : FitsStarts config app longest late weights all_come h (task costs h).is_entered_once ways begins
   fits_starts = record {
     some = some_start;
     boots = boots;
-    serves = λ t low. serves t (lower_serves t low);
-    sections = sections;
+    serves = λ t low _. serves t (lower_serves t low);
+    sections = λ b low _. sections b low;
     leaves = λ once. serves h (own_serves once);
   }

@@ -1,3 +1,5 @@
+pub mod Coming
+pub mod Sizes
 pub mod Numbers
 pub mod Sums
 pub mod Alarms

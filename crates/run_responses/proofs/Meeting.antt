@@ -1,6 +1,6 @@
 -- Runs of images meet the bounds of computed costs.
 use Rattle.std.proofs.Common.{◌≡◌, ℕ, ◌+◌, ◌-◌, ◌<◌, ◌≤◌, ◌⊎◌, inl, inr, sym, ◌∙◌, false, Bool, List, [], ◌∷◌, length, arith, Some, cond, true, ltb}
-use Rattle.std.proofs.lemmas.Bool.{cases_eq, cases_lt}
+use Rattle.std.proofs.lemmas.Bool.{cases_Bool, cases_eq, cases_lt, true≢false}
 use Rattle.std.specs.Prelude.{All}
 use Rattle.std.proofs.lemmas.List.Elements.{All-head, All-tail}
 use Rattle.sloth_base.specs.declared.config.Config.{Config}
@@ -14,22 +14,22 @@ use Rattle.load_text.specs.declared.entry.Form.{Form}
 use Rattle.load_text.specs.declared.entry.Form.TheVariants as form
 use Rattle.load_text.specs.LoadText.{is_of}
 use Rattle.load_text.specs.Loads.{said, IsNumber}
-use Rattle.response_bounds.specs.declared.costs.Costs.{Costs}
-use Rattle.response_bounds.specs.declared.window.Start.{Start}
-use Rattle.response_bounds.specs.Costs.{task}
-use Rattle.response_bounds.specs.Windows.{Numbers, joins, IsSolution}
-use Rattle.response_bounds.specs.Responses.{start_at}
+use Rattle.run_windows.specs.declared.costs.Costs.{Costs}
+use Rattle.run_windows.specs.declared.window.Start.{Start}
+use Rattle.run_windows.specs.Costs.{task}
+use Rattle.run_windows.specs.Windows.{Numbers, none_made, is_boot, is_target_made, IsSolution}
 use Rattle.response_laws.specs.Demand
 use Rattle.response_laws.specs.Response.{EntersOnce}
 use Rattle.response_laws.specs.SoundRuns.{IsLongestItem, IsCodeStart}
 use Rattle.response_laws.proofs.Images.{images_respond_by_code}
-use Rattle.run_responses.specs.RunCosts.{AreRunCosts}
-use Rattle.run_windows.specs.RunWindows.{margin, run_starts, run_window, IsBoundWithin, IsStartWithin, AreRunBounds, AreTold}
+use Rattle.run_costs.specs.RunCosts.{AreRunCosts}
+use Rattle.run_windows.specs.RunWindows.{margin, lead_of, run_starts, start_at, run_window, IsStartWithin, AreRunBounds, AreTold}
 use Rattle.run_responses.specs.Meeting.{AreCutTasks, ImagesMeetBounds}
-use Rattle.run_responses.proofs.StartLists.{by_place, joins_none}
+use Rattle.run_responses.proofs.StartLists.{by_place}
+use Rattle.run_responses.proofs.Coming.{all_come, all_closed}
 use Rattle.run_responses.proofs.Alarms.{is_set, marks}
 use Rattle.run_responses.proofs.Rounds.{law_costs, fits_rounds, cut_as, is_full, is_whole}
-use Rattle.run_responses.proofs.Windows.{front_of, lead_of, enough, has_arrivals, has_expiries, lasts}
+use Rattle.run_responses.proofs.Windows.{enough, has_arrivals, has_expiries, lasts}
 use Rattle.run_responses.proofs.Fronts.{start_of, begins, fits_starts}
 
 -- a number of a load is none of 0
@@ -41,9 +41,9 @@ some_said f owner (entry ∷ load) all is = by (is_of f owner entry) (some_said 
     by true none e = let some = (All-head IsNumber entry load all).0 in let zero : entry.number ≡ 0 = cc in omega (arith, some, zero)
     by false none e = none e
 
-module _ (config : Config) (app : App) (wf : WellFormed config app) (load : List Entry) (late longest h r : ℕ) (cuts : ℕ → Bool) (costs : Costs) (item : IsLongestItem app longest)
-    (cut : AreCutTasks config app cuts) (are : AreRunCosts config app load costs) (there : h < length config.tasks) (told : AreTold costs h)
-    (bounds : AreRunBounds longest late costs h r) where
+module _ (config : Config) (app : App) (wf : WellFormed config app) (load : List Entry) (late longest h r : ℕ) (boot : Bool) (cuts : ℕ → Bool) (costs : Costs)
+    (item : IsLongestItem app longest) (cut : AreCutTasks config app cuts) (are : AreRunCosts config app load costs) (there : h < length config.tasks) (told : AreTold costs h)
+    (bounds : AreRunBounds longest late costs h boot r) where
   abbrev w : Facts config app
   w = facts config app wf
 
@@ -54,56 +54,73 @@ module _ (config : Config) (app : App) (wf : WellFormed config app) (load : List
   law = law_costs config app w load costs are h there
 
   abbrev once : Bool
-  once = (task costs h).is_preemptable
+  once = (task costs h).is_entered_once
 
   abbrev at : ℕ → Start
-  at i = start_at (run_starts costs h) i
+  at i = start_at (run_starts costs h true) i
 
-  -- so much a bound may be
-  abbrev most : (opens : Bool) → ℕ
-  most true = r + (longest + late)
-  most false = r + margin longest late
+  -- boot is left out, or another start
+  abbrev Counts : ℕ → Type 0
+  Counts i = is_boot (at i) ≡ true → boot ≡ true
 
-  within : (i : ℕ) → IsStartWithin longest late costs h r (at i)
-  within = by_place costs h (IsStartWithin longest late costs h r) bounds
+  -- a length of a window, which is enough where its start counts
+  record Solved (opens : Bool) (i : ℕ) : Type 0 where
+    numbers : Numbers
+    lasting : ℕ
+    room : margin longest late ≤ lasting
+    solves : Counts i → IsSolution costs (run_window longest late costs h opens (at i)) numbers lasting
+    within : Counts i → (l : ℕ) × (l ≡ cond (is_target_made (Some h) numbers) lasting 0) × (l + lead_of opens late ≤ r + margin longest late)
 
-  abbrev bound : (opens : Bool) (i : ℕ) → IsBoundWithin longest late costs h (front_of opens costs h (at i)) (most opens) (at i)
-  bound true i = (within i).opens
-  bound false i = (within i).serves
+  solved : (opens : Bool) (i : ℕ) → Solved opens i
+  solved opens i = by (cases_Bool (is_boot (at i))) (cases_Bool boot)
+    where
+      counted : Counts i → Solved opens i
+      counted may =
+          let (l, (n, counts, least, few, is), le) = by_place costs h boot (IsStartWithin longest late costs h r) bounds i may opens in
+          record {
+            numbers = n;
+            lasting = counts;
+            room = let filled = least.solves.filled in omega (arith, filled);
+            solves = λ _. least.solves;
+            within = λ _. (l, is, le);
+          }
+
+      by : (is_boot (at i) ≡ true) ⊎ (is_boot (at i) ≡ false) → (boot ≡ true) ⊎ (boot ≡ false) → Solved opens i
+      by (inr other) both = counted (λ boots. absurd (true≢false (sym boots ∙ other)))
+      by (inl boots) (inl on) = counted (λ _. on)
+      by (inl boots) (inr off) = record {
+        numbers = λ _. none_made;
+        lasting = margin longest late;
+        room = omega arith;
+        solves = λ may. absurd (true≢false (sym (may boots) ∙ off));
+        within = λ may. absurd (true≢false (sym (may boots) ∙ off));
+      }
 
   abbrev numbers : (opens : Bool) → ℕ → Numbers
-  numbers opens i = (bound opens i).1.0
+  numbers opens i = (solved opens i).numbers
 
   abbrev lasting : (opens : Bool) → ℕ → ℕ
-  lasting opens i = (bound opens i).1.1
+  lasting opens i = (solved opens i).lasting
 
   abbrev starting : ℕ → Demand.Start
   starting = begins config app w load longest late costs are h there told numbers lasting
 
-  solves : (opens : Bool) (i : ℕ) → IsSolution costs (run_window longest late costs h (front_of opens costs h (at i)) (at i)) (numbers opens i) (lasting opens i)
-  solves opens i = (bound opens i).1.2.solves
-
-  apart : (i j : ℕ) → joins (at i) j ≡ false
-  apart i = joins_none costs h i
-
-  in_time : (opens : Bool) (l : ℕ) → l ≤ most opens → l + lead_of opens late ≤ r + margin longest late
-  in_time true l le = omega (arith, le)
-  in_time false l le = omega (arith, le)
-
-  start_so : (opens : Bool) (i : ℕ) → IsCodeStart config set load late (longest + late) h r once law (start_of config app w load longest late costs are h there told numbers lasting opens i)
+  start_so : (opens : Bool) (i : ℕ) → IsCodeStart config set load late (longest + late) h r once boot law (start_of config app w load longest late costs are h there told numbers lasting opens i)
   start_so opens i = record {
-    arrivals = has_arrivals config app w load longest late costs are h there told cuts cut opens (at i) (numbers opens i) (lasting opens i) (apart i) (solves opens i);
-    expiries = has_expiries config app w load longest late costs are h there told cuts cut opens (at i) (numbers opens i) (lasting opens i) (apart i) (solves opens i);
-    enough = enough config app w load longest late costs are h there told cuts cut opens (at i) (numbers opens i) (lasting opens i) (apart i) (solves opens i);
-    lasts = lasts config app w load longest late costs are h there told cuts cut opens (at i) (numbers opens i) (lasting opens i) (apart i) (solves opens i)
-        (bound opens i).0 r (bound opens i).1.4 (in_time opens (bound opens i).0 (bound opens i).2);
+    arrivals = has_arrivals config app load longest late costs are h opens (at i) (numbers opens i) (lasting opens i) (solved opens i).room;
+    expiries = has_expiries config app load longest late costs are h opens (at i) (numbers opens i) (lasting opens i) (solved opens i).room;
+    enough = λ counts. enough config app w load longest late costs are h there told cuts cut opens (at i) (numbers opens i) (lasting opens i) ((solved opens i).solves counts);
+    lasts = λ counts.
+        let within = (solved opens i).within counts in
+        lasts config app w load longest late costs are h there told cuts cut opens (at i) (numbers opens i) (lasting opens i) ((solved opens i).solves counts)
+        within.0 r within.1 within.2;
   }
 
-  code_start : (i : ℕ) → IsCodeStart config set load late (longest + late) h r once law (starting i)
-  code_start i = by (ltb i (length (run_starts costs h))) (start_so true i) (start_so false (i - length (run_starts costs h)))
+  code_start : (i : ℕ) → IsCodeStart config set load late (longest + late) h r once boot law (starting i)
+  code_start i = by (ltb i (length (run_starts costs h true))) (start_so true i) (start_so false (i - length (run_starts costs h true)))
     where
-      by : (b : Bool) {x y : Demand.Start} → IsCodeStart config set load late (longest + late) h r once law x → IsCodeStart config set load late (longest + late) h r once law y
-          → IsCodeStart config set load late (longest + late) h r once law (cond b x y)
+      by : (b : Bool) {x y : Demand.Start} → IsCodeStart config set load late (longest + late) h r once boot law x → IsCodeStart config set load late (longest + late) h r once boot law y
+          → IsCodeStart config set load late (longest + late) h r once boot law (cond b x y)
       by true first second = first
       by false first second = second
 
@@ -128,13 +145,13 @@ module _ (config : Config) (app : App) (wf : WellFormed config app) (load : List
   }
 
 pub images_meet_bounds : ImagesMeetBounds
-images_meet_bounds config app image load arrivals n late longest h r cuts costs wf code sound weighed pace item above come few in_load keeps cut works are there told bounds =
-    images_respond_by_code config app image are.weights load arrivals n late longest h r cuts
-    (set config app wf load late longest h r cuts costs item cut are there told bounds) (law config app wf load late longest h r cuts costs item cut are there told bounds)
-    (task costs h).is_preemptable (length (run_starts costs h) + length (run_starts costs h)) (starting config app wf load late longest h r cuts costs item cut are there told bounds)
-    (enters config app wf load late longest h r cuts costs item cut are there told bounds)
-    wf code sound weighed pace are.are_counts (marks config app costs.alarms are.alarms) item come few above (λ line. some_said form.Every line load in_load.numbers) keeps works
+images_meet_bounds config app image load arrivals n late longest h r boot cuts costs wf code sound weighed pace item above come in_load keeps cut works are there told bounds =
+    images_respond_by_code config app image are.weights load all_come arrivals n late longest h r cuts
+    (set config app wf load late longest h r boot cuts costs item cut are there told bounds) (law config app wf load late longest h r boot cuts costs item cut are there told bounds)
+    (task costs h).is_entered_once boot (length (run_starts costs h true) + length (run_starts costs h true)) (starting config app wf load late longest h r boot cuts costs item cut are there told bounds)
+    (enters config app wf load late longest h r boot cuts costs item cut are there told bounds)
+    wf code sound weighed pace are.are_counts (marks config app costs.alarms are.alarms) item come above (λ line. some_said form.Every line load in_load.numbers) keeps (all_closed config app load) works
     (fits_rounds config app (facts config app wf) load costs are h there told cuts cut)
-    (fits_starts config app (facts config app wf) load longest late costs are h there told (numbers config app wf load late longest h r cuts costs item cut are there told bounds)
-    (lasting config app wf load late longest h r cuts costs item cut are there told bounds))
-    (λ i _. code_start config app wf load late longest h r cuts costs item cut are there told bounds i)
+    (fits_starts config app (facts config app wf) load longest late costs are h there told (numbers config app wf load late longest h r boot cuts costs item cut are there told bounds)
+    (lasting config app wf load late longest h r boot cuts costs item cut are there told bounds))
+    (λ i _. code_start config app wf load late longest h r boot cuts costs item cut are there told bounds i)

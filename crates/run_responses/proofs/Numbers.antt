@@ -1,6 +1,6 @@
 -- Numbers that are told.
 use Rattle.std.proofs.Common.{◌≡◌, ℕ, ◌<◌, min, Option, Some, None, ap, subst, arith}
-use Rattle.response_bounds.specs.Costs.{capped, reckoned}
+use Rattle.run_windows.specs.Costs.{capped, reckoned}
 use Rattle.run_windows.specs.RunWindows.{IsTold}
 
 -- a told number is itself

@@ -29,17 +29,18 @@ use Rattle.walk_sums.specs.Rounds
 use Rattle.walk_sums.specs.Rounds.{IsTurn, IsClean, Reaches, is_wait}
 use Rattle.walk_sums.specs.Counted.{counted_weights}
 use Rattle.walk_sums.specs.Told.{NoneIsAbove, IsToldSum, are_limited, are_endless, AreToldRounds}
-use Rattle.response_bounds.specs.declared.costs.Costs.{Costs}
-use Rattle.response_bounds.specs.Costs.{reckoned, task, making, no_makings}
-use Rattle.response_bounds.specs.Windows.{is_lower}
-use Rattle.response_costs.specs.Rounds.{AreRounds, round_cost, activations_of, made}
+use Rattle.run_windows.specs.declared.costs.Costs.{Costs}
+use Rattle.run_windows.specs.Costs.{reckoned, task, making, no_makings}
+use Rattle.run_windows.specs.Windows.{is_lower}
+use Rattle.run_costs.specs.Rounds.{AreRounds, round_cost, activations_of, made}
 use Rattle.response_laws.specs.Demand
 use Rattle.response_laws.specs.Bounded.{IsOfLevel}
 use Rattle.response_laws.specs.Walked.{IsFirstRound, IsLaterRound, FirstRoundsSum, LaterRoundsSum}
 use Rattle.response_laws.specs.Makers.{activation_weights, setting_weights}
 use Rattle.response_laws.specs.Once.{StaysOut}
+use Rattle.run_responses.proofs.Coming.{all_come}
 use Rattle.response_laws.specs.SoundRuns.{WorksWithin, FitsRounds}
-use Rattle.run_responses.specs.RunCosts.{round_entry, AreRunTaskCosts, AreRunMakings, AreRunCosts}
+use Rattle.run_costs.specs.RunCosts.{round_entry, AreRunTaskCosts, AreRunMakings, AreRunCosts}
 use Rattle.run_windows.specs.RunWindows.{IsTold, AreTold}
 use Rattle.run_responses.specs.Meeting.{AreCutTasks}
 use Rattle.response_laws.proofs.Counting.{counted_lighter}
@@ -142,9 +143,16 @@ module _ (Goal : ℕ → Type 0) (weaken : (n m : ℕ) → n ≤ m → Goal n �
   -- of costs: by the load, or by walks
   pub cost_told : (entry : ℕ) (w : Option ℕ) (s : Sum) (o : Option ℕ) → o ≡ round_cost entry w s → IsTold o → ((n : ℕ) → s ≡ sum.Counts n → Goal n)
       → (entry ≤ reckoned o) × (((own : ℕ) × (w ≡ Some own) × (own ≤ reckoned o - entry)) ⊎ Goal (reckoned o - entry))
-  cost_told entry (Some own) s o is told above =
-      let e = told_capped (entry + own) o is told in
-      (omega (arith, e), inl (own, refl, omega (arith, e)))
+  cost_told entry (Some own) (sum.Counts n) o is told above = (let e = number in omega (arith, e), by (cases_lt own n))
+    where
+      number : reckoned o ≡ entry + min own n
+      number = told_capped (entry + min own n) o is told
+
+      by : (own < n) ⊎ (n ≤ own) → ((m : ℕ) × (Some own ≡ Some m) × (m ≤ reckoned o - entry)) ⊎ Goal (reckoned o - entry)
+      by (inl lt) = let e = number in inl (own, refl, omega (arith, e, lt))
+      by (inr le) = let e = number in inr (weaken n (reckoned o - entry) (omega (arith, e, le)) (above n refl))
+  cost_told entry (Some own) sum.Huge o is told above = let e = told_capped (entry + own) o is told in (omega (arith, e), inl (own, refl, omega (arith, e)))
+  cost_told entry (Some own) sum.Endless o is told above = let e = told_capped (entry + own) o is told in (omega (arith, e), inl (own, refl, omega (arith, e)))
   cost_told entry None (sum.Counts own) o is told above =
       let e = told_capped (entry + own) o is told in
       (omega (arith, e), inr (weaken own (reckoned o - entry) (omega (arith, e)) (above own refl)))
@@ -152,13 +160,13 @@ module _ (Goal : ℕ → Type 0) (weaken : (n m : ℕ) → n ≤ m → Goal n �
   cost_told entry None sum.Endless o is told above = absurd (none_told o is told)
 
   -- of makings that are not once at most
-  pub many_told : (s : Sum) (o : Option ℕ) → o ≡ made false None s → IsTold o → ((n : ℕ) → s ≡ sum.Counts n → Goal n) → Goal (reckoned o)
+  pub many_told : (s : Sum) (o : Option ℕ) → o ≡ made false s → IsTold o → ((n : ℕ) → s ≡ sum.Counts n → Goal n) → Goal (reckoned o)
   many_told (sum.Counts n) o is told above = let e = told_number n o is told in weaken n (reckoned o) (omega (arith, e)) (above n refl)
   many_told sum.Huge o is told above = absurd (none_told o is told)
   many_told sum.Endless o is told above = absurd (none_told o is told)
 
   -- of makings
-  pub made_told : (once : Bool) (s : Sum) (o : Option ℕ) → o ≡ made once None s → IsTold o → ((n : ℕ) → s ≡ sum.Counts n → Goal n)
+  pub made_told : (once : Bool) (s : Sum) (o : Option ℕ) → o ≡ made once s → IsTold o → ((n : ℕ) → s ≡ sum.Counts n → Goal n)
       → Goal (reckoned o) ⊎ ((once ≡ true) × (1 ≤ reckoned o))
   made_told false s o is told above = inl (many_told s o is told above)
   made_told true sum.Huge o is told above = let e = told_number 1 o is told in inr (refl, omega (arith, e))
@@ -326,36 +334,36 @@ module _ (config : Config) (app : App) (w : Facts config app) (load : List Entry
     once_out k j once decides (inl g) = inl g
     once_out k j once decides (inr (is, le)) = inr (decides.0 is, le)
 
-    pub fits_rounds : FitsRounds config app are.weights load h cuts law_costs
+    pub fits_rounds : FitsRounds config app are.weights load all_come h cuts law_costs
     fits_rounds = record {
       first_round = λ t. reckoned (task costs t).first - first_entry t;
       next_round = λ t. reckoned (task costs t).next - next_entry t;
-      firsts = λ t lt over. (first_told t (lt, over)).1;
-      nexts = λ t lt over. (next_told t (lt, over)).1;
-      first = λ t. omega arith;
-      next = λ t. omega arith;
+      firsts = λ t lt over _. (first_told t (lt, over)).1;
+      nexts = λ t lt over _. (next_told t (lt, over)).1;
+      first = λ t _. omega arith;
+      next = λ t _. omega arith;
       tick = λ c. omega arith;
-      first_acts = λ k j over made.
+      first_acts = λ k j over made _.
           let m = makings_of k j over.0 made.0 in
           let (sums, rounds, first, next) = m.activations in
           once_out k j m.once m.is_once
           (made_told (FirstRoundsSum app (cuts k) k (activation_weights app k j)) (first_weaker k (activation_weights app k j)) m.once sums.first (making costs k j).first_activations first
           (told.makings j (counted_task j made.0) k (counted_task k over.0) (level_upper j made) (level_upper k over)).first_activations
           (λ n is. first_sum k n over (activations_of k j) m.clean m.is_clean sums rounds is));
-      next_acts = λ k j over made.
+      next_acts = λ k j over made _.
           let m = makings_of k j over.0 made.0 in
           let (sums, rounds, first, next) = m.activations in
           once_out k j m.once m.is_once
           (made_told (LaterRoundsSum app (cuts k) k (activation_weights app k j)) (next_weaker k (activation_weights app k j)) m.once sums.later (making costs k j).next_activations next
           (told.makings j (counted_task j made.0) k (counted_task k over.0) (level_upper j made) (level_upper k over)).next_activations
           (λ n is. next_sum k n over (activations_of k j) m.clean m.is_clean sums rounds is));
-      first_sets = λ k j over made.
+      first_sets = λ k j over made _.
           let m = makings_of k j over.0 made.0 in
           let (sums, rounds, first, next) = m.settings in
           many_told (FirstRoundsSum app (cuts k) k (setting_weights app j)) (first_weaker k (setting_weights app j)) sums.first (making costs k j).first_settings first
           (told.makings j (counted_task j made.0) k (counted_task k over.0) (level_upper j made) (level_upper k over)).first_settings
           (λ n is. first_sum k n over (counts.Settings j) m.clean m.is_clean sums rounds is);
-      next_sets = λ k j over made.
+      next_sets = λ k j over made _.
           let m = makings_of k j over.0 made.0 in
           let (sums, rounds, first, next) = m.settings in
           many_told (LaterRoundsSum app (cuts k) k (setting_weights app j)) (next_weaker k (setting_weights app j)) sums.later (making costs k j).next_settings next
@@ -389,12 +397,12 @@ entries_alike config app true t whole =
     ≡ max (entry_path e false (function app (body_of app.funcs t)).frame_words) (entry_path e true (function app (body_of app.funcs t)).frame_words)) (sym whole) refl
 
 module _ (config : Config) (app : App) (load : List Entry) (costs : Costs) (are : AreRunCosts config app load costs) (h : ℕ)
-    (there : h < length config.tasks) (once : (task costs h).is_preemptable ≡ true) where
+    (there : h < length config.tasks) (once : (task costs h).is_entered_once ≡ true) where
   abbrev own : AreRunTaskCosts config app load are.weights h (task costs h)
   own = are.tasks.each h there
 
   both : (not (declaration config h).non ≡ true) × (not (own.clean && (declaration config h).extended) ≡ true)
-  both = and_parts (not (declaration config h).non) (not (own.clean && (declaration config h).extended)) (sym own.is_preemptable ∙ once)
+  both = and_parts (not (declaration config h).non) (not (own.clean && (declaration config h).extended)) (sym own.is_entered_once ∙ once)
 
   pub is_full : (declaration config h).non ≡ false
   is_full = not-true (declaration config h).non both.0
@@ -420,13 +428,13 @@ module _ (config : Config) (app : App) (load : List Entry) (costs : Costs) (are 
       acts : AreRunMakings config app j h (making costs h j) → (making costs h j).next_activations ≡ (making costs h j).first_activations
       acts m =
           let (sums, rounds, first, next) = m.activations in
-          next ∙ ap (made m.once None)
+          next ∙ ap (made m.once)
           (alike app m.clean (declaration config h).extended h (counted_weights (activations_of h j) app) sums (whole_by m.clean m.is_clean) rounds) ∙ sym first
 
       sets : AreRunMakings config app j h (making costs h j) → (making costs h j).next_settings ≡ (making costs h j).first_settings
       sets m =
           let (sums, rounds, first, next) = m.settings in
-          next ∙ ap (made false None)
+          next ∙ ap (made false)
           (alike app m.clean (declaration config h).extended h (counted_weights (counts.Settings j) app) sums (whole_by m.clean m.is_clean) rounds) ∙ sym first
   made_alike j (inr past) =
       let none = get_or_past costs.makings j [] (let same = are.makings.count in omega (arith, past, same)) in (

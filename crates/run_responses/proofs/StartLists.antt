@@ -1,19 +1,16 @@
 -- Which starts a record has.
 use Rattle.std.proofs.Common.{◌≡◌, ℕ, zero, suc, ◌+◌, ◌<◌, ◌≤◌, ◌⊎◌, ◌==◌, ◌&&◌, ◌||◌, ◌++◌, not, Bool, true, false, List, [], ◌∷◌, length, cond, get_or, refl, sym, ap, ◌∙◌, subst, arith, inl, inr}
-use Rattle.std.specs.List.{AllByRecursion}
-use Rattle.std.proofs.lemmas.Bool.{cases_lt, eqb-true}
+use Rattle.std.proofs.lemmas.Bool.{cases_lt, eqb-true, true≢false}
 use Rattle.std.proofs.lemmas.List.{get_or_past}
-use Rattle.response_bounds.specs.declared.costs.TaskCosts.{TaskCosts}
-use Rattle.response_bounds.specs.declared.costs.Services.{Services}
-use Rattle.response_bounds.specs.declared.costs.Costs.{Costs}
-use Rattle.response_bounds.specs.declared.window.Start.{Start}
-use Rattle.response_bounds.specs.declared.window.Start.TheVariants as start
-use Rattle.response_bounds.specs.Costs.{section, no_services, no_task}
-use Rattle.response_bounds.specs.Windows.{is_lower, joins}
-use Rattle.response_bounds.specs.Starts.{start_if}
-use Rattle.response_bounds.specs.Responses.{start_at}
+use Rattle.run_windows.specs.declared.costs.TaskCosts.{TaskCosts}
+use Rattle.run_windows.specs.declared.costs.Services.{Services}
+use Rattle.run_windows.specs.declared.costs.Costs.{Costs}
+use Rattle.run_windows.specs.declared.window.Start.{Start}
+use Rattle.run_windows.specs.declared.window.Start.TheVariants as start
+use Rattle.run_windows.specs.Costs.{section, no_services, no_task}
+use Rattle.run_windows.specs.Windows.{is_lower, is_boot}
 use Rattle.run_windows.specs.declared.fronts.Way.{Way}
-use Rattle.run_windows.specs.RunWindows.{may_serve, services_front, is_made_in_front, activation_front, setting_front, makes, made_start, task_starts, run_task_starts, run_starts}
+use Rattle.run_windows.specs.RunWindows.{may_serve, services_front, is_made_in_front, activation_front, setting_front, makes, made_start, start_if, start_at, task_starts, run_task_starts, run_starts}
 
 -- ---- a start among others
 
@@ -47,15 +44,15 @@ module _ (costs : Costs) (h : ℕ) where
       let e : first + suc j ≡ first + 1 + j = omega arith in
       has_right s (own_starts first) (run_task_starts costs h (first + 1) ts) (in_tasks s (first + 1) j ts (omega (arith, lt)) (subst (λ k. Has (own_starts k) s) e has))
 
-  of_task : (s : Start) (j : ℕ) → j < length costs.tasks → Has (own_starts j) s → Has (run_starts costs h) s
+  of_task : (s : Start) (j : ℕ) → j < length costs.tasks → Has (own_starts j) s → Has (run_starts costs h true) s
   of_task s j lt has =
       let e : j ≡ 0 + j = omega arith in
       has_right s (start.Free ∷ start.Boot ∷ []) (run_task_starts costs h 0 costs.tasks) (in_tasks s 0 j costs.tasks lt (subst (λ k. Has (own_starts k) s) e has))
 
-  pub has_free : Has (run_starts costs h) start.Free
+  pub has_free : Has (run_starts costs h true) start.Free
   has_free = (0, omega arith, refl)
 
-  pub has_boot : Has (run_starts costs h) start.Boot
+  pub has_boot : Has (run_starts costs h true) start.Boot
   has_boot = (1, omega arith, refl)
 
   some_front : (upper : Bool) (n : ℕ) → upper ≡ false → 0 < n → (not upper && not (n == 0)) ≡ true
@@ -66,14 +63,14 @@ module _ (costs : Costs) (h : ℕ) where
       by false e = refl
       by true e = let zero = eqb-true n 0 e in absurd (omega (arith, zero, lt))
 
-  pub has_activation : (j : ℕ) → j < length costs.tasks → is_lower costs h j ≡ false → 0 < activation_front costs h j → Has (run_starts costs h) (start.Activation j)
+  pub has_activation : (j : ℕ) → j < length costs.tasks → is_lower costs h j ≡ false → 0 < activation_front costs h j → Has (run_starts costs h true) (start.Activation j)
   has_activation j lt upper some =
       of_task (start.Activation j) j lt
       (has_left (start.Activation j) (made_start costs h j (activation_front costs h j) (start.Activation j))
       (made_start costs h j (setting_front costs h j) (start.Setting j) ++ start_if (is_lower costs h j && (section costs h j).exists) (start.Section j))
       (has_if (not (is_lower costs h j) && not (activation_front costs h j == 0)) (start.Activation j) (some_front (is_lower costs h j) (activation_front costs h j) upper some)))
 
-  pub has_setting : (j : ℕ) → j < length costs.tasks → is_lower costs h j ≡ false → 0 < setting_front costs h j → Has (run_starts costs h) (start.Setting j)
+  pub has_setting : (j : ℕ) → j < length costs.tasks → is_lower costs h j ≡ false → 0 < setting_front costs h j → Has (run_starts costs h true) (start.Setting j)
   has_setting j lt upper some =
       of_task (start.Setting j) j lt
       (has_right (start.Setting j) (made_start costs h j (activation_front costs h j) (start.Activation j))
@@ -81,7 +78,7 @@ module _ (costs : Costs) (h : ℕ) where
       (has_left (start.Setting j) (made_start costs h j (setting_front costs h j) (start.Setting j)) (start_if (is_lower costs h j && (section costs h j).exists) (start.Section j))
       (has_if (not (is_lower costs h j) && not (setting_front costs h j == 0)) (start.Setting j) (some_front (is_lower costs h j) (setting_front costs h j) upper some))))
 
-  pub has_section : (k : ℕ) → k < length costs.tasks → is_lower costs h k ≡ true → (section costs h k).exists ≡ true → Has (run_starts costs h) (start.Section k)
+  pub has_section : (k : ℕ) → k < length costs.tasks → is_lower costs h k ≡ true → (section costs h k).exists ≡ true → Has (run_starts costs h true) (start.Section k)
   has_section k lt lower exists =
       of_task (start.Section k) k lt
       (has_right (start.Section k) (made_start costs h k (activation_front costs h k) (start.Activation k))
@@ -89,46 +86,21 @@ module _ (costs : Costs) (h : ℕ) where
       (has_right (start.Section k) (made_start costs h k (setting_front costs h k) (start.Setting k)) (start_if (is_lower costs h k && (section costs h k).exists) (start.Section k))
       (has_if (is_lower costs h k && (section costs h k).exists) (start.Section k) (ap (λ b. b && (section costs h k).exists) lower ∙ exists))))
 
-  -- ---- none of them joins
-
-  abbrev pub JoinsNone : Start → Type 0
-  JoinsNone s = (j : ℕ) → joins s j ≡ false
-
-  all_of : (xs ys : List Start) → AllByRecursion JoinsNone xs → AllByRecursion JoinsNone ys → AllByRecursion JoinsNone (xs ++ ys)
-  all_of [] ys a b = b
-  all_of (x ∷ xs) ys a b = (a.0, all_of xs ys a.1 b)
-
-  all_if : (b : Bool) (s : Start) → JoinsNone s → AllByRecursion JoinsNone (start_if b s)
-  all_if true s n = (n, tt)
-  all_if false s n = tt
-
-  all_tasks : (j : ℕ) (ts : List TaskCosts) → AllByRecursion JoinsNone (run_task_starts costs h j ts)
-  all_tasks j [] = tt
-  all_tasks j (t ∷ ts) =
-      all_of (own_starts j) (run_task_starts costs h (j + 1) ts)
-      (all_of (made_start costs h j (activation_front costs h j) (start.Activation j))
-      (made_start costs h j (setting_front costs h j) (start.Setting j) ++ start_if (is_lower costs h j && (section costs h j).exists) (start.Section j))
-      (all_if (not (is_lower costs h j) && not (activation_front costs h j == 0)) (start.Activation j) (λ k. refl))
-      (all_of (made_start costs h j (setting_front costs h j) (start.Setting j)) (start_if (is_lower costs h j && (section costs h j).exists) (start.Section j))
-      (all_if (not (is_lower costs h j) && not (setting_front costs h j == 0)) (start.Setting j) (λ k. refl))
-      (all_if (is_lower costs h j && (section costs h j).exists) (start.Section j) (λ k. refl))))
-      (all_tasks (j + 1) ts)
-
-  at_place : (ss : List Start) (i : ℕ) → AllByRecursion JoinsNone ss → JoinsNone (start_at ss i)
-  at_place [] i all = λ j. refl
-  at_place (s ∷ ss) zero all = all.0
-  at_place (s ∷ ss) (suc i) all = at_place ss i all.1
-
-  pub joins_none : (i : ℕ) → JoinsNone (start_at (run_starts costs h) i)
-  joins_none i = at_place (run_starts costs h) i ((λ j. refl), ((λ j. refl), all_tasks 0 costs.tasks))
-
-  -- behind the last one stands the first
-  pub by_place : (P : Start → Type 0) → ((i : ℕ) → i < length (run_starts costs h) → P (start_at (run_starts costs h) i)) → (i : ℕ) → P (start_at (run_starts costs h) i)
-  by_place P each i = by (cases_lt i (length (run_starts costs h)))
+  -- where all starts but boot are within something, so is each of all starts that is not boot
+  pub by_place : (boot : Bool) (P : Start → Type 0) → ((i : ℕ) → i < length (run_starts costs h boot) → P (start_at (run_starts costs h boot) i))
+      → (i : ℕ) → (is_boot (start_at (run_starts costs h true) i) ≡ true → boot ≡ true) → P (start_at (run_starts costs h true) i)
+  by_place true P each i may = by (cases_lt i (length (run_starts costs h true)))
     where
-      by : (i < length (run_starts costs h)) ⊎ (length (run_starts costs h) ≤ i) → P (start_at (run_starts costs h) i)
+      by : (i < length (run_starts costs h true)) ⊎ (length (run_starts costs h true) ≤ i) → P (start_at (run_starts costs h true) i)
       by (inl lt) = each i lt
-      by (inr le) = subst P (sym (get_or_past (run_starts costs h) i start.Free le)) (each 0 (omega arith))
+      by (inr le) = subst P (sym (get_or_past (run_starts costs h true) i start.Free le)) (each 0 (omega arith))
+  by_place false P each zero may = each 0 (omega arith)
+  by_place false P each (suc zero) may = absurd (true≢false (sym (may refl)))
+  by_place false P each (suc (suc i)) may = by (cases_lt i (length (run_task_starts costs h 0 costs.tasks)))
+    where
+      by : (i < length (run_task_starts costs h 0 costs.tasks)) ⊎ (length (run_task_starts costs h 0 costs.tasks) ≤ i) → P (start_at (run_task_starts costs h 0 costs.tasks) i)
+      by (inl lt) = each (suc i) (omega (arith, lt))
+      by (inr le) = subst P (sym (get_or_past (run_task_starts costs h 0 costs.tasks) i start.Free le)) (each 0 (omega arith))
 
 -- ---- what makes a task in front
 

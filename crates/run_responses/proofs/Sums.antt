@@ -1,11 +1,11 @@
 -- Sums over lists, and over numbers.
 use Rattle.std.proofs.Common.{◌≡◌, ℕ, suc, ◌+◌, ◌*◌, ◌<◌, ◌≤◌, Bool, min, List, [], ◌∷◌, length, get_or, refl, ap, subst, arith}
-use Rattle.response_bounds.specs.declared.costs.TaskCosts.{TaskCosts}
-use Rattle.response_bounds.specs.declared.costs.CounterCosts.{CounterCosts}
-use Rattle.response_bounds.specs.declared.costs.AlarmCosts.{AlarmCosts}
-use Rattle.response_bounds.specs.declared.costs.Makings.{Makings}
-use Rattle.response_bounds.specs.Arrivals.{arrivals, expiring, ticking, tick_counts}
-use Rattle.response_bounds.specs.Windows.{Numbers, shared, of_makings, round_makings, round_counts}
+use Rattle.run_windows.specs.declared.costs.TaskCosts.{TaskCosts}
+use Rattle.run_windows.specs.declared.costs.CounterCosts.{CounterCosts}
+use Rattle.run_windows.specs.declared.costs.AlarmCosts.{AlarmCosts}
+use Rattle.run_windows.specs.declared.costs.Makings.{Makings}
+use Rattle.run_windows.specs.Arrivals.{arrivals, expiring, ticking, tick_counts}
+use Rattle.run_windows.specs.Windows.{Numbers, shared, of_makings, round_makings, round_counts}
 use Rattle.response_laws.specs.Sums.{sum_below}
 
 -- a sum over a list, whose first element has number k

@@ -9,16 +9,16 @@ use Rattle.load_text.specs.Loads.{distance, filling}
 use Rattle.osek_scheduler.specs.Apart.{static_priority}
 use Rattle.osek_scheduler.proofs.Facts.{Facts}
 use Rattle.code_lengths.specs.LongestPaths.{tick_path}
-use Rattle.response_bounds.specs.declared.costs.CounterCosts.{CounterCosts}
-use Rattle.response_bounds.specs.declared.costs.Costs.{Costs}
-use Rattle.response_bounds.specs.declared.window.Start.{Start}
-use Rattle.response_bounds.specs.declared.window.Window.{Window}
-use Rattle.response_bounds.specs.declared.window.Rule.TheVariants as rule
-use Rattle.response_bounds.specs.Costs.{reckoned, task, makers, making, no_task, no_makings}
-use Rattle.response_bounds.specs.Arrivals.{arrivals}
-use Rattle.response_bounds.specs.Arrivals
-use Rattle.response_bounds.specs.Windows.{Numbers, joins, rule_of, level_rule, counted, begun_by, is_boot, shared, of_makings, round_makings, activations, settings, round_counts, IsAtMost, IsSolution, is_target_made}
-use Rattle.response_costs.specs.CostsOf.{no_counter}
+use Rattle.run_windows.specs.declared.costs.CounterCosts.{CounterCosts}
+use Rattle.run_windows.specs.declared.costs.Costs.{Costs}
+use Rattle.run_windows.specs.declared.window.Start.{Start}
+use Rattle.run_windows.specs.declared.window.Window.{Window}
+use Rattle.run_windows.specs.declared.window.Rule.TheVariants as rule
+use Rattle.run_windows.specs.Costs.{reckoned, task, makers, making, no_task, no_makings}
+use Rattle.run_windows.specs.Arrivals.{arrivals}
+use Rattle.run_windows.specs.Arrivals
+use Rattle.run_windows.specs.Windows.{Numbers, rule_of, counted, begun_by, is_boot, shared, of_makings, round_makings, activations, settings, round_counts, IsAtMost, IsSolution, is_target_made}
+use Rattle.run_costs.specs.CostsOf.{no_counter}
 use Rattle.response_laws.specs.Sums.{is_over, sum_over, sum_counters}
 use Rattle.response_laws.specs.Demand
 use Rattle.response_laws.specs.Demand.{acts_due, sets_due, IsEnteredOnce, IsEnough}
@@ -27,23 +27,16 @@ use Rattle.response_laws.specs.Response.{LastsWithin}
 use Rattle.response_laws.specs.Arrivals.{admission_window}
 use Rattle.response_laws.specs.Loaded.{HasArrivals}
 use Rattle.response_laws.specs.Expiries.{HasExpiries}
-use Rattle.run_responses.specs.RunCosts.{AreRunCosts}
-use Rattle.run_windows.specs.RunWindows.{margin, opening_front, served_front, run_window, AreTold, begun_item}
+use Rattle.run_costs.specs.RunCosts.{AreRunCosts}
+use Rattle.run_windows.specs.RunWindows.{margin, front_of, lead_of, run_window, AreTold, begun_item}
 use Rattle.run_responses.specs.Meeting.{AreCutTasks}
+use Rattle.run_windows.proofs.Settling.{rounds_take}
+use Rattle.run_costs.proofs.Taking.{run_take_counts}
 use Rattle.run_responses.proofs.Sums.{below_list, makings_sum, rounds_sum, ticking_sum, ticks_sum}
 use Rattle.run_responses.proofs.Alarms.{is_set, expire}
 use Rattle.run_responses.proofs.Rounds.{law_costs, level_upper, counted_task, first_same, next_same, costs_alike, acts_alike, sets_alike}
 
 -- ---- the start of a window
-
--- a start begins with its event, or with admissions in front of a service
-abbrev pub front_of : (opens : Bool) → Costs → (h : ℕ) → Start → ℕ
-front_of true costs h s = opening_front costs h s
-front_of false costs h s = served_front costs h s
-
-abbrev pub lead_of : (opens : Bool) → (late : ℕ) → ℕ
-lead_of true late = late
-lead_of false late = 0
 
 module _ (config : Config) (load : List Entry) (longest late : ℕ) (costs : Costs) (h : ℕ) where
   -- with so many rounds, and so many counts, the margin among them
@@ -84,12 +77,34 @@ made_some a b some = by (a == 0) refl (b == 0) refl
     by true e false f = refl
     by false e y f = refl
 
-module _ (config : Config) (app : App) (w : Facts config app) (load : List Entry) (longest late : ℕ) (costs : Costs) (are : AreRunCosts config app load costs) (h : ℕ)
-    (there : h < length config.tasks) (told : AreTold costs h) (cuts : ℕ → Bool) (cut : AreCutTasks config app cuts)
-    (opens : Bool) (s : Start) (n : Numbers) (counts : ℕ) (no_join : (j : ℕ) → joins s j ≡ false)
-    (solves : IsSolution costs (run_window longest late costs h (front_of opens costs h s) s) n counts) where
+-- ---- what comes in
+
+module _ (config : Config) (app : App) (load : List Entry) (longest late : ℕ) (costs : Costs) (are : AreRunCosts config app load costs) (h : ℕ)
+    (opens : Bool) (s : Start) (n : Numbers) (counts : ℕ) (room : margin longest late ≤ counts) where
   abbrev begins : Demand.Start
   begins = start_by config load longest late costs h opens s n counts
+
+  pub has_arrivals : HasArrivals load late (longest + late) begins
+  has_arrivals line =
+      let le = room in
+      let e : admission_window late (longest + late) (counts - margin longest late) ≡ counts = omega (arith, le) in
+      let same = ap (λ m. filling m (distance load line)) e ∙ arrivals_same counts (distance load line) in
+      omega (arith, same)
+
+  pub has_expiries : HasExpiries config (is_set config app costs.alarms are.alarms) begins
+  has_expiries = record {
+    acts = λ c j. let same = expire config app costs.alarms are.alarms (is_boot s) false c j (arrivals counts (distance load (counter_line c))) in omega (arith, same);
+    sets = λ c j. let same = expire config app costs.alarms are.alarms (is_boot s) true c j (arrivals counts (distance load (counter_line c))) in omega (arith, same);
+  }
+
+-- ---- a solution
+
+module _ (config : Config) (app : App) (w : Facts config app) (load : List Entry) (longest late : ℕ) (costs : Costs) (are : AreRunCosts config app load costs) (h : ℕ)
+    (there : h < length config.tasks) (told : AreTold costs h) (cuts : ℕ → Bool) (cut : AreCutTasks config app cuts)
+    (opens : Bool) (s : Start) (n : Numbers) (counts : ℕ)
+    (solves : IsSolution costs (run_window longest late costs h opens s) n counts) where
+  abbrev starting : Demand.Start
+  starting = start_by config load longest late costs h opens s n counts
 
   abbrev law : Demand.Costs
   law = law_costs config app w load costs are h there
@@ -127,7 +142,7 @@ module _ (config : Config) (app : App) (w : Facts config app) (load : List Entry
   -- ---- which makings count
 
   abbrev window : Window
-  window = run_window longest late costs h (front_of opens costs h s) s
+  window = run_window longest late costs h opens s
 
   abbrev acts_of : ℕ → ℕ
   acts_of j = activations costs window n counts j
@@ -135,18 +150,16 @@ module _ (config : Config) (app : App) (w : Facts config app) (load : List Entry
   abbrev sets_of : ℕ → ℕ
   sets_of j = settings costs window n counts j
 
-  rule_is : (j : ℕ) → IsOfLevel config h j → (b : Bool) → ((j == h) && (task costs h).is_preemptable) ≡ b → rule_of costs window j ≡ cond b rule.Once rule.Each
+  rule_is : (j : ℕ) → IsOfLevel config h j → (b : Bool) → ((j == h) && (task costs h).is_entered_once) ≡ b → rule_of costs window j ≡ cond b rule.Once rule.Each
   rule_is j over b e =
-      ap (λ x. cond x rule.Joined (level_rule costs h j)) (no_join j)
-      ∙ ap (λ x. cond x rule.Lower (cond ((j == h) && (task costs h).is_preemptable) (cond (task costs h).is_clean rule.Entered rule.Once) rule.Each)) (level_upper config app w load costs are h there j over)
-      ∙ ap (λ x. cond x (cond (task costs h).is_clean rule.Entered rule.Once) rule.Each) e
-      ∙ ap (λ x. cond b (cond x rule.Entered rule.Once) rule.Each) (are.tasks.each h there).is_clean
+      ap (λ x. cond x rule.Lower (cond ((j == h) && (task costs h).is_entered_once) rule.Once rule.Each)) (level_upper config app w load costs are h there j over)
+      ∙ ap (λ x. cond x rule.Once rule.Each) e
 
-  made : (j : ℕ) (over : IsOfLevel config h j) (b : Bool) → ((j == h) && (task costs h).is_preemptable) ≡ b → IsAtMost (counted (cond b rule.Once rule.Each) (acts_of j) (sets_of j)) (n j)
+  made : (j : ℕ) (over : IsOfLevel config h j) (b : Bool) → ((j == h) && (task costs h).is_entered_once) ≡ b → IsAtMost (counted (cond b rule.Once rule.Each) (acts_of j) (sets_of j)) (n j)
   made j over b e =
       subst (λ r. IsAtMost (counted r (acts_of j) (sets_of j)) (n j)) (rule_is j over b e) (solves.made j (counted_task config app w load costs are h there j over.0))
 
-  acts_few : (j : ℕ) → IsOfLevel config h j → acts_due config h law begins j ≤ acts_of j
+  acts_few : (j : ℕ) → IsOfLevel config h j → acts_due config h law starting j ≤ acts_of j
   acts_few j over =
       let arrive = ap (arrivals counts) (are.tasks.each j over.0).distance in
       let ticks = by_ticks (is_boot s) false j in
@@ -154,7 +167,7 @@ module _ (config : Config) (app : App) (w : Facts config app) (load : List Entry
       (λ k lt. omega arith) in
       omega (arith, arrive, ticks, rounds)
 
-  sets_few : (j : ℕ) → IsOfLevel config h j → sets_due config h law begins j ≤ sets_of j
+  sets_few : (j : ℕ) → IsOfLevel config h j → sets_due config h law starting j ≤ sets_of j
   sets_few j over =
       let ticks = by_ticks (is_boot s) true j in
       let rounds = by_rounds (λ k. (n k).activations * reckoned (making costs k j).first_settings + (n k).settings * reckoned (making costs k j).next_settings) true j over.0
@@ -167,25 +180,25 @@ module _ (config : Config) (app : App) (w : Facts config app) (load : List Entry
   swapped false true c e = e
   swapped false false c e = e
 
-  firsts_few : (j : ℕ) → IsOfLevel config h j → ((task costs h).is_preemptable && (j == h)) ≡ false → acts_due config h law begins j ≤ (n j).activations
+  firsts_few : (j : ℕ) → IsOfLevel config h j → ((task costs h).is_entered_once && (j == h)) ≡ false → acts_due config h law starting j ≤ (n j).activations
   firsts_few j over other =
-      let most = (made j over false (swapped (task costs h).is_preemptable (j == h) false other)).activations in
+      let most = (made j over false (swapped (task costs h).is_entered_once (j == h) false other)).activations in
       let few = acts_few j over in
       omega (arith, most, few)
 
-  nexts_few : (j : ℕ) → IsOfLevel config h j → ((task costs h).is_preemptable && (j == h)) ≡ false → sets_due config h law begins j ≤ (n j).settings
+  nexts_few : (j : ℕ) → IsOfLevel config h j → ((task costs h).is_entered_once && (j == h)) ≡ false → sets_due config h law starting j ≤ (n j).settings
   nexts_few j over other =
-      let most = (made j over false (swapped (task costs h).is_preemptable (j == h) false other)).settings in
+      let most = (made j over false (swapped (task costs h).is_entered_once (j == h) false other)).settings in
       let few = sets_few j over in
       omega (arith, most, few)
 
   of_own_level : IsOfLevel config h h
   of_own_level = (there, le-leb (static_priority config h) (static_priority config h) (omega arith))
 
-  entered : (task costs h).is_preemptable ≡ true → IsEnteredOnce config h law begins
+  entered : (task costs h).is_entered_once ≡ true → IsEnteredOnce config h law starting
   entered once = record {
     number =
-        let most = (made h of_own_level true (ap (λ b. b && (task costs h).is_preemptable) (eq-eqb h h refl) ∙ once)).activations in
+        let most = (made h of_own_level true (ap (λ b. b && (task costs h).is_entered_once) (eq-eqb h h refl) ∙ once)).activations in
         let acts = acts_few h of_own_level in
         let sets = sets_few h of_own_level in
         omega (arith, most, acts, sets);
@@ -220,7 +233,7 @@ module _ (config : Config) (app : App) (w : Facts config app) (load : List Entry
       let same = ticks_sum counts 0 costs.counters in
       omega (arith, sum, same)
 
-  pub enough : IsEnough config h (task costs h).is_preemptable law begins
+  pub enough : IsEnough config h (task costs h).is_entered_once law starting
   enough = record {
     firsts = λ j lt over other. firsts_few j (lt, over) other;
     nexts = λ j lt over other. nexts_few j (lt, over) other;
@@ -228,25 +241,12 @@ module _ (config : Config) (app : App) (w : Facts config app) (load : List Entry
     enough = let all = filled in let rounds = rounds_few in let ticks = ticks_few in omega (arith, all, rounds, ticks);
   }
 
-  -- ---- what comes in
-
-  pub has_arrivals : HasArrivals load late (longest + late) begins
-  has_arrivals line =
-      let le = room in
-      let e : admission_window late (longest + late) (counts - margin longest late) ≡ counts = omega (arith, le) in
-      let same = ap (λ m. filling m (distance load line)) e ∙ arrivals_same counts (distance load line) in
-      omega (arith, same)
-
-  pub has_expiries : HasExpiries config (is_set config app costs.alarms are.alarms) begins
-  has_expiries = record {
-    acts = λ c j. let same = expire config app costs.alarms are.alarms (is_boot s) false c j (arrivals counts (distance load (counter_line c))) in omega (arith, same);
-    sets = λ c j. let same = expire config app costs.alarms are.alarms (is_boot s) true c j (arrivals counts (distance load (counter_line c))) in omega (arith, same);
-  }
-
   -- ---- how long it lasts
 
-  pub lasts : (l r : ℕ) → l ≡ cond (is_target_made (Some h) n) counts 0 → l + lead_of opens late ≤ r + margin longest late → LastsWithin h r begins
+  pub lasts : (l r : ℕ) → l ≡ cond (is_target_made (Some h) n) counts 0 → l + lead_of opens late ≤ r + margin longest late → LastsWithin h r starting
   lasts l r is le some =
       let made = ap (λ b. cond b counts 0) (made_some (n h).activations (n h).settings some) in
       let enough = room in
-      omega (arith, is, le, made, enough)
+      let few = rounds_take n 0 costs.tasks (run_take_counts config app load costs are) h h (omega arith) (counted_task config app w load costs are h there h there) in
+      let all = filled in
+      (omega (arith, is, le, made, few, all, some), omega (arith, is, le, made, enough))

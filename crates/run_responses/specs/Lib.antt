@@ -1,2 +1,1 @@
-pub mod RunCosts
 pub mod Meeting

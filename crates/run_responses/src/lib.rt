@@ -1,8 +1,7 @@
 //! Response times that runs keep, from a record of costs.
 //!
-//! A record of costs as `response_bounds` reads it, in which each number is one that the task code keeps in runs (`specs/RunCosts`): items by all counts
-//! of their code, entries and ticks by their own, makings by walks; an item that a lower task has begun stands once in front. Within what `run_windows` tells of it (`run_response`) each task of an image
-//! responds (`images_meet_bounds`; `specs/Meeting`). But for the `work` lines of the load nothing is asked of a run.
+//! In every run of an image whose arrivals keep a load each task leaves within the numbers that `run_windows` tells by the costs that `run_costs` makes (`images_meet_bounds`;
+//! `specs/Meeting`): within that of all windows; or, where an event behind boot finds a quiet state, within that of all but boot's. But for the `work` lines of the load nothing is asked of a run.
 #![tactic(auto)]
 
 pub mod laws;

@@ -11,15 +11,12 @@ ghost use Rattle.sloth_runner.specs.Moments.{AreLines, sloth_state};
 ghost use Rattle.sloth_runner.specs.Runner.{HasRun, image_of, count_of, given_arrivals};
 
 use observe::passing;
-use osek_scheduler::state::TaskState;
+use osek_scheduler::TaskState;
 use rv32_instr::{Instr, InstrKind};
 use rv32_machine::{Bus, SlothBus, Step};
-use sloth_base::event::Arrival;
-use sloth_base::limits::TASK_LIMIT;
-use sloth_base::lines::FIRST_COUNTER_LINE;
-use sloth_base::memory::NoMemory;
-use sloth_base::memory_map::{CONTROLLER_BASE, LINE_COUNT};
-use sloth_base::numbers::Line;
+use sloth_base::{
+    Arrival, CONTROLLER_BASE, FIRST_COUNTER_LINE, LINE_COUNT, Line, NoMemory, TASK_LIMIT,
+};
 use sloth_inspect::states;
 use sloth_runner::Runner;
 

@@ -3,7 +3,7 @@ ghost use Rattle.std.specs.Prelude.{◌≡◌};
 ghost use Rattle.run_samples.specs.Addresses.{address_behind};
 ghost use Rattle.sloth_runner.specs.Moments.{sloth_state};
 
-use crate::samples::Sampler;
+use crate::Sampler;
 use sloth_runner::Runner;
 
 // The address at which a run goes on, where no line is taken.

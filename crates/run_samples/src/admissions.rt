@@ -6,13 +6,9 @@ ghost use Rattle.rv32_machine.specs.Start.{start};
 ghost use Rattle.rv32_machine.specs.Run.{state_after};
 ghost use Rattle.run_samples.specs.Accesses.{accesses_at};
 
-use crate::accesses::{Access, AccessKind};
-use crate::samples::{Sample, Sampler};
-use osek_scheduler::state::TaskState;
-use sloth_base::event::Arrival;
-use sloth_base::lines::FIRST_COUNTER_LINE;
-use sloth_base::memory::NoMemory;
-use sloth_base::numbers::Line;
+use crate::{Access, AccessKind, Sample, Sampler};
+use osek_scheduler::TaskState;
+use sloth_base::{Arrival, FIRST_COUNTER_LINE, Line, NoMemory};
 use sloth_runner::task_states::Seen;
 use std::alloc::Global;
 use std::marker::Model;

@@ -23,6 +23,7 @@ pub mod telling;
 
 pub use accesses::{Access, AccessKind};
 pub use admissions::{Admission, Noting};
-pub use lines::push_system;
+pub use lines::{push_system, state_line};
 pub use samples::{Sample, Sampler};
-pub use service_words::ServiceWords;
+pub use service_words::{ServiceWords, WordsRead, words_at};
+pub use telling::{Told, came_count, first_lost, kept_count, lost_count, told_run};

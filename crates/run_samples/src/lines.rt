@@ -5,12 +5,10 @@ ghost use Rattle.sloth_base.specs.Limits.{name_limit, alarm_limit, task_limit};
 ghost use Rattle.run_samples.specs.SystemText.{active_text, shown_state, state_line, events_line, task_part, task_parts, counter_line, counter_lines, alarm_line, alarm_lines, system_text};
 
 use crate::ServiceWords;
-use osek_scheduler::state::TaskState;
-use sloth_base::image::Image;
-use sloth_base::limits::ALARM_LIMIT;
-use sloth_base::memory::NoMemory;
+use osek_scheduler::TaskState;
+use sloth_base::{ALARM_LIMIT, Image, NoMemory};
 use sloth_runner::task_states::Seen;
-use trace_text::line_words::LineText;
+use trace_text::LineText;
 
 // The word of an Active task.
 fn active_text(runs: bool) -> &'static [u8]

@@ -9,14 +9,11 @@ ghost use Rattle.rv32_machine.specs.Run.{state_after};
 ghost use Rattle.run_samples.specs.Accesses.{accesses_at};
 ghost use Rattle.run_samples.specs.Samples.{AreSampledLevels, IsSample, IsSampling, StopsAt, seen_behind, sampled_image, sampled_arrivals, sampled_count};
 
-use crate::accesses::{Access, note_arrivals, step_access};
-use sloth_base::event::Arrival;
-use sloth_base::image::Image;
-use sloth_base::limits::TASK_LIMIT;
-use sloth_base::memory::NoMemory;
-use sloth_base::numbers::Line;
-use sloth_runner::task_states::{Interrupts, Seen, interrupts_shown, level_bytes, tasks_seen};
-use sloth_runner::{Halt, Runner};
+use crate::Access;
+use crate::accesses::{note_arrivals, step_access};
+use sloth_base::{Arrival, Image, Line, NoMemory, TASK_LIMIT};
+use sloth_runner::task_states::Seen;
+use sloth_runner::{Halt, Interrupts, Runner, interrupts_shown, level_bytes, tasks_seen};
 use std::alloc::Global;
 
 /// What a run shows at a count.

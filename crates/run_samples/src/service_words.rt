@@ -8,11 +8,9 @@ ghost use Rattle.sloth_inspect.specs.ServiceWords.{service_words_in};
 ghost use Rattle.sloth_runner.specs.Moments.{sloth_state};
 ghost use Rattle.run_samples.specs.ServiceWords.{words_behind, AreWordsRead};
 
-use crate::samples::Sampler;
-use sloth_base::event::Arrival;
-use sloth_base::image::Image;
-use sloth_base::memory::NoMemory;
-pub use sloth_inspect::service_words::ServiceWords;
+use crate::Sampler;
+use sloth_base::{Arrival, Image, NoMemory};
+pub use sloth_inspect::ServiceWords;
 use sloth_inspect::service_words::service_words;
 use sloth_runner::{Halt, Runner};
 use std::alloc::Global;

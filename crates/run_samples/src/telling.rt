@@ -10,11 +10,8 @@ ghost use Rattle.sloth_runner.specs.declared.runner.RunEnd.TheVariants as ends;
 ghost use Rattle.run_samples.specs.Admissions.{AreAdmissions, IsTold, is_of, is_kept_of, is_lost_of, came_count, kept_count, lost_count, first_lost, no_notes};
 ghost use Rattle.run_samples.specs.Samples.{IsSampling, sampled_image, sampled_arrivals, sampled_count};
 
-use crate::admissions::{Admission, Noting};
-use crate::samples::Sampler;
-use sloth_base::event::Arrival;
-use sloth_base::image::Image;
-use sloth_base::memory::NoMemory;
+use crate::{Admission, Noting, Sampler};
+use sloth_base::{Arrival, Image, NoMemory};
 use sloth_runner::Halt;
 use std::alloc::Global;
 

@@ -1,78 +1,114 @@
--- The bounds of starts are within the greatest of them, and within no less.
-use Rattle.std.proofs.Common.{◌≡◌, ℕ, ◌+◌, ◌-◌, ◌<◌, ◌≤◌, ◌⊎◌, inl, inr, max, List, length, Some, None, sym, subst, arith}
-use Rattle.std.proofs.lemmas.Bool.{cases_eq}
+-- The windows of starts are within the greatest of their numbers, and within no less.
+use Rattle.std.proofs.Common.{◌≡◌, ◌∙◌, ℕ, ◌+◌, ◌-◌, ◌<◌, ◌≤◌, ◌⊎◌, inl, inr, Bool, true, false, cond, List, length, Some, None, refl, sym, subst, arith}
+use Rattle.std.specs.Prelude.{nat_lt}
+use Rattle.std.proofs.lemmas.Bool.{cases_eq, ltb-true, ltb-false}
 use Rattle.sloth_base.specs.Limits.{count_limit}
-use Rattle.response_bounds.specs.declared.costs.Costs.{Costs}
-use Rattle.response_bounds.specs.declared.window.Start.{Start}
-use Rattle.response_bounds.specs.declared.window.Window.{Window}
-use Rattle.response_bounds.specs.Windows.{IsBound}
-use Rattle.response_bounds.specs.Responses.{start_at}
-use Rattle.response_bounds.proofs.OneResponse.{one_bound}
-use Rattle.run_windows.specs.RunWindows.{margin, opening_front, served_front, run_window, IsBoundWithin, IsStartWithin, AreWithin}
-
--- a window with more counts in front than the limit has no bound up to it
-pub beyond : (costs : Costs) (w : Window) (limit : ℕ) → limit < w.front → IsBound limit costs w None
-beyond costs w limit lt n counts solves = let filled = solves.filled in omega (arith, lt, filled)
+use Rattle.run_windows.specs.declared.costs.Costs.{Costs}
+use Rattle.run_windows.specs.declared.window.Start.{Start}
+use Rattle.run_windows.specs.declared.window.Window.{Window}
+use Rattle.run_windows.specs.declared.longest.Longest.{Longest}
+use Rattle.run_windows.specs.Windows.{IsBound}
+use Rattle.run_windows.specs.RunWindows.{margin, lead_of, start_at, run_window, IsWindowIf, IsNumber, IsWindowWithin, IsStartWithin}
+use Rattle.run_windows.specs.Longest.{IsAmong, longer, IsLonger, IsMost}
+use Rattle.run_windows.proofs.OneBound.{one_bound}
 
 module _ (longest late : ℕ) (costs : Costs) (h : ℕ) where
-  -- the window of a start, with so many counts in front
-  abbrev window : ℕ → Start → Window
-  window front s = run_window longest late costs h front s
+  -- a window with more counts in front than the limit has no bound
+  pub beyond : (opens : Bool) (s : Start) → IsWindowIf longest late costs h opens s None → IsNumber longest late costs h opens s None
+  beyond opens s lt n counts solves = let filled = solves.filled in omega (arith, lt, filled)
 
-  -- the two bounds of a start, less what may stand in front
-  pub start_within : (s : Start) (front more opens serves a b r : ℕ) → front ≡ opening_front costs h s → more ≡ served_front costs h s
-      → IsBound count_limit costs (window front s) (Some opens) → IsBound count_limit costs (window more s) (Some serves)
-      → a ≡ opens - (longest + late) → b ≡ serves - margin longest late → r ≡ max a b → IsStartWithin longest late costs h r s
-  start_within s front more opens serves a b r is same bound other le few e = record {
-    opens = (opens, subst (λ f. IsBound count_limit costs (window f s) (Some opens)) is bound, omega (arith, le, e));
-    serves = (serves, subst (λ f. IsBound count_limit costs (window f s) (Some serves)) same other, omega (arith, few, e));
-  }
+  pub number_some : (opens : Bool) (s : Start) (w : Window) (l x : ℕ) → w ≡ run_window longest late costs h opens s → IsBound count_limit costs w (Some l)
+      → x ≡ l + lead_of opens late - margin longest late → IsNumber longest late costs h opens s (Some x)
+  number_some opens s w l x is bound e = (l, subst (λ v. IsBound count_limit costs v (Some l)) is bound, e)
 
-  -- a bound is within what another one of the same window is within
-  within_one : (s : Start) (front l most : ℕ) → h < length costs.tasks → IsBound count_limit costs (window front s) (Some l)
-      → IsBoundWithin longest late costs h front most s → l ≤ most
-  within_one s front l most there bound within =
-      let same : Some l ≡ Some within.0 = one_bound costs (window front s) count_limit (Some l) (Some within.0) there bound within.1 in
-      let e : l ≡ within.0 = cc in
-      let few = within.2 in
-      omega (arith, e, few)
+  pub number_none : (opens : Bool) (s : Start) (w : Window) → w ≡ run_window longest late costs h opens s → IsBound count_limit costs w None
+      → IsNumber longest late costs h opens s None
+  number_none opens s w is bound = subst (λ v. IsBound count_limit costs v None) is bound
 
-  -- no less will do
-  pub start_least : (s : Start) (front more opens serves a b r : ℕ) → front ≡ opening_front costs h s → more ≡ served_front costs h s
-      → IsBound count_limit costs (window front s) (Some opens) → IsBound count_limit costs (window more s) (Some serves)
-      → a ≡ opens - (longest + late) → b ≡ serves - margin longest late → r ≡ max a b
-      → h < length costs.tasks → (x : ℕ) → IsStartWithin longest late costs h x s → r ≤ x
-  start_least s front more opens serves a b r is same bound other le few e there x w =
-      let one = within_one s (opening_front costs h s) opens (x + (longest + late)) there (subst (λ f. IsBound count_limit costs (window f s) (Some opens)) is bound) w.opens in
-      let two = within_one s (served_front costs h s) serves (x + margin longest late) there (subst (λ f. IsBound count_limit costs (window f s) (Some serves)) same other) w.serves in
-      omega (arith, one, two, le, few, e)
+  -- a window is within its number, and all that is greater
+  within_number : (opens : Bool) (s : Start) (x r : ℕ) → IsNumber longest late costs h opens s (Some x) → x ≤ r → IsWindowWithin longest late costs h r opens s
+  within_number opens s x r (l, bound, e) le = (l, bound, omega (arith, e, le))
 
-  -- a window without a bound is within nothing
-  pub none_within : (s : Start) (front is most : ℕ) → front ≡ is → IsBound count_limit costs (window front s) None → h < length costs.tasks
-      → IsBoundWithin longest late costs h is most s → ⊥
-  none_within s front is most e none there within =
-      let same : None ≡ Some within.0 =
-      one_bound costs (window is s) count_limit None (Some within.0) there (subst (λ f. IsBound count_limit costs (window f s) None) e none) within.1 in cc
+  -- and within no less
+  number_least : (opens : Bool) (s : Start) (x r : ℕ) → h < length costs.tasks → IsNumber longest late costs h opens s (Some x) → IsWindowWithin longest late costs h r opens s
+      → x ≤ r
+  number_least opens s x r there (l, bound, e) (k, other, few) =
+      let same : Some l ≡ Some k = one_bound costs (run_window longest late costs h opens s) count_limit (Some l) (Some k) there bound other in
+      let is : l ≡ k = cc in
+      omega (arith, e, few, is)
+
+  none_within : (opens : Bool) (s : Start) (r : ℕ) → h < length costs.tasks → IsNumber longest late costs h opens s None → IsWindowWithin longest late costs h r opens s → ⊥
+  none_within opens s r there bound (k, other, few) =
+      let same : None ≡ Some k = one_bound costs (run_window longest late costs h opens s) count_limit None (Some k) there bound other in cc
+
+  -- ---- a start
+
+  pub no_start : (opens : Bool) (s : Start) → h < length costs.tasks → IsNumber longest late costs h opens s None → (r : ℕ) → IsStartWithin longest late costs h r s → ⊥
+  no_start opens s there none r within = none_within opens s r there none (within opens)
+
+  -- what holds of the longer of two
+  longer_so : (P : Longest → Type 0) (most : Longest) (s : Start) (opens : Bool) (x : ℕ) → (most.number < x → P (record { number = x; start = s; opens = opens }))
+      → (x ≤ most.number → P most) → P (longer most s opens x)
+  longer_so P most s opens x more few = by (nat_lt most.number x) refl
+    where
+      by : (t : Bool) → nat_lt most.number x ≡ t → P (cond t (record { number = x; start = s; opens = opens }) most)
+      by true e = more (ltb-true most.number x e)
+      by false e = few (ltb-false most.number x e)
+
+  pub longer_start : (s : Start) (most one next : Longest) (x y : ℕ) → h < length costs.tasks → IsNumber longest late costs h true s (Some x)
+      → IsNumber longest late costs h false s (Some y) → one ≡ longer most s true x → next ≡ longer one s false y → IsLonger longest late costs h s most next
+  longer_start s most one next x y there opening serving e f =
+      subst (IsLonger longest late costs h s most) (sym f) (longer_so (IsLonger longest late costs h s most) one s false y second first)
+    where
+      Grown : Longest → Type 0
+      Grown m = (most.number ≤ m.number) × (x ≤ m.number) × ((r : ℕ) → most.number ≤ r → IsStartWithin longest late costs h r s → m.number ≤ r)
+          × ((m ≡ most) ⊎ ((m.start ≡ s) × IsNumber longest late costs h m.opens s (Some m.number)))
+
+      grown : Grown one
+      grown =
+          subst Grown (sym e)
+          (longer_so Grown most s true x
+          (λ less. (omega (arith, less), omega arith, (λ r le within. number_least true s x r there opening (within true)), inr (refl, opening)))
+          (λ few. (omega arith, few, (λ r le within. le), inl refl)))
+
+      both : (r : ℕ) → x ≤ r → y ≤ r → IsStartWithin longest late costs h r s
+      both r a b true = within_number true s x r opening a
+      both r a b false = within_number false s y r serving b
+
+      second : one.number < y → IsLonger longest late costs h s most (record { number = y; start = s; opens = false })
+      second less = record {
+        more = let le = grown.0 in omega (arith, le, less);
+        within = both y (let le = grown.1 in omega (arith, le, less)) (omega arith);
+        least = λ r le within. number_least false s y r there serving (within false);
+        some = inr (refl, serving);
+      }
+
+      first : y ≤ one.number → IsLonger longest late costs h s most one
+      first few = record { more = grown.0; within = both one.number grown.1 few; least = grown.2; some = grown.3 }
+
+  -- ---- several starts
 
   wider : (s : Start) (r next : ℕ) → r ≤ next → IsStartWithin longest late costs h r s → IsStartWithin longest late costs h next s
-  wider s r next le w = record {
-    opens = let few = w.opens.2 in (w.opens.0, w.opens.1, omega (arith, few, le));
-    serves = let few = w.serves.2 in (w.serves.0, w.serves.1, omega (arith, few, le));
+  wider s r next le within opens = let w = within opens in let few = w.2 in (w.0, w.1, omega (arith, few, le))
+
+  pub one_more : (ss : List Start) (count : ℕ) (s : Start) (most next : Longest) → count < length ss → s ≡ start_at ss count → IsMost longest late costs h ss count most
+      → IsLonger longest late costs h s most next → IsMost longest late costs h ss (count + 1) next
+  one_more ss count s most next lt is old own = record {
+    within = λ i less. each i less (cases_eq i count);
+    least = λ r all.
+        own.least r (old.least r (λ i less. all i (omega (arith, less))))
+        (subst (IsStartWithin longest late costs h r) (sym is) (all count (omega arith)));
+    some = by own.some;
   }
-
-  pub one_more : (ss : List Start) (count most r next : ℕ) → AreWithin longest late costs h ss count most → IsStartWithin longest late costs h r (start_at ss count)
-      → next ≡ max most r → AreWithin longest late costs h ss (count + 1) next
-  one_more ss count most r next all own e i lt = by (cases_eq i count)
     where
-      by : (i ≡ count) ⊎ (i ≡ count → ⊥) → IsStartWithin longest late costs h next (start_at ss i)
-      by (inl same) = subst (λ k. IsStartWithin longest late costs h next (start_at ss k)) (sym same) (wider (start_at ss count) r next (omega (arith, e)) own)
-      by (inr other) = wider (start_at ss i) most next (omega (arith, e)) (all i (omega (arith, lt, other)))
+      each : (i : ℕ) → i < count + 1 → (i ≡ count) ⊎ (i ≡ count → ⊥) → IsStartWithin longest late costs h next.number (start_at ss i)
+      each i less (inl same) = subst (λ k. IsStartWithin longest late costs h next.number (start_at ss k)) (sym same) (subst (IsStartWithin longest late costs h next.number) is own.within)
+      each i less (inr other) = wider (start_at ss i) most.number next.number own.more (old.within i (omega (arith, less, other)))
 
-  -- the least within which so many are, and one more
-  pub least_more : (ss : List Start) (count most r next : ℕ) → ((s : ℕ) → AreWithin longest late costs h ss count s → most ≤ s)
-      → ((s : ℕ) → IsStartWithin longest late costs h s (start_at ss count) → r ≤ s) → next ≡ max most r
-      → (s : ℕ) → AreWithin longest late costs h ss (count + 1) s → next ≤ s
-  least_more ss count most r next all own e s within =
-      let one = all s (λ i lt. within i (omega (arith, lt))) in
-      let two = own s (within count (omega arith)) in
-      omega (arith, one, two, e)
+      Attained : Longest → Type 0
+      Attained m = (m.number ≡ 0) ⊎ (IsAmong ss m.start × IsNumber longest late costs h m.opens m.start (Some m.number))
+
+      by : (next ≡ most) ⊎ ((next.start ≡ s) × IsNumber longest late costs h next.opens s (Some next.number)) → Attained next
+      by (inl same) = subst Attained (sym same) old.some
+      by (inr (start_is, number)) =
+          inr ((count, lt, start_is ∙ is), subst (λ v. IsNumber longest late costs h next.opens v (Some next.number)) (sym start_is) number)

@@ -1,25 +1,23 @@
 -- Windows that hold what comes into a run of a start, with an item that a lower task has begun, and the longest item and two stretches, in front of all; and
 -- the numbers that they tell. A stretch stands in front of where the window begins, or a service behind it, but not both.
-use Rattle.std.specs.Prelude.{ℕ, ◌+◌, ◌<◌, ◌≤◌, ◌≡◌, ◌==◌, ◌&&◌, ◌||◌, not, max, cond, Bool, true, false, List, [], ◌∷◌, ◌++◌, length, Option, Some, None}
+use Rattle.std.specs.Prelude.{ℕ, ◌+◌, ◌-◌, ◌<◌, ◌≤◌, ◌≡◌, ◌==◌, ◌&&◌, ◌||◌, not, max, cond, Bool, true, false, List, [], ◌∷◌, ◌++◌, length, get_or, Option, Some, None}
 use Rattle.sloth_base.specs.declared.service.Service.{Service}
 use Rattle.sloth_base.specs.declared.service.Service.TheVariants as service
 use Rattle.sloth_base.specs.ServiceCodes.{has_mask}
 use Rattle.sloth_base.specs.Limits.{count_limit}
 use Rattle.code_lengths.specs.LongestPaths.{leaving_path, served_path}
-use Rattle.response_bounds.specs.declared.costs.TaskCosts.{TaskCosts}
-use Rattle.response_bounds.specs.declared.costs.Services.{Services}
-use Rattle.response_bounds.specs.declared.costs.Makings.{Makings}
-use Rattle.response_bounds.specs.declared.costs.SectionMakings.{SectionMakings}
+use Rattle.run_windows.specs.declared.costs.TaskCosts.{TaskCosts}
+use Rattle.run_windows.specs.declared.costs.Services.{Services}
+use Rattle.run_windows.specs.declared.costs.Makings.{Makings}
+use Rattle.run_windows.specs.declared.costs.SectionMakings.{SectionMakings}
+use Rattle.run_windows.specs.declared.costs.Costs.{Costs}
 use Rattle.run_windows.specs.declared.fronts.Way.{Way}
 use Rattle.run_windows.specs.declared.fronts.Way.TheVariants as way
-use Rattle.response_bounds.specs.declared.costs.Costs.{Costs}
-use Rattle.response_bounds.specs.declared.window.Start.{Start}
-use Rattle.response_bounds.specs.declared.window.Start.TheVariants as start
-use Rattle.response_bounds.specs.declared.window.Window.{Window}
-use Rattle.response_bounds.specs.Costs.{reckoned, task, making, section, section_making}
-use Rattle.response_bounds.specs.Windows.{is_lower, is_boot, IsBound}
-use Rattle.response_bounds.specs.Starts.{services_of, start_if}
-use Rattle.response_bounds.specs.Responses.{start_at}
+use Rattle.run_windows.specs.declared.window.Start.{Start}
+use Rattle.run_windows.specs.declared.window.Start.TheVariants as start
+use Rattle.run_windows.specs.declared.window.Window.{Window}
+use Rattle.run_windows.specs.Costs.{reckoned, task, making, section, section_making}
+use Rattle.run_windows.specs.Windows.{is_lower, is_boot, IsBound}
 
 -- ---- services
 
@@ -35,7 +33,7 @@ call_path s = call_words s + max (served_path s) (leaving_path s false)
 
 -- a service of task k may stand in front of a window of h: of a lower one, or with which h leaves where it is entered once
 abbrev pub may_serve : Costs → (h k : ℕ) → Bool
-may_serve costs h k = is_lower costs h k || ((k == h) && (task costs h).is_preemptable)
+may_serve costs h k = is_lower costs h k || ((k == h) && (task costs h).is_entered_once)
 
 -- the longest service that such a task reaches; they are those from task k on
 abbrev pub services_front : Costs → (h k : ℕ) → List TaskCosts → ℕ
@@ -47,6 +45,10 @@ abbrev pub makes : Way → Services → Bool
 makes way.Activation s = s.activates
 makes way.Chain s = s.chains
 makes way.Setting s = s.sets_events
+
+-- the services that name task j
+abbrev pub services_of : Costs → (j : ℕ) → List Services
+services_of costs j = get_or costs.services j []
 
 -- Such a task reaches a service that makes one Ready, of the services that name it: those of these tasks, from task k on.
 abbrev pub is_made_in_front : Way → Costs → (h k : ℕ) → List Services → Bool
@@ -63,25 +65,37 @@ activation_front costs h j =
 abbrev pub setting_front : Costs → (h j : ℕ) → ℕ
 setting_front costs h j = cond (is_made_in_front way.Setting costs h 0 (services_of costs j)) (call_path service.SetEvent) 0
 
--- The counts of other tasks behind the event with which the window begins, where that is the service, or has raised the task: those of a section.
-abbrev pub opening_front : Costs → (h : ℕ) → Start → ℕ
-opening_front costs h start.Free = 0
-opening_front costs h start.Boot = 0
-opening_front costs h (start.Activation j) = 0
-opening_front costs h (start.Setting j) = 0
-opening_front costs h (start.Section k) = reckoned (section costs h k).counts
-opening_front costs h (start.Joining k) = 0
+-- the counts of other tasks with which a start begins: those of a section
+abbrev pub start_counts : Costs → (h : ℕ) → Start → ℕ
+start_counts costs h start.Free = 0
+start_counts costs h start.Boot = 0
+start_counts costs h (start.Activation j) = 0
+start_counts costs h (start.Setting j) = 0
+start_counts costs h (start.Section k) = reckoned (section costs h k).counts
 
--- Where it begins with admissions that came while a service was running, those of the service, or of a section with what raises its task.
-abbrev pub served_front : Costs → (h : ℕ) → Start → ℕ
-served_front costs h start.Free = services_front costs h 0 costs.tasks
-served_front costs h start.Boot = 0
-served_front costs h (start.Activation j) = activation_front costs h j
-served_front costs h (start.Setting j) = setting_front costs h j
-served_front costs h (start.Section k) = reckoned (section costs h k).counts + (task costs k).entry
-served_front costs h (start.Joining k) = 0
+-- The service behind admissions that came while it was running: one that may stand in front, one that makes the task, or one that raises it.
+abbrev pub start_service : Costs → (h : ℕ) → Start → ℕ
+start_service costs h start.Free = services_front costs h 0 costs.tasks
+start_service costs h start.Boot = 0
+start_service costs h (start.Activation j) = activation_front costs h j
+start_service costs h (start.Setting j) = setting_front costs h j
+start_service costs h (start.Section k) = (task costs k).raising
+
+-- A window opens with the event of its start, or with admissions in front of a service: so many counts of other tasks stand in front.
+abbrev pub front_of : (opens : Bool) → Costs → (h : ℕ) → Start → ℕ
+front_of true costs h s = start_counts costs h s
+front_of false costs h s = start_counts costs h s + start_service costs h s
+
+-- and so many between what makes the task and the end of the first event
+abbrev pub lead_of : (opens : Bool) → (late : ℕ) → ℕ
+lead_of true late = late
+lead_of false late = 0
 
 -- ---- starts
+
+-- this start where the test holds
+abbrev pub start_if : Bool → Start → List Start
+start_if test s = cond test (s ∷ []) []
 
 -- a task of the level of h is made in front, if that takes anything
 abbrev pub made_start : Costs → (h j front : ℕ) → Start → List Start
@@ -98,9 +112,13 @@ abbrev pub run_task_starts : Costs → (h j : ℕ) → List TaskCosts → List S
 run_task_starts costs h j [] = []
 run_task_starts costs h j (t ∷ ts) = task_starts costs h j ++ run_task_starts costs h (j + 1) ts
 
--- all starts of h
-abbrev pub run_starts : Costs → (h : ℕ) → List Start
-run_starts costs h = start.Free ∷ start.Boot ∷ run_task_starts costs h 0 costs.tasks
+-- All starts of h; or, where what makes it is behind boot, all but boot.
+abbrev pub run_starts : Costs → (h : ℕ) → (boot : Bool) → List Start
+run_starts costs h boot = start.Free ∷ (start_if boot start.Boot ++ run_task_starts costs h 0 costs.tasks)
+
+-- start i of these
+abbrev pub start_at : List Start → (i : ℕ) → Start
+start_at ss i = get_or ss i start.Free
 
 -- ---- windows
 
@@ -112,27 +130,38 @@ margin longest late = longest + (late + late)
 abbrev pub begun_item : (longest : ℕ) → Start → ℕ
 begun_item longest s = cond (is_boot s) 0 longest
 
--- in front of all stand that item, and so many counts
-abbrev pub run_window : (longest late : ℕ) → Costs → (h front : ℕ) → Start → Window
-run_window longest late costs h front s = record { target = Some h; start = s; front = margin longest late + (begun_item longest s + front); span = None }
+-- in front of all stand that item, and these counts
+abbrev pub run_window : (longest late : ℕ) → Costs → (h : ℕ) → (opens : Bool) → Start → Window
+run_window longest late costs h opens s =
+    record { target = Some h; start = s; front = margin longest late + (begun_item longest s + front_of opens costs h s); span = None }
 
--- the bound of a start, with so many counts in front, is at most this
-abbrev pub IsBoundWithin : (longest late : ℕ) → Costs → (h front most : ℕ) → Start → Type 0
-IsBoundWithin longest late costs h front most s = (l : ℕ) × IsBound count_limit costs (run_window longest late costs h front s) (Some l) × (l ≤ most)
+-- there is a window with so few counts in front
+abbrev pub IsWindowIf : (longest late : ℕ) → Costs → (h : ℕ) → (opens : Bool) → Start → Option Window → Type 0
+IsWindowIf longest late costs h opens s (Some w) = w ≡ run_window longest late costs h opens s
+IsWindowIf longest late costs h opens s None = count_limit < (run_window longest late costs h opens s).front
 
--- The bounds of a start of h are at most r, with an item and a stretch more; and where a service stands behind admissions, no stretch in front of those, with the
--- margin more.
-pub record IsStartWithin (longest late : ℕ) (costs : Costs) (h r : ℕ) (s : Start) : Type 0 where
-  pub opens : IsBoundWithin longest late costs h (opening_front costs h s) (r + (longest + late)) s
-  pub serves : IsBoundWithin longest late costs h (served_front costs h s) (r + margin longest late) s
+-- The number of a window: its bound with what stands in front of its beginning, without the margin; none where it has no bound.
+abbrev pub IsNumber : (longest late : ℕ) → Costs → (h : ℕ) → (opens : Bool) → Start → Option ℕ → Type 0
+IsNumber longest late costs h opens s (Some x) =
+    (l : ℕ) × IsBound count_limit costs (run_window longest late costs h opens s) (Some l) × (x ≡ l + lead_of opens late - margin longest late)
+IsNumber longest late costs h opens s None = IsBound count_limit costs (run_window longest late costs h opens s) None
 
--- so are those of the first of these starts, so many of them
+-- it has one, of at most r
+abbrev pub IsWindowWithin : (longest late : ℕ) → Costs → (h r : ℕ) → (opens : Bool) → Start → Type 0
+IsWindowWithin longest late costs h r opens s =
+    (l : ℕ) × IsBound count_limit costs (run_window longest late costs h opens s) (Some l) × (l + lead_of opens late ≤ r + margin longest late)
+
+-- both windows of a start have
+abbrev pub IsStartWithin : (longest late : ℕ) → Costs → (h r : ℕ) → Start → Type 0
+IsStartWithin longest late costs h r s = (opens : Bool) → IsWindowWithin longest late costs h r opens s
+
+-- so have those of the first of these starts, so many of them
 abbrev pub AreWithin : (longest late : ℕ) → Costs → (h : ℕ) → List Start → (count r : ℕ) → Type 0
 AreWithin longest late costs h ss count r = (i : ℕ) → i < count → IsStartWithin longest late costs h r (start_at ss i)
 
 -- and those of all starts
-abbrev pub AreRunBounds : (longest late : ℕ) → Costs → (h r : ℕ) → Type 0
-AreRunBounds longest late costs h r = AreWithin longest late costs h (run_starts costs h) (length (run_starts costs h)) r
+abbrev pub AreRunBounds : (longest late : ℕ) → Costs → (h : ℕ) → (boot : Bool) → (r : ℕ) → Type 0
+AreRunBounds longest late costs h boot r = AreWithin longest late costs h (run_starts costs h boot) (length (run_starts costs h boot)) r
 
 -- ---- numbers that are told
 
@@ -170,11 +199,11 @@ abbrev pub IsLeastOf : (ℕ → Type 0) → Option ℕ → Type 0
 IsLeastOf Kind (Some n) = Kind n × ((m : ℕ) → Kind m → n ≤ m)
 IsLeastOf Kind None = (m : ℕ) → Kind m → ⊥
 
--- The bounds of all starts of h are within r, and all that they are computed from has a number.
-pub record IsRunBound (longest late : ℕ) (costs : Costs) (h r : ℕ) : Type 0 where
+-- The windows of all starts of h are within r, and all that they are computed from has a number.
+pub record IsRunBound (longest late : ℕ) (costs : Costs) (h : ℕ) (boot : Bool) (r : ℕ) : Type 0 where
   pub told : AreTold costs h
-  pub within : AreRunBounds longest late costs h r
+  pub within : AreRunBounds longest late costs h boot r
 
 -- what is told of h: the least such r; none where there is none
-abbrev pub IsRunResponse : (longest late : ℕ) → Costs → (h : ℕ) → Option ℕ → Type 0
-IsRunResponse longest late costs h told = IsLeastOf (IsRunBound longest late costs h) told
+abbrev pub IsRunResponse : (longest late : ℕ) → Costs → (h : ℕ) → (boot : Bool) → Option ℕ → Type 0
+IsRunResponse longest late costs h boot told = IsLeastOf (IsRunBound longest late costs h boot) told

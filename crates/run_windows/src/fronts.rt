@@ -1,16 +1,13 @@
 //! The counts in front of windows.
-ghost use Rattle.std.specs.Prelude.{◌≡◌, ◌&&◌};
-ghost use Rattle.response_bounds.specs.declared.window.Start.TheVariants as start;
-ghost use Rattle.response_bounds.specs.Costs.{section};
-ghost use Rattle.response_bounds.specs.Starts.{services_of};
-ghost use Rattle.run_windows.specs.RunWindows.{call_words, call_path, may_serve, services_front, makes, is_made_in_front, activation_front, setting_front, opening_front, served_front};
+ghost use Rattle.std.specs.Prelude.{◌≡◌, ◌≤◌, ◌&&◌};
+ghost use Rattle.run_windows.specs.Costs.{section};
+ghost use Rattle.run_windows.specs.RunWindows.{call_words, call_path, may_serve, services_front, makes, services_of, is_made_in_front, activation_front, setting_front, start_counts, start_service, front_of};
 
+use crate::level::is_lower;
+use crate::numbers::reckoned;
+use crate::{Costs, SectionCosts, Services, Start, task};
 use code_lengths::{leaving_path, served_path};
-use response_bounds::costs::{Costs, SectionCosts, Services};
-use response_bounds::level::{is_lower, task};
-use response_bounds::numbers::reckoned;
-use response_bounds::window::Start;
-use sloth_base::service::Service;
+use sloth_base::Service;
 
 /// How a task may be made Ready in front of a window.
 #[derive(Clone, Copy)]
@@ -26,7 +23,7 @@ pub enum Way {
 fn may_serve(costs: &Costs, h: usize, k: usize) -> bool
     ensures { result ≡ may_serve costs.now h k }
 {
-    is_lower(costs, h, k) || (k == h && task(costs, h).is_preemptable)
+    is_lower(costs, h, k) || (k == h && task(costs, h).is_entered_once)
 }
 
 fn call_words(service: Service) -> u32
@@ -136,34 +133,38 @@ pub fn section(costs: &Costs, h: usize, k: usize) -> SectionCosts
     }
 }
 
-// The section of a task, with what raises it.
-fn section_front(costs: &Costs, h: usize, k: usize) -> u64
-    ensures { result ≡ served_front costs.now h (start.Section k) }
-{
-    let counts = reckoned(section(costs, h, k).counts);
-    u64::from(counts) + u64::from(task(costs, k).entry)
-}
-
-/// The counts of other tasks in front of a window of h, behind the event with which it begins, where that is the service.
-pub fn opening_front(costs: &Costs, h: usize, start: Start) -> u32
-    ensures { result ≡ opening_front costs.now h start }
+/// The counts of other tasks with which a start begins.
+pub fn start_counts(costs: &Costs, h: usize, start: Start) -> u32
+    ensures { result ≡ start_counts costs.now h start }
 {
     match start {
         Start::Section(k) => reckoned(section(costs, h, k).counts),
-        Start::Free | Start::Boot | Start::Activation(_) | Start::Setting(_) | Start::Joining(_) =>
-            0,
+        Start::Free | Start::Boot | Start::Activation(_) | Start::Setting(_) => 0,
     }
 }
 
-/// Those behind admissions that came while a service was running, with the service.
-pub fn served_front(costs: &Costs, h: usize, start: Start) -> u64
-    ensures { result ≡ served_front costs.now h start }
+/// The counts of the service of a start, behind admissions that came while it was running.
+pub fn start_service(costs: &Costs, h: usize, start: Start) -> u32
+    ensures { result ≡ start_service costs.now h start }
 {
     match start {
-        Start::Free => u64::from(services_front(costs, h)),
-        Start::Activation(j) => u64::from(activation_front(costs, h, j)),
-        Start::Setting(j) => u64::from(setting_front(costs, h, j)),
-        Start::Section(k) => section_front(costs, h, k),
-        Start::Boot | Start::Joining(_) => 0,
+        Start::Free => services_front(costs, h),
+        Start::Boot => 0,
+        Start::Activation(j) => activation_front(costs, h, j),
+        Start::Setting(j) => setting_front(costs, h, j),
+        Start::Section(k) => task(costs, k).raising,
+    }
+}
+
+/// Those of other tasks in front of a window of h that opens with the event of its start; or with admissions in front of a service.
+pub fn front_of(costs: &Costs, h: usize, opens: bool, start: Start) -> u64
+    ensures is { result ≡ front_of opens costs.now h start }
+    ensures short { result ≤ 8589934590 }
+{
+    let counts = u64::from(start_counts(costs, h, start));
+    if opens {
+        counts
+    } else {
+        counts + u64::from(start_service(costs, h, start))
     }
 }

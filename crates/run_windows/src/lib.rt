@@ -1,14 +1,39 @@
-//! Response times by windows that hold what comes into runs.
+//! Response times by windows that hold what comes into runs, and the demand of a load.
 //!
-//! From a record of costs as `response_bounds` has it: the fronts of starts, and windows with the longest item and a stretch in front and an item and a stretch
-//! behind (`specs/RunWindows`). Of each start two windows count: a stretch stands in front of it, or a service behind admissions. `run_response` tells
-//! the least number within which the bounds of all starts are, where all that they are computed from has a number; none exactly where there is none
-//! (`IsRunResponse`). That runs keep it, where they keep the costs: `run_responses`.
+//! From a record of costs (`costs`), plain numbers by task, counter and alarm. A window of a start has the longest item and a stretch in front, and an item
+//! and a stretch behind (`specs/RunWindows`); its bound is the least number of counts that holds all that comes within it (`specs/Windows`, `specs/Arrivals`),
+//! which `settle` finds from zeros up. Of each start two windows count: a stretch stands in front of it, or a service behind admissions. `longest_window`
+//! tells the least number within which all windows of a task are, or all but boot's, where all that they are computed from has a number; none exactly where
+//! there is none (`IsRunResponse`); with a window of that number, of which `window_parts` says of what it is made (`AreParts` of `specs/Longest`). `demand`: what the
+//! arrivals of a load ask of the processor. Endless, and everything above 4,000,000, counts as 4,000,001 (`specs/Costs`). That runs keep these numbers, where
+//! they keep the costs: `run_responses`.
 #![tactic(auto)]
 
+pub mod arrivals;
+pub mod bounds;
+pub mod costs;
 pub mod fronts;
+pub mod level;
+mod load_demand;
+pub mod longest;
+pub mod numbers;
+pub mod parts;
 pub mod responses;
+pub mod rounds;
+pub mod settle;
 pub mod starts;
 pub mod told;
+pub mod window;
 
-pub use responses::run_response;
+pub use costs::{
+    AlarmCosts, Costs, CounterCosts, Level, Makings, SectionCosts, SectionMakings, Services,
+    TaskCosts,
+};
+pub use fronts::call_path;
+pub use level::task;
+pub use load_demand::demand;
+pub use longest::Longest;
+pub use numbers::plus;
+pub use parts::{Parts, window_parts};
+pub use responses::longest_window;
+pub use window::{Made, Start};

@@ -1,191 +1,199 @@
 //! Response times by windows of runs.
-ghost use Rattle.std.specs.Prelude.{◌≡◌, ◌≤◌, ◌<◌, ◌+◌, ◌-◌, length, IfOk};
-ghost use Rattle.sloth_base.specs.Limits.{count_limit};
-ghost use Rattle.response_bounds.specs.Settling.{TakeCounts};
-ghost use Rattle.response_bounds.specs.Windows.{IsBound};
-ghost use Rattle.run_windows.specs.RunWindows.{margin, begun_item, run_window, run_starts, AreWithin, IsStartWithin, IsLeastOf, IsRunResponse};
+ghost use Rattle.std.specs.Prelude.{◌≡◌, ◌<◌, ◌+◌, ◌-◌, Bool, length, IfOk};
+ghost use Rattle.run_windows.specs.Settling.{TakeCounts};
+ghost use Rattle.run_windows.specs.RunWindows.{margin, begun_item, lead_of, run_window, run_starts, IsWindowIf, IsNumber};
+ghost use Rattle.run_windows.specs.Longest.{longer, IsLongerIf, IsMostIf, IsLongest};
 
-use crate::fronts::{opening_front, served_front};
+use crate::bounds::{bound, room};
+use crate::fronts::front_of;
 use crate::starts::run_starts;
 use crate::told::are_told;
-use response_bounds::costs::Costs;
-use response_bounds::responses::bound;
-use response_bounds::window::{Made, Start, Window};
-use sloth_base::limits::COUNT_LIMIT;
-use sloth_base::memory::NoMemory;
+use crate::window::Window;
+use crate::{Costs, Longest, Made, Start};
+use sloth_base::{COUNT_LIMIT, NoMemory};
 use std::alloc::Global;
-use text_pieces::growth::push;
 
-// The item that a lower task has begun where a window begins.
-fn begun_item(longest: u32, start: Start) -> u32
+/// The item that a lower task has begun where a window begins.
+pub fn begun_item(longest: u32, start: Start) -> u32
     ensures { result ≡ begun_item longest start }
 {
     match start {
         Start::Boot => 0,
-        Start::Free
-        | Start::Activation(_)
-        | Start::Setting(_)
-        | Start::Section(_)
-        | Start::Joining(_) => longest,
+        Start::Free | Start::Activation(_) | Start::Setting(_) | Start::Section(_) => longest,
     }
 }
 
-// These counts in front, with this item, and the margin.
-fn with_margin(longest: u32, late: u32, item: u32, front: u64) -> u64
-    requires { front ≤ count_limit }
-    ensures { result ≡ margin longest late + (item + front) }
+// The counts in front of all, with the margin.
+fn window_front(longest: u32, late: u32, costs: &Costs, h: usize, opens: bool, start: Start) -> u64
+    ensures { result ≡ (run_window longest late costs.now h opens start).front }
 {
     let stretches = u64::from(late) + u64::from(late);
-    let items = u64::from(longest) + u64::from(item);
-    items + stretches + front
+    let items = u64::from(longest) + u64::from(begun_item(longest, start));
+    items + stretches + front_of(costs, h, opens, start)
 }
 
-// The bound of a start, with these counts in front.
-fn start_bound(
+/// The window of a start; none where it has more counts in front than 1,000,000.
+pub fn window_of(
     longest: u32,
     late: u32,
     costs: &Costs,
     h: usize,
+    opens: bool,
     start: Start,
-    front: u64,
-    numbers: &mut [Made],
-) -> Option<u32>
-    requires costs { TakeCounts costs.now }
-    requires count { length numbers.old ≡ length costs.now.tasks }
-    ensures { IsBound count_limit costs.now (run_window longest late costs.now h front start) result }
+) -> Option<Window>
+    ensures { IsWindowIf longest late costs.now h opens start result }
 {
+    let front = window_front(longest, late, costs, h, opens, start);
     if front > u64::from(COUNT_LIMIT) {
         return None;
     }
-    let item = begun_item(longest, start);
-    let front = with_margin(longest, late, item, front);
-    if front > u64::from(COUNT_LIMIT) {
-        return None;
-    }
-    let window = Window {
+    Some(Window {
         target: Some(h),
         start,
         front: front as u32,
         span: None,
-    };
-    bound(costs, &window, COUNT_LIMIT, numbers)
+    })
 }
 
-// Less the longest item and a stretch.
-fn less(longest: u32, late: u32, most: u32) -> u32
-    ensures { result ≡ most - (longest + late) }
+// A bound with what stands in front of where its window begins, without the margin.
+fn number_of(longest: u32, late: u32, opens: bool, bound: u32) -> u32
+    ensures { result ≡ bound + lead_of opens late - margin longest late }
 {
-    most.saturating_sub(longest).saturating_sub(late)
+    let less = bound.saturating_sub(longest).saturating_sub(late);
+    if opens {
+        less
+    } else {
+        less.saturating_sub(late)
+    }
 }
 
-// Less the margin.
-fn less_margin(longest: u32, late: u32, most: u32) -> u32
-    ensures { result ≡ most - margin longest late }
-{
-    less(longest, late, most).saturating_sub(late)
-}
-
-// Within how many counts the task leaves in windows of a start.
-fn start_response(
+// The number of a window.
+fn window_number(
     longest: u32,
     late: u32,
     costs: &Costs,
     h: usize,
+    opens: bool,
     start: Start,
     numbers: &mut [Made],
 ) -> Option<u32>
     requires costs { TakeCounts costs.now }
     requires count { length numbers.old ≡ length costs.now.tasks }
-    ensures { h < length costs.now.tasks → IsLeastOf (λ r. IsStartWithin longest late costs.now h r start) result }
+    ensures number { IsNumber longest late costs.now h opens start result }
+    ensures count { length numbers.new ≡ length costs.now.tasks }
 {
-    let opening = u64::from(opening_front(costs, h, start));
-    let served = served_front(costs, h, start);
-    match start_bound(longest, late, costs, h, start, opening, numbers) {
-        Some(opens) => match start_bound(longest, late, costs, h, start, served, numbers) {
-            Some(serves) => Some(less(longest, late, opens).max(less_margin(
-                longest, late, serves,
-            ))),
+    match window_of(longest, late, costs, h, opens, start) {
+        Some(window) => match bound(costs, &window, COUNT_LIMIT, numbers) {
+            Some(bound) => Some(number_of(longest, late, opens, bound)),
             None => None,
         },
         None => None,
     }
 }
 
-// The greatest of these starts.
-fn greatest(
+fn longer(most: Longest, start: Start, opens: bool, number: u32) -> Longest
+    ensures { result ≡ longer most start opens number }
+{
+    if most.number < number {
+        Longest {
+            number,
+            start,
+            opens,
+        }
+    } else {
+        most
+    }
+}
+
+// The longer of a window and those of a start.
+fn longer_start(
+    longest: u32,
+    late: u32,
+    costs: &Costs,
+    h: usize,
+    most: Longest,
+    start: Start,
+    numbers: &mut [Made],
+) -> Option<Longest>
+    requires costs { TakeCounts costs.now }
+    requires count { length numbers.old ≡ length costs.now.tasks }
+    ensures longer { h < length costs.now.tasks → IsLongerIf longest late costs.now h start most result }
+    ensures count { length numbers.new ≡ length costs.now.tasks }
+{
+    match window_number(longest, late, costs, h, true, start, numbers) {
+        Some(opening) => match window_number(longest, late, costs, h, false, start, numbers) {
+            Some(serving) => {
+                let most = longer(most, start, true, opening);
+                Some(longer(most, start, false, serving))
+            }
+            None => None,
+        },
+        None => None,
+    }
+}
+
+// The longest of the windows of these starts.
+fn longest_of(
     longest: u32,
     late: u32,
     costs: &Costs,
     h: usize,
     starts: &[Start],
     numbers: &mut [Made],
-) -> Option<u32>
+) -> Option<Longest>
     requires costs { TakeCounts costs.now }
     requires count { length numbers.old ≡ length costs.now.tasks }
-    ensures { h < length costs.now.tasks → IsLeastOf (AreWithin longest late costs.now h starts.now (length starts.now)) result }
+    ensures { h < length costs.now.tasks → IsMostIf longest late costs.now h starts.now result }
 {
-    let mut most: u32 = 0;
+    let mut most = Longest {
+        number: 0,
+        start: Start::Free,
+        opens: true,
+    };
     for start in starts {
-        match start_response(longest, late, costs, h, *start, numbers) {
-            Some(counts) => most = most.max(counts),
+        match longer_start(longest, late, costs, h, most, *start, numbers) {
+            Some(next) => most = next,
             None => return None,
         }
     }
     Some(most)
 }
 
-fn room(alloc: Global, count: usize) -> Result<Vec<Made>, NoMemory>
-    ensures { IfOk result (λ numbers. length numbers.items ≡ count) }
-{
-    let mut numbers = Vec::new(alloc);
-    for i in 0..count {
-        push(
-            &mut numbers,
-            Made {
-                activations: 0,
-                settings: 0,
-            },
-        )?;
-    }
-    Ok(numbers)
-}
-
-fn told_response(
+// The same, where all that they are computed from has a number.
+fn told_longest(
     longest: u32,
     late: u32,
     costs: &Costs,
     h: usize,
     starts: &[Start],
     numbers: &mut [Made],
-) -> Option<u32>
+) -> Option<Longest>
     requires costs { TakeCounts costs.now }
     requires count { length numbers.old ≡ length costs.now.tasks }
-    requires starts { starts.now ≡ run_starts costs.now h }
-    ensures { h < length costs.now.tasks → IsRunResponse longest late costs.now h result }
+    ensures { h < length costs.now.tasks → (boot : Bool) → starts.now ≡ run_starts costs.now h boot → IsLongest longest late costs.now h boot result }
 {
     if !are_told(costs, h) {
         return None;
     }
-    match greatest(longest, late, costs, h, starts, numbers) {
-        Some(most) => Some(most),
-        None => None,
-    }
+    longest_of(longest, late, costs, h, starts, numbers)
 }
 
-/// Within how many counts a task, less than their number, leaves the processor behind what makes it Ready, in runs that keep these costs, where no item has more
-/// instructions than the longest, and no stretch takes more counts than `late`: the least number that its windows allow. None where something that it is computed
-/// from has no number, or a window has more than 1,000,000 counts.
-pub fn run_response(
+/// The longest window of a task, less than their number, and within how many counts the task leaves the processor behind what makes it Ready, in runs that
+/// keep these costs, where no item has more instructions than the longest, and no stretch takes more counts than `late`: the least number that all windows
+/// allow; or, where what makes it is behind boot, all but boot's. None where something that it is computed from has no number, or a window has more than
+/// 1,000,000 counts.
+pub fn longest_window(
     alloc: Global,
     longest: u32,
     late: u32,
     costs: &Costs,
     h: usize,
-) -> Result<Option<u32>, NoMemory>
+    boot: bool,
+) -> Result<Option<Longest>, NoMemory>
     requires { TakeCounts costs.now }
-    ensures { IfOk result (λ r. h < length costs.now.tasks → IsRunResponse longest late costs.now h r) }
+    ensures { IfOk result (λ l. h < length costs.now.tasks → IsLongest longest late costs.now h boot l) }
 {
-    let starts = run_starts(alloc, costs, h)?;
+    let starts = run_starts(alloc, costs, h, boot)?;
     let mut numbers = room(alloc, costs.tasks.items().len())?;
-    Ok(told_response(longest, late, costs, h, &starts, &mut numbers))
+    Ok(told_longest(longest, late, costs, h, &starts, &mut numbers))
 }

@@ -1,18 +1,16 @@
 //! The starts of a task's windows.
 ghost use Rattle.std.specs.Prelude.{◌≡◌, ◌++◌, ◌&&◌, OnOk, IfOk};
-ghost use Rattle.response_bounds.specs.declared.window.Start.TheVariants as start;
-ghost use Rattle.response_bounds.specs.Costs.{section};
-ghost use Rattle.response_bounds.specs.Windows.{is_lower};
-ghost use Rattle.response_bounds.specs.Starts.{start_if};
-ghost use Rattle.run_windows.specs.RunWindows.{activation_front, setting_front, made_start, task_starts, run_task_starts, run_starts};
+ghost use Rattle.run_windows.specs.declared.window.Start.TheVariants as start;
+ghost use Rattle.run_windows.specs.Costs.{section};
+ghost use Rattle.run_windows.specs.Windows.{is_lower};
+ghost use Rattle.run_windows.specs.RunWindows.{activation_front, setting_front, start_if, made_start, task_starts, run_task_starts, run_starts};
 
 use crate::fronts::{activation_front, section, setting_front};
-use response_bounds::costs::Costs;
-use response_bounds::level::is_lower;
-use response_bounds::window::Start;
-use sloth_base::memory::NoMemory;
+use crate::level::is_lower;
+use crate::{Costs, Start};
+use sloth_base::NoMemory;
 use std::alloc::Global;
-use text_pieces::growth::push;
+use text_pieces::push;
 
 fn push_if(starts: &mut Vec<Start>, test: bool, start: Start) -> Result<(), NoMemory>
     ensures { OnOk result (starts.new.items ≡ starts.old.items ++ start_if test start) }
@@ -64,13 +62,18 @@ fn push_tasks(starts: &mut Vec<Start>, costs: &Costs, h: usize) -> Result<(), No
     Ok(())
 }
 
-/// All starts of a task.
-pub fn run_starts(alloc: Global, costs: &Costs, h: usize) -> Result<Vec<Start>, NoMemory>
-    ensures { IfOk result (λ list. list.items ≡ run_starts costs.now h) }
+/// All starts of a task; or all but boot.
+pub fn run_starts(
+    alloc: Global,
+    costs: &Costs,
+    h: usize,
+    boot: bool,
+) -> Result<Vec<Start>, NoMemory>
+    ensures { IfOk result (λ list. list.items ≡ run_starts costs.now h boot) }
 {
     let mut starts = Vec::new(alloc);
     push(&mut starts, Start::Free)?;
-    push(&mut starts, Start::Boot)?;
+    push_if(&mut starts, boot, Start::Boot)?;
     push_tasks(&mut starts, costs, h)?;
     Ok(starts)
 }

@@ -1,13 +1,13 @@
 //! Whether all that a response time is computed from has a number.
 ghost use Rattle.std.specs.Prelude.{◌≡◌, ◌<◌, ℕ, true, false, length, Decides};
-ghost use Rattle.response_bounds.specs.Costs.{task, making, section, section_making};
-ghost use Rattle.response_bounds.specs.Windows.{is_lower};
+ghost use Rattle.run_windows.specs.Costs.{task, making, section, section_making};
+ghost use Rattle.run_windows.specs.Windows.{is_lower};
 ghost use Rattle.run_windows.specs.RunWindows.{IsTold, AreRoundsTold, AreMakingsTold, AreSectionMakingsTold, AreTold};
 
 use crate::fronts::section;
-use response_bounds::costs::{Costs, Makings, SectionMakings, TaskCosts};
-use response_bounds::level::{is_lower, making, section_making, task};
-use response_bounds::numbers::{ENDLESS, reckoned};
+use crate::level::{is_lower, making, section_making};
+use crate::numbers::{ENDLESS, reckoned};
+use crate::{Costs, Makings, SectionMakings, TaskCosts, task};
 
 fn is_told(number: Option<u32>) -> bool
     ensures { Decides result (IsTold number) }

@@ -4,10 +4,7 @@ ghost use Rattle.rv32_expand.specs.Expansion.{item_address, symbol_address, bloc
 
 pub use crate::calls::distance;
 use crate::long_branches::item_behind;
-use sloth_base::app::App;
-use sloth_base::numbers::SymId;
-use sloth_base::places::{Places, block_number};
-use sloth_base::service::Service;
+use sloth_base::{App, Places, Service, SymId, block_number};
 
 /// The address of an item of a function.
 pub fn item_address(places: &Places, func: u32, index: u32) -> u32

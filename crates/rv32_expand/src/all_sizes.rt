@@ -3,9 +3,8 @@ ghost use Rattle.std.specs.Prelude.{IfOk};
 ghost use Rattle.code_rules.specs.AppRange.{IsTaskCode};
 ghost use Rattle.rv32_expand.specs.Sizes.{AreItemSizes};
 
-use crate::long_branches::shortest;
-use sloth_base::app::App;
-use sloth_base::memory::NoMemory;
+use crate::shortest;
+use sloth_base::{App, NoMemory};
 use std::alloc::Global;
 
 /// The length of each item over all bodies in order. A branch that reaches its label has length 1, and else 6; of all

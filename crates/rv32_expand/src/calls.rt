@@ -5,8 +5,7 @@ ghost use Rattle.rv32_instr.specs.Range.{IsSigned};
 ghost use Rattle.rv32_expand.specs.Expansion.{distance, call_code};
 
 use crate::draft_lengths::Draft;
-use rv32_instr::InstrKind;
-use rv32_instr::asm::{X2, X31, ZERO, addi, auipc, jal, sw};
+use rv32_instr::{InstrKind, X2, X31, ZERO, addi, auipc, jal, sw};
 
 /// How far it is from one address to another.
 pub fn distance(from: u32, to: u32) -> i32

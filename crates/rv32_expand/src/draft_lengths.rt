@@ -2,8 +2,7 @@
 ghost use Rattle.std.specs.Prelude.{◌≡◌, ◌≤◌, ◌<◌, ◌++◌, ◌∷◌, [], length};
 ghost use Rattle.rv32_expand.specs.Nothing.{nop};
 
-use rv32_instr::InstrKind;
-use rv32_instr::asm::{ZERO, addi};
+use rv32_instr::{InstrKind, ZERO, addi};
 use std::marker::Model;
 
 /// The most instructions that an item has: those of a call of a function with 32 frame words.

@@ -8,11 +8,10 @@ ghost use Rattle.rv32_expand.specs.Expansion.{item_address, is_long, expansion};
 ghost use Rattle.rv32_expand.specs.InPlace.{IsAppItem};
 ghost use Rattle.rv32_expand.specs.Sizes.{AgreeWithSizes, HasWordAddresses, IsVerified};
 
-use crate::addresses::item_address;
-use crate::draft::{Expansion, in_places};
+use crate::draft::in_places;
 use crate::rows::draft;
-use sloth_base::app::{App, Item};
-use sloth_base::places::Places;
+use crate::{Expansion, item_address};
+use sloth_base::{App, Item, Places};
 
 /// Whether a branch is long: there is room for more than one instruction.
 fn is_long(places: &Places, func: u32, index: u32) -> bool

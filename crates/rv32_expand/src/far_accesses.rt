@@ -3,12 +3,8 @@ ghost use Rattle.std.specs.Prelude.{◌≡◌, ◌<◌, ◌++◌, ◌∷◌, []}
 ghost use Rattle.rv32_instr.specs.Range.{InRange};
 ghost use Rattle.rv32_expand.specs.FarAccesses.{far_indexed, wide, IsWide};
 
-use rv32_instr::access::{load, store};
-use rv32_instr::asm::{X30, X31, add, addi, and, lui};
-use rv32_instr::constant::{hi, lo};
-use rv32_instr::{Instr, InstrKind};
-use sloth_base::app::{Item, Op};
-use sloth_base::numbers::Reg;
+use rv32_instr::{Instr, InstrKind, X30, X31, add, addi, and, hi, lo, load, lui, store};
+use sloth_base::{Item, Op, Reg};
 
 /// The address of a masked index, less its low part, in x31, and then the access.
 fn indexed(index: Reg, mask: u32, address: u32, access: InstrKind) -> [Instr; 6]

@@ -5,9 +5,7 @@ ghost use Rattle.sloth_base.specs.Limits.{frame_limit};
 ghost use Rattle.rv32_expand.specs.Expansion.{mask_of};
 ghost use Rattle.rv32_expand.specs.Long.{size};
 
-use sloth_base::app::{App, Op};
-use sloth_base::numbers::FuncId;
-use sloth_base::service::Service;
+use sloth_base::{App, FuncId, Op, Service};
 
 /// The greatest mask that has a place in an instruction.
 pub const NEAR_MASK: u32 = 2047;

@@ -4,7 +4,7 @@ ghost use Rattle.code_rules.specs.AppRange.{IsTaskCode};
 ghost use Rattle.rv32_expand.specs.Long.{size};
 
 use crate::item_lengths::size;
-use sloth_base::app::{App, Item};
+use sloth_base::{App, Item};
 
 /// The length of an item. A branch may be shorter.
 #[tactic(auto, using(crate::proofs::InRangeOf::frame_of))]

@@ -24,7 +24,9 @@ pub mod long_branches;
 mod operations;
 mod rows;
 
+pub use addresses::item_address;
 pub use all_sizes::sizes;
 pub use draft::Expansion;
 pub use expanding::expand;
 pub use lengths::length;
+pub use long_branches::shortest;

@@ -5,7 +5,7 @@ ghost use Rattle.rv32_expand.specs.Long.{IsInBranchReach};
 ghost use Rattle.rv32_expand.specs.Passes.{set_in_list, IsCountable, ArePlaces, AreItemLengths, IsFarMark, IsPass, AreShortest};
 
 use crate::item_lengths::size;
-use sloth_base::app::{App, Func, Op};
+use sloth_base::{App, Func, Op};
 use std::alloc::{AllocError, Global};
 
 /// The words before each item and before the end.

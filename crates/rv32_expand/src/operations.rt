@@ -3,13 +3,11 @@ ghost use Rattle.std.specs.Prelude.{◌≡◌};
 ghost use Rattle.code_rules.specs.AppRange.{IsNumberOf};
 ghost use Rattle.rv32_expand.specs.Expansion.{register_operation, number_operation, test, opposite};
 
-use rv32_instr::InstrKind;
-use rv32_instr::asm::{
-    add, addi, and, andi, beq, bge, bgeu, blt, bltu, bne, or, ori, sll, slli, slt, slti, sltiu,
-    sltu, sra, srai, srl, srli, sub, xor, xori,
+use rv32_instr::{
+    InstrKind, add, addi, and, andi, beq, bge, bgeu, blt, bltu, bne, or, ori, sll, slli, slt, slti,
+    sltiu, sltu, sra, srai, srl, srli, sub, xor, xori,
 };
-use sloth_base::app::{AluKind, BranchKind, ImmKind};
-use sloth_base::numbers::Reg;
+use sloth_base::{AluKind, BranchKind, ImmKind, Reg};
 
 /// An operation on two registers.
 pub fn register_operation(kind: AluKind, rd: Reg, rs1: Reg, rs2: Reg) -> InstrKind

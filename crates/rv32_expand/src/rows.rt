@@ -8,19 +8,16 @@ ghost use Rattle.rv32_instr.specs.declared.InstrKind.TheVariants.{Lui, Addi, Lw,
 ghost use Rattle.rv32_expand.specs.Expansion.{distance, block_address, index_code, branch_code, mask_of, service_jump, operation_code};
 ghost use Rattle.rv32_expand.specs.NumberRange.{HasBranchRoom, HasNumbersInRange};
 
-use crate::addresses::{block_address, item_address, label_address, symbol_address};
+use crate::addresses::{block_address, label_address, symbol_address};
 use crate::calls::{call, distance, frame_offset, one};
 use crate::draft_lengths::Draft;
+use crate::item_address;
 use crate::item_lengths::{NEAR_MASK, frame_words, mask_length};
 use crate::operations::{number_operation, opposite, register_operation, test};
-use rv32_instr::InstrKind;
-use rv32_instr::access::{load, store};
-use rv32_instr::asm::{X2, X30, X31, ZERO, add, addi, andi, jal, jalr, lui, lw, sw};
-use rv32_instr::constant::{hi, lo};
-use sloth_base::app::{App, BranchKind, Call, Item, Op};
-use sloth_base::numbers::{FuncId, Reg};
-use sloth_base::places::Places;
-use sloth_base::service::Service;
+use rv32_instr::{
+    InstrKind, X2, X30, X31, ZERO, add, addi, andi, hi, jal, jalr, lo, load, lui, lw, store, sw,
+};
+use sloth_base::{App, BranchKind, Call, FuncId, Item, Op, Places, Reg, Service};
 
 /// An access to an address of data, whose low part is in the access.
 fn direct(address: u32, access: InstrKind) -> Draft

@@ -2,10 +2,9 @@
 ghost use Rattle.std.specs.Prelude.{◌≡◌};
 ghost use Rattle.rv32_instr.specs.Access.{load, store};
 
-use crate::InstrKind;
-use crate::asm::{lb, lbu, lh, lhu, lw, sb, sh, sw};
-use sloth_base::app::Width;
-use sloth_base::numbers::Reg;
+use crate::asm::{lb, lh, lhu, sh};
+use crate::{InstrKind, lbu, lw, sb, sw};
+use sloth_base::{Reg, Width};
 
 /// rd := what stands at base + offset.
 pub fn load(width: Width, rd: Reg, base: Reg, offset: i32) -> InstrKind

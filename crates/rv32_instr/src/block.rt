@@ -1,8 +1,7 @@
 //! Code that stands at one place of memory.
 
 use crate::Instr;
-use sloth_base::image::Mark;
-use sloth_base::list::List;
+use sloth_base::{List, Mark};
 
 /// A run of instructions, and the marks on them. A generator makes at most 256 instructions.
 #[derive(Drop)]

@@ -11,7 +11,7 @@ use crate::opcodes::{
     AUIPC, BRANCH, EBREAK, ECALL, JAL, JALR, LOAD, LUI, MISC_MEM, MRET, OP, OP_IMM, STORE, SYSTEM,
 };
 use crate::{Instr, InstrKind};
-use sloth_base::numbers::Reg;
+use sloth_base::Reg;
 
 fn opcode(word: u32) -> u32
     ensures { result ≡ opcode word }

@@ -1,7 +1,6 @@
 //! What an instruction asks of the machine.
 
-use sloth_base::app::Width;
-use sloth_base::numbers::Reg;
+use sloth_base::{Reg, Width};
 
 /// What happens to a CSR.
 #[derive(Clone, Copy)]

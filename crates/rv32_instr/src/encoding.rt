@@ -11,7 +11,7 @@ use crate::opcodes::{
     AUIPC, BRANCH, EBREAK, ECALL, JAL, JALR, LOAD, LUI, MISC_MEM, MRET, OP, OP_IMM, STORE, SYSTEM,
 };
 use crate::{Instr, InstrKind};
-use sloth_base::numbers::Reg;
+use sloth_base::Reg;
 
 /// The word of its bits 31 to 20, rs1, funct3, rd and the opcode.
 #[tactic(auto, using(crate::proofs::Joins::or_word), unfolding(crate::specs::Words::word))]

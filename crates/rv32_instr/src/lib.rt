@@ -8,7 +8,7 @@
 
 ghost use Rattle.std.specs.Prelude.{◌≡◌};
 
-use sloth_base::numbers::Reg;
+use sloth_base::Reg;
 use std::marker::Model;
 
 pub mod access;
@@ -23,7 +23,15 @@ pub mod fields;
 pub mod opcodes;
 pub mod stop;
 
+pub use access::{load, store};
+pub use asm::{
+    A0, A1, X1, X2, X3, X4, X30, X31, ZERO, add, addi, and, andi, auipc, beq, bge, bgeu, blt, bltu,
+    bne, csrrci, csrrs, csrrw, csrrwi, jal, jalr, lbu, lui, lw, mret, or, ori, sb, sll, slli, slt,
+    slti, sltiu, sltu, sra, srai, srl, srli, sub, sw, xor, xori,
+};
 pub use block::Block;
+pub use constant::{hi, lo};
+pub use csr::{ILEVEL, MEPC, MIE, MPIE, MSCRATCH, MSTATUS, PLEVEL};
 pub use decoding::decode;
 pub use effect::{Change, Effect};
 pub use encoding::encode;

@@ -4,11 +4,9 @@ ghost use Rattle.sloth_base.specs.Arrive.{state_arrive};
 ghost use Rattle.sloth_base.specs.ImageRange.{InFormat};
 ghost use Rattle.sloth_base.specs.MemoryMap.{line_count};
 
-use crate::machine::Machine;
+use crate::Machine;
 use machine_memory::SlothBus;
-use sloth_base::image::Image;
-use sloth_base::memory::NoMemory;
-use sloth_base::numbers::Line;
+use sloth_base::{Image, Line, NoMemory};
 use std::alloc::Global;
 
 impl Machine<SlothBus> {

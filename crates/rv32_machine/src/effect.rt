@@ -8,8 +8,7 @@ ghost use Rattle.rv32_instr.specs.declared.effect.Change.TheVariants as change;
 ghost use Rattle.rv32_machine.specs.RegisterRange.{HasRegisterInRange};
 
 use rv32_instr::{Change, Effect, InstrKind};
-use sloth_base::app::Width;
-use sloth_base::numbers::Reg;
+use sloth_base::{Reg, Width};
 
 /// What the instruction at `pc` does, with the registers `x`.
 #[inline(always)]

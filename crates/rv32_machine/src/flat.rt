@@ -3,14 +3,9 @@ ghost use Rattle.std.specs.Prelude.{◌≡◌, IfOk};
 ghost use Rattle.sloth_base.specs.ImageRange.{InFormat};
 ghost use Rattle.rv32_machine.specs.Start.{flat_start};
 
-use machine_memory::Bus;
-use machine_memory::place::{Place, extended, locate};
-use machine_memory::ram::Ram;
+use machine_memory::{Bus, Place, Ram, extended, locate};
 use rv32_instr::{Bad, Instr, decode};
-use sloth_base::app::Width;
-use sloth_base::image::Image;
-use sloth_base::memory::NoMemory;
-use sloth_base::numbers::Line;
+use sloth_base::{Image, Line, NoMemory, Width};
 use std::alloc::Global;
 
 /// RAM without a controller.

@@ -18,5 +18,5 @@ pub use flat::FlatBus;
 pub use machine::Machine;
 pub use machine_memory::{Bus, SlothBus};
 pub use rv32_instr::{Bad, Stop};
-pub use sloth_base::step::Step;
+pub use sloth_base::Step;
 pub use step::{StepFront, blank_step};

@@ -11,14 +11,12 @@ ghost use Rattle.rv32_instr.specs.Execute.{Going, Stopped, step, touched, touche
 ghost use Rattle.rv32_instr.specs.declared.stop.Stop.TheVariants as stop;
 ghost use Rattle.rv32_machine.specs.Advance.{advance, blank_step, step_of, Goes, Halts};
 
+use crate::Machine;
 use crate::effect::effect;
-use crate::machine::{Hart, Machine};
+use crate::machine::Hart;
 use machine_memory::{Bus, vector};
 use rv32_instr::{Effect, Instr, Stop};
-use sloth_base::app::Width;
-use sloth_base::memory_map::{CONTROLLER_BASE, LEVELS_OFFSET, LINE_COUNT, MEMORY_BASE};
-use sloth_base::numbers::Line;
-use sloth_base::step::Step;
+use sloth_base::{CONTROLLER_BASE, LEVELS_OFFSET, LINE_COUNT, Line, MEMORY_BASE, Step, Width};
 
 /// The first level byte of the controller.
 const LEVELS: u32 = CONTROLLER_BASE + LEVELS_OFFSET as u32;

@@ -7,7 +7,7 @@ ghost use Rattle.schedule_picture.specs.Picture.{admission_line, is_shown, shown
 
 use lane_drawing::{Scale, arrival_line};
 use run_samples::Admission;
-use sloth_base::memory::NoMemory;
+use sloth_base::NoMemory;
 
 // Whether an arrival is of a line, in the counts of a picture.
 fn is_shown(scale: Scale, line: u8, admission: &Admission) -> bool

@@ -6,9 +6,8 @@ ghost use Rattle.trace_text.specs.Listing.{mark_on};
 ghost use Rattle.schedule_picture.specs.Items.{is_item, item_mark, item_at, first_item, last_item, first_item_words, last_item_words, items_words, is_running, bar_words};
 
 use lane_drawing::{Bar, Look, Scale};
-use sloth_base::image::{Image, Mark, MarkKind};
-use trace_text::line_text::LineText;
-use trace_text::marks::push_mark;
+use sloth_base::{Image, Mark, MarkKind};
+use trace_text::{LineText, push_mark};
 
 fn is_item(kind: MarkKind) -> bool
     ensures { result ≡ is_item kind }

@@ -3,10 +3,9 @@ ghost use Rattle.std.specs.Prelude.{◌≡◌, ◌≤◌, ◌<◌, ◌+◌, cond
 ghost use Rattle.sloth_base.specs.Limits.{task_limit, counter_limit};
 ghost use Rattle.schedule_picture.specs.LaneLooks.{is_kernel, is_tick, state_look, lane_look};
 
-use lane_drawing::Look;
-use lane_drawing::task_looks::task_look;
+use lane_drawing::{Look, task_look};
 use run_samples::Sample;
-use sloth_base::lines::FIRST_COUNTER_LINE;
+use sloth_base::FIRST_COUNTER_LINE;
 use sloth_runner::task_states::Seen;
 
 fn is_kernel(sample: &Sample) -> bool

@@ -8,7 +8,7 @@ ghost use Rattle.schedule_picture.specs.LaneLooks.{lane_look};
 use crate::lane_looks::lane_look;
 use lane_drawing::Strip;
 use run_samples::Sample;
-use sloth_base::memory::NoMemory;
+use sloth_base::NoMemory;
 use std::alloc::Global;
 
 /// So many lanes, and one for kernel code, that have shown nothing yet.

@@ -8,10 +8,8 @@ ghost use Rattle.schedule_picture.specs.Picture.{actor_name, actor_row, has_acto
 use crate::marks::{Actor, Mark, Sign};
 use crate::text::{row_middle, tasks_above};
 use lane_drawing::{Scale, expiry_line, wake_line};
-use sloth_base::image::Image;
-use sloth_base::limits::TASK_LIMIT;
-use sloth_base::memory::NoMemory;
-use trace_text::line_text::LineText;
+use sloth_base::{Image, NoMemory, TASK_LIMIT};
+use trace_text::LineText;
 
 // Whether who acts is one of the image's.
 fn has_actor(image: &Image, actor: &Actor) -> bool

@@ -5,12 +5,9 @@ ghost use Rattle.schedule_picture.specs.declared.marks.Actor.TheVariants.{Counte
 ghost use Rattle.schedule_picture.specs.declared.marks.Sign.TheVariants.{Wakes, Expires};
 ghost use Rattle.schedule_picture.specs.Marks.{is_task_woken, actor_of, wakes, wakes_by, is_alarm_over, ticking, expiries, expiries_at, marks_when_open, marks_when_masked, marks_at, no_watch, watched};
 
-use lane_drawing::signs::{is_over, is_woken};
+use lane_drawing::{is_over, is_woken};
 use run_samples::Sample;
-use sloth_base::limits::{ALARM_LIMIT, TASK_LIMIT};
-use sloth_base::lines::FIRST_COUNTER_LINE;
-use sloth_base::memory::NoMemory;
-use sloth_base::numbers::Line;
+use sloth_base::{ALARM_LIMIT, FIRST_COUNTER_LINE, Line, NoMemory, TASK_LIMIT};
 use sloth_runner::task_states::Seen;
 use std::alloc::Global;
 use std::marker::Model;

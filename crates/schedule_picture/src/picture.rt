@@ -18,10 +18,8 @@ use crate::marks::Watching;
 use crate::text::{Drawn, scale_of, text_of};
 use lane_drawing::Strip;
 use run_samples::{Noting, Sample, Sampler, ServiceWords};
-use sloth_base::event::Arrival;
-use sloth_base::image::Image;
-use sloth_base::memory::NoMemory;
-use sloth_runner::runner::Halt;
+use sloth_base::{Arrival, Image, NoMemory};
+use sloth_runner::Halt;
 use std::alloc::Global;
 
 /// The picture of a part of a run, or where and why the run stops in front of its last count.

@@ -18,11 +18,7 @@ use lane_drawing::{
     Bar, Scale, Strip, push_axis, push_bar, push_head, push_lane, push_legend, push_name,
 };
 use run_samples::Admission;
-use sloth_base::image::Image;
-use sloth_base::limits::TASK_LIMIT;
-use sloth_base::lines::FIRST_COUNTER_LINE;
-use sloth_base::memory::NoMemory;
-use sloth_base::name::Name;
+use sloth_base::{FIRST_COUNTER_LINE, Image, Name, NoMemory, TASK_LIMIT};
 use std::alloc::Global;
 
 /// What is drawn.

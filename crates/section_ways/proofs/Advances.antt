@@ -1,5 +1,5 @@
 -- Steps of stacks.
-use Rattle.std.proofs.Common.{◌≡◌, ℕ, ◌+◌, ◌≤◌, ◌<◌, ◌⊎◌, inl, inr, ◌||◌, leb, Bool, true, false, List, [], ◌∷◌, ◌++◌, refl, sym, ap, ◌∙◌, subst}
+use Rattle.std.proofs.Common.{◌≡◌, ℕ, ◌+◌, ◌≤◌, ◌<◌, ◌⊎◌, inl, inr, ◌||◌, leb, Bool, true, false, List, [], ◌∷◌, ◌++◌, sym, ap, ◌∙◌, subst}
 use Rattle.std.proofs.lemmas.Bool.Decides.{leb_tells}
 use Rattle.sloth_base.specs.declared.config.Config.{Config}
 use Rattle.sloth_base.specs.declared.app.App.{App}
@@ -8,7 +8,7 @@ use Rattle.sloth_base.specs.declared.app.Op.TheVariants as op
 use Rattle.sloth_base.specs.Named.{function, operation, body_of}
 use Rattle.code_rules.specs.Code.{IsItem, IsPathStep}
 use Rattle.osek_scheduler.specs.Apart.{static_priority}
-use Rattle.raised_sections.specs.Walks.{Position, place, IsPositionStep, chains_itself}
+use Rattle.raised_sections.specs.Walks.{place, IsPositionStep, chains_itself}
 use Rattle.raised_sections.specs.Sections.{priority_at, operation_at, is_schedule, is_counted}
 use Rattle.raised_sections.proofs.Reached.{IsReached}
 use Rattle.walk_sums.specs.Activations.{ceiling_before, is_plain, ReachesItem}

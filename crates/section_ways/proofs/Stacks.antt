@@ -1,5 +1,5 @@
 -- Stacks that grow and shrink by their innermost function.
-use Rattle.std.proofs.Common.{◌≡◌, ℕ, ◌||◌, leb, Bool, List, [], ◌∷◌, ◌++◌, refl, sym, ap, ◌∙◌, subst}
+use Rattle.std.proofs.Common.{◌≡◌, ℕ, List, [], ◌∷◌, ◌++◌, refl}
 use Rattle.sloth_base.specs.declared.config.Config.{Config}
 use Rattle.sloth_base.specs.declared.app.App.{App}
 use Rattle.raised_sections.specs.Walks.{Position}

@@ -1,15 +1,13 @@
 //! Cycles within sections.
 use crate::frames::{Frame, Mode};
-use crate::items::{Level, called, func_at};
+use crate::items::{called, func_at};
 use crate::levels::{Tables, table_at};
 use crate::starts::call_from;
 use crate::walking::points_on;
-use bound_rules::bodies::Body;
-use sloth_base::app::App;
-use sloth_base::memory::NoMemory;
+use sloth_base::NoMemory;
 use std::alloc::Global;
-use text_pieces::growth::push;
-use walk_sums::standing::Point;
+use text_pieces::push;
+use walk_sums::Point;
 
 /// The most points of a cycle that is given.
 pub const LONGEST: usize = 1_000_000;
@@ -31,19 +29,13 @@ fn is_known(reached: &[Reached], func: usize, whole: bool) -> bool {
 
 // Reaches what an item calls.
 fn reach(
-    app: &App,
-    bodies: &[Body],
-    priority: u32,
+    tables: &Tables,
     reached: &mut Vec<Reached>,
     turn: usize,
     from: Reached,
     item: usize,
 ) -> Result<(), NoMemory> {
-    let level = Level {
-        whole: from.whole,
-        priority,
-    };
-    let Some((func, whole)) = call_from(app, bodies, level, from.func, item) else {
+    let Some((func, whole)) = call_from(tables, from.whole, from.func, item) else {
         return Ok(());
     };
     if is_known(reached.as_slice(), func, whole) {
@@ -61,26 +53,24 @@ fn reach(
 }
 
 fn reach_all(
-    app: &App,
-    bodies: &[Body],
-    priority: u32,
+    tables: &Tables,
     reached: &mut Vec<Reached>,
     turn: usize,
     from: Reached,
 ) -> Result<(), NoMemory> {
-    let Some(body) = bodies.get(from.func) else {
+    let Some(body) = tables.walks.bodies().get(from.func) else {
         return Ok(());
     };
     for (item, mark) in body.reached.items().iter().enumerate() {
         if *mark {
-            reach(app, bodies, priority, reached, turn, from, item)?;
+            reach(tables, reached, turn, from, item)?;
         }
     }
     Ok(())
 }
 
 // The items of the cycle of a function.
-fn cycle_in(tables: &Tables, func: usize, whole: bool) -> &[usize] {
+fn cycle_in<'t>(tables: &'t Tables<'_>, func: usize, whole: bool) -> &'t [usize] {
     match table_at(tables, whole).cycles.as_slice().get(func) {
         Some(cycle) => cycle.items(),
         None => &[],
@@ -146,14 +136,8 @@ fn frames_at(
 }
 
 /// The functions in progress at a cycle, the innermost at its first item.
-pub fn cycle_start(
-    alloc: Global,
-    app: &App,
-    bodies: &[Body],
-    tables: &Tables,
-    body: usize,
-    whole: bool,
-) -> Result<Vec<Frame>, NoMemory> {
+pub fn cycle_start(tables: &Tables, body: usize, whole: bool) -> Result<Vec<Frame>, NoMemory> {
+    let alloc = tables.walks.alloc();
     let mut reached = Vec::new(alloc);
     push(
         &mut reached,
@@ -164,7 +148,7 @@ pub fn cycle_start(
             before: 0,
         },
     )?;
-    for turn in 0..2 * app.funcs.items().len() + 1 {
+    for turn in 0..2 * tables.walks.app().funcs.items().len() + 1 {
         if reached.len() <= turn {
             return Ok(Vec::new(alloc));
         }
@@ -172,7 +156,7 @@ pub fn cycle_start(
         if let Some(item) = cycle_in(tables, from.func, from.whole).first() {
             return frames_at(alloc, reached.as_slice(), turn, from, *item);
         }
-        reach_all(app, bodies, tables.priority, &mut reached, turn, from)?;
+        reach_all(tables, &mut reached, turn, from)?;
     }
     Ok(Vec::new(alloc))
 }
@@ -185,15 +169,8 @@ fn push_all(points: &mut Vec<Point>, further: &[Point]) -> Result<(), NoMemory> 
 }
 
 // The points of a function from its first item to its `ret`, by the shortest way.
-fn push_passage(
-    alloc: Global,
-    app: &App,
-    bodies: &[Body],
-    tables: &Tables,
-    points: &mut Vec<Point>,
-    func: usize,
-) -> Result<(), NoMemory> {
-    let mut frames = Vec::new(alloc);
+fn push_passage(tables: &Tables, points: &mut Vec<Point>, func: usize) -> Result<(), NoMemory> {
+    let mut frames = Vec::new(tables.walks.alloc());
     let point = Point { func, item: 0 };
     push(
         &mut frames,
@@ -208,25 +185,19 @@ fn push_passage(
     } else {
         0
     };
-    let passage = points_on(alloc, app, bodies, tables, &mut frames, left)?;
+    let passage = points_on(tables, &mut frames, left)?;
     push_all(points, passage.as_slice())
 }
 
 /// The points of the positions of a cycle, its first item at both ends.
-pub fn cycle_points(
-    alloc: Global,
-    app: &App,
-    bodies: &[Body],
-    tables: &Tables,
-    at: Frame,
-) -> Result<Vec<Point>, NoMemory> {
-    let mut points = Vec::new(alloc);
+pub fn cycle_points(tables: &Tables, at: Frame) -> Result<Vec<Point>, NoMemory> {
+    let mut points = Vec::new(tables.walks.alloc());
     let func = at.point.func;
     for item in cycle_in(tables, func, at.whole) {
         push(&mut points, Point { func, item: *item })?;
-        if let Some(caller) = func_at(app, func) {
+        if let Some(caller) = func_at(tables.walks.app(), func) {
             if let Some(other) = called(caller, *item) {
-                push_passage(alloc, app, bodies, tables, &mut points, other)?;
+                push_passage(tables, &mut points, other)?;
             }
         }
     }

@@ -1,8 +1,8 @@
 //! Functions in progress, as a search goes through them.
-use sloth_base::memory::NoMemory;
+use sloth_base::NoMemory;
 use std::alloc::Global;
-use text_pieces::growth::push;
-use walk_sums::standing::Point;
+use text_pieces::push;
+use walk_sums::Point;
 
 /// How a part goes on through a function: as far as it can, by the longest way to its `ret`, or by the shortest.
 #[derive(Clone, Copy)]

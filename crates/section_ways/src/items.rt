@@ -1,11 +1,8 @@
 //! What items are and where they go on, for the search.
 
-use bound_rules::bodies::Body;
-use bound_rules::items::is_schedule;
-use bound_rules::marks::{is_marked, number_at};
-use raised_sections::chaining::chains_itself;
-use sloth_base::app::{App, Func, Op};
-use sloth_base::service::Service;
+use bound_rules::{Body, is_marked, is_schedule, number_at};
+use raised_sections::chains_itself;
+use sloth_base::{App, Func, Op, Service};
 
 /// The greatest size that is told apart.
 pub const LARGE: u32 = 1_000_001;

@@ -3,13 +3,11 @@ use crate::items::Level;
 use crate::orders::order_of;
 use crate::parts::{NO_PARTS, Parts, parts_of};
 use crate::sizes::{Called, Sizes, no_calls, no_sizes, put, sizes_of};
-use bound_rules::bodies::Body;
-use bound_rules::marks::number_at;
-use sloth_base::app::{App, Func};
-use sloth_base::list::List;
-use sloth_base::memory::NoMemory;
+use bound_rules::{Body, number_at};
+use sloth_base::{Func, List, NoMemory};
 use std::alloc::Global;
-use text_pieces::growth::push;
+use text_pieces::push;
+use walk_sums::Walks;
 
 /// The sizes of functions by their numbers, their greatest parts, and the items of a cycle in each, if there is one.
 pub struct Table {
@@ -29,8 +27,9 @@ impl Drop for Table {
     }
 }
 
-/// At both levels; and of what is called where the task is raised.
-pub struct Tables {
+/// At both levels, of walked task code; and of what is called where the task is raised.
+pub struct Tables<'a> {
+    pub walks: &'a Walks<'a>,
     pub priority: u32,
     pub calls: Called,
     pub whole: Table,
@@ -38,9 +37,10 @@ pub struct Tables {
 }
 
 // Written out, as above.
-impl Drop for Tables {
+impl Drop for Tables<'_> {
     fn drop(self) {
         let Tables {
+            walks: _,
             priority: _,
             calls: _,
             whole: _,
@@ -73,11 +73,14 @@ fn no_table(alloc: Global, count: usize) -> Result<Table, NoMemory> {
     Ok(table)
 }
 
-fn no_tables(alloc: Global, priority: u32, count: usize) -> Result<Tables, NoMemory> {
+fn no_tables<'a>(walks: &'a Walks<'a>, priority: u32) -> Result<Tables<'a>, NoMemory> {
+    let alloc = walks.alloc();
+    let count = walks.app().funcs.items().len();
     let calls = no_calls(alloc, count)?;
     let whole = no_table(alloc, count)?;
     let own = no_table(alloc, count)?;
     Ok(Tables {
+        walks,
         priority,
         calls,
         whole,
@@ -135,17 +138,16 @@ fn put_whole(
     func: &Func,
     body: &Body,
     number: usize,
-    calls: &mut Called,
-    table: &mut Table,
+    tables: &mut Tables,
 ) -> Result<(), NoMemory> {
     let level = Level {
         whole: true,
         priority: 0,
     };
-    let known = table.parts.as_slice();
-    let (sizes, parts, cycle) = entry_of(alloc, func, body, level, calls, known, known)?;
-    put_calls(calls, number, &sizes);
-    put_entry(table, number, sizes, parts, cycle);
+    let known = tables.whole.parts.as_slice();
+    let (sizes, parts, cycle) = entry_of(alloc, func, body, level, &tables.calls, known, known)?;
+    put_calls(&mut tables.calls, number, &sizes);
+    put_entry(&mut tables.whole, number, sizes, parts, cycle);
     Ok(())
 }
 
@@ -168,46 +170,21 @@ fn put_own(
     Ok(())
 }
 
-// The entries of functions, each of which stands behind those that it calls.
-fn put_all(
-    alloc: Global,
-    funcs: &[Func],
-    bodies: &[Body],
-    order: &[usize],
-    tables: &mut Tables,
-) -> Result<(), NoMemory> {
-    for number in order {
+/// The tables of walked task code for a priority.
+pub fn tables_of<'a>(walks: &'a Walks<'a>, priority: u32) -> Result<Tables<'a>, NoMemory> {
+    let (alloc, funcs, bodies) = (walks.alloc(), walks.app().funcs.items(), walks.bodies());
+    let mut tables = no_tables(walks, priority)?;
+    for number in walks.order() {
         if *number < funcs.len() && *number < bodies.len() {
             let (func, body) = (&funcs[*number], &bodies[*number]);
-            put_whole(
-                alloc,
-                func,
-                body,
-                *number,
-                &mut tables.calls,
-                &mut tables.whole,
-            )?;
-            put_own(alloc, func, body, *number, tables)?;
+            put_whole(alloc, func, body, *number, &mut tables)?;
+            put_own(alloc, func, body, *number, &mut tables)?;
         }
     }
-    Ok(())
-}
-
-/// The tables for a priority, from the functions in an order in which each stands behind those that it calls.
-pub fn tables_of(
-    alloc: Global,
-    app: &App,
-    bodies: &[Body],
-    order: &[usize],
-    priority: u32,
-) -> Result<Tables, NoMemory> {
-    let funcs = app.funcs.items();
-    let mut tables = no_tables(alloc, priority, funcs.len())?;
-    put_all(alloc, funcs, bodies, order, &mut tables)?;
     Ok(tables)
 }
 
 /// The table of a level.
-pub fn table_at(tables: &Tables, whole: bool) -> &Table {
+pub fn table_at<'t>(tables: &'t Tables<'_>, whole: bool) -> &'t Table {
     if whole { &tables.whole } else { &tables.own }
 }

@@ -1,13 +1,10 @@
 //! An order of a body's items, each behind those that it goes on to, or the first cycle that is found.
 use crate::items::{Level, Nexts, called, is_alive, is_last, op_of};
-use bound_rules::bodies::Body;
-use bound_rules::marks::{is_marked, number_at};
-use sloth_base::app::Func;
-use sloth_base::list::List;
-use sloth_base::memory::NoMemory;
+use bound_rules::{Body, is_marked, number_at};
+use sloth_base::{Func, List, NoMemory};
 use std::alloc::Global;
-use task_verify::ways::{falls, way};
-use text_pieces::growth::push;
+use task_verify::{falls, way};
+use text_pieces::push;
 
 /// The items in an order of finish, and the items of a cycle, if there is one.
 pub struct Order {

@@ -1,9 +1,8 @@
 //! The greatest parts of the sections of a function, and where they begin.
 use crate::items::{Level, called, is_alive};
 use crate::sizes::{Sizes, both};
-use bound_rules::bodies::Body;
-use bound_rules::marks::{is_marked, number_at};
-use sloth_base::app::Func;
+use bound_rules::{Body, is_marked, number_at};
+use sloth_base::Func;
 
 /// Where a part begins: at an item; within what it calls, without going on behind it; or within what it calls, and on behind it.
 #[derive(Clone, Copy)]

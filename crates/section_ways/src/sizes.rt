@@ -1,12 +1,10 @@
 //! The greatest sizes of parts of sections from each item of a body, and the least up to its `ret`.
 use crate::items::{Level, Nexts, called, is_return, is_terminate, sum};
 use crate::orders::{Order, nexts};
-use bound_rules::bodies::Body;
-use bound_rules::marks::number_at;
-use sloth_base::app::Func;
-use sloth_base::memory::NoMemory;
+use bound_rules::{Body, number_at};
+use sloth_base::{Func, NoMemory};
 use std::alloc::Global;
-use text_pieces::growth::push;
+use text_pieces::push;
 
 /// From each item: the greatest size of a part that stays in the function and what it calls, that of one up to the `ret`, and the least of these; 0 where
 /// there is none.

@@ -3,12 +3,9 @@ use crate::frames::{Frame, Mode};
 use crate::items::{Level, called, func_at};
 use crate::levels::{Tables, table_at};
 use crate::parts::{Begin, Part, calls_raised, parts_at};
-use bound_rules::bodies::Body;
-use sloth_base::app::App;
-use sloth_base::memory::NoMemory;
-use std::alloc::Global;
-use text_pieces::growth::push;
-use walk_sums::standing::Point;
+use sloth_base::NoMemory;
+use text_pieces::push;
+use walk_sums::Point;
 
 // A function in which a part begins: whether it was called raised, and whether the part leaves it by its `ret`.
 #[derive(Clone, Copy)]
@@ -24,14 +21,15 @@ fn part_of(tables: &Tables, entry: Entry) -> Part {
 }
 
 /// What an item calls, and whether raised.
-pub fn call_from(
-    app: &App,
-    bodies: &[Body],
-    level: Level,
-    func: usize,
-    item: usize,
-) -> Option<(usize, bool)> {
-    match (func_at(app, func), bodies.get(func)) {
+pub fn call_from(tables: &Tables, whole: bool, func: usize, item: usize) -> Option<(usize, bool)> {
+    let level = Level {
+        whole,
+        priority: tables.priority,
+    };
+    match (
+        func_at(tables.walks.app(), func),
+        tables.walks.bodies().get(func),
+    ) {
         (Some(caller), Some(body)) => match called(caller, item) {
             Some(other) => Some((other, calls_raised(body, level, item))),
             None => None,
@@ -41,12 +39,8 @@ pub fn call_from(
 }
 
 // The function into which the part's begin leads on.
-fn inner(app: &App, bodies: &[Body], tables: &Tables, entry: Entry, part: Part) -> Option<Entry> {
-    let level = Level {
-        whole: entry.whole,
-        priority: tables.priority,
-    };
-    match call_from(app, bodies, level, entry.func, part.item) {
+fn inner(tables: &Tables, entry: Entry, part: Part) -> Option<Entry> {
+    match call_from(tables, entry.whole, entry.func, part.item) {
         Some((func, whole)) => match part.begin {
             Begin::Here => None,
             Begin::Inside => Some(Entry {
@@ -65,21 +59,14 @@ fn inner(app: &App, bodies: &[Body], tables: &Tables, entry: Entry, part: Part) 
 }
 
 /// The functions in progress where a greatest section begins; `whole` says that the body counts as raised.
-pub fn start_of(
-    alloc: Global,
-    app: &App,
-    bodies: &[Body],
-    tables: &Tables,
-    body: usize,
-    whole: bool,
-) -> Result<Vec<Frame>, NoMemory> {
-    let mut frames = Vec::new(alloc);
+pub fn start_of(tables: &Tables, body: usize, whole: bool) -> Result<Vec<Frame>, NoMemory> {
+    let mut frames = Vec::new(tables.walks.alloc());
     let mut entry = Entry {
         func: body,
         whole,
         leaves: false,
     };
-    for _turn in 0..app.funcs.items().len() + 1 {
+    for _turn in 0..tables.walks.app().funcs.items().len() + 1 {
         let part = part_of(tables, entry);
         let point = Point {
             func: entry.func,
@@ -94,7 +81,7 @@ pub fn start_of(
                 mode,
             },
         )?;
-        match inner(app, bodies, tables, entry, part) {
+        match inner(tables, entry, part) {
             Some(further) => {
                 entry = further;
             },

@@ -6,28 +6,16 @@ ghost use Rattle.code_rules.specs.Code.{IsItem, IsPathStep};
 ghost use Rattle.osek_scheduler.specs.Apart.{static_priority};
 ghost use Rattle.raised_sections.specs.Walks.{chains_itself};
 ghost use Rattle.walk_sums.specs.Activations.{ceiling_before, is_plain};
-ghost use Rattle.walk_sums.specs.KnownBodies.{AreKnownBodies};
-ghost use Rattle.walk_sums.specs.Positions.{place_of};
 ghost use Rattle.section_ways.specs.Standings.{AreTold, is_raised_at, IsAdvance};
-ghost use Rattle.walk_sums.specs.Positions.{position_of};
+ghost use Rattle.walk_sums.specs.Positions.{place_of, position_of};
 
-use bound_rules::bodies::Body;
-use bound_rules::marks::number_at;
-use raised_sections::chaining::chains_itself;
-use sloth_base::app::{App, Func, Op};
-use sloth_base::config::Config;
-use sloth_base::memory::NoMemory;
-use task_verify::ways::way;
-use text_pieces::growth::push;
-use walk_sums::links::falls_to;
-use walk_sums::standing::{Point, Standing};
-
-/// Two tasks: one, and a lower one.
-#[derive(Clone, Copy)]
-pub struct Pair {
-    pub above: usize,
-    pub task: usize,
-}
+use crate::pair::Trial;
+use bound_rules::number_at;
+use raised_sections::chains_itself;
+use sloth_base::{App, Func, NoMemory, Op};
+use task_verify::way;
+use text_pieces::push;
+use walk_sums::{Point, Standing, falls_to};
 
 /// The operation of an item, if there is one.
 pub fn op_at(app: &App, point: Point) -> Option<Op>
@@ -90,49 +78,10 @@ fn goes_inside(app: &App, from: Point, to: Point) -> bool
     from.func == to.func && goes_on(&app.funcs.items()[from.func], from.item, to.item)
 }
 
-/// Whether the task is raised at the innermost of these.
-pub fn is_raised(config: &Config, app: &App, bodies: &[Body], pair: Pair, at: Standing) -> bool
-    requires bodies { AreKnownBodies config.now app.now bodies.now }
-    requires above { pair.above < length config.now.tasks }
-    requires known { at.point.func < length app.now.funcs }
-    requires inside { at.point.item < length (function app.now at.point.func).items }
-    ensures { result ≡ (at.raised || leb (static_priority config.now pair.above) (ceiling_before config.now app.now at.point.func at.point.item)) }
-{
-    let ceiling = number_at(bodies[at.point.func].ceilings.items(), at.point.item);
-    at.raised || config.tasks.items()[pair.above].priority <= ceiling
-}
-
 fn is_entry(called: usize, to: Point) -> bool
     ensures { result ≡ true → (to.func ≡ called) × (to.item ≡ 0) }
 {
     to.func == called && to.item == 0
-}
-
-// Into a call.
-fn enter(
-    config: &Config,
-    app: &App,
-    bodies: &[Body],
-    pair: Pair,
-    stack: &mut Vec<Standing>,
-    at: Standing,
-    called: usize,
-    to: Point,
-) -> Result<bool, NoMemory>
-    requires bodies { AreKnownBodies config.now app.now bodies.now }
-    requires above { pair.above < length config.now.tasks }
-    requires item { IsItem app.now at.point.func at.point.item (op_is.Invoke called) }
-    requires told { AreTold config.now app.now pair.above pair.task stack.old.items }
-    requires raised { at.raised ≡ is_raised_at config.now app.now pair.above pair.task (position_of stack.old.items) }
-    ensures { IfOk result (λ goes. goes ≡ true → IsAdvance config.now app.now pair.above pair.task (place_of at.point ∷ position_of stack.old.items) stack.new.items to) }
-{
-    if !is_entry(called, to) {
-        return Ok(false);
-    }
-    let raised = is_raised(config, app, bodies, pair, at);
-    push(stack, at)?;
-    push(stack, Standing { point: to, raised })?;
-    Ok(true)
 }
 
 fn is_behind(call: Point, to: Point) -> bool
@@ -141,106 +90,122 @@ fn is_behind(call: Point, to: Point) -> bool
     call.func == to.func && 0 < to.item && to.item - 1 == call.item
 }
 
-// Back to behind the call.
-fn leave(
-    config: &Config,
-    app: &App,
-    pair: Pair,
-    stack: &mut Vec<Standing>,
-    at: Standing,
-    to: Point,
-) -> Result<bool, NoMemory>
-    requires item { IsItem app.now at.point.func at.point.item op_is.Return }
-    requires told { AreTold config.now app.now pair.above pair.task stack.old.items }
-    ensures { IfOk result (λ goes. goes ≡ true → IsAdvance config.now app.now pair.above pair.task (place_of at.point ∷ position_of stack.old.items) stack.new.items to) }
-{
-    let Some(caller) = stack.pop() else {
-        return Ok(false);
-    };
-    if !is_behind(caller.point, to) {
-        return Ok(false);
+impl Trial<'_> {
+    /// Whether the task is raised at the innermost of these.
+    pub fn is_raised(&self, at: Standing) -> bool
+        requires known { at.point.func < length self.now.app.funcs }
+        requires inside { at.point.item < length (function self.now.app at.point.func).items }
+        ensures { result ≡ (at.raised || leb (static_priority self.now.config self.now.above)
+            (ceiling_before self.now.config self.now.app at.point.func at.point.item)) }
+    {
+        let body = &self.walks.bodies()[at.point.func];
+        let ceiling = number_at(body.ceilings.items(), at.point.item);
+        at.raised || self.walks.config().tasks.items()[self.above].priority <= ceiling
     }
-    push(
-        stack,
-        Standing {
-            point: to,
-            raised: caller.raised,
-        },
-    )?;
-    Ok(true)
-}
 
-// On inside the function.
-fn stay(
-    config: &Config,
-    app: &App,
-    pair: Pair,
-    stack: &mut Vec<Standing>,
-    at: Standing,
-    op: Op,
-    to: Point,
-) -> Result<bool, NoMemory>
-    requires item { IsItem app.now at.point.func at.point.item op }
-    requires plain { is_plain op ≡ true }
-    requires told { AreTold config.now app.now pair.above pair.task stack.old.items }
-    requires raised { at.raised ≡ is_raised_at config.now app.now pair.above pair.task (position_of stack.old.items) }
-    ensures { IfOk result (λ goes. goes ≡ true → IsAdvance config.now app.now pair.above pair.task (place_of at.point ∷ position_of stack.old.items) stack.new.items to) }
-{
-    if !goes_inside(app, at.point, to) {
-        return Ok(false);
+    // Into a call.
+    fn enter(
+        &self,
+        stack: &mut Vec<Standing>,
+        at: Standing,
+        called: usize,
+        to: Point,
+    ) -> Result<bool, NoMemory>
+        requires item { IsItem self.now.app at.point.func at.point.item (op_is.Invoke called) }
+        requires told { AreTold self.now.config self.now.app self.now.above self.now.task stack.old.items }
+        requires raised { at.raised ≡
+            is_raised_at self.now.config self.now.app self.now.above self.now.task (position_of stack.old.items) }
+        ensures { IfOk result (λ goes. goes ≡ true
+            → IsAdvance self.now.config self.now.app self.now.above self.now.task
+            (place_of at.point ∷ position_of stack.old.items) stack.new.items to) }
+    {
+        if !is_entry(called, to) {
+            return Ok(false);
+        }
+        let raised = self.is_raised(at);
+        push(stack, at)?;
+        push(stack, Standing { point: to, raised })?;
+        Ok(true)
     }
-    push(
-        stack,
-        Standing {
-            point: to,
-            raised: at.raised,
-        },
-    )?;
-    Ok(true)
-}
 
-// From a position behind which only the functions around it are on the stack.
-fn advance_from(
-    config: &Config,
-    app: &App,
-    bodies: &[Body],
-    pair: Pair,
-    stack: &mut Vec<Standing>,
-    at: Standing,
-    to: Point,
-) -> Result<bool, NoMemory>
-    requires bodies { AreKnownBodies config.now app.now bodies.now }
-    requires above { pair.above < length config.now.tasks }
-    requires told { AreTold config.now app.now pair.above pair.task stack.old.items }
-    requires raised { at.raised ≡ is_raised_at config.now app.now pair.above pair.task (position_of stack.old.items) }
-    ensures { IfOk result (λ goes. goes ≡ true → IsAdvance config.now app.now pair.above pair.task (place_of at.point ∷ position_of stack.old.items) stack.new.items to) }
-{
-    let Some(op) = op_at(app, at.point) else {
-        return Ok(false);
-    };
-    match op {
-        Op::Invoke { func } => enter(config, app, bodies, pair, stack, at, func.0 as usize, to),
-        Op::Return => leave(config, app, pair, stack, at, to),
-        _ => stay(config, app, pair, stack, at, op, to),
+    // Back to behind the call.
+    fn leave(&self, stack: &mut Vec<Standing>, at: Standing, to: Point) -> Result<bool, NoMemory>
+        requires item { IsItem self.now.app at.point.func at.point.item op_is.Return }
+        requires told { AreTold self.now.config self.now.app self.now.above self.now.task stack.old.items }
+        ensures { IfOk result (λ goes. goes ≡ true
+            → IsAdvance self.now.config self.now.app self.now.above self.now.task
+            (place_of at.point ∷ position_of stack.old.items) stack.new.items to) }
+    {
+        let Some(caller) = stack.pop() else {
+            return Ok(false);
+        };
+        if !is_behind(caller.point, to) {
+            return Ok(false);
+        }
+        let raised = caller.raised;
+        push(stack, Standing { point: to, raised })?;
+        Ok(true)
     }
-}
 
-/// Goes to the position with this innermost point, if a walk does; else says no, and the stack has no meaning.
-pub fn advance(
-    config: &Config,
-    app: &App,
-    bodies: &[Body],
-    pair: Pair,
-    stack: &mut Vec<Standing>,
-    to: Point,
-) -> Result<bool, NoMemory>
-    requires bodies { AreKnownBodies config.now app.now bodies.now }
-    requires above { pair.above < length config.now.tasks }
-    requires told { AreTold config.now app.now pair.above pair.task stack.old.items }
-    ensures { IfOk result (λ goes. goes ≡ true → IsAdvance config.now app.now pair.above pair.task (position_of stack.old.items) stack.new.items to) }
-{
-    let Some(at) = stack.pop() else {
-        return Ok(false);
-    };
-    advance_from(config, app, bodies, pair, stack, at, to)
+    // On inside the function.
+    fn stay(
+        &self,
+        stack: &mut Vec<Standing>,
+        at: Standing,
+        op: Op,
+        to: Point,
+    ) -> Result<bool, NoMemory>
+        requires item { IsItem self.now.app at.point.func at.point.item op }
+        requires plain { is_plain op ≡ true }
+        requires told { AreTold self.now.config self.now.app self.now.above self.now.task stack.old.items }
+        requires raised { at.raised ≡
+            is_raised_at self.now.config self.now.app self.now.above self.now.task (position_of stack.old.items) }
+        ensures { IfOk result (λ goes. goes ≡ true
+            → IsAdvance self.now.config self.now.app self.now.above self.now.task
+            (place_of at.point ∷ position_of stack.old.items) stack.new.items to) }
+    {
+        if !goes_inside(self.app(), at.point, to) {
+            return Ok(false);
+        }
+        let raised = at.raised;
+        push(stack, Standing { point: to, raised })?;
+        Ok(true)
+    }
+
+    // From a position behind which only the functions around it are on the stack.
+    fn advance_from(
+        &self,
+        stack: &mut Vec<Standing>,
+        at: Standing,
+        to: Point,
+    ) -> Result<bool, NoMemory>
+        requires told { AreTold self.now.config self.now.app self.now.above self.now.task stack.old.items }
+        requires raised { at.raised ≡
+            is_raised_at self.now.config self.now.app self.now.above self.now.task (position_of stack.old.items) }
+        ensures { IfOk result (λ goes. goes ≡ true
+            → IsAdvance self.now.config self.now.app self.now.above self.now.task
+            (place_of at.point ∷ position_of stack.old.items) stack.new.items to) }
+    {
+        let Some(op) = op_at(self.app(), at.point) else {
+            return Ok(false);
+        };
+        match op {
+            Op::Invoke { func } => self.enter(stack, at, func.0 as usize, to),
+            Op::Return => self.leave(stack, at, to),
+            _ => self.stay(stack, at, op, to),
+        }
+    }
+
+    /// Goes to the position with this innermost point, if a walk does; else says no, and the stack has no meaning.
+    pub fn advance(&self, stack: &mut Vec<Standing>, to: Point) -> Result<bool, NoMemory>
+        requires { AreTold self.now.config self.now.app self.now.above self.now.task stack.old.items }
+        ensures { IfOk result (λ goes. goes ≡ true
+            → IsAdvance self.now.config self.now.app self.now.above self.now.task
+            (position_of stack.old.items) stack.new.items to) }
+    {
+        let Some(at) = stack.pop() else {
+            return Ok(false);
+        };
+        self.advance_from(stack, at, to)
+    }
 }

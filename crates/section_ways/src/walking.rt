@@ -4,13 +4,10 @@ use crate::items::{Level, Nexts, called, func_at, is_return};
 use crate::levels::{Tables, table_at};
 use crate::orders::nexts;
 use crate::sizes::both;
-use bound_rules::bodies::Body;
-use bound_rules::marks::number_at;
-use sloth_base::app::{App, Func};
-use sloth_base::memory::NoMemory;
-use std::alloc::Global;
-use text_pieces::growth::push;
-use walk_sums::standing::Point;
+use bound_rules::{Body, number_at};
+use sloth_base::{Func, NoMemory};
+use text_pieces::push;
+use walk_sums::Point;
 
 // The size from an item on, as the mode asks for it.
 fn size_at(tables: &Tables, frame: Frame, item: usize) -> u32 {
@@ -147,16 +144,15 @@ fn step_in(
 }
 
 /// Goes to the next position; or says that the part ends.
-pub fn step(
-    app: &App,
-    bodies: &[Body],
-    tables: &Tables,
-    frames: &mut Vec<Frame>,
-) -> Result<bool, NoMemory> {
+pub fn step(tables: &Tables, frames: &mut Vec<Frame>) -> Result<bool, NoMemory> {
     let Some(frame) = frames.pop() else {
         return Ok(false);
     };
-    match (func_at(app, frame.point.func), bodies.get(frame.point.func)) {
+    let number = frame.point.func;
+    match (
+        func_at(tables.walks.app(), number),
+        tables.walks.bodies().get(number),
+    ) {
         (Some(func), Some(body)) => step_in(tables, frames, func, body, frame),
         _ => Ok(false),
     }
@@ -164,20 +160,17 @@ pub fn step(
 
 /// The points of the positions from here on, at most so many.
 pub fn points_on(
-    alloc: Global,
-    app: &App,
-    bodies: &[Body],
     tables: &Tables,
     frames: &mut Vec<Frame>,
     limit: usize,
 ) -> Result<Vec<Point>, NoMemory> {
-    let mut points = Vec::new(alloc);
+    let mut points = Vec::new(tables.walks.alloc());
     for _turn in 0..limit {
         let Some(frame) = frames.as_slice().last() else {
             return Ok(points);
         };
         push(&mut points, frame.point)?;
-        if !step(app, bodies, tables, frames)? {
+        if !step(tables, frames)? {
             return Ok(points);
         }
     }

@@ -1,29 +1,19 @@
 //! A greatest section of a lower task, or a cycle in one.
 ghost use Rattle.std.specs.Prelude.{◌≡◌, ◌<◌, length, true, IfOk, IfSome};
 ghost use Rattle.code_rules.specs.WellFormed.{WellFormed};
-ghost use Rattle.call_graph.specs.Ranks.{RanksOf};
 ghost use Rattle.raised_sections.specs.Sections.{IsLower};
-ghost use Rattle.walk_sums.specs.KnownBodies.{AreKnownBodies};
 ghost use Rattle.section_ways.specs.declared.ways.Wanted.TheVariants as wanted_is;
 ghost use Rattle.section_ways.specs.WantedWays.{ArePointsOf, IsWayOf};
 
 use crate::cycles::{cycle_points, cycle_start};
 use crate::frames::{Frame, points_of};
 use crate::levels::{Tables, tables_of};
+use crate::pair::Trial;
 use crate::starts::start_of;
-use crate::steps::Pair;
-use crate::tried::{body_in, is_closed_way, is_section_way};
+use crate::tried::body_in;
 use crate::walking::points_on;
-use bound_rules::bodies::Body;
-use call_graph::ranking::Ranks;
-use sloth_base::app::App;
-use sloth_base::config::Config;
-use sloth_base::list::List;
-use sloth_base::memory::NoMemory;
-use std::alloc::Global;
-use walk_sums::bodies::bodies;
-use walk_sums::order::callees_first;
-use walk_sums::standing::Point;
+use sloth_base::{App, Config, List, NoMemory};
+use walk_sums::{Point, Walks};
 
 /// What is asked for: a section of so many items that count, or a cycle within one.
 #[derive(Clone, Copy)]
@@ -41,11 +31,9 @@ pub struct Way {
 
 // Functions in progress where a task's section begins or a cycle is, from what its body is.
 fn frames_of(
-    alloc: Global,
+    tables: &Tables,
     config: &Config,
     app: &App,
-    bodies: &[Body],
-    tables: &Tables,
     task: usize,
     wanted: Wanted,
 ) -> Result<Vec<Frame>, NoMemory>
@@ -55,8 +43,8 @@ fn frames_of(
     let body = body_in(app, task);
     let non = config.tasks.items()[task].non;
     match wanted {
-        Wanted::Section(_) => start_of(alloc, app, bodies, tables, body, non),
-        Wanted::Cycle => cycle_start(alloc, app, bodies, tables, body, non),
+        Wanted::Section(_) => start_of(tables, body, non),
+        Wanted::Cycle => cycle_start(tables, body, non),
     }
 }
 
@@ -66,203 +54,130 @@ fn are_so_many(points: &[Point], count: usize) -> bool
     points.len() == count
 }
 
-// These points, if they are those of a section, so many.
-fn section_if(
-    alloc: Global,
-    config: &Config,
-    app: &App,
-    bodies: &[Body],
-    pair: Pair,
-    start: &[Point],
-    points: Vec<Point>,
-    count: usize,
-) -> Result<Option<Vec<Point>>, NoMemory>
-    requires well_formed { WellFormed config.now app.now }
-    requires bodies { AreKnownBodies config.now app.now bodies.now }
-    requires above { pair.above < length config.now.tasks }
-    requires lower { IsLower config.now pair.above pair.task }
-    ensures { IfOk result (λ found. IfSome found (λ points. ArePointsOf config.now app.now pair.above (wanted_is.Section count) pair.task points.items)) }
-{
-    if !are_so_many(points.as_slice(), count) {
-        return Ok(None);
-    }
-    if !is_section_way(alloc, config, app, bodies, pair, start, points.as_slice())? {
-        return Ok(None);
-    }
-    Ok(Some(points))
-}
-
-// The points of a section of a task, so many.
-fn section_of(
-    alloc: Global,
-    config: &Config,
-    app: &App,
-    bodies: &[Body],
-    tables: &Tables,
-    pair: Pair,
-    count: usize,
-) -> Result<Option<Vec<Point>>, NoMemory>
-    requires well_formed { WellFormed config.now app.now }
-    requires bodies { AreKnownBodies config.now app.now bodies.now }
-    requires above { pair.above < length config.now.tasks }
-    requires lower { IsLower config.now pair.above pair.task }
-    ensures { IfOk result (λ found. IfSome found (λ points. ArePointsOf config.now app.now pair.above (wanted_is.Section count) pair.task points.items)) }
-{
-    let wanted = Wanted::Section(count);
-    let mut frames = frames_of(alloc, config, app, bodies, tables, pair.task, wanted)?;
-    let start = points_of(alloc, frames.as_slice())?;
-    let points = points_on(alloc, app, bodies, tables, &mut frames, count)?;
-    section_if(
-        alloc,
-        config,
-        app,
-        bodies,
-        pair,
-        start.as_slice(),
-        points,
-        count,
-    )
-}
-
-// These points without the last one, which is the first again, if they are those of a cycle.
-fn cycle_if(
-    alloc: Global,
-    config: &Config,
-    app: &App,
-    bodies: &[Body],
-    pair: Pair,
-    start: &[Point],
-    mut points: Vec<Point>,
-) -> Result<Option<Vec<Point>>, NoMemory>
-    requires well_formed { WellFormed config.now app.now }
-    requires bodies { AreKnownBodies config.now app.now bodies.now }
-    requires above { pair.above < length config.now.tasks }
-    requires lower { IsLower config.now pair.above pair.task }
-    ensures { IfOk result (λ found. IfSome found (λ points. ArePointsOf config.now app.now pair.above wanted_is.Cycle pair.task points.items)) }
-{
-    if !is_closed_way(alloc, config, app, bodies, pair, start, points.as_slice())? {
-        return Ok(None);
-    }
-    let Some(_last) = points.pop() else {
-        return Ok(None);
-    };
-    Ok(Some(points))
-}
-
-// The points of a cycle of a task.
-fn cycle_at(
-    alloc: Global,
-    config: &Config,
-    app: &App,
-    bodies: &[Body],
-    tables: &Tables,
-    pair: Pair,
-    at: Frame,
-    start: &[Point],
-) -> Result<Option<Vec<Point>>, NoMemory>
-    requires well_formed { WellFormed config.now app.now }
-    requires bodies { AreKnownBodies config.now app.now bodies.now }
-    requires above { pair.above < length config.now.tasks }
-    requires lower { IsLower config.now pair.above pair.task }
-    ensures { IfOk result (λ found. IfSome found (λ points. ArePointsOf config.now app.now pair.above wanted_is.Cycle pair.task points.items)) }
-{
-    let points = cycle_points(alloc, app, bodies, tables, at)?;
-    cycle_if(alloc, config, app, bodies, pair, start, points)
-}
-
-fn cycle_of(
-    alloc: Global,
-    config: &Config,
-    app: &App,
-    bodies: &[Body],
-    tables: &Tables,
-    pair: Pair,
-) -> Result<Option<Vec<Point>>, NoMemory>
-    requires well_formed { WellFormed config.now app.now }
-    requires bodies { AreKnownBodies config.now app.now bodies.now }
-    requires above { pair.above < length config.now.tasks }
-    requires lower { IsLower config.now pair.above pair.task }
-    ensures { IfOk result (λ found. IfSome found (λ points. ArePointsOf config.now app.now pair.above wanted_is.Cycle pair.task points.items)) }
-{
-    let frames = frames_of(alloc, config, app, bodies, tables, pair.task, Wanted::Cycle)?;
-    let start = points_of(alloc, frames.as_slice())?;
-    match frames.as_slice().last() {
-        Some(at) => cycle_at(alloc, config, app, bodies, tables, pair, *at, &start),
-        None => Ok(None),
-    }
-}
-
-// What is asked for of one task, if it has it.
-fn points_in(
-    alloc: Global,
-    config: &Config,
-    app: &App,
-    bodies: &[Body],
-    tables: &Tables,
-    pair: Pair,
-    wanted: Wanted,
-) -> Result<Option<Vec<Point>>, NoMemory>
-    requires well_formed { WellFormed config.now app.now }
-    requires bodies { AreKnownBodies config.now app.now bodies.now }
-    requires above { pair.above < length config.now.tasks }
-    requires lower { IsLower config.now pair.above pair.task }
-    ensures { IfOk result (λ found. IfSome found (λ points. ArePointsOf config.now app.now pair.above wanted pair.task points.items)) }
-{
-    match wanted {
-        Wanted::Section(count) => section_of(alloc, config, app, bodies, tables, pair, count),
-        Wanted::Cycle => cycle_of(alloc, config, app, bodies, tables, pair),
-    }
-}
-
-fn is_lower(config: &Config, pair: Pair) -> bool
-    requires above { pair.above < length config.now.tasks }
-    requires inside { pair.task < length config.now.tasks }
-    ensures { result ≡ true → IsLower config.now pair.above pair.task }
+fn is_lower(config: &Config, above: usize, task: usize) -> bool
+    requires above { above < length config.now.tasks }
+    requires inside { task < length config.now.tasks }
+    ensures { result ≡ true → IsLower config.now above task }
 {
     let tasks = config.tasks.items();
-    tasks[pair.task].priority < tasks[pair.above].priority
+    tasks[task].priority < tasks[above].priority
+}
+
+impl Trial<'_> {
+    // The functions in progress where a section of the task begins, or a cycle is.
+    fn frames(&self, tables: &Tables, wanted: Wanted) -> Result<Vec<Frame>, NoMemory> {
+        frames_of(
+            tables,
+            self.walks.config(),
+            self.walks.app(),
+            self.task,
+            wanted,
+        )
+    }
+
+    // These points, if they are those of a section, so many.
+    fn section_if(
+        &self,
+        start: &[Point],
+        points: Vec<Point>,
+        count: usize,
+    ) -> Result<Option<Vec<Point>>, NoMemory>
+        ensures { IfOk result (λ found. IfSome found (λ points. ArePointsOf self.now.config self.now.app self.now.above
+            (wanted_is.Section count) self.now.task points.items)) }
+    {
+        if !are_so_many(points.as_slice(), count) {
+            return Ok(None);
+        }
+        if !self.is_section_way(start, points.as_slice())? {
+            return Ok(None);
+        }
+        Ok(Some(points))
+    }
+
+    // The points of a section of the task, so many.
+    fn section(&self, tables: &Tables, count: usize) -> Result<Option<Vec<Point>>, NoMemory>
+        ensures { IfOk result (λ found. IfSome found (λ points. ArePointsOf self.now.config self.now.app self.now.above
+            (wanted_is.Section count) self.now.task points.items)) }
+    {
+        let mut frames = self.frames(tables, Wanted::Section(count))?;
+        let start = points_of(self.walks.alloc(), frames.as_slice())?;
+        let points = points_on(tables, &mut frames, count)?;
+        self.section_if(start.as_slice(), points, count)
+    }
+
+    // These points without the last one, which is the first again, if they are those of a cycle.
+    fn cycle_if(
+        &self,
+        start: &[Point],
+        mut points: Vec<Point>,
+    ) -> Result<Option<Vec<Point>>, NoMemory>
+        ensures { IfOk result (λ found. IfSome found (λ points. ArePointsOf self.now.config self.now.app self.now.above
+            wanted_is.Cycle self.now.task points.items)) }
+    {
+        if !self.is_closed_way(start, points.as_slice())? {
+            return Ok(None);
+        }
+        let Some(_last) = points.pop() else {
+            return Ok(None);
+        };
+        Ok(Some(points))
+    }
+
+    // The points of a cycle of the task.
+    fn cycle(&self, tables: &Tables) -> Result<Option<Vec<Point>>, NoMemory>
+        ensures { IfOk result (λ found. IfSome found (λ points. ArePointsOf self.now.config self.now.app self.now.above
+            wanted_is.Cycle self.now.task points.items)) }
+    {
+        let frames = self.frames(tables, Wanted::Cycle)?;
+        let start = points_of(self.walks.alloc(), frames.as_slice())?;
+        let Some(at) = frames.as_slice().last() else {
+            return Ok(None);
+        };
+        let points = cycle_points(tables, *at)?;
+        self.cycle_if(start.as_slice(), points)
+    }
+
+    // What is asked for of the task, if it has it.
+    fn points(&self, tables: &Tables, wanted: Wanted) -> Result<Option<Vec<Point>>, NoMemory>
+        ensures { IfOk result (λ found. IfSome found (λ points. ArePointsOf self.now.config self.now.app self.now.above
+            wanted self.now.task points.items)) }
+    {
+        match wanted {
+            Wanted::Section(count) => self.section(tables, count),
+            Wanted::Cycle => self.cycle(tables),
+        }
+    }
 }
 
 fn points_for(
-    alloc: Global,
-    config: &Config,
-    app: &App,
-    bodies: &[Body],
+    walks: &Walks,
     tables: &Tables,
-    pair: Pair,
+    above: usize,
+    task: usize,
     wanted: Wanted,
 ) -> Result<Option<Vec<Point>>, NoMemory>
-    requires well_formed { WellFormed config.now app.now }
-    requires bodies { AreKnownBodies config.now app.now bodies.now }
-    requires above { pair.above < length config.now.tasks }
-    requires inside { pair.task < length config.now.tasks }
-    ensures { IfOk result (λ found. IfSome found (λ points. ArePointsOf config.now app.now pair.above wanted pair.task points.items)) }
+    requires above { above < length walks.now.config.tasks }
+    requires inside { task < length walks.now.config.tasks }
+    ensures { IfOk result (λ found. IfSome found (λ points.
+        ArePointsOf walks.now.config walks.now.app above wanted task points.items)) }
 {
-    if is_lower(config, pair) {
-        points_in(alloc, config, app, bodies, tables, pair, wanted)
+    if is_lower(walks.config(), above, task) {
+        Trial::new(walks, above, task).points(tables, wanted)
     } else {
         Ok(None)
     }
 }
 
-// The first task that has it.
-fn first_way(
-    alloc: Global,
-    config: &Config,
-    app: &App,
-    bodies: &[Body],
-    tables: &Tables,
-    above: usize,
-    wanted: Wanted,
-) -> Result<Option<Way>, NoMemory>
-    requires well_formed { WellFormed config.now app.now }
-    requires bodies { AreKnownBodies config.now app.now bodies.now }
-    requires above { above < length config.now.tasks }
-    ensures { IfOk result (IsWayOf config.now app.now above wanted) }
+/// A lower task of task `above`, and the points of a section of it of the size that is asked for, or of a cycle, if one
+/// is found.
+pub fn way_of(walks: &Walks, above: usize, wanted: Wanted) -> Result<Option<Way>, NoMemory>
+    requires { above < length walks.now.config.tasks }
+    ensures { IfOk result (IsWayOf walks.now.config walks.now.app above wanted) }
 {
-    for task in 0..config.tasks.items().len() {
-        let pair = Pair { above, task };
-        if let Some(points) = points_for(alloc, config, app, bodies, tables, pair, wanted)? {
+    let tasks = walks.config().tasks.items();
+    let tables = tables_of(walks, tasks[above].priority)?;
+    for task in 0..tasks.len() {
+        if let Some(points) = points_for(walks, &tables, above, task, wanted)? {
             return Ok(Some(Way {
                 task,
                 points: List::from_vec(points),
@@ -270,25 +185,4 @@ fn first_way(
         }
     }
     Ok(None)
-}
-
-/// A lower task of task `above`, and the points of a section of it of the size that is asked for, or of a cycle, if one is found.
-pub fn way_of(
-    alloc: Global,
-    config: &Config,
-    app: &App,
-    ranks: &Ranks,
-    above: usize,
-    wanted: Wanted,
-) -> Result<Option<Way>, NoMemory>
-    requires well_formed { WellFormed config.now app.now }
-    requires belong { RanksOf app.now ranks.now }
-    requires above { above < length config.now.tasks }
-    ensures { IfOk result (IsWayOf config.now app.now above wanted) }
-{
-    let order = callees_first(alloc, app, ranks)?;
-    let bodies = bodies(alloc, config, app, &order)?;
-    let priority = config.tasks.items()[above].priority;
-    let tables = tables_of(alloc, app, &bodies, &order, priority)?;
-    first_way(alloc, config, app, &bodies, &tables, above, wanted)
 }

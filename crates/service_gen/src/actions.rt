@@ -6,15 +6,13 @@ ghost use Rattle.service_gen.specs.AlarmPieces.{basing_code, activating_code, ev
 ghost use Rattle.block_parts.specs.Ticks.{suspension_test, awaited_events_test};
 
 use crate::alarms::NumberedAlarm;
-use block_parts::ticks::{ask_awaited, ask_busy, start_again};
-use masked_code::emit::{emit, past};
-use rv32_instr::Instr;
-use rv32_instr::asm::{X1, X3, X4, ZERO, addi, beq, bne, lui, lw, or, sb, slli, sw};
-use rv32_instr::constant::{hi, lo};
-use sloth_base::config::Action;
-use sloth_region::layout::{
-    CONTROLLER_HIGH, WORDS_HIGH, alarm_left, enabled_byte, events, pending_byte,
-};
+use block_parts::ticks::ask_awaited;
+use block_parts::{ask_busy, start_again};
+use masked_code::emit::emit;
+use masked_code::past;
+use rv32_instr::{Instr, X1, X3, X4, ZERO, addi, beq, bne, hi, lo, lui, lw, or, sb, slli, sw};
+use sloth_base::Action;
+use sloth_region::{CONTROLLER_HIGH, WORDS_HIGH, alarm_left, enabled_byte, events, pending_byte};
 use std::alloc::AllocError;
 
 /// The alarms in order.

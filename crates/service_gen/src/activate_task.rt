@@ -4,10 +4,9 @@ ghost use Rattle.sloth_base.specs.Limits.{task_limit};
 ghost use Rattle.service_gen.specs.TaskPieces.{status_code};
 ghost use Rattle.service_gen.specs.ActivateTask.{IsActivateTaskCode};
 
-use block_parts::pieces::{go_back, look_at, open, raise};
+use block_parts::{go_back, look_at, open, raise};
 use masked_code::emit::emit;
-use rv32_instr::Instr;
-use rv32_instr::asm::{A0, X1, slli, xori};
+use rv32_instr::{A0, Instr, X1, slli, xori};
 use std::alloc::{AllocError, Global};
 
 /// The look at the task, the raised line, and the way back.

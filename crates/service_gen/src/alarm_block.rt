@@ -15,15 +15,10 @@ ghost use Rattle.service_gen.specs.Tick.{IsTickCode};
 
 use crate::alarms::alarms_of;
 use crate::{cancel_alarm, get_alarm, set_abs_alarm, set_rel_alarm, tick_code};
-use block_parts::marks::opening;
+use block_parts::opening;
 use rv32_instr::{Block, Instr};
-use sloth_base::config::Config;
-use sloth_base::lines::FIRST_COUNTER_LINE;
-use sloth_base::list::List;
-use sloth_base::memory::NoMemory;
-use sloth_base::places::{Levels, block_number};
-use sloth_base::service::Service;
-use sloth_region::map::Map;
+use sloth_base::{Config, FIRST_COUNTER_LINE, Levels, List, NoMemory, Service, block_number};
+use sloth_region::Map;
 use std::alloc::{AllocError, Global};
 
 /// The block of the tick of a counter, 0 or 1, at the address of the handler of its line: 11 instructions, and at most 34 for each alarm of the

@@ -3,13 +3,12 @@ ghost use Rattle.std.specs.Prelude.{◌≡◌, ◌<◌, ◌^◌, ◌++◌, OnOk}
 ghost use Rattle.sloth_base.specs.Limits.{alarm_limit};
 ghost use Rattle.service_gen.specs.ServicePieces.{used_alarm_test, unused_alarm_test, least_cycle_test, greatest_value_test, cycle_test, alarm_value_test, setting_code, refusing_code};
 
-use block_parts::pieces::{BACK, go_back};
-use masked_code::emit::{emit, past};
-use rv32_instr::Instr;
-use rv32_instr::asm::{A0, A1, X1, X4, ZERO, addi, beq, bltu, bne, lui, lw, sw};
-use rv32_instr::constant::{hi, lo};
-use sloth_base::service::{E_OK, E_OS_NOFUNC, E_OS_STATE, E_OS_VALUE};
-use sloth_region::layout::{alarm_cycle, alarm_left};
+use block_parts::{BACK, go_back};
+use masked_code::emit::emit;
+use masked_code::past;
+use rv32_instr::{A0, A1, Instr, X1, X4, ZERO, addi, beq, bltu, bne, hi, lo, lui, lw, sw};
+use sloth_base::{E_OK, E_OS_NOFUNC, E_OS_STATE, E_OS_VALUE};
+use sloth_region::{alarm_cycle, alarm_left};
 use std::alloc::AllocError;
 
 /// How many instructions `ask_most` adds.

@@ -3,7 +3,7 @@ ghost use Rattle.std.specs.Prelude.{◌≡◌, ◌≤◌, ◌++◌, ◌∷◌, [
 ghost use Rattle.sloth_base.specs.Limits.{alarm_limit};
 ghost use Rattle.service_gen.specs.Alarms.{alarms_from};
 
-use sloth_base::config::{Action, AlarmDecl};
+use sloth_base::{Action, AlarmDecl};
 use std::alloc::{AllocError, Global};
 
 /// An alarm with its number and what it does as it expires.

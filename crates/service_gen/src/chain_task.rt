@@ -5,13 +5,11 @@ ghost use Rattle.sloth_base.specs.Limits.{task_limit};
 ghost use Rattle.block_parts.specs.Services.{refusing_code};
 ghost use Rattle.service_gen.specs.ChainTask.{IsChainTaskCode};
 
-use block_parts::leaving::leave;
-use block_parts::pieces::{BACK, end, go_back, look_at, open, raise};
-use block_parts::services::ask;
-use masked_code::emit::{emit, past};
-use rv32_instr::Instr;
-use rv32_instr::asm::{A0, X1, ZERO, addi, bne};
-use sloth_base::service::E_OS_LIMIT;
+use block_parts::{BACK, ask, end, go_back, leave, look_at, open, raise};
+use masked_code::emit::emit;
+use masked_code::past;
+use rv32_instr::{A0, Instr, X1, ZERO, addi, bne};
+use sloth_base::E_OS_LIMIT;
 use std::alloc::{AllocError, Global};
 
 /// The look at the task with the refusal, and then the caller's end, the raised line and the way to what runs below.

@@ -3,10 +3,8 @@ ghost use Rattle.std.specs.Prelude.{IfOk};
 ghost use Rattle.service_gen.specs.ClearEvent.{IsClearEventCode};
 
 use crate::event_pieces::find_own;
-use block_parts::events::clear_own;
-use block_parts::pieces::{go_back, open};
-use rv32_instr::Instr;
-use rv32_instr::asm::A0;
+use block_parts::{clear_own, go_back, open};
+use rv32_instr::{A0, Instr};
 use std::alloc::{AllocError, Global};
 
 /// The running task's events without those of the mask, and the way back.

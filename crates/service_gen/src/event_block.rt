@@ -8,14 +8,10 @@ ghost use Rattle.block_parts.specs.ServiceBlock.{IsServiceBlock};
 ghost use Rattle.service_gen.specs.EventBlock.{HasEventBlock, IsEventServiceBlock, no_marks};
 
 use crate::{clear_event, get_event, set_event, wait_event};
-use block_parts::marks::opening;
+use block_parts::opening;
 use rv32_instr::{Block, Instr};
-use sloth_base::config::Config;
-use sloth_base::list::List;
-use sloth_base::memory::NoMemory;
-use sloth_base::places::{Levels, block_number};
-use sloth_base::service::Service;
-use sloth_region::map::Map;
+use sloth_base::{Config, Levels, List, NoMemory, Service, block_number};
+use sloth_region::Map;
 use std::alloc::{AllocError, Global};
 
 /// The block of a service on events with its object, at its address in the map. Its first instruction, under an opening

@@ -4,10 +4,9 @@ ghost use Rattle.sloth_base.specs.MemoryMap.{line_count};
 ghost use Rattle.service_gen.specs.EventPieces.{own_finding_code};
 
 use masked_code::emit::emit;
-use rv32_instr::Instr;
-use rv32_instr::asm::{X1, X4, add, lw, slli};
-use sloth_base::numbers::Reg;
-use sloth_region::layout::CUR;
+use rv32_instr::{Instr, X1, X4, add, lw, slli};
+use sloth_base::Reg;
+use sloth_region::CUR;
 use std::alloc::AllocError;
 
 /// x1 := the place of the running task's words: they stand there and directly before. Uses another register.

@@ -5,12 +5,11 @@ ghost use Rattle.service_gen.specs.ServicePieces.{telling_code};
 ghost use Rattle.service_gen.specs.GetAlarm.{IsGetAlarmCode};
 
 use crate::alarm_pieces::ask_used;
-use block_parts::pieces::{go_back, open};
+use block_parts::{go_back, open};
 use masked_code::emit::emit;
-use rv32_instr::Instr;
-use rv32_instr::asm::{A0, A1, X4, ZERO, addi, lw};
-use sloth_base::service::E_OK;
-use sloth_region::layout::alarm_left;
+use rv32_instr::{A0, A1, Instr, X4, ZERO, addi, lw};
+use sloth_base::E_OK;
+use sloth_region::alarm_left;
 use std::alloc::{AllocError, Global};
 
 /// The look at the alarm, its ticks, and the way back.

@@ -3,8 +3,7 @@ ghost use Rattle.std.specs.Prelude.{◌<◌, IfOk};
 ghost use Rattle.sloth_base.specs.Limits.{task_limit};
 ghost use Rattle.service_gen.specs.GetEvent.{IsGetEventCode};
 
-use block_parts::events::tell_events;
-use block_parts::pieces::{go_back, look_at, open};
+use block_parts::{go_back, look_at, open, tell_events};
 use rv32_instr::Instr;
 use std::alloc::{AllocError, Global};
 

@@ -4,12 +4,10 @@ ghost use Rattle.sloth_base.specs.ConfigRange.{scheduler_number};
 ghost use Rattle.service_gen.specs.TaskPieces.{ok_back_code};
 ghost use Rattle.service_gen.specs.GetResource.{IsGetResourceCode};
 
-use block_parts::pieces::{go_back, open};
-use block_parts::services::take;
+use block_parts::{go_back, open, take};
 use masked_code::emit::emit;
-use rv32_instr::Instr;
-use rv32_instr::asm::{A0, ZERO, addi};
-use sloth_base::service::E_OK;
+use rv32_instr::{A0, Instr, ZERO, addi};
+use sloth_base::E_OK;
 use std::alloc::{AllocError, Global};
 
 /// The saved level, the greater level, and the way back.

@@ -3,12 +3,11 @@ ghost use Rattle.std.specs.Prelude.{◌≡◌, ◌++◌, IfOk, OnOk};
 ghost use Rattle.service_gen.specs.TaskPieces.{own_telling_code};
 ghost use Rattle.service_gen.specs.GetTaskID.{IsGetTaskIDCode};
 
-use block_parts::pieces::{go_back, open};
+use block_parts::{go_back, open};
 use masked_code::emit::emit;
-use rv32_instr::Instr;
-use rv32_instr::asm::{A0, A1, X4, ZERO, addi, lw};
-use sloth_base::service::E_OK;
-use sloth_region::layout::CUR;
+use rv32_instr::{A0, A1, Instr, X4, ZERO, addi, lw};
+use sloth_base::E_OK;
+use sloth_region::CUR;
 use std::alloc::{AllocError, Global};
 
 /// The running task's number, and the way back.

@@ -4,13 +4,12 @@ ghost use Rattle.sloth_base.specs.Limits.{task_limit};
 ghost use Rattle.service_gen.specs.TaskPieces.{active_task_test, active_telling_code, waiting_task_test};
 ghost use Rattle.service_gen.specs.GetTaskState.{IsGetTaskStateCode};
 
-use block_parts::pieces::{BACK, go_back, open};
-use block_parts::services::tell_resting;
-use masked_code::emit::{emit, past};
-use rv32_instr::Instr;
-use rv32_instr::asm::{A0, A1, X1, X3, X4, ZERO, addi, beq, lbu, lw, slli, sltu};
-use sloth_base::service::E_OK;
-use sloth_region::layout::{CUR, active, enabled_byte};
+use block_parts::{BACK, go_back, open, tell_resting};
+use masked_code::emit::emit;
+use masked_code::past;
+use rv32_instr::{A0, A1, Instr, X1, X3, X4, ZERO, addi, beq, lbu, lw, slli, sltu};
+use sloth_base::E_OK;
+use sloth_region::{CUR, active, enabled_byte};
 use std::alloc::{AllocError, Global};
 
 /// The state's number where the task waits.

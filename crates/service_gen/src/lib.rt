@@ -39,12 +39,10 @@ mod terminate_task;
 mod tick_code;
 mod wait_event;
 
+pub use alarm_block::tick;
 use rv32_instr::Block;
-use sloth_base::config::Config;
-use sloth_base::memory::NoMemory;
-use sloth_base::places::Levels;
-use sloth_base::service::Service;
-use sloth_region::map::Map;
+use sloth_base::{Config, Levels, NoMemory, Service};
+use sloth_region::Map;
 use std::alloc::Global;
 
 /// The block of a service with its object, at its address in the map.

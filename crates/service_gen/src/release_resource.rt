@@ -3,8 +3,7 @@ ghost use Rattle.std.specs.Prelude.{◌≤◌, IfOk};
 ghost use Rattle.sloth_base.specs.ConfigRange.{scheduler_number};
 ghost use Rattle.service_gen.specs.ReleaseResource.{IsReleaseResourceCode};
 
-use block_parts::pieces::open;
-use block_parts::services::release;
+use block_parts::{open, release};
 use rv32_instr::Instr;
 use std::alloc::{AllocError, Global};
 

@@ -3,13 +3,13 @@ ghost use Rattle.std.specs.Prelude.{◌≡◌, ◌++◌, IfOk, OnOk};
 ghost use Rattle.service_gen.specs.TaskPieces.{way_back_address_code, way_back_code, way_back_stop_code};
 ghost use Rattle.service_gen.specs.Schedule.{IsScheduleCode};
 
-use block_parts::pieces::open;
-use block_parts::services::lower;
-use masked_code::emit::{emit, past};
-use rv32_instr::Instr;
-use rv32_instr::asm::{A0, X1, X30, X31, ZERO, addi, csrrci, csrrw, jal, mret};
-use rv32_instr::csr::{MEPC, MIE, MSTATUS, PLEVEL};
-use sloth_base::service::E_OK;
+use block_parts::{lower, open};
+use masked_code::emit::emit;
+use masked_code::past;
+use rv32_instr::{
+    A0, Instr, MEPC, MIE, MSTATUS, PLEVEL, X1, X30, X31, ZERO, addi, csrrci, csrrw, jal, mret,
+};
+use sloth_base::E_OK;
 use std::alloc::{AllocError, Global};
 
 /// Where the way back stands, in bytes from the first instruction.

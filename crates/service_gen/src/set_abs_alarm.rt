@@ -6,8 +6,7 @@ ghost use Rattle.service_gen.specs.SetAlarm.{IsSetAbsAlarmCode};
 use crate::alarm_pieces::{
     CYCLE, REFUSAL, SET, VALUE, ask_cycle, ask_unused, ask_value, refuse, set,
 };
-use block_parts::alarms::find_ticks;
-use block_parts::pieces::open;
+use block_parts::{find_ticks, open};
 use rv32_instr::Instr;
 use std::alloc::{AllocError, Global};
 

@@ -6,12 +6,11 @@ ghost use Rattle.service_gen.specs.EventPieces.{mask_adding_code};
 ghost use Rattle.block_parts.specs.Events.{enabling_code};
 ghost use Rattle.service_gen.specs.SetEvent.{IsSetEventCode};
 
-use block_parts::events::{WAKE, ask_awaited, refuse};
-use block_parts::pieces::{go_back, look_at, open, raise};
+use block_parts::events::ask_awaited;
+use block_parts::{WAKE, go_back, look_at, open, raise, refuse};
 use masked_code::emit::emit;
-use rv32_instr::Instr;
-use rv32_instr::asm::{X1, X3, X4, X30, lw, or, sb, sw};
-use sloth_region::layout::{enabled_byte, events};
+use rv32_instr::{Instr, X1, X3, X4, X30, lw, or, sb, sw};
+use sloth_region::{enabled_byte, events};
 use std::alloc::{AllocError, Global};
 
 /// How many instructions `add_events` adds.

@@ -7,10 +7,10 @@ ghost use Rattle.service_gen.specs.SetAlarm.{IsSetRelAlarmCode};
 use crate::alarm_pieces::{
     CYCLE, REFUSAL, SET, VALUE, ask_cycle, ask_unused, ask_value, refuse, set,
 };
-use block_parts::pieces::open;
-use masked_code::emit::{emit, past};
-use rv32_instr::Instr;
-use rv32_instr::asm::{A0, ZERO, beq};
+use block_parts::open;
+use masked_code::emit::emit;
+use masked_code::past;
+use rv32_instr::{A0, Instr, ZERO, beq};
 use std::alloc::{AllocError, Global};
 
 /// How many instructions `ask_ticks` adds.

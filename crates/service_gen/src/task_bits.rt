@@ -4,11 +4,10 @@ ghost use Rattle.service_gen.specs.Alarms.{IsActionInRange, AreAlarmsInRange, is
 ghost use Rattle.service_gen.specs.AlarmPieces.{look_of, looks_code};
 
 use crate::alarms::NumberedAlarm;
-use block_parts::ticks::look_unless_later;
+use block_parts::look_unless_later;
 use code_lengths::sets_events_of;
 use rv32_instr::Instr;
-use sloth_base::config::Action;
-use sloth_base::numbers::TaskId;
+use sloth_base::{Action, TaskId};
 use std::alloc::AllocError;
 
 /// The looks at the tasks whose events the alarms set.

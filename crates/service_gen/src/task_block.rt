@@ -15,15 +15,10 @@ use crate::{
     activate_task, chain_task, get_resource, get_task_id, get_task_state, release_resource,
     schedule, terminate_task,
 };
-use block_parts::marks::{back_mark, opening};
+use block_parts::{back_mark, opening};
 use rv32_instr::{Block, Instr};
-use sloth_base::config::Config;
-use sloth_base::image::Mark;
-use sloth_base::list::List;
-use sloth_base::memory::NoMemory;
-use sloth_base::places::{Levels, block_number};
-use sloth_base::service::Service;
-use sloth_region::map::Map;
+use sloth_base::{Config, Levels, List, Mark, NoMemory, Service, block_number};
+use sloth_region::Map;
 use std::alloc::{AllocError, Global};
 
 /// The block of a service with its object, at its address in the map. Its first instruction, under an opening mark,

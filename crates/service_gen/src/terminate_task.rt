@@ -2,8 +2,7 @@
 ghost use Rattle.std.specs.Prelude.{IfOk};
 ghost use Rattle.service_gen.specs.TerminateTask.{IsTerminateTaskCode};
 
-use block_parts::leaving::leave;
-use block_parts::pieces::{end, open};
+use block_parts::{end, leave, open};
 use rv32_instr::Instr;
 use std::alloc::{AllocError, Global};
 

@@ -9,11 +9,10 @@ ghost use Rattle.service_gen.specs.AlarmPieces.{counting_code, look_clearing_cod
 use crate::actions::{base, run_all};
 use crate::alarms::NumberedAlarm;
 use crate::task_bits::look_at_all;
-use block_parts::ticks::ask_greatest;
+use block_parts::ask_greatest;
 use masked_code::emit::emit;
-use rv32_instr::Instr;
-use rv32_instr::asm::{X1, X3, X4, ZERO, addi, lui, lw, mret, sw};
-use sloth_region::layout::{CONTROLLER_HIGH, counter_value};
+use rv32_instr::{Instr, X1, X3, X4, ZERO, addi, lui, lw, mret, sw};
+use sloth_region::{CONTROLLER_HIGH, counter_value};
 use std::alloc::{AllocError, Global};
 
 /// The instructions of the tick of a counter with its greatest value and its alarms.

@@ -4,14 +4,12 @@ ghost use Rattle.service_gen.specs.EventPieces.{set_events_test, controller_addr
 ghost use Rattle.service_gen.specs.WaitEvent.{IsWaitEventCode};
 
 use crate::event_pieces::find_own;
-use block_parts::events::keep;
-use block_parts::leaving::leave;
-use block_parts::pieces::{BACK, OWN_ACTIVE, OWN_EVENTS, go_back, open};
-use masked_code::emit::{X5, emit, past, save};
-use rv32_instr::Instr;
-use rv32_instr::asm::{A0, X1, X2, X3, X30, ZERO, add, addi, and, beq, lui, lw, sb, sw};
-use sloth_base::service::E_OK;
-use sloth_region::layout::{CONTEXT_BYTES, CONTROLLER_HIGH};
+use block_parts::{BACK, OWN_ACTIVE, OWN_EVENTS, go_back, keep, leave, open};
+use masked_code::emit::emit;
+use masked_code::{X5, past, save};
+use rv32_instr::{A0, Instr, X1, X2, X3, X30, ZERO, add, addi, and, beq, lui, lw, sb, sw};
+use sloth_base::E_OK;
+use sloth_region::{CONTEXT_BYTES, CONTROLLER_HIGH};
 use std::alloc::{AllocError, Global};
 
 /// The events that the running task waits for, from 12 * `cur` behind the service words.

@@ -25,7 +25,7 @@ use Rattle.shares_text.specs.declared.data_uses.Use.{Use}
 use Rattle.shares_text.specs.declared.verdict.Verdict.{Verdict}
 use Rattle.shares_text.specs.declared.verdict.Verdict.TheVariants as verdict
 use Rattle.shares_text.specs.Accesses.{IsCalledFrom, Uses, IsAlwaysHeld, stores_at}
-use Rattle.shares_text.specs.Sites.{AreResourceCeilings}
+use Rattle.walk_sums.specs.Ceilings.{AreResourceCeilings}
 use Rattle.shares_text.specs.Contexts.{IsUseOf, AreUses, is_use_at}
 use Rattle.shares_text.specs.Verdicts.{IsUnused, IsUsedByOne, IsShared, IsOnlyRead, IsWritten, AreUsers, IsGuard, HasGuard, AreGuards, line_at, IsOpenPair, NoOpenPair, is_before, IsFirstOpenPair, IsVerdict}
 use Rattle.shares_text.specs.Tables.{AreAccesses, AreAllContexts}

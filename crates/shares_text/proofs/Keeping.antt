@@ -16,7 +16,7 @@ use Rattle.raised_sections.specs.Walks.{Place, Position, place}
 use Rattle.shares_text.specs.declared.keepers.Keeper.{Keeper}
 use Rattle.shares_text.specs.declared.data_uses.Use.{Use}
 use Rattle.shares_text.specs.Accesses.{IsUse, Uses, IsAlwaysHeld}
-use Rattle.shares_text.specs.Sites.{AreResourceCeilings}
+use Rattle.walk_sums.specs.Ceilings.{AreResourceCeilings}
 use Rattle.shares_text.specs.Contexts.{IsUseOf, AreUses, is_use_at}
 use Rattle.shares_text.specs.Verdicts.{KeepsOut, IsKeeper, AreKeepersBelow, AreKeepers, no_keeper}
 use Rattle.shares_text.specs.Computed.{priority_in, is_under, is_user_under, IsNextUser, is_held_at_some, is_reaching, IsKeeperBy, AreKeepersBy}

@@ -2,7 +2,6 @@ pub mod Deciding
 pub mod OneText
 pub mod OneVerdict
 pub mod SharedSymbols
-pub mod Telling
 pub mod Words
 pub mod AllMembers
 pub mod Gathering

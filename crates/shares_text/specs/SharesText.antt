@@ -1,5 +1,5 @@
 -- The lines of the command `shares`.
-use Rattle.std.specs.Prelude.{ℕ, zero, suc, ◌<◌, ◌≡◌, ◌==◌, List, [], ◌∷◌, ◌++◌, ◌||◌, Bool, false, cond, codes, decimal, length, get_or}
+use Rattle.std.specs.Prelude.{ℕ, zero, suc, ◌≡◌, ◌==◌, List, [], ◌∷◌, ◌++◌, ◌||◌, Bool, false, cond, codes, decimal, length, get_or}
 use Rattle.sloth_base.specs.declared.config.Config.{Config}
 use Rattle.sloth_base.specs.declared.app.App.{App}
 use Rattle.sloth_base.specs.Named.{declaration, no_symbol}
@@ -11,7 +11,7 @@ use Rattle.shares_text.specs.declared.keepers.Keeper.{Keeper}
 use Rattle.shares_text.specs.declared.open_pairs.OpenPair.{OpenPair}
 use Rattle.shares_text.specs.declared.verdict.Verdict.{Verdict}
 use Rattle.shares_text.specs.declared.verdict.Verdict.TheVariants as verdict
-use Rattle.shares_text.specs.Verdicts.{no_keeper, AreVerdicts}
+use Rattle.shares_text.specs.Verdicts.{AreVerdicts}
 use Rattle.shares_text.specs.RunLaws.{RunsKeepApart}
 
 -- ---- names
@@ -78,15 +78,6 @@ verdict_words config (verdict.Open p) = codes " open" ++ pair_words config p
 -- the line of a symbol
 unfoldable pub share_line : Config → App → List Verdict → ℕ → List ℕ
 share_line config app verdicts y = ((get_or app.symbols y no_symbol).name ++ verdict_words config (get_or verdicts y verdict.Unused)) ++ codes "\n"
-
--- the tasks that it names are those of the configuration
-abbrev pub IsTellable : Config → Verdict → Type 0
-IsTellable config (verdict.One t) = t < length config.tasks
-IsTellable config (verdict.Ordered list) = (k : ℕ) → k < length list → (get_or list k no_keeper).task < length config.tasks
-IsTellable config (verdict.Open p) = (p.low < length config.tasks) × (p.high < length config.tasks)
-IsTellable config verdict.Unused = Unit {0}
-IsTellable config (verdict.Reads set) = Unit {0}
-IsTellable config (verdict.Guarded set) = Unit {0}
 
 -- the lines of the first symbols, so many of them
 unfoldable pub share_lines : Config → App → List Verdict → ℕ → List ℕ

@@ -19,10 +19,6 @@ use Rattle.shares_text.specs.Accesses.{symbol_of, is_store}
 
 -- ---- what a function itself holds
 
--- each entry is the ceiling of its resource
-abbrev pub AreResourceCeilings : Config → List ℕ → Type 0
-AreResourceCeilings config table = (r : ℕ) → r < length table → get_or table r 0 ≡ ceiling config r
-
 -- the set has exactly the resources of the list
 abbrev pub HasMembers : (members : ℕ) → List ℕ → Type 0
 HasMembers members held = (r : ℕ) → r < 64 → is_member members r ≡ is_in r held

@@ -2,7 +2,7 @@
 ghost use Rattle.std.specs.Prelude.{◌≡◌};
 ghost use Rattle.shares_text.specs.Accesses.{symbol_of, is_store};
 
-use sloth_base::app::Op;
+use sloth_base::Op;
 
 /// The symbol that an operation loads or stores.
 pub fn symbol_of(op: Op) -> Option<u32>

@@ -4,9 +4,9 @@ ghost use Rattle.osek_scheduler.specs.Priority.{greatest};
 ghost use Rattle.shares_text.specs.Sites.{is_of_rank, down_from};
 
 use crate::sites::CallSite;
-use sloth_base::memory::NoMemory;
+use sloth_base::NoMemory;
 use std::alloc::Global;
-use text_pieces::growth::push;
+use text_pieces::push;
 
 // The rank of this function, 0 where the table has none.
 fn rank_of(ranks: &[u32], func: usize) -> u32

@@ -4,10 +4,9 @@ ghost use Rattle.shares_text.specs.Contexts.{no_call, no_context, through, joine
 
 use crate::held::Held;
 use crate::sites::CallSite;
-use sloth_base::list::List;
-use sloth_base::memory::NoMemory;
+use sloth_base::{List, NoMemory};
 use std::alloc::Global;
-use text_pieces::growth::push;
+use text_pieces::push;
 
 /// What is known of a task in a function: whether calls lead there, what it holds as it enters on each way, and its least current priority there.
 #[derive(Clone, Copy)]

@@ -4,9 +4,9 @@ ghost use Rattle.shares_text.specs.Computed.{use_of, use_in, uses_by, uses_among
 
 use crate::contexts::{Context, Contexts, context_at, through};
 use crate::sites::Access;
-use sloth_base::memory::NoMemory;
+use sloth_base::NoMemory;
 use std::alloc::Global;
-use text_pieces::growth::push;
+use text_pieces::push;
 
 /// An access of a task: what the task holds there on each way of calls, and its least current priority.
 #[derive(Clone, Copy)]

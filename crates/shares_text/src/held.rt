@@ -1,23 +1,16 @@
 //! What a function itself holds before each of its items: the resources, and their greatest ceiling.
-ghost use Rattle.std.specs.Prelude.{◌≡◌, ◌≤◌, ◌<◌, ◌+◌, ℕ, length, map, get_or, None, IfOk};
-ghost use Rattle.sloth_base.specs.Limits.{ceiling_count};
-ghost use Rattle.sloth_base.specs.Named.{function};
+ghost use Rattle.std.specs.Prelude.{◌≡◌, ◌≤◌, ◌+◌, ℕ, length, get_or, None, IfOk};
 ghost use Rattle.code_rules.specs.WellFormed.{WellFormed};
-ghost use Rattle.osek_scheduler.specs.Priority.{greatest, ceiling};
 ghost use Rattle.task_verify.specs.Labels.{last_label_below, ArePlaced};
-ghost use Rattle.shares_text.specs.Sites.{IsHeld, AreHeld, AreAllHeld, AreResourceCeilings};
+ghost use Rattle.shares_text.specs.Sites.{IsHeld, AreHeld, AreAllHeld};
+ghost use Rattle.walk_sums.specs.Ceilings.{AreResourceCeilings};
 
 use crate::sets::set_of;
-use osek_scheduler::ceilings::ceiling;
-use sloth_base::app::{App, Func};
-use sloth_base::config::Config;
-use sloth_base::list::List;
-use sloth_base::memory::NoMemory;
-use sloth_base::numbers::RES_SCHEDULER;
+use sloth_base::{App, Config, Func, List, NoMemory};
 use std::alloc::Global;
-use task_verify::held_resources::{held_after, held_at_label};
-use task_verify::labels::last_labels;
-use text_pieces::growth::push;
+use task_verify::{held_after, held_at_label, last_labels};
+use text_pieces::push;
+use walk_sums::greatest_ceiling;
 
 /// Resources, and the greatest of their ceilings, 0 where there is none.
 #[derive(Clone, Copy)]
@@ -30,40 +23,6 @@ pub struct Held {
 #[derive(Drop)]
 pub struct HeldRow {
     pub items: List<Held>,
-}
-
-/// The ceilings of all resources, that of RES_SCHEDULER behind the others.
-pub fn ceilings(alloc: Global, config: &Config) -> Result<Vec<u32>, NoMemory>
-    ensures count { IfOk result (λ table. length table.items ≡ ceiling_count) }
-    ensures exact { IfOk result (λ table. AreResourceCeilings config.now table.items) }
-{
-    let mut table = Vec::new(alloc);
-    for resource in 0..RES_SCHEDULER + 1 {
-        push(&mut table, ceiling(config, resource))?;
-    }
-    Ok(table)
-}
-
-// The ceiling of a resource by the table, where it has it.
-fn ceiling_by(config: &Config, table: &[u32], resource: u32) -> u32
-    requires { AreResourceCeilings config.now table.now }
-    ensures { result ≡ ceiling config.now resource }
-{
-    match table.get(resource as usize) {
-        Some(entry) => *entry,
-        None => ceiling(config, resource),
-    }
-}
-
-fn greatest_ceiling(config: &Config, table: &[u32], held: &[u32]) -> u32
-    requires { AreResourceCeilings config.now table.now }
-    ensures { result ≡ greatest (map (ceiling config.now) held.now) }
-{
-    let mut top = 0;
-    for resource in held {
-        top = ceiling_by(config, table, *resource).max(top);
-    }
-    top
 }
 
 fn held_of(config: &Config, table: &[u32], held: &[u32]) -> Held
@@ -130,15 +89,8 @@ pub fn all_held(
 {
     let mut rows = Vec::new(alloc);
     for number in 0..app.funcs.items().len() {
-        let row = held_before(alloc, config, table, function_at(app, number))?;
+        let row = held_before(alloc, config, table, app.function(number))?;
         push(&mut rows, row)?;
     }
     Ok(rows)
-}
-
-fn function_at(app: &App, number: usize) -> &Func
-    requires { number < length app.now.funcs }
-    ensures { result.now ≡ function app.now number }
-{
-    &app.funcs.items()[number]
 }

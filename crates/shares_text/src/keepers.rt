@@ -6,11 +6,10 @@ ghost use Rattle.shares_text.specs.Computed.{is_under, IsNextUser, is_held_at_so
 
 use crate::data_uses::Use;
 use crate::sets::{common, with_resource};
-use call_graph::word_bits::{has, union};
-use sloth_base::config::TaskDecl;
-use sloth_base::memory::NoMemory;
+use call_graph::{has, union};
+use sloth_base::{NoMemory, TaskDecl};
 use std::alloc::Global;
-use text_pieces::growth::push;
+use text_pieces::push;
 
 /// A user of a symbol, with what keeps those above it out: that it is not preemptable, or resources that it holds at accesses.
 #[derive(Clone, Copy)]

@@ -3,8 +3,7 @@ ghost use Rattle.std.specs.Prelude.{◌≡◌};
 ghost use Rattle.shares_text.specs.Uses.{event_mask};
 ghost use Rattle.shares_text.specs.UnusedText.{kind_word, count_of, object_name, header_line};
 
-use sloth_base::app::App;
-use sloth_base::config::Config;
+use sloth_base::{App, Config};
 
 /// A kind of things. Those of a kind have numbers from 0.
 #[derive(Clone, Copy)]

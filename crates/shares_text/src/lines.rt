@@ -1,35 +1,30 @@
 //! The line of a symbol.
-ghost use Rattle.std.specs.Prelude.{◌≡◌, ◌==◌, ◌<◌, ◌≤◌, ◌++◌, [], length, get_or, drop, cond, OnOk, codes, decimal, ℕ};
+ghost use Rattle.std.specs.Prelude.{◌≡◌, ◌==◌, ◌<◌, ◌≤◌, ◌++◌, [], length, get_or, drop, cond, OnOk, codes};
 ghost use Rattle.sloth_base.specs.ConfigRange.{scheduler_number};
 ghost use Rattle.sloth_base.specs.Limits.{task_limit, ceiling_count};
 ghost use Rattle.call_graph.specs.Bits.{is_member};
-ghost use Rattle.shares_text.specs.Verdicts.{no_keeper};
-ghost use Rattle.shares_text.specs.SharesText.{IsTellable, task_word, resource_word, task_words, resource_words, has_below, under_words, keeper_words, further_keepers, keepers_words, pair_words, verdict_words};
+ghost use Rattle.shares_text.specs.SharesText.{task_word, resource_word, task_words, resource_words, has_below, under_words, keeper_words, further_keepers, keepers_words, pair_words, verdict_words};
 
 use crate::keepers::Keeper;
 use crate::open_pairs::OpenPair;
 use crate::verdict::Verdict;
-use call_graph::word_bits::has;
-use itoa::Buffer;
-use sloth_base::config::Config;
-use sloth_base::memory::NoMemory;
-use sloth_base::numbers::RES_SCHEDULER;
+use call_graph::has;
+use sloth_base::{Config, NoMemory, RES_SCHEDULER};
+use text_pieces::line;
+use text_pieces::pieces::Piece::{Number, Word};
 
-/// A space and a name.
-pub fn push_word(text: &mut Vec<u8>, name: &[u8]) -> Result<(), NoMemory>
+// A space and a name.
+fn push_word(text: &mut Vec<u8>, name: &[u8]) -> Result<(), NoMemory>
     ensures { OnOk result (text.new.items ≡ text.old.items ++ (codes " " ++ name.now)) }
 {
-    text.extend_from_slice(b" ")?;
-    text.extend_from_slice(name)?;
-    Ok(())
+    line!(text; Word(b" "), Word(name))
 }
 
 // A space and a task's name.
 fn push_task(text: &mut Vec<u8>, config: &Config, task: usize) -> Result<(), NoMemory>
-    requires { task < length config.now.tasks }
     ensures { OnOk result (text.new.items ≡ text.old.items ++ task_word config.now task) }
 {
-    push_word(text, config.tasks.items()[task].name.bytes())
+    push_word(text, config.task_name(task))
 }
 
 fn resource_name(config: &Config, resource: usize) -> &[u8]
@@ -132,7 +127,6 @@ fn push_non(text: &mut Vec<u8>, non: bool) -> Result<(), NoMemory>
 
 // A user, with what keeps those above it out.
 fn push_keeper(text: &mut Vec<u8>, config: &Config, keeper: &Keeper) -> Result<(), NoMemory>
-    requires { keeper.now.task < length config.now.tasks }
     ensures { OnOk result (text.new.items ≡ text.old.items ++ keeper_words config.now keeper.now) }
 {
     push_task(text, config, keeper.task)?;
@@ -143,7 +137,6 @@ fn push_keeper(text: &mut Vec<u8>, config: &Config, keeper: &Keeper) -> Result<(
 
 // All but the first of these, each behind a comma.
 fn push_further(text: &mut Vec<u8>, config: &Config, list: &[Keeper]) -> Result<(), NoMemory>
-    requires { (k : ℕ) → k < length list.now → (get_or list.now k no_keeper).task < length config.now.tasks }
     ensures { OnOk result (text.new.items ≡ text.old.items ++ further_keepers config.now (drop 1 list.now)) }
 {
     for number in 1..list.len() {
@@ -155,7 +148,6 @@ fn push_further(text: &mut Vec<u8>, config: &Config, list: &[Keeper]) -> Result<
 
 // Users, with commas between.
 fn push_keepers(text: &mut Vec<u8>, config: &Config, list: &[Keeper]) -> Result<(), NoMemory>
-    requires { (k : ℕ) → k < length list.now → (get_or list.now k no_keeper).task < length config.now.tasks }
     ensures { OnOk result (text.new.items ≡ text.old.items ++ keepers_words config.now list.now) }
 {
     if list.is_empty() {
@@ -165,41 +157,24 @@ fn push_keepers(text: &mut Vec<u8>, config: &Config, list: &[Keeper]) -> Result<
     push_further(text, config, list)
 }
 
-/// A space and a number.
-pub fn push_number(text: &mut Vec<u8>, number: u32) -> Result<(), NoMemory>
-    ensures { OnOk result (text.new.items ≡ text.old.items ++ (codes " " ++ decimal number)) }
-{
-    let mut buffer = Buffer::new();
-    push_word(text, buffer.format(number).as_bytes())
-}
-
 // The tasks and lines of an open pair.
 fn push_pair(text: &mut Vec<u8>, config: &Config, pair: &OpenPair) -> Result<(), NoMemory>
-    requires low { pair.now.low < length config.now.tasks }
-    requires high { pair.now.high < length config.now.tasks }
     ensures { OnOk result (text.new.items ≡ text.old.items ++ pair_words config.now pair.now) }
 {
-    push_task(text, config, pair.low)?;
-    push_number(text, pair.low_line)?;
-    push_task(text, config, pair.high)?;
-    push_number(text, pair.high_line)
+    let low = config.task_name(pair.low);
+    let high = config.task_name(pair.high);
+    line!(text; Word(b" "), Word(low), Word(b" "), Number(pair.low_line), Word(b" "), Word(high),
+        Word(b" "), Number(pair.high_line))
 }
 
 /// A verdict.
 pub fn push_verdict(text: &mut Vec<u8>, config: &Config, verdict: &Verdict) -> Result<(), NoMemory>
-    requires few { length config.now.tasks ≤ task_limit }
-    requires tellable { IsTellable config.now verdict.now }
+    requires { length config.now.tasks ≤ task_limit }
     ensures { OnOk result (text.new.items ≡ text.old.items ++ verdict_words config.now verdict.now) }
 {
     match verdict {
-        Verdict::Unused => {
-            text.extend_from_slice(b" unused")?;
-            Ok(())
-        }
-        Verdict::One(task) => {
-            text.extend_from_slice(b" one")?;
-            push_task(text, config, *task)
-        }
+        Verdict::Unused => line!(text; Word(b" unused")),
+        Verdict::One(task) => line!(text; Word(b" one "), Word(config.task_name(*task))),
         Verdict::Reads(tasks) => {
             text.extend_from_slice(b" reads")?;
             push_tasks(text, config, *tasks)

@@ -4,10 +4,9 @@ ghost use Rattle.shares_text.specs.Verdicts.{is_before};
 ghost use Rattle.shares_text.specs.Computed.{no_firsts, least_line, firsts_with, firsts_of, high_line, pair_of, first_of, first_pair, first_pairs, AreFirsts, IsPairBy};
 
 use crate::data_uses::Use;
-use sloth_base::config::TaskDecl;
-use sloth_base::memory::NoMemory;
+use sloth_base::{NoMemory, TaskDecl};
 use std::alloc::Global;
-use text_pieces::growth::push;
+use text_pieces::push;
 
 /// The lower task at one line may be preempted by the higher one, which does the other line.
 #[derive(Clone, Copy)]

@@ -4,10 +4,9 @@ ghost use Rattle.shares_text.specs.Sites.{no_held, call_at, access_at, gather_it
 
 use crate::accesses::{is_store, symbol_of};
 use crate::held::{Held, HeldRow};
-use sloth_base::app::{Func, Item, Op};
-use sloth_base::memory::NoMemory;
+use sloth_base::{Func, Item, NoMemory, Op};
 use std::alloc::Global;
-use text_pieces::growth::push;
+use text_pieces::push;
 
 /// A call, with what its function holds there.
 #[derive(Clone, Copy)]

@@ -15,7 +15,8 @@ ghost use Rattle.code_rules.specs.WellFormed.{WellFormed};
 ghost use Rattle.osek_scheduler.specs.Priority.{highest_priority, greatest};
 ghost use Rattle.call_graph.specs.Ranks.{RanksOf};
 ghost use Rattle.raised_sections.specs.Sections.{priority_at};
-ghost use Rattle.shares_text.specs.Sites.{AreResourceCeilings, AreAllHeld, gather, call_at, down_from};
+ghost use Rattle.shares_text.specs.Sites.{AreAllHeld, gather, call_at, down_from};
+ghost use Rattle.walk_sums.specs.Ceilings.{AreResourceCeilings};
 ghost use Rattle.shares_text.specs.Contexts.{AreContexts};
 ghost use Rattle.shares_text.specs.Tables.{AreAccesses, AreCalls, AreAllContexts};
 ghost use Rattle.shares_text.specs.Verdicts.{IsVerdict, AreVerdicts};
@@ -24,19 +25,17 @@ ghost use Rattle.shares_text.specs.RunLaws.{RunsKeepApart};
 use crate::call_order::callers_first;
 use crate::contexts::{Contexts, contexts_of};
 use crate::data_uses::uses_of;
-use crate::held::{HeldRow, all_held, ceilings};
+use crate::held::{HeldRow, all_held};
 use crate::sites::{Access, CallSite, accesses_of, calls_of};
 use crate::verdict::{Verdict, verdict_by};
-use call_graph::ranking::Ranks;
-use osek_scheduler::ceilings::highest;
-use sloth_base::app::App;
-use sloth_base::config::Config;
-use sloth_base::list::List;
-use sloth_base::memory::NoMemory;
-use stack_bounds::task_bodies::body_of;
+use call_graph::Ranks;
+use osek_scheduler::highest;
+use sloth_base::{App, Config, List, NoMemory};
+use stack_bounds::body_of;
 use std::alloc::Global;
-use task_verify::verified::Verified;
-use text_pieces::growth::push;
+use task_verify::Verified;
+use text_pieces::push;
+use walk_sums::ceilings::ceilings;
 
 // The current priority of a task that holds nothing.
 fn base_priority(config: &Config, highest: u32, task: usize) -> u32

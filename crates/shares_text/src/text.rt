@@ -1,22 +1,19 @@
 //! The lines of all symbols, from the texts.
-ghost use Rattle.std.specs.Prelude.{◌≡◌, ◌<◌, ◌≤◌, ◌++◌, ℕ, codes, length, get_or, IfOk, IfErr, OnOk};
+ghost use Rattle.std.specs.Prelude.{◌≡◌, ◌<◌, ◌≤◌, ◌++◌, codes, length, get_or, IfOk, IfErr, OnOk};
 ghost use Rattle.sloth_base.specs.Limits.{task_limit};
 ghost use Rattle.sloth_base.specs.Named.{no_symbol};
 ghost use Rattle.call_graph.specs.Ranks.{RanksOf};
 ghost use Rattle.sloth_source.specs.Texts.{SourcesErrorIs};
-ghost use Rattle.shares_text.specs.SharesText.{HasShares, IsSharesText, IsTellable, verdict_words, share_lines};
+ghost use Rattle.shares_text.specs.SharesText.{HasShares, IsSharesText, verdict_words, share_lines};
 
 use crate::lines::push_verdict;
 use crate::symbol_verdicts::data_verdicts;
 use crate::verdict::Verdict;
-use call_graph::ranking::Ranks;
-use sloth_base::app::{App, Symbol};
-use sloth_base::config::Config;
-use sloth_base::memory::NoMemory;
-use sloth_base::refusal::BuildError;
+use call_graph::Ranks;
+use sloth_base::{App, BuildError, Config, NoMemory, Symbol};
 use sloth_source::read_checked;
 use std::alloc::Global;
-use task_verify::verified::Verified;
+use task_verify::Verified;
 
 fn symbol_at(app: &App, number: usize) -> &Symbol
     requires { number < length app.now.symbols }
@@ -39,8 +36,7 @@ fn push_line(
     symbol: &Symbol,
     verdict: &Verdict,
 ) -> Result<(), NoMemory>
-    requires few { length config.now.tasks ≤ task_limit }
-    requires tellable { IsTellable config.now verdict.now }
+    requires { length config.now.tasks ≤ task_limit }
     ensures { OnOk result (text.new.items ≡ text.old.items ++ ((symbol.now.name ++ verdict_words config.now verdict.now) ++ codes "\n")) }
 {
     text.extend_from_slice(symbol.name.bytes())?;
@@ -58,7 +54,6 @@ fn share_lines(
 ) -> Result<Vec<u8>, NoMemory>
     requires few { length config.now.tasks ≤ task_limit }
     requires same { length verdicts.now ≡ length app.now.symbols }
-    requires tellable { (y : ℕ) → y < length verdicts.now → IsTellable config.now (get_or verdicts.now y Verdict.Unused) }
     ensures { IfOk result (λ text. text.items ≡ share_lines config.now app.now verdicts.now (length app.now.symbols)) }
 {
     let mut text = Vec::new(alloc);

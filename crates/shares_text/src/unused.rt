@@ -7,48 +7,38 @@ ghost use Rattle.shares_text.specs.UnusedText.{kind_word, object_name, further_w
 ghost use Rattle.shares_text.specs.UsesBy.{is_used_by};
 
 use crate::kinds::{Kind, count_of, header_line, kind_word, object_name};
-use crate::lines::{push_number, push_word};
 use crate::uses::is_used;
-use call_graph::ranking::Ranks;
-use sloth_base::app::App;
-use sloth_base::config::Config;
-use sloth_base::memory::NoMemory;
-use sloth_base::refusal::BuildError;
+use call_graph::Ranks;
+use sloth_base::{App, BuildError, Config, NoMemory};
 use sloth_source::read_checked;
 use std::alloc::Global;
-use task_verify::verified::Verified;
+use task_verify::Verified;
+use text_pieces::line;
+use text_pieces::pieces::Piece::{Number, Word};
 
 // What stands behind the name.
 fn push_further(text: &mut Vec<u8>, app: &App, kind: Kind, number: usize) -> Result<(), NoMemory>
     ensures { OnOk result (text.new.items ≡ text.old.items ++ further_words app.now kind number) }
 {
     match kind {
-        Kind::Task => {
-            text.extend_from_slice(b" arrivals")?;
-            Ok(())
-        }
-        Kind::Resource => Ok(()),
-        Kind::Event => Ok(()),
-        Kind::Alarm => Ok(()),
-        Kind::Symbol => Ok(()),
-        Kind::Function => push_number(text, header_line(app, number)),
+        Kind::Task => line!(text; Word(b" arrivals")),
+        Kind::Resource | Kind::Event | Kind::Alarm | Kind::Symbol => Ok(()),
+        Kind::Function => line!(text; Word(b" "), Number(header_line(app, number))),
     }
 }
 
-fn push_line(
+fn push_line<'t>(
     text: &mut Vec<u8>,
-    config: &Config,
-    app: &App,
+    config: &'t Config,
+    app: &'t App,
     kind: Kind,
     number: usize,
 ) -> Result<(), NoMemory>
     ensures { OnOk result (text.new.items ≡ text.old.items ++ unused_line config.now app.now kind number) }
 {
-    text.extend_from_slice(kind_word(kind))?;
-    push_word(text, object_name(config, app, kind, number))?;
+    line!(text; Word(kind_word(kind)), Word(b" "), Word(object_name(config, app, kind, number)))?;
     push_further(text, app, kind, number)?;
-    text.extend_from_slice(b"\n")?;
-    Ok(())
+    line!(text; Word(b"\n"))
 }
 
 // The line, unless it is used.

@@ -9,10 +9,8 @@ ghost use Rattle.shares_text.specs.UsesBy.{has_task, is_function_use, is_code_us
 
 use crate::accesses::symbol_of;
 use crate::kinds::{Kind, event_mask};
-use call_graph::word_bits::has;
-use sloth_base::app::{App, Func, Item, Op};
-use sloth_base::config::{Action, Config};
-use sloth_base::service::Service;
+use call_graph::has;
+use sloth_base::{Action, App, Config, Func, Item, Op, Service};
 
 // ---- items
 

@@ -7,9 +7,7 @@ use crate::data_uses::Use;
 use crate::keepers::{Keeper, keepers};
 use crate::open_pairs::{OpenPair, open_pair};
 use crate::sets::{all_resources, common, with_task};
-use sloth_base::config::TaskDecl;
-use sloth_base::list::List;
-use sloth_base::memory::NoMemory;
+use sloth_base::{List, NoMemory, TaskDecl};
 use std::alloc::Global;
 
 /// What keeps the users of a symbol apart.

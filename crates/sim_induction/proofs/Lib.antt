@@ -28,3 +28,6 @@ pub mod Pacing
 pub mod Running
 pub mod Spending
 pub mod Wider
+pub mod Coming
+pub mod Agreeing
+pub mod Endless

@@ -127,8 +127,8 @@ module _ (config : Config) (app : App) (size wider : ItemSizes) (longer : (func 
 
   pub paced_wider : (image : Image) → Paced config app size image → Paced config app wider image
   paced_wider image paced = record {
-    each = λ arrivals n longest are bound most.
-        let keeps = paced.each arrivals n longest are bound (λ func item. let less = longer func item in let few = most func item in omega (arith, less, few)) in
+    each = λ arrivals n longest are most.
+        let keeps = paced.each arrivals n longest are (λ func item. let less = longer func item in let few = most func item in omega (arith, less, few)) in
         record {
           each = λ before behind e found is leads.
               let goes = keeps.each before behind e found is leads in

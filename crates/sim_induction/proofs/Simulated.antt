@@ -8,11 +8,10 @@ use Rattle.sloth_base.specs.declared.app.App.{App}
 use Rattle.sloth_base.specs.declared.image.Image.{Image}
 use Rattle.sloth_base.specs.declared.event.Arrival.{Arrival}
 use Rattle.sloth_base.specs.Machine.{State}
-use Rattle.sloth_base.specs.Arrivals.{AreArrivals}
 use Rattle.sloth_base.specs.Owners.{first_counter_line, owners_in}
 use Rattle.rv32_machine.specs.Start.{start}
 use Rattle.osek_scheduler.specs.State.{System}
-use Rattle.sim_induction.specs.Sound.{IsSoundRun, Sound}
+use Rattle.sim_induction.specs.Sound.{IsSoundRun, Sound, AreComing}
 use Rattle.event_weights.specs.Pace.{ItemSizes}
 use Rattle.sim_induction.specs.Weighed.{Weighed}
 use Rattle.sim_induction.specs.Paced.{Paced}
@@ -23,7 +22,7 @@ use Rattle.sim_induction.specs.Related.{IsSimulation}
 use Rattle.sim_induction.proofs.Boot.{whole_run}
 use Rattle.sim_induction.proofs.WholeRun.{setting_of, sound_of, weighed_of, paced_of, spent_of}
 
-pub is_setting : (config : Config) (app : App) (size : ItemSizes) (image : Image) (arrivals : List Arrival) → length config.tasks ≤ first_counter_line → length image.tasks ≡ length config.tasks → image.counters ≡ map (λ c. c.name) config.counters → AreArrivals (owners_in config) arrivals
+pub is_setting : (config : Config) (app : App) (size : ItemSizes) (image : Image) (arrivals : List Arrival) → length config.tasks ≤ first_counter_line → length image.tasks ≡ length config.tasks → image.counters ≡ map (λ c. c.name) config.counters → AreComing (owners_in config) arrivals
     → IsSetting (setting_of config app size image arrivals)
 is_setting config app size image arrivals few tasks counters are =
     let counted : length image.counters ≡ length config.counters = ap length counters ∙ length-map config.counters (λ (c : CounterDecl). c.name) in
@@ -44,20 +43,20 @@ sound_run config app size image arrivals R progress setting simulation passed bo
 
 pub sound : (config : Config) (app : App) (size : ItemSizes) (image : Image) (R : Passed → State → System → Type 0) (progress : State → System → ℕ) (passed : Passed) → length config.tasks ≤ first_counter_line → length image.tasks ≡ length config.tasks
     → image.counters ≡ map (λ c. c.name) config.counters
-    → ((arrivals : List Arrival) → AreArrivals (owners_in config) arrivals → IsSimulation (setting_of config app size image arrivals) R progress × BootLaw (setting_of config app size image arrivals) (R passed) (start image))
+    → ((arrivals : List Arrival) → AreComing (owners_in config) arrivals → IsSimulation (setting_of config app size image arrivals) R progress × BootLaw (setting_of config app size image arrivals) (R passed) (start image))
     → Sound config app image
 sound config app size image R progress passed few tasks counters laws = record {
   counters = counters;
-  each = λ arrivals n are bound. sound_run config app size image arrivals R progress (is_setting config app size image arrivals few tasks counters are) (laws arrivals are).0 passed (laws arrivals are).1 n;
+  each = λ arrivals n are. sound_run config app size image arrivals R progress (is_setting config app size image arrivals few tasks counters are) (laws arrivals are).0 passed (laws arrivals are).1 n;
 }
 
 -- and no stretch of it takes more than its weight
 pub weighed : (config : Config) (app : App) (size : ItemSizes) (image : Image) (R : Passed → State → System → Type 0) (progress : State → System → ℕ) (passed : Passed) → length config.tasks ≤ first_counter_line → length image.tasks ≡ length config.tasks
     → image.counters ≡ map (λ c. c.name) config.counters
-    → ((arrivals : List Arrival) → AreArrivals (owners_in config) arrivals → IsSimulation (setting_of config app size image arrivals) R progress × BootLaw (setting_of config app size image arrivals) (R passed) (start image))
+    → ((arrivals : List Arrival) → AreComing (owners_in config) arrivals → IsSimulation (setting_of config app size image arrivals) R progress × BootLaw (setting_of config app size image arrivals) (R passed) (start image))
     → Weighed config app image
 weighed config app size image R progress passed few tasks counters laws = record {
-  each = λ arrivals n are bound.
+  each = λ arrivals n are.
       let given = setting_of config app size image arrivals in
       weighed_of config app size image arrivals R n
       (whole_run given (is_setting config app size image arrivals few tasks counters are) R progress (laws arrivals are).0 passed (start image) (laws arrivals are).1 n);
@@ -66,10 +65,10 @@ weighed config app size image R progress passed few tasks counters laws = record
 -- and its events keep the pace
 pub paced : (config : Config) (app : App) (size : ItemSizes) (image : Image) (R : Passed → State → System → Type 0) (progress : State → System → ℕ) (passed : Passed) → length config.tasks ≤ first_counter_line → length image.tasks ≡ length config.tasks
     → image.counters ≡ map (λ c. c.name) config.counters
-    → ((arrivals : List Arrival) → AreArrivals (owners_in config) arrivals → IsSimulation (setting_of config app size image arrivals) R progress × BootLaw (setting_of config app size image arrivals) (R passed) (start image))
+    → ((arrivals : List Arrival) → AreComing (owners_in config) arrivals → IsSimulation (setting_of config app size image arrivals) R progress × BootLaw (setting_of config app size image arrivals) (R passed) (start image))
     → Paced config app size image
 paced config app size image R progress passed few tasks counters laws = record {
-  each = λ arrivals n longest are bound most.
+  each = λ arrivals n longest are most.
       let given = setting_of config app size image arrivals in
       paced_of config app size image arrivals R n longest most
       (whole_run given (is_setting config app size image arrivals few tasks counters are) R progress (laws arrivals are).0 passed (start image) (laws arrivals are).1 n);
@@ -78,10 +77,10 @@ paced config app size image R progress passed few tasks counters laws = record {
 -- and no task spends more on an item than it has instructions
 pub spent : (config : Config) (app : App) (size : ItemSizes) (image : Image) (R : Passed → State → System → Type 0) (progress : State → System → ℕ) (passed : Passed) → length config.tasks ≤ first_counter_line → length image.tasks ≡ length config.tasks
     → image.counters ≡ map (λ c. c.name) config.counters
-    → ((arrivals : List Arrival) → AreArrivals (owners_in config) arrivals → IsSimulation (setting_of config app size image arrivals) R progress × BootLaw (setting_of config app size image arrivals) (R passed) (start image))
+    → ((arrivals : List Arrival) → AreComing (owners_in config) arrivals → IsSimulation (setting_of config app size image arrivals) R progress × BootLaw (setting_of config app size image arrivals) (R passed) (start image))
     → SpentBySizes config app size image
 spent config app size image R progress passed few tasks counters laws = record {
-  each = λ arrivals n longest t are bound declared.
+  each = λ arrivals n longest t are declared.
       let given = setting_of config app size image arrivals in
       spent_of config app size image arrivals R n longest t declared
       (whole_run given (is_setting config app size image arrivals few tasks counters are) R progress (laws arrivals are).0 passed (start image) (laws arrivals are).1 n);

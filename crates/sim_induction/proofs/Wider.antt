@@ -32,7 +32,7 @@ module _ (config : Config) (app : App) (size wider : ItemSizes) (longer : (func 
 
   pub spent_wider : (image : Image) → SpentBySizes config app size image → SpentBySizes config app wider image
   spent_wider image spent = record {
-    each = λ arrivals n longest t are bound declared.
-        let h = spent.each arrivals n longest t are bound declared in
+    each = λ arrivals n longest t are declared.
+        let h = spent.each arrivals n longest t are declared in
         record { last = h.last; to = h.to; left = h.left; each = all_wider longest t 0 0 _ _ h.last h.to h.left h.each };
   }

@@ -6,9 +6,7 @@ use Rattle.sloth_base.specs.declared.image.Image.{Image}
 use Rattle.sloth_base.specs.declared.event.Arrival.{Arrival}
 use Rattle.sloth_base.specs.declared.event.Event.{Event}
 use Rattle.sloth_base.specs.declared.event.Stamped.{Stamped}
-use Rattle.sloth_base.specs.Arrivals.{AreArrivals}
 use Rattle.sloth_base.specs.Events.{is_boot}
-use Rattle.sloth_base.specs.Limits.{count_limit}
 use Rattle.sloth_base.specs.Owners.{owners_in}
 use Rattle.sloth_base.specs.Stretches.{longest_stretch}
 use Rattle.osek_scheduler.specs.State.{System, task, opening}
@@ -20,7 +18,7 @@ use Rattle.event_weights.specs.Events.{stretch_counts}
 use Rattle.event_weights.specs.Items.{length_of, AreLengths}
 use Rattle.event_weights.specs.Pace.{ItemSizes, AreAtMost, next_size_of, gap_counts, EndsInPace}
 use Rattle.sim_induction.specs.Mirror.{IsRunningTask, NoneIsActive}
-use Rattle.sim_induction.specs.Sound.{events_of}
+use Rattle.sim_induction.specs.Sound.{events_of, AreComing}
 use Rattle.sim_induction.specs.Spent.{SpentBySizes}
 
 -- an event behind one that ended at count `at`: how soon its counts begin and end
@@ -57,7 +55,7 @@ pub record KeepsPace (config : Config) (app : App) (size : ItemSizes) (longest n
 
 -- for every list of arrivals and every number of instructions
 pub record Paced (config : Config) (app : App) (size : ItemSizes) (image : Image) : Type 0 where
-  pub each : (arrivals : List Arrival) (n longest : ℕ) → AreArrivals (owners_in config) arrivals → n ≤ count_limit → AreAtMost size longest
+  pub each : (arrivals : List Arrival) (n longest : ℕ) → AreComing (owners_in config) arrivals → AreAtMost size longest
       → KeepsPace config app size longest n (events_of image arrivals n)
 
 -- by the lengths of the items of the task code; no task spends more on an item, over all its pieces between preemptions

@@ -1,14 +1,14 @@
 -- A run of an image is one of the abstract scheduler: the promise of the builder.
-use Rattle.std.specs.Prelude.{ℕ, ◌<◌, ◌≤◌, ◌≡◌, List, Bool, true, filter, map, nat_le, nat_lt, if◌then◌else◌, Some, None}
+use Rattle.std.specs.Prelude.{ℕ, ◌<◌, ◌≡◌, List, Bool, true, filter, map, All, nat_le, nat_lt, if◌then◌else◌, Some, None}
 use Rattle.sloth_base.specs.declared.config.Config.{Config}
 use Rattle.sloth_base.specs.declared.app.App.{App}
 use Rattle.sloth_base.specs.declared.image.Image.{Image}
 use Rattle.sloth_base.specs.declared.event.Arrival.{Arrival}
 use Rattle.sloth_base.specs.declared.event.Stamped.{Stamped}
 use Rattle.sloth_base.specs.Machine.{State}
-use Rattle.sloth_base.specs.Arrivals.{AreArrivals}
-use Rattle.sloth_base.specs.Owners.{owners_in}
-use Rattle.sloth_base.specs.Limits.{count_limit}
+use Rattle.sloth_base.specs.Arrivals.{AreRisingMoments}
+use Rattle.sloth_base.specs.Owners.{owners_in, IsOwned}
+use Rattle.sloth_base.specs.declared.lines.Owners.{Owners}
 use Rattle.rv32_machine.specs.Start.{start}
 use Rattle.rv32_machine.specs.Run.{run, steps_of, state_after, stop_of, state_with_arrivals}
 use Rattle.observe.specs.Observe.{view_of_image, observe}
@@ -40,7 +40,12 @@ pub record IsSoundRun (config : Config) (app : App) (image : Image) (arrivals : 
   pub mirrors : (count : ℕ) (state : State) → count < n → state_after count arrivals (start image) ≡ Some state → state.core.mie ≡ true
       → MirrorsAt config app (filter (stands_before count) (events_of image arrivals n)) (state_with_arrivals arrivals count state)
 
+-- arrivals of lines that have owners, at moments from 1 on that never fall: any number of them
+pub record AreComing (owners : Owners) (arrivals : List Arrival) : Type 0 where
+  pub ordered : AreRisingMoments 1 arrivals
+  pub lines_owned : All (λ a. IsOwned owners a.line) arrivals
+
 -- for every list of arrivals and every number of instructions; the image has the names of the counters
 pub record Sound (config : Config) (app : App) (image : Image) : Type 0 where
   pub counters : image.counters ≡ map (λ c. c.name) config.counters
-  pub each : (arrivals : List Arrival) (n : ℕ) → AreArrivals (owners_in config) arrivals → n ≤ count_limit → IsSoundRun config app image arrivals n
+  pub each : (arrivals : List Arrival) (n : ℕ) → AreComing (owners_in config) arrivals → IsSoundRun config app image arrivals n

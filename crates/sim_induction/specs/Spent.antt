@@ -7,9 +7,7 @@ use Rattle.sloth_base.specs.declared.event.Arrival.{Arrival}
 use Rattle.sloth_base.specs.declared.event.Event.{Event}
 use Rattle.sloth_base.specs.declared.event.Event.TheVariants as event
 use Rattle.sloth_base.specs.declared.event.Stamped.{Stamped}
-use Rattle.sloth_base.specs.Arrivals.{AreArrivals}
 use Rattle.sloth_base.specs.Events.{entered_task}
-use Rattle.sloth_base.specs.Limits.{count_limit}
 use Rattle.sloth_base.specs.Options.{is_number}
 use Rattle.sloth_base.specs.Owners.{owners_in}
 use Rattle.osek_scheduler.specs.State.{System, task, opening}
@@ -19,7 +17,7 @@ use Rattle.osek_scheduler.specs.Priority.{is_active, rank}
 use Rattle.osek_scheduler.specs.Steps.{OsekStep}
 use Rattle.raised_sections.specs.Pace.{takes_line}
 use Rattle.event_weights.specs.Pace.{ItemSizes, next_size_of, gap_counts, paced_counts}
-use Rattle.sim_induction.specs.Sound.{events_of}
+use Rattle.sim_induction.specs.Sound.{events_of, AreComing}
 
 -- ---- whose counts they are
 
@@ -89,5 +87,5 @@ pub record SpendsOnItems (config : Config) (app : App) (size : ItemSizes) (longe
 
 -- for every list of arrivals and every number of instructions
 pub record SpentBySizes (config : Config) (app : App) (size : ItemSizes) (image : Image) : Type 0 where
-  pub each : (arrivals : List Arrival) (n longest t : ℕ) → AreArrivals (owners_in config) arrivals → n ≤ count_limit → t < length config.tasks
+  pub each : (arrivals : List Arrival) (n longest t : ℕ) → AreComing (owners_in config) arrivals → t < length config.tasks
       → SpendsOnItems config app size longest t (events_of image arrivals n)

@@ -1,18 +1,16 @@
 -- No run has a stretch that takes more counts than its weight: a further promise of the builder.
-use Rattle.std.specs.Prelude.{ℕ, ◌+◌, ◌<◌, ◌≤◌, ◌≡◌, max, List, [], ◌∷◌, ◌++◌}
+use Rattle.std.specs.Prelude.{ℕ, ◌+◌, ◌<◌, ◌≡◌, max, List, [], ◌∷◌, ◌++◌}
 use Rattle.sloth_base.specs.declared.config.Config.{Config}
 use Rattle.sloth_base.specs.declared.app.App.{App}
 use Rattle.sloth_base.specs.declared.image.Image.{Image}
 use Rattle.sloth_base.specs.declared.event.Arrival.{Arrival}
 use Rattle.sloth_base.specs.declared.event.Stamped.{Stamped}
-use Rattle.sloth_base.specs.Arrivals.{AreArrivals}
-use Rattle.sloth_base.specs.Limits.{count_limit}
 use Rattle.sloth_base.specs.Owners.{owners_in}
 use Rattle.osek_scheduler.specs.State.{System, opening}
 use Rattle.osek_scheduler.specs.Steps.{OsekStep}
 use Rattle.osek_scheduler.specs.Runs.{AreStepsTo}
 use Rattle.event_weights.specs.Events.{stretch_counts}
-use Rattle.sim_induction.specs.Sound.{events_of}
+use Rattle.sim_induction.specs.Sound.{events_of, AreComing}
 
 -- an event that finds this state spans no more counts than its stretch may take; one without a stretch spans one
 abbrev pub IsWithinWeight : Config → App → (found : System) → Stamped → Type 0
@@ -26,7 +24,7 @@ AreWithinWeights config app events =
 
 -- for every list of arrivals and every number of instructions
 pub record Weighed (config : Config) (app : App) (image : Image) : Type 0 where
-  pub each : (arrivals : List Arrival) (n : ℕ) → AreArrivals (owners_in config) arrivals → n ≤ count_limit → AreWithinWeights config app (events_of image arrivals n)
+  pub each : (arrivals : List Arrival) (n : ℕ) → AreComing (owners_in config) arrivals → AreWithinWeights config app (events_of image arrivals n)
 
 -- these events lead from s to `end`, as steps within their weights
 abbrev pub AreWeighedTo : Config → App → List Stamped → System → System → Type 0

@@ -1,6 +1,23 @@
 //! Laws of the definitions.
+ghost use Rattle.std.specs.Prelude.{List};
+ghost use Rattle.sloth_base.specs.Arrivals.{AreArrivals};
+ghost use Rattle.sloth_base.specs.declared.event.Arrival.{Arrival};
+ghost use Rattle.sloth_base.specs.declared.lines.Owners.{Owners};
+ghost use Rattle.sim_induction.specs.Endless.{SoundForEver};
 ghost use Rattle.sim_induction.specs.Observed.{StretchesAreTraced};
 ghost use Rattle.sim_induction.specs.Passing.{StaysTop, PassesOverInner};
+ghost use Rattle.sim_induction.specs.Sound.{AreComing};
+
+/// The arrivals that a file may have are among those with which each run of an image is sound.
+pub fn arrivals_of_files_come()
+    ensures { (owners : Owners) (arrivals : List Arrival) → AreArrivals owners arrivals → AreComing owners arrivals }
+{}
+
+/// A sound image runs for ever: of arrivals without end, at moments that never fall and pass every bound, so many come before
+/// its first n instructions, for every n, are executed; these are a sound run, and what comes later changes nothing of them.
+pub fn sound_images_run_for_ever()
+    ensures { SoundForEver }
+{}
 
 /// Of the arrivals inside a stretch those that come before a step which touches their line are the early ones of the
 /// trace of the stretch, and the others its late ones.

@@ -9,7 +9,8 @@
 //! told from what is seen of its steps: `specs/Observed`; that no stretch takes more counts than its weight: `Weighed`
 //! (`specs/Weighed`), by the weights of `event_weights`; that each event ends soon behind the one before it: `Paced`, `InPace` (`specs/Paced`); that
 //! a task spends no more on an item than it has, over all pieces between preemptions: `SpentBySizes` (`specs/Spent`). For that the relation is one for
-//! each bound on what preempted tasks have passed (`Passed`, `specs/PieceLaws`). Public laws: `top_task_stays`, `stretches_are_traced`.
+//! each bound on what preempted tasks have passed (`Passed`, `specs/PieceLaws`). All this has no limit of counts or of arrivals (`AreComing`), so a run goes on
+//! for ever (`specs/Endless`). Public laws: `arrivals_of_files_come`, `sound_images_run_for_ever`, `top_task_stays`, `stretches_are_traced`.
 #![tactic(auto)]
 
 pub mod laws;

@@ -4,7 +4,7 @@ use Rattle.std.specs.Prelude.{map, replicate}
 use Rattle.sloth_base.specs.declared.event.Arrival.{Arrival}
 use Rattle.sloth_base.specs.declared.image.Image.{Image}
 use Rattle.sloth_base.specs.Owners.{owners_in}
-use Rattle.sloth_base.specs.Arrivals.{moments, AreArrivals}
+use Rattle.sloth_base.specs.Arrivals.{moments}
 use Rattle.sloth_base.specs.Machine.{State}
 use Rattle.sloth_region.specs.Layout.{cur}
 use Rattle.rv32_instr.specs.Ram.{word_at}
@@ -15,12 +15,12 @@ use Rattle.rv32_expand.proofs.Counts.{size_is, size_few}
 use Rattle.rv32_expand.proofs.InRangeOf.{frame_of}
 use Rattle.rv32_expand.specs.Expansion.{item_address, is_long, expansion}
 use Rattle.sloth_base.specs.Named.{operation}
-use Rattle.sloth_base.specs.Limits.{count_limit, unseen_counts}
+use Rattle.sloth_base.specs.Limits.{unseen_counts}
 use Rattle.sloth_base.specs.MemoryMap.{line_count}
 use Rattle.observe.specs.Observe.{View, view_of_image}
 use Rattle.osek_scheduler.specs.State.{Frame, System, task, opening}
 use Rattle.osek_scheduler.specs.Runs.{AreStepsTo}
-use Rattle.sim_induction.specs.Sound.{Sound, events_of, stands_before}
+use Rattle.sim_induction.specs.Sound.{AreComing, Sound, events_of, stands_before}
 use Rattle.sim_induction.specs.Weighed.{Weighed}
 use Rattle.sim_induction.specs.Paced.{Paced}
 use Rattle.sim_induction.specs.Admits.{IsSetting, lines_at, with_admits, admit_event}
@@ -161,11 +161,11 @@ module _ (b : Build) (image : Image) (kernel : Kernel b image) where
       (λ arrivals are. let setting = is_setting b.config b.app (item_words b) image arrivals kernel.fits.few_tasks kernel.tasks kernel.counters are in (simulation arrivals setting, booting arrivals setting))
 
   -- at each count that finds MIE 1 the relation stands
-  pub stands_kernel : (arrivals : List Arrival) (n count : ℕ) (state : State) → AreArrivals (owners_in b.config) arrivals → n ≤ count_limit → count < n
+  pub stands_kernel : (arrivals : List Arrival) (n count : ℕ) (state : State) → AreComing (owners_in b.config) arrivals → count < n
       → state_after count arrivals (start image) ≡ Some state → state.core.mie ≡ true
       → (s : System) × AreStepsTo b.config b.app (filter (stands_before count) (events_of image arrivals n)) (opening b.config b.app) s
       × StandsNested (with_passed b nothing) (state_with_arrivals arrivals count state) s
-  stands_kernel arrivals n count state are bound before after enabled =
+  stands_kernel arrivals n count state are before after enabled =
       let setting = is_setting b.config b.app (item_words b) image arrivals kernel.fits.few_tasks kernel.tasks kernel.counters are in
       let whole = whole_run (setting_of b view arrivals) setting R (progress_in b) (simulation arrivals setting) nothing (start image) (booting arrivals setting) n in
       let found = whole.mirrors count before state after enabled in

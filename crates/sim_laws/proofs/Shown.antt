@@ -48,8 +48,8 @@ system_shown b state s stands = record {
 
 pub kernel_shows : KernelHasTaskStates
 kernel_shows b image kernel = record {
-  each = λ arrivals n count state s are few before after enabled leads.
-      let found = stands_kernel b image kernel arrivals n count state are few before after enabled in
+  each = λ arrivals n count state s are before after enabled leads.
+      let found = stands_kernel b image kernel arrivals n count state are before after enabled in
       let same : found.0 ≡ s = one_end b.config b.app _ (opening b.config b.app) found.0 s found.1 leads in
       subst (λ (x : System). ShowsSystem b.config (state_with_arrivals arrivals count state).core x) same
       (system_shown (with_passed b (λ t. 0)) (state_with_arrivals arrivals count state) found.0 found.2.stands);

@@ -1,7 +1,7 @@
 //! The program: its words go to the top call, and its status is how it ends.
 #![tactic(auto)]
 
-use sloth_cli::program::run_program;
+use sloth_cli::run_program;
 use std::process::ExitCode;
 
 fn main(rt: HostRuntime) -> ExitCode {

@@ -1,9 +1,6 @@
 //! Task code: functions of items, and named data.
 
-use crate::list::List;
-use crate::name::Name;
-use crate::numbers::{FuncId, Reg, ResId, SymId, TaskId};
-use crate::service::Service;
+use crate::{FuncId, List, Name, Reg, ResId, Service, SymId, TaskId};
 
 /// An operation on two registers.
 #[derive(Clone, Copy)]

@@ -1,8 +1,6 @@
 //! A configuration: what an OIL text declares (OIL 2.5).
 
-use crate::list::List;
-use crate::name::Name;
-use crate::numbers::{ResId, TaskId};
+use crate::{List, Name, ResId, TaskId};
 
 /// A TASK object.
 #[derive(Drop)]

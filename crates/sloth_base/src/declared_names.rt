@@ -2,11 +2,7 @@
 ghost use Rattle.std.specs.Prelude.{◌≡◌, ◌++◌, ◌∷◌, [], IfOk, OnOk};
 ghost use Rattle.sloth_base.specs.DeclaredNames.{AreNamesOf, counter_names, function_names, task_names};
 
-use crate::app::App;
-use crate::config::Config;
-use crate::list::List;
-use crate::memory::NoMemory;
-use crate::name::Name;
+use crate::{App, Config, List, Name, NoMemory};
 use std::alloc::{AllocError, Global};
 
 /// The names of the tasks, the functions and the counters.

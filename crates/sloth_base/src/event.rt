@@ -1,7 +1,6 @@
 //! Arrivals, and the events that are observed in a run.
 
-use crate::numbers::Line;
-use crate::service::Service;
+use crate::{Line, Service};
 
 /// An interrupt line is raised before the instruction of count `at`, 1 to `COUNT_LIMIT`.
 #[derive(Clone, Copy)]

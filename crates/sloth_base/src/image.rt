@@ -1,7 +1,6 @@
 //! The memory image and its marks.
 
-use crate::list::List;
-use crate::name::Name;
+use crate::{List, Name};
 
 /// What a mark says of the instruction at its address.
 #[derive(Clone, Copy)]

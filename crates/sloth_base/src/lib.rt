@@ -1,7 +1,7 @@
 //! Plain data of `sloth`: names and numbers, configurations, task code, images, states of the machine, and what is observed of a run.
 //!
-//! A copy equals what it is of, a list holds its items, a service has its number (`Config::copy`, `App::copy`, `List`, `Name`, `is_name`,
-//! `Service::code`, `from_code`).
+//! A copy equals what it is of, a list holds its items, a service has its number, a number names what is declared there (`Config::copy`,
+//! `App::copy`, `List`, `Name`, `is_name`, `Service::code`, `from_code`, `Config::task_name`, `App::function`, `Func::op`).
 //!
 //! What many crates speak of is defined here: what is in range (`specs/ConfigRange`, `specs/ImageRange`, `specs/Arrivals`); the machine's state, its
 //! controller and the taking of a line (`specs/Machine`, `specs/Lines`, `specs/Choose`, `specs/Take`, `specs/Arrive`); words of 32 bits
@@ -20,6 +20,7 @@ pub mod image;
 pub mod limits;
 pub mod lines;
 pub mod list;
+mod lookups;
 pub mod memory;
 pub mod memory_map;
 pub mod name;
@@ -28,3 +29,30 @@ pub mod places;
 pub mod refusal;
 pub mod service;
 pub mod step;
+
+pub use app::{AluKind, App, BranchKind, Call, Func, ImmKind, Item, Label, Op, Symbol, Width};
+pub use config::{Action, AlarmDecl, Config, CounterDecl, EventDecl, TaskDecl};
+pub use declared_names::{DeclaredNames, counter_names, task_names};
+pub use event::{Arrival, Event, Stamp, Stamped};
+pub use image::{Image, Mark, MarkKind};
+pub use limits::{
+    ALARM_INSTRUCTIONS, ALARM_LIMIT, ARRIVAL_LIMIT, BODY_LIMIT, BOOT_INSTRUCTIONS, CEILING_COUNT,
+    COUNT_LIMIT, COUNTER_LIMIT, DATA_LIMIT, EVENT_LIMIT, FILE_LIMIT, FRAME_LIMIT, ITEM_COUNTS,
+    ITEM_LIMIT, MARK_LIMIT, MASK_LIMIT, NAME_LIMIT, OPERAND_LIMIT, PICTURE_LIMIT, PRIORITY_LIMIT,
+    RESOURCE_LIMIT, SIZE_LIMIT, STRETCH_INSTRUCTIONS, SYMBOL_LIMIT, TASK_LIMIT, TICK_LIMIT,
+};
+pub use lines::{FIRST_COUNTER_LINE, LineKind};
+pub use list::List;
+pub use memory::NoMemory;
+pub use memory_map::{
+    BOOT_BASE, CONTROLLER_BASE, CONTROLLER_BYTES, ENABLED_OFFSET, LEVELS_OFFSET, LINE_COUNT,
+    MEMORY_BASE, MEMORY_BYTES, MEMORY_END, VECTORS_BASE, WORD, WORDS_BASE,
+};
+pub use name::{Name, is_name};
+pub use numbers::{FuncId, Line, RES_SCHEDULER, Reg, ResId, SymId, TaskId};
+pub use places::{BLOCK_COUNT, Bounds, Levels, Places, block_number, block_object, block_service};
+pub use refusal::{BuildError, Code, Part, Refusal};
+pub use service::{
+    E_OK, E_OS_LIMIT, E_OS_NOFUNC, E_OS_STATE, E_OS_VALUE, ObjectKind, Service, service_named,
+};
+pub use step::Step;

@@ -2,8 +2,7 @@
 ghost use Rattle.std.specs.Prelude.{◌≡◌};
 ghost use Rattle.sloth_base.specs.Owners.{line_kind};
 
-use crate::limits::TASK_LIMIT;
-use crate::numbers::Line;
+use crate::{Line, TASK_LIMIT};
 
 /// What a line is for.
 #[derive(Clone, Copy)]

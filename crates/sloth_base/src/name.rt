@@ -2,8 +2,7 @@
 ghost use Rattle.std.specs.Prelude.{◌≡◌, ◌↔◌, IsTrue, IfOk};
 ghost use Rattle.sloth_base.specs.ImageRange.{begins_word, continues_word, IsName};
 
-use crate::limits::NAME_LIMIT;
-use crate::memory::NoMemory;
+use crate::{NAME_LIMIT, NoMemory};
 use std::alloc::Global;
 use std::marker::Model;
 

@@ -1,6 +1,6 @@
 //! Numbers that name things. Contracts see each as its number.
 
-use crate::limits::RESOURCE_LIMIT;
+use crate::RESOURCE_LIMIT;
 use std::marker::Model;
 
 /// A task: its place among the TASK objects of the configuration, from 0. Its interrupt line has the same number.

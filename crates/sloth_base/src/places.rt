@@ -3,9 +3,7 @@
 ghost use Rattle.std.specs.Prelude.{◌≡◌, ◌<◌};
 ghost use Rattle.sloth_base.specs.Blocks.{block_count, block_number, block_service, block_object};
 
-use crate::limits::{CEILING_COUNT, TASK_LIMIT};
-use crate::list::List;
-use crate::service::Service;
+use crate::{CEILING_COUNT, List, Service, TASK_LIMIT};
 
 /// The places that a service has in the table of the services' code, one for each object.
 pub const BLOCK_OBJECTS: u32 = 40;

@@ -2,7 +2,7 @@
 ghost use Rattle.std.specs.Prelude.{◌≡◌};
 ghost use Rattle.sloth_base.specs.declared.refusal.BuildError.TheVariants.{Memory};
 
-use crate::memory::NoMemory;
+use crate::NoMemory;
 
 /// The text that is at fault: the configuration, the task code, the arrivals or the load.
 #[derive(Clone, Copy)]

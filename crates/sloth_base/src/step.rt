@@ -1,6 +1,6 @@
 //! What is seen of one step of the machine.
 
-use crate::numbers::Line;
+use crate::Line;
 
 /// One step: the line taken before it, if one was, and the instruction executed.
 #[derive(Clone, Copy)]

@@ -8,13 +8,10 @@ use crate::services::services;
 use crate::ticks::ticks;
 use mem_map::wanted_blocks;
 use rv32_instr::Block;
-use sloth_base::app::App;
-use sloth_base::config::Config;
-use sloth_base::memory::NoMemory;
-use sloth_base::places::Levels;
-use sloth_region::map::Map;
+use sloth_base::{App, Config, Levels, NoMemory};
+use sloth_region::Map;
 use std::alloc::Global;
-use text_pieces::growth::push;
+use text_pieces::push;
 use vector_gen::{boot, idle, vectors};
 
 // Appends blocks behind others.

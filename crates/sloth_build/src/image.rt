@@ -14,11 +14,7 @@ ghost use Rattle.sloth_build.specs.ImageOf.{IsOfPlannedMap};
 use crate::gathering::gather;
 use mem_map::plan;
 use prio_levels::assign;
-use sloth_base::app::App;
-use sloth_base::config::Config;
-use sloth_base::image::Image;
-use sloth_base::memory::NoMemory;
-use sloth_base::places::Bounds;
+use sloth_base::{App, Bounds, Config, Image, NoMemory};
 use sloth_link::link;
 use std::alloc::Global;
 

@@ -3,14 +3,10 @@ ghost use Rattle.std.specs.Prelude.{◌≡◌, ◌<◌, IfOk, length};
 ghost use Rattle.sloth_build.specs.Prologues.{MayStartTasks, IsPrologue, Each};
 
 use rv32_instr::Block;
-use sloth_base::app::App;
-use sloth_base::config::Config;
-use sloth_base::memory::NoMemory;
-use sloth_base::numbers::TaskId;
-use sloth_base::places::Levels;
-use sloth_region::map::Map;
+use sloth_base::{App, Config, Levels, NoMemory, TaskId};
+use sloth_region::Map;
 use std::alloc::Global;
-use text_pieces::growth::push;
+use text_pieces::push;
 use vector_gen::prologue;
 
 // The prologue of one task.

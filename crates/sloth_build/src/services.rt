@@ -6,12 +6,10 @@ ghost use Rattle.sloth_build.specs.Services.{IsServiceNumber, AreServed, IsServi
 
 use rv32_instr::Block;
 use service_gen::block;
-use sloth_base::config::Config;
-use sloth_base::memory::NoMemory;
-use sloth_base::places::{BLOCK_COUNT, Levels, block_object, block_service};
-use sloth_region::map::Map;
+use sloth_base::{BLOCK_COUNT, Config, Levels, NoMemory, block_object, block_service};
+use sloth_region::Map;
 use std::alloc::Global;
-use text_pieces::growth::push;
+use text_pieces::push;
 
 // The code of a service by its place.
 fn one(

@@ -5,13 +5,11 @@ ghost use Rattle.sloth_build.specs.Prologues.{Each};
 ghost use Rattle.sloth_build.specs.Ticks.{IsTickBlock};
 
 use rv32_instr::Block;
-use service_gen::alarm_block::tick;
-use sloth_base::config::Config;
-use sloth_base::memory::NoMemory;
-use sloth_base::places::Levels;
-use sloth_region::map::Map;
+use service_gen::tick;
+use sloth_base::{Config, Levels, NoMemory};
+use sloth_region::Map;
 use std::alloc::Global;
-use text_pieces::growth::push;
+use text_pieces::push;
 
 // The tick of one counter.
 fn one(

@@ -8,13 +8,11 @@ ghost use Rattle.core_commands.specs.ProgramRun.{IsProgramRun};
 ghost use Rattle.sloth_commands.specs.ToolFiles.{IsToolAnswer};
 ghost use Rattle.sloth_cli.specs.ProgramRun.{HasProgramRun};
 
-use crate::top::sloth_top;
-use core_commands::program::words_given;
-use debug_command::debug_words;
-use debug_command::program::debug_over;
-use debug_session::byte_reader::ByteReader;
-use sloth_io::file_store::FileStore;
-use sloth_io::out_sink::OutSink;
+use crate::sloth_top;
+use core_commands::words_given;
+use debug_command::{debug_over, debug_words};
+use debug_session::ByteReader;
+use sloth_io::{FileStore, OutSink};
 use std::alloc::Global;
 use std::env::Env;
 use std::process::ExitCode;

@@ -7,19 +7,18 @@ ghost use Rattle.core_commands.specs.CommandFiles.{ReadsInOrder};
 ghost use Rattle.core_commands.specs.Top.{world, IsTopAnswer, HasUsageAnswer, HasOverwriteAnswer, HasRefusalAnswer, IsComplete};
 ghost use Rattle.core_commands.specs.ImageAnswers.{HasImageFaultAnswer, HasNoImageAnswer, HasExecRefusedAnswer, HasExecutedAnswer, HasListedAnswer};
 ghost use Rattle.core_commands.specs.SampleAnswers.{HasSampleRefusedAnswer, HasSampledAnswer};
+ghost use Rattle.sloth_commands.specs.BuiltResponses.{BuiltRunsKeepResponses};
 ghost use Rattle.sloth_commands.specs.BuiltRuns.{BuiltRunsAreChecked, BuiltRunsKeepBlockingBounds};
 ghost use Rattle.sloth_commands.specs.ToolAnswers.{HasToolAnswer, HasToolDoneAnswer};
 ghost use Rattle.sloth_commands.specs.ToolFiles.{IsToolAnswer};
 ghost use Rattle.sloth_commands.specs.ToolLines.{HasToolLines};
 
-use command_line::command::{CommandWords, command};
+use command_line::CommandWords;
+use command_line::command::command;
 use command_line::tool::ToolWords;
-use core_commands::core_top;
-use core_commands::ending::{close, finish, say};
-use core_commands::own_output::is_tool_input;
-use sloth_commands::tool_command::use_tool;
-use sloth_io::sink::Sink;
-use sloth_io::store::Store;
+use core_commands::{close, core_top, finish, is_tool_input, say};
+use sloth_commands::use_tool;
+use sloth_io::{Sink, Store};
 use std::alloc::Global;
 use tool_answers::Status;
 
@@ -106,6 +105,7 @@ pub fn sloth_top<F: Store, S: Sink>(
         (world (call_files (F.seen files.old) (F.seen files.new)) (S.seen out.old)) (world (F.seen files.new) (S.seen out.new))
         (S.pieces out.old) (S.pieces out.new) result }
     ensures bounds { BuiltRunsKeepBlockingBounds }
+    ensures responses { BuiltRunsKeepResponses }
     ensures checked { BuiltRunsAreChecked }
 {
     answer(alloc, words, files, out)

@@ -4,8 +4,8 @@ use Rattle.sloth_commands.specs.BuiltRuns.{BuiltRunsAreChecked, BuiltRunsKeepBlo
 use Rattle.sloth_commands.proofs.Printed.{runs_are_checked}
 
 pub built-keep-bounds : BuiltRunsKeepBlockingBounds
-built-keep-bounds config app image built arrivals n in_range few =
-    keeps_blocking_bounds config app image arrivals n built.well_formed (built.sound.each arrivals n in_range few)
+built-keep-bounds config app image built arrivals n are =
+    keeps_blocking_bounds config app image arrivals n built.well_formed (built.sound.each arrivals n are)
 
 pub built-are-checked : BuiltRunsAreChecked
 built-are-checked config app image built =

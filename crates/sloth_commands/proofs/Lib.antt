@@ -6,3 +6,4 @@ mod TaskDeclared
 mod Registers
 mod Printed
 pub mod BuiltRuns
+pub mod BuiltResponses

@@ -15,7 +15,6 @@ use Rattle.sloth_base.specs.declared.event.Event.{Event}
 use Rattle.sloth_base.specs.declared.event.Event.TheVariants as event
 use Rattle.sloth_base.specs.declared.event.Stamped.{Stamped}
 use Rattle.sloth_base.specs.Events.{named_task}
-use Rattle.sloth_base.specs.Limits.{count_limit}
 use Rattle.osek_scheduler.specs.State.{System, opening}
 use Rattle.osek_scheduler.specs.Steps.{OsekStep}
 use Rattle.osek_scheduler.specs.Runs.{AreStepsBehind}
@@ -85,7 +84,7 @@ module _ (config : Config) (app : App) (in_range : AppInRange config app) where
       let at = counter_place c step.1.declared in record { word = at.word; names = inl at.inside }
   numbers_of e s next step value = numbered (named_task e) (task_declared config app e s next step)
 
-  lines_of_run : (n : ℕ) → n ≤ count_limit → (past events : List Stamped) (s end : System) → AreStepsBehind config app past s events end → All (IsStamped n) events
+  lines_of_run : (n : ℕ) → Has32Bits n → (past events : List Stamped) (s end : System) → AreStepsBehind config app past s events end → All (IsStamped n) events
       → AllByRecursion HasValueAt events → All (HasLine (task_names config) (function_names app) (counter_names config)) events
   lines_of_run n few past [] s end h stamped values = λ k d l. absurd (omega (arith, l))
   lines_of_run n few past (e ∷ events) s end h stamped values =
@@ -98,7 +97,7 @@ module _ (config : Config) (app : App) (in_range : AppInRange config app) where
 
 pub runs_are_checked : SoundRunsAreChecked
 runs_are_checked config app image in_range sound items bytes arrivals n are few =
-    let run = sound.each arrivals n are few in
+    let run = sound.each arrivals n are in
     let events = events_of image arrivals n in
     record {
       events = events;

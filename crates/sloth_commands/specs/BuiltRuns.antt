@@ -1,21 +1,19 @@
 -- What every run of an image that is built keeps and prints.
-use Rattle.std.specs.Prelude.{ℕ, ◌≤◌, List}
-use Rattle.sloth_base.specs.Arrivals.{AreArrivals}
+use Rattle.std.specs.Prelude.{ℕ, List}
 use Rattle.sloth_base.specs.Owners.{owners_in}
 use Rattle.sloth_base.specs.declared.app.App.{App}
 use Rattle.sloth_base.specs.declared.config.Config.{Config}
 use Rattle.sloth_base.specs.declared.event.Arrival.{Arrival}
 use Rattle.sloth_base.specs.declared.image.Image.{Image}
-use Rattle.sloth_base.specs.Limits.{count_limit}
 use Rattle.run_counts.specs.BlockingBounds.{KeepsBlockingBounds}
-use Rattle.sim_induction.specs.Sound.{events_of}
+use Rattle.sim_induction.specs.Sound.{AreComing, events_of}
 use Rattle.core_commands.specs.Top.{IsBuiltImage}
 use Rattle.sloth_commands.specs.CheckedRuns.{RunsAreChecked}
 
 -- in every run of an image, whatever lines arrive, the observed events keep the blocking bounds of the tasks
 abbrev pub RunsKeepBlockingBounds : Config → App → Image → Type 0
 RunsKeepBlockingBounds config app image =
-    (arrivals : List Arrival) (n : ℕ) → AreArrivals (owners_in config) arrivals → n ≤ count_limit
+    (arrivals : List Arrival) (n : ℕ) → AreComing (owners_in config) arrivals
     → KeepsBlockingBounds config app n (events_of image arrivals n)
 
 -- a Ready task of an image that is built waits for no more work of lower tasks than its bound

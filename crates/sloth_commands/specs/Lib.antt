@@ -4,3 +4,4 @@ pub mod ToolLines
 pub mod PrintedMap
 pub mod CheckedRuns
 pub mod BuiltRuns
+pub mod BuiltResponses

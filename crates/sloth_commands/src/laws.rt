@@ -1,4 +1,5 @@
 //! Laws of the definitions.
+ghost use Rattle.sloth_commands.specs.BuiltResponses.{BuiltRunsKeepResponses};
 ghost use Rattle.sloth_commands.specs.BuiltRuns.{BuiltRunsAreChecked, BuiltRunsKeepBlockingBounds};
 ghost use Rattle.sloth_commands.specs.CheckedRuns.{SoundRunsAreChecked};
 ghost use Rattle.sloth_commands.specs.PrintedMap.{PrintsMapOfImage};
@@ -13,6 +14,11 @@ pub fn prints_map_of_image()
 /// on the way.
 pub fn built_runs_keep_blocking_bounds()
     ensures { BuiltRunsKeepBlockingBounds }
+{}
+
+/// Every run of an image that is built keeps what `response` tells of its texts and a load, if it keeps the load.
+pub fn built_runs_keep_responses()
+    ensures { BuiltRunsKeepResponses }
 {}
 
 /// The text of a run of a sound image, in the counted form, is that of a run of the abstract scheduler in which the arrivals are admitted in

@@ -6,7 +6,8 @@
 //!
 //! Laws of every image that is built tell of its runs what tools print or judge (`laws`). Each run keeps the blocking bounds
 //! (`built_runs_keep_blocking_bounds`), and its text is that of a run of the abstract scheduler with the arrivals in time, so `check` answers yes
-//! (`built_runs_are_checked`; of any sound image with its items in place `runs_are_checked`): `specs/BuiltRuns`, `specs/CheckedRuns`. And the map that `map`
+//! (`built_runs_are_checked`; of any sound image with its items in place `runs_are_checked`): `specs/BuiltRuns`, `specs/CheckedRuns`. Those that keep a load keep the
+//! response times that `response` tells of its texts (`built_runs_keep_responses`; `specs/BuiltResponses`). And the map that `map`
 //! prints of texts is that by which each piece of their image stands (`prints_map_of_image`; `specs/PrintedMap`).
 //!
 //! What the top call promises of tools: `specs/ToolFiles` (`IsToolAnswer`, the table of tools that the definitions of `core_commands` take), `specs/ToolAnswers`,
@@ -15,3 +16,5 @@
 
 pub mod laws;
 pub mod tool_command;
+
+pub use tool_command::use_tool;

@@ -15,19 +15,15 @@ ghost use Rattle.core_commands.specs.Failures.{IsReadFailure, IsOutputFailure, I
 ghost use Rattle.sloth_commands.specs.ToolFiles.{IsToolAnswer};
 ghost use Rattle.sloth_commands.specs.ToolLines.{IsAnswerUntold, IsToldByLine, IsToolUntold};
 
-use command_line::last_line::{no_image_line, refusal_line};
-use command_line::tool::{ToolWords, file_words};
-use core_commands::failure::Failure;
-use core_commands::inputs::fetch;
-use sloth_base::list::List;
-use sloth_io::lines::put_lines;
-use sloth_io::sink::Sink;
-use sloth_io::store::Store;
+use command_line::tool::ToolWords;
+use command_line::{file_words, no_image_line, refusal_line};
+use core_commands::{Failure, fetch};
+use sloth_base::List;
+use sloth_io::{Sink, Store, put_lines};
 use std::alloc::Global;
 use tool_answers::{Outcome, Status, ToolAnswer};
-use tool_commands::judge;
-use tool_commands::lines::{bad_trace_line, no_elf_line};
-use trace_text::stop_line::stopped_line;
+use tool_commands::{bad_trace_line, judge, no_elf_line};
+use trace_text::stopped_line;
 
 // The bytes of these files, in their order.
 fn fetch_all<F: Store>(

@@ -11,13 +11,12 @@ ghost use Rattle.sloth_inspect.specs.States.{state_in, states_in, running_number
 pub mod service_words;
 pub mod state_numbers;
 
-use osek_scheduler::state::TaskState;
+use osek_scheduler::TaskState;
 use rv32_machine::{Bus, SlothBus};
-use sloth_base::app::Width;
-use sloth_base::limits::TASK_LIMIT;
-use sloth_base::memory_map::MEMORY_BASE;
-use sloth_base::numbers::Line;
-use sloth_region::layout::{CUR, active, wait};
+pub use service_words::ServiceWords;
+use sloth_base::{Line, MEMORY_BASE, TASK_LIMIT, Width};
+use sloth_region::{CUR, active, wait};
+pub use state_numbers::state_number;
 
 // The word at an offset in RAM.
 pub(crate) fn word(bus: &mut SlothBus, offset: u32) -> u32

@@ -7,8 +7,8 @@ ghost use Rattle.sloth_inspect.specs.ServiceWords.{event_words, counter_words, a
 
 use crate::word;
 use rv32_machine::SlothBus;
-use sloth_base::limits::{ALARM_LIMIT, COUNTER_LIMIT, TASK_LIMIT};
-use sloth_region::layout::{alarm_left, counter_value, events};
+use sloth_base::{ALARM_LIMIT, COUNTER_LIMIT, TASK_LIMIT};
+use sloth_region::{alarm_left, counter_value, events};
 
 /// What the service words say of events, counters and alarms.
 #[derive(Clone, Copy)]

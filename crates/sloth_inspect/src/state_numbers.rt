@@ -2,7 +2,7 @@
 ghost use Rattle.std.specs.Prelude.{◌≡◌};
 ghost use Rattle.sloth_inspect.specs.StateNumbers.{state_number};
 
-use osek_scheduler::state::TaskState;
+use osek_scheduler::TaskState;
 
 /// The number of a task's state, in two binary digits.
 pub fn state_number(state: TaskState) -> u8

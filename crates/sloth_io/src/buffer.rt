@@ -1,7 +1,7 @@
 //! Bytes in a space that is reserved.
 ghost use Rattle.std.specs.Prelude.{◌≡◌, ◌≤◌, ◌+◌, ◌++◌, [], IfOk, length, vec_len, vec_capacity, nat_le, if◌then◌else◌};
 
-use sloth_base::memory::NoMemory;
+use sloth_base::NoMemory;
 use std::alloc::Global;
 
 /// Bytes, in a space that is reserved as the buffer is made. Calls on it take no memory.

@@ -3,8 +3,8 @@ ghost use Rattle.std.specs.Prelude.{◌≡◌, ◌++◌, [], OnErr, OnOk};
 ghost use Rattle.std.specs.Io.KnownBytes.{Appends};
 ghost use Rattle.sloth_io.specs.Buffered.{PassesOn, BreaksOff};
 
+use crate::SinkFault;
 use crate::backlog::{Backlog, MOST};
-use crate::sink::SinkFault;
 use crate::whole_files::write_whole;
 use std::io::Write;
 

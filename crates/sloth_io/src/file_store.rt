@@ -8,8 +8,8 @@ ghost use Rattle.sloth_io.specs.FileStore.{shown_files, taken_bytes, untold_file
 
 use crate::history::History;
 use crate::replaced_files::replace_file;
-use crate::store::{Store, StoreFault};
 use crate::whole_files::read_whole;
+use crate::{Store, StoreFault};
 use std::alloc::Global;
 use std::fs;
 use std::os::unix::fs::MetadataExt;

@@ -35,3 +35,12 @@ pub mod sink;
 pub mod slots;
 pub mod store;
 mod whole_files;
+
+pub use file_store::FileStore;
+pub use lines::put_lines;
+pub use mem_sink::MemSink;
+pub use mem_store::MemStore;
+pub use out_sink::OutSink;
+pub use sink::{Sink, SinkFault};
+pub use slots::MemFile;
+pub use store::{Store, StoreFault};

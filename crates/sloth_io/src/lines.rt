@@ -3,7 +3,7 @@ ghost use Rattle.std.specs.Prelude.{◌≡◌, ◌<◌, ◌≤◌, ◌++◌, OnE
 ghost use Rattle.sloth_io.specs.Sink.{output_with, GainsPart};
 ghost use Rattle.sloth_io.specs.Lines.{lines_in, line_size, BreaksOffInLine};
 
-use crate::sink::{Sink, SinkFault};
+use crate::{Sink, SinkFault};
 
 // The number of bytes of the first line of a text, with its LF.
 fn line_length(text: &[u8]) -> usize

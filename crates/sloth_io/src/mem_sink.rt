@@ -6,8 +6,8 @@ ghost use Rattle.sloth_io.specs.Sink.{output_with, GainsPart};
 
 use crate::buffer::Buffer;
 use crate::history::History;
-use crate::sink::{Sink, SinkFault};
-use sloth_base::memory::NoMemory;
+use crate::{Sink, SinkFault};
+use sloth_base::NoMemory;
 use std::alloc::Global;
 
 /// A buffer whose space is reserved as it is made, and the calls that are to fail: each by its number, counted from 1,

@@ -10,11 +10,11 @@ ghost use Rattle.sloth_io.specs.MemStore.{IsDelivered, fault_by, is_overlong, re
 ghost use Rattle.sloth_io.specs.Store.{IsAppended, IsMissing, IsTooLong, IsUnwritten, IsFileWritten, MayBeOneFile};
 ghost use Rattle.sloth_io.specs.Store.{KeepsOthers, KeepsFiles, KeepsReads, said_same};
 
+pub use crate::MemFile;
 use crate::history::History;
-pub use crate::slots::MemFile;
 use crate::slots::{Slot, bytes_of, replace, slots_of};
-use crate::store::{Store, StoreFault};
-use sloth_base::memory::NoMemory;
+use crate::{Store, StoreFault};
+use sloth_base::NoMemory;
 use std::alloc::Global;
 
 /// Files in memory, and the numbers of the calls that are to fail, counted from 1 over reads and writes.

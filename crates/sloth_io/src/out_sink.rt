@@ -4,7 +4,7 @@ ghost use Rattle.sloth_io.specs.Buffered.{bytes_in, IsPrefix, IsGivenBut, IsLost
 
 use crate::buffered::Buffered;
 use crate::history::History;
-use crate::sink::{Sink, SinkFault};
+use crate::{Sink, SinkFault};
 use std::io;
 use std::io::Write;
 

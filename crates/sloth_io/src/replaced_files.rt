@@ -2,7 +2,7 @@
 ghost use Rattle.std.specs.Prelude.{◌≡◌, Ok, Some, IfSome, length};
 ghost use Rattle.sloth_io.specs.FileStore.{IsGivenTo};
 
-use crate::store::StoreFault;
+use crate::StoreFault;
 use crate::whole_files::write_whole;
 use std::alloc::Global;
 use std::fs;

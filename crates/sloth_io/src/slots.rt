@@ -3,9 +3,7 @@ ghost use Rattle.std.specs.Prelude.{◌≡◌, ◌≤◌, ◌<◌, None, Some, l
 ghost use Rattle.sloth_io.specs.Slots.{IsFilePlace, bytes_named, file_named, file_of, files_with, has_space};
 
 use crate::buffer::Buffer;
-use sloth_base::list::List;
-use sloth_base::memory::NoMemory;
-use sloth_base::name::Name;
+use sloth_base::{List, Name, NoMemory};
 use std::alloc::Global;
 
 /// A file that a store is made with: its name, its bytes, and the greatest number of bytes that it may hold.

@@ -4,7 +4,7 @@ ghost use Rattle.std.specs.Io.{appended_bytes};
 ghost use Rattle.std.specs.Io.KnownBytes.{Appends, Consumes, IsAtEnd};
 ghost use Rattle.sloth_io.specs.FileStore.{HasPrefix, HasPrefixBeyond, HasPrefixWithin};
 
-use crate::store::StoreFault;
+use crate::StoreFault;
 use std::io::{Read, Write};
 
 /// Reads to the end of a file, or until more bytes than the limit were taken. A read of nothing is the end.

@@ -6,13 +6,10 @@ ghost use Rattle.sloth_region.specs.Layout.{alarm_left};
 ghost use Rattle.sloth_link.specs.Symbols.{alarm_bytes, alarm_data};
 
 use crate::datum::Datum;
-use sloth_base::config::{AlarmDecl, Config};
-use sloth_base::list::List;
-use sloth_base::memory::NoMemory;
-use sloth_base::memory_map::MEMORY_BASE;
-use sloth_region::layout::alarm_left;
+use sloth_base::{AlarmDecl, Config, List, MEMORY_BASE, NoMemory};
+use sloth_region::alarm_left;
 use std::alloc::Global;
-use text_pieces::growth::push;
+use text_pieces::push;
 
 /// The ticks to the first expiry and the cycle of each alarm, at its words.
 pub fn alarms(alloc: Global, config: &Config) -> Result<Vec<Datum>, NoMemory>

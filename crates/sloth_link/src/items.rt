@@ -7,15 +7,11 @@ ghost use Rattle.rv32_expand.specs.Sizes.{AgreeWithSizes, HasWordAddresses, IsVe
 ghost use Rattle.sloth_link.specs.Items.{item_block, items_of, item_blocks};
 
 use mem_map::mark;
-use rv32_expand::addresses::item_address;
-use rv32_expand::expand;
+use rv32_expand::{expand, item_address};
 use rv32_instr::Block;
-use sloth_base::app::{App, Item};
-use sloth_base::list::List;
-use sloth_base::memory::NoMemory;
-use sloth_base::places::Places;
+use sloth_base::{App, Item, List, NoMemory, Places};
 use std::alloc::Global;
-use text_pieces::growth::push;
+use text_pieces::push;
 
 /// The bytes of an instruction.
 const INSTRUCTION: u32 = 4;

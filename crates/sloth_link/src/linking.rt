@@ -20,14 +20,9 @@ use crate::symbols::symbols;
 use crate::writing::write_data;
 use mem_map::{data_zone, marks, write_blocks};
 use rv32_instr::{Block, Instr};
-use sloth_base::app::App;
-use sloth_base::config::Config;
 use sloth_base::declared_names::declared_names;
-use sloth_base::image::{Image, Mark};
-use sloth_base::list::List;
-use sloth_base::memory::NoMemory;
-use sloth_base::memory_map::MEMORY_BASE;
-use sloth_region::map::Map;
+use sloth_base::{App, Config, Image, List, MEMORY_BASE, Mark, NoMemory};
+use sloth_region::Map;
 use std::alloc::{AllocError, Global};
 
 /// A memory and its marks.

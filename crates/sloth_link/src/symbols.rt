@@ -3,12 +3,9 @@ ghost use Rattle.std.specs.Prelude.{◌≡◌, IfOk, length};
 ghost use Rattle.sloth_link.specs.Symbols.{data_of};
 
 use crate::datum::Datum;
-use sloth_base::app::App;
-use sloth_base::list::List;
-use sloth_base::memory::NoMemory;
-use sloth_base::places::Places;
+use sloth_base::{App, List, NoMemory, Places};
 use std::alloc::Global;
-use text_pieces::growth::push;
+use text_pieces::push;
 
 /// The bytes of each symbol, at its address in the places.
 pub fn symbols(alloc: Global, app: &App, places: &Places) -> Result<Vec<Datum>, NoMemory>

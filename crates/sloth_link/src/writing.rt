@@ -6,7 +6,7 @@ ghost use Rattle.sloth_link.specs.Linked.{datum_section};
 
 use crate::datum::Datum;
 use mem_map::write;
-use sloth_base::memory_map::MEMORY_BASE;
+use sloth_base::MEMORY_BASE;
 
 /// Writes each run of bytes at its address.
 pub fn write_data(memory: &mut [u8], symbols: &[Datum])

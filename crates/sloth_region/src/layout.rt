@@ -5,7 +5,7 @@ ghost use Rattle.sloth_base.specs.ConfigRange.{scheduler_number};
 ghost use Rattle.sloth_base.specs.MemoryMap.{line_count};
 ghost use Rattle.sloth_region.specs.Layout.{active, events, wait, counter_value, alarm_left, alarm_cycle, resume, saved_level, pending_byte, enabled_byte, level_byte};
 
-use sloth_base::memory_map::{ENABLED_OFFSET, LEVELS_OFFSET};
+use sloth_base::{ENABLED_OFFSET, LEVELS_OFFSET};
 
 /// Bits 31 to 12 of the address of the service words.
 pub const WORDS_HIGH: u32 = 0x8_0000;

@@ -1,9 +1,7 @@
 //! The map of an image: where everything stands.
 
-use crate::extent::Extent;
-use sloth_base::list::List;
-use sloth_base::memory_map::LINE_COUNT;
-use sloth_base::places::Places;
+use crate::Extent;
+use sloth_base::{LINE_COUNT, List, Places};
 
 /// The map of an image. The vector words stand at the base of the vectors, and boot at the base of boot.
 pub struct Map {

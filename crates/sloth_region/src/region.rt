@@ -2,7 +2,7 @@
 ghost use Rattle.std.specs.Prelude.{◌≡◌, ◌⊎◌, ◌+◌, ◌<◌, ◌≤◌, length, [], ◌∷◌, ◌++◌, IsErr, IfOk};
 ghost use Rattle.sloth_region.specs.Region.{AreApartWithin, aligned, first_free_address, Area};
 
-use crate::extent::Extent;
+use crate::Extent;
 use std::marker::Model;
 
 /// The most extents of one region.

@@ -4,7 +4,7 @@ ghost use Rattle.sloth_base.specs.Arrive.{state_arrive};
 ghost use Rattle.sloth_runner.specs.Moments.{AreLines, sloth_state};
 
 use rv32_machine::{Machine, SlothBus};
-use sloth_base::event::Arrival;
+use sloth_base::Arrival;
 
 // The lines of these arrivals become pending.
 fn arrive(machine: &mut Machine<SlothBus>, arrivals: &[Arrival])

@@ -4,7 +4,7 @@ ghost use Rattle.observe.specs.Progress.{remaining, view_of, arrivals_of, expect
 ghost use Rattle.sloth_runner.specs.Moments.{IsHandedOut, counts_with};
 
 use observe::Observer;
-use trace_text::summary::{KINDS, kind_of};
+use trace_text::{KINDS, kind_of};
 
 /// Counts all finished events.
 pub fn count_events(observer: &mut Observer, counts: &mut [u32; KINDS])

@@ -1,22 +1,20 @@
 //! Laws of runs.
-ghost use Rattle.std.specs.Prelude.{◌≡◌, ◌≤◌, ℕ, List};
+ghost use Rattle.std.specs.Prelude.{◌≡◌, ℕ, List};
 ghost use Rattle.sloth_base.specs.declared.config.Config.{Config};
 ghost use Rattle.sloth_base.specs.declared.app.App.{App};
 ghost use Rattle.sloth_base.specs.declared.image.Image.{Image};
 ghost use Rattle.sloth_base.specs.declared.event.Arrival.{Arrival};
-ghost use Rattle.sloth_base.specs.Arrivals.{AreArrivals};
 ghost use Rattle.sloth_base.specs.Owners.{owners_in};
-ghost use Rattle.sloth_base.specs.Limits.{count_limit};
-ghost use Rattle.sim_induction.specs.Sound.{Sound};
+ghost use Rattle.sim_induction.specs.Sound.{AreComing, Sound};
 ghost use Rattle.sloth_runner.specs.Runner.{run_end};
 ghost use Rattle.sloth_runner.specs.TaskStates.{AreStatesAt};
 ghost use Rattle.sloth_runner.specs.declared.task_states.Sight.{Sight};
 ghost use Rattle.sloth_runner.specs.declared.runner.RunEnd.TheVariants.{Whole};
 
-/// A run of a sound image, of at most `COUNT_LIMIT` instructions, never stops.
+/// A run of a sound image never stops, whatever lines arrive and however many instructions it has.
 pub fn sound_runs_are_whole()
     ensures { (config : Config) (app : App) (image : Image) (arrivals : List Arrival) (n : ℕ) →
-        Sound config app image → AreArrivals (owners_in config) arrivals → n ≤ count_limit → run_end image arrivals n ≡ Whole }
+        Sound config app image → AreComing (owners_in config) arrivals → run_end image arrivals n ≡ Whole }
 {}
 
 /// A run shows one thing of its tasks.

@@ -19,5 +19,6 @@ pub mod tally;
 pub mod task_states;
 
 pub use runner::{Halt, RunEnd, Runner};
+pub use summary::put_summary;
 pub use tally::Tally;
-pub use task_states::{Interrupts, Seen, Sight};
+pub use task_states::{Interrupts, Seen, Sight, interrupts_shown, level_bytes, tasks_seen};

@@ -5,9 +5,9 @@ ghost use Rattle.sloth_inspect.specs.States.{states_in, running_number_in};
 ghost use Rattle.sloth_runner.specs.TaskStates.{open_states};
 ghost use Rattle.sloth_runner.specs.Moments.{sloth_state};
 
-use osek_scheduler::state::TaskState;
+use osek_scheduler::TaskState;
 use rv32_machine::{Machine, SlothBus};
-use sloth_base::limits::TASK_LIMIT;
+use sloth_base::TASK_LIMIT;
 use sloth_inspect::{running, states};
 
 /// The states of the tasks at a count, in `TASK_LIMIT` places.

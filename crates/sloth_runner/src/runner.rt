@@ -16,13 +16,10 @@ ghost use Rattle.sloth_runner.specs.Moments.{IsHandedOut, sloth_state};
 use crate::arrivals::arrive_front;
 use observe::{Observer, passing};
 use rv32_machine::{Machine, SlothBus, Step, StepFront, Stop, blank_step};
-use sloth_base::event::{Arrival, Event, Stamped};
-use sloth_base::image::Image;
-use sloth_base::memory::NoMemory;
-use sloth_io::sink::{Sink, SinkFault};
+use sloth_base::{Arrival, Event, Image, NoMemory, Stamped};
+use sloth_io::{Sink, SinkFault};
 use std::alloc::Global;
-use trace_text::print;
-use trace_text::printing::Form;
+use trace_text::{Form, print};
 
 /// How a run ended: after all its instructions, or before an instruction at `pc` that the machine stops at.
 #[derive(Clone, Copy)]

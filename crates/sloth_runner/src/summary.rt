@@ -3,8 +3,8 @@ ghost use Rattle.std.specs.Prelude.{◌≡◌, ◌<◌, OnOk, OnErr};
 ghost use Rattle.sloth_io.specs.Sink.{output_with, GainsPart};
 ghost use Rattle.trace_text.specs.Summary.{kind_line, summary_text};
 
-use sloth_io::sink::{Sink, SinkFault};
-use trace_text::summary::{KINDS, kind_line};
+use sloth_io::{Sink, SinkFault};
+use trace_text::{KINDS, kind_line};
 
 // Puts the line of a kind.
 fn put_kind<S: Sink>(counts: &[u32; KINDS], kind: usize, out: &mut S) -> Result<(), SinkFault>

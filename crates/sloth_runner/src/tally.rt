@@ -5,8 +5,8 @@ ghost use Rattle.sim_induction.specs.Sound.{events_of};
 ghost use Rattle.trace_text.specs.Summary.{counts_of};
 
 use crate::counting::count_events;
-use crate::runner::{RunEnd, Runner};
-use trace_text::summary::KINDS;
+use crate::{RunEnd, Runner};
+use trace_text::KINDS;
 
 /// The numbers of the events of each kind, in the order of the summary, and how the run ended.
 #[derive(Clone, Copy)]

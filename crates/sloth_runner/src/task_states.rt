@@ -5,13 +5,11 @@ ghost use Rattle.sloth_runner.specs.Moments.{sloth_state};
 ghost use Rattle.sloth_runner.specs.Runner.{image_of, count_of};
 ghost use Rattle.sloth_runner.specs.TaskStates.{image_states, pending_counters_in, interrupts_in, task_levels};
 
+use crate::Runner;
 pub use crate::machine_states::Seen;
 use crate::machine_states::{instructions_through, look};
-use crate::runner::Runner;
 use rv32_machine::{SlothBus, Stop};
-use sloth_base::limits::{COUNTER_LIMIT, TASK_LIMIT};
-use sloth_base::lines::FIRST_COUNTER_LINE;
-use sloth_base::numbers::Line;
+use sloth_base::{COUNTER_LIMIT, FIRST_COUNTER_LINE, Line, TASK_LIMIT};
 use sloth_inspect::{levels, pending};
 
 /// What the machine shows of interrupts at a count.

@@ -6,15 +6,11 @@ ghost use Rattle.code_rules.specs.WellFormed.{RuleFault};
 ghost use Rattle.call_graph.specs.Ranks.{RanksOf};
 ghost use Rattle.stack_bounds.specs.Bounds.{AreBounds};
 
-use call_graph::ranking::Ranks;
-use sloth_base::app::App;
-use sloth_base::config::Config;
-use sloth_base::places::Bounds;
-use sloth_base::refusal::BuildError;
+use call_graph::Ranks;
+use sloth_base::{App, Bounds, BuildError, Config};
 use stack_bounds::bound;
 use std::alloc::Global;
-use task_verify::verified::Verified;
-use task_verify::verify;
+use task_verify::{Verified, verify};
 
 // The same, where the rules are kept.
 fn bounds_of_verified(

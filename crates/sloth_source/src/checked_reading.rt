@@ -6,13 +6,10 @@ ghost use Rattle.sloth_source.specs.Texts.{AreAccepted, SourcesErrorIs};
 ghost use Rattle.sloth_source.specs.Checked.{IsChecked, RulesErrorIs};
 
 use crate::{Ranked, read_ranked};
-use call_graph::ranking::Ranks;
-use sloth_base::app::App;
-use sloth_base::config::Config;
-use sloth_base::refusal::BuildError;
+use call_graph::Ranks;
+use sloth_base::{App, BuildError, Config};
 use std::alloc::Global;
-use task_verify::verified::Verified;
-use task_verify::verify;
+use task_verify::{Verified, verify};
 
 /// Task code that keeps all rules, with its configuration, and the ranks of its functions.
 pub struct Checked {

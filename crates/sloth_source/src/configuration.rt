@@ -6,10 +6,8 @@ ghost use Rattle.sloth_source.specs.OilText.{OilText, OilErrorIs};
 
 use oil_lex::tokens;
 use oil_model::resolve;
-use oil_parse::parse;
-use oil_parse::tree::OilTree;
-use sloth_base::config::Config;
-use sloth_base::refusal::BuildError;
+use oil_parse::{OilTree, parse};
+use sloth_base::{BuildError, Config};
 use std::alloc::Global;
 
 // The tree of a text.

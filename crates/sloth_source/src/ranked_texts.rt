@@ -8,13 +8,10 @@ ghost use Rattle.call_graph.specs.Ranks.{RanksOf};
 ghost use Rattle.sloth_source.specs.SourceText.{HasApp, BodiesAreNamed};
 ghost use Rattle.sloth_source.specs.RankedTexts.{HasRanks, EarlySourceErrorIs, EarlyErrorIs};
 
-use crate::configuration::read_config;
+use crate::read_config;
 use asm_parse::parse_app;
-use call_graph::ranking::Ranks;
-use call_graph::ranks;
-use sloth_base::app::App;
-use sloth_base::config::Config;
-use sloth_base::refusal::BuildError;
+use call_graph::{Ranks, ranks};
+use sloth_base::{App, BuildError, Config};
 use std::alloc::Global;
 
 /// A configuration, its task code, and the ranks of the functions.

@@ -6,11 +6,8 @@ ghost use Rattle.sloth_source.specs.SourceText.{BodiesAreNamed};
 ghost use Rattle.sloth_source.specs.Texts.{AreAccepted, SourcesErrorIs};
 
 use crate::bounding::bounds_of;
-use crate::ranked_texts::{Ranked, read_ranked};
-use sloth_base::app::App;
-use sloth_base::config::Config;
-use sloth_base::places::Bounds;
-use sloth_base::refusal::BuildError;
+use crate::{Ranked, read_ranked};
+use sloth_base::{App, Bounds, BuildError, Config};
 use std::alloc::Global;
 
 /// A configuration and its task code, and the bytes of stack that its tasks may need.

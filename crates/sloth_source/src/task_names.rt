@@ -2,8 +2,8 @@
 ghost use Rattle.std.specs.Prelude.{◌≡◌};
 ghost use Rattle.sloth_source.specs.TaskNames.{has_name, task_named};
 
-use sloth_base::config::{Config, TaskDecl};
-use text_pieces::bytes::same;
+use sloth_base::{Config, TaskDecl};
+use text_pieces::same;
 
 fn has_name(name: &[u8], task: &TaskDecl) -> bool
     ensures { result ≡ has_name name.now task.now }

@@ -3,11 +3,10 @@ ghost use Rattle.std.specs.Prelude.{◌≡◌, ℕ, ◌<◌, max, length, get_or
 ghost use Rattle.sloth_base.specs.Named.{no_item};
 ghost use Rattle.call_graph.specs.Tables.{most_called, table_entry, func_of, IsTable, IsKnownCall, IsTableInLimit, AreCallable};
 
-use call_graph::called_bytes::bytes_called;
-use sloth_base::app::{Func, Item};
-use sloth_base::memory::NoMemory;
+use call_graph::bytes_called;
+use sloth_base::{Func, Item, NoMemory};
 use std::alloc::Global;
-use text_pieces::growth::push;
+use text_pieces::push;
 
 /// The larger of two numbers.
 pub fn larger(one: u32, other: u32) -> u32

@@ -19,13 +19,12 @@ mod tasks;
 use crate::calls::most_calls;
 use crate::shared_stack::most_stacked;
 use crate::tasks::{bytes_of_tasks, yielding_tasks};
-use call_graph::ranking::Ranks;
-use sloth_base::list::List;
-use sloth_base::memory::NoMemory;
-use sloth_base::places::Bounds;
+use call_graph::Ranks;
+use sloth_base::{Bounds, List, NoMemory};
 pub use stacking::offsets;
 use std::alloc::Global;
-use task_verify::verified::Verified;
+pub use task_bodies::body_of;
+use task_verify::Verified;
 
 /// The bytes that each task needs at most (128 to 8,572, in whole words), and those that all basic tasks need together (at most
 /// 269,824).

@@ -3,8 +3,8 @@ ghost use Rattle.std.specs.Prelude.{◌≡◌, ◌<◌, length};
 ghost use Rattle.call_graph.specs.Tables.{bytes_with_lower, most_stacked, AreStacks};
 
 use crate::calls::larger;
-use call_graph::stack_offsets::bytes_below;
-use sloth_base::config::TaskDecl;
+use call_graph::bytes_below;
+use sloth_base::TaskDecl;
 
 /// The bytes of a basic task with all that may stand below it, 0 for an extended task.
 fn bytes_with_lower(tasks: &[TaskDecl], yielding: &[bool], bytes: &[u32], number: usize) -> u32

@@ -5,14 +5,8 @@ ghost use Rattle.call_graph.specs.Ranks.{RanksOf};
 ghost use Rattle.stack_bounds.specs.Bounds.{AreBounds, AreParts};
 
 use crate::tasks::yielding_tasks;
-use call_graph::ranking::Ranks;
-use call_graph::ranks;
-use call_graph::stack_offsets::offsets_of_tasks;
-use sloth_base::app::App;
-use sloth_base::config::Config;
-use sloth_base::memory::NoMemory;
-use sloth_base::places::Bounds;
-use sloth_base::refusal::BuildError;
+use call_graph::{Ranks, offsets_of_tasks, ranks};
+use sloth_base::{App, Bounds, BuildError, Config, NoMemory};
 use std::alloc::Global;
 
 // What the calls of well-formed task code reach.

@@ -4,7 +4,7 @@ ghost use Rattle.sloth_base.specs.Options.{is_number};
 ghost use Rattle.sloth_base.specs.Named.{body_of};
 ghost use Rattle.call_graph.specs.Tables.{HasTaskBody};
 
-use sloth_base::app::Func;
+use sloth_base::Func;
 
 fn belongs_to(func: &Func, task: usize) -> bool
     ensures { result ≡ is_number task func.now.task }

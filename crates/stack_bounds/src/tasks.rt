@@ -3,11 +3,8 @@ ghost use Rattle.std.specs.Prelude.{◌≡◌, ℕ, ◌<◌, false, length, get_
 ghost use Rattle.sloth_base.specs.Named.{body_of};
 ghost use Rattle.call_graph.specs.Tables.{AreCallable, HasTaskBody, IsTableInLimit, task_at, task_bytes, gives_way};
 
-use crate::task_bodies::body_of;
-use sloth_base::app::Func;
-use sloth_base::config::TaskDecl;
-use sloth_base::memory::NoMemory;
-use sloth_base::memory_map::WORD;
+use crate::body_of;
+use sloth_base::{Func, NoMemory, TaskDecl, WORD};
 use std::alloc::Global;
 
 /// The bytes of a context, 32 words: where a task goes on, what was below it, and its registers.

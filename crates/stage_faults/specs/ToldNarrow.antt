@@ -6,7 +6,7 @@ use Rattle.sloth_base.specs.declared.refusal.Code.TheVariants.{A4}
 use Rattle.sloth_base.specs.declared.refusal.Refusal.{Refusal}
 use Rattle.least_fault.specs.Search.{Somewhere}
 use Rattle.asm_lines.specs.Bytes.{trim_start, word_of}
-use Rattle.asm_lines.specs.Lines.{lines}
+use Rattle.text_pieces.specs.Lines.{lines}
 use Rattle.asm_lines.specs.Faults.{SourceCase, source_lines}
 use Rattle.stage_faults.specs.ToldLines.{is_told_a4, ToldFault}
 

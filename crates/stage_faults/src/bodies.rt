@@ -7,19 +7,18 @@ ghost use Rattle.asm_scopes.specs.Bodies.{function_names};
 ghost use Rattle.stage_faults.specs.ToldNames.{is_header_beyond, is_line_beyond, ToldHeader, ToldBodyLine, ToldLineName, ToldBody};
 ghost use Rattle.stage_faults.specs.Told.{Adds};
 
+use crate::Note;
 use crate::earlier_lines::{line_of_first, push_if};
-use crate::notes::{Note, add_if, add_named};
+use crate::notes::{add_if, add_named};
 use asm_forms::Mnemonic;
 use asm_lines::{Operand, SourceLine};
-use asm_parse::body_faults::{is_beyond, is_misnamed, is_strange, is_too_great};
-use asm_parse::limits::{count_item, count_items, count_label};
+use asm_parse::{
+    count_item, count_items, count_label, is_beyond, is_misnamed, is_strange, is_too_great,
+};
 use asm_scopes::{Body, Scope, is_item, is_label, kind_of, label_names, name_of, written};
-use sloth_base::limits::{BODY_LIMIT, ITEM_LIMIT};
-use sloth_base::memory::NoMemory;
-use sloth_base::refusal::Code;
+use sloth_base::{BODY_LIMIT, Code, ITEM_LIMIT, NoMemory};
 use std::alloc::Global;
-use text_pieces::growth::push;
-use text_pieces::names::Names;
+use text_pieces::{Names, push};
 
 // ---- headers
 

@@ -1,8 +1,7 @@
 //! The lines of earlier things, by their names.
 
-use sloth_base::memory::NoMemory;
-use text_pieces::growth::push;
-use text_pieces::names::Names;
+use sloth_base::NoMemory;
+use text_pieces::{Names, push};
 
 /// The line of the first thing of this name, if it is among the first, which stand on these lines.
 pub fn line_of_first(names: &Names, lines: &[u32], name: &[u8]) -> Option<u32> {

@@ -5,11 +5,11 @@ ghost use Rattle.asm_lines.specs.Faults.{source_lines};
 ghost use Rattle.stage_faults.specs.Told.{AreAll};
 ghost use Rattle.stage_faults.specs.ToldNarrow.{ToldForm};
 
+use crate::Note;
 use crate::lines::add_all;
 use crate::narrow::add_narrow;
-use crate::notes::Note;
 use asm_lines::{SourceLine, read_lines};
-use sloth_base::memory::NoMemory;
+use sloth_base::NoMemory;
 use std::alloc::Global;
 
 fn notes_of<'t>(alloc: Global, text: &[u8], lines: &[SourceLine]) -> Result<Vec<Note<'t>>, NoMemory>

@@ -23,3 +23,4 @@ pub use forms::line_notes;
 pub use names::name_notes;
 pub use notes::{Note, Position};
 pub use oil_stage::model_notes;
+pub use told_list::{order, put_in_order};

@@ -5,12 +5,11 @@ ghost use Rattle.asm_lines.specs.Grammar.{is_shapeless};
 ghost use Rattle.stage_faults.specs.Told.{Adds};
 ghost use Rattle.stage_faults.specs.ToldLines.{is_misplaced, is_told_a1, is_counted, is_told_a4, ToldLine, ToldFault};
 
-use crate::notes::{Note, add_if};
+use crate::Note;
+use crate::notes::add_if;
 use asm_forms::takes;
-use asm_lines::SourceLine;
-use asm_lines::rules::{after_line, is_a1, is_a2, is_a3, is_a4};
-use sloth_base::memory::NoMemory;
-use sloth_base::refusal::Code;
+use asm_lines::{SourceLine, after_line, is_a1, is_a2, is_a3, is_a4};
+use sloth_base::{Code, NoMemory};
 
 fn is_shaped(line: &SourceLine) -> bool
     ensures { result ≡ not (is_shapeless line.now) }

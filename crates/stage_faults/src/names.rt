@@ -6,15 +6,14 @@ ghost use Rattle.asm_scopes.specs.Scopes.{scope_of};
 ghost use Rattle.stage_faults.specs.ToldNames.{ToldName};
 ghost use Rattle.stage_faults.specs.Told.{AreAll};
 
+use crate::Note;
 use crate::bodies::body_notes;
-use crate::notes::{Note, add_named};
+use crate::notes::add_named;
 use crate::symbols::symbol_notes;
 use asm_lines::SourceLine;
-use asm_parse::judging::is_body_missing;
+use asm_parse::is_body_missing;
 use asm_scopes::{Body, Scope, scope_of, task_body_names};
-use sloth_base::config::Config;
-use sloth_base::memory::NoMemory;
-use sloth_base::refusal::Code;
+use sloth_base::{Code, Config, NoMemory};
 use std::alloc::Global;
 
 // The first task without a body.

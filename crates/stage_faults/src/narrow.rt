@@ -6,20 +6,18 @@ ghost use Rattle.sloth_base.specs.declared.refusal.Part.TheVariants.{Src};
 ghost use Rattle.least_fault.specs.Search.{Somewhere};
 ghost use Rattle.text_pieces.specs.Names.{referent};
 ghost use Rattle.asm_lines.specs.Bytes.{is_blank, trim_start};
-ghost use Rattle.asm_lines.specs.Lines.{lines, without_returns};
+ghost use Rattle.text_pieces.specs.Lines.{lines};
 ghost use Rattle.stage_faults.specs.Told.{Adds};
 ghost use Rattle.stage_faults.specs.ToldNarrow.{loads_narrow, stores_narrow, is_narrow, first_word, behind_word, is_word_a4, is_narrow_a4, NarrowFault};
 ghost use Rattle.stage_faults.specs.ToldLines.{is_told_a4};
 
+use crate::Note;
 use crate::lines::is_told_a4;
-use crate::notes::{Note, add_if};
-use asm_lines::cutting::{line_of, split};
+use crate::notes::add_if;
 use asm_lines::{SourceLine, read_lines};
-use sloth_base::memory::NoMemory;
-use sloth_base::refusal::Code;
+use sloth_base::{Code, NoMemory};
 use std::alloc::Global;
-use text_pieces::bytes::{after, continues_word, front, same};
-use text_pieces::growth::push;
+use text_pieces::{after, continues_word, front, lines, same};
 
 // ---- words
 
@@ -116,26 +114,6 @@ fn is_narrow_a4(alloc: Global, line: &[u8]) -> Result<bool, NoMemory>
 }
 
 // ---- all lines
-
-// The lines of the parts between LF bytes.
-fn lines_of<'a>(alloc: Global, parts: &[&'a [u8]]) -> Result<Vec<&'a [u8]>, NoMemory>
-    ensures { IfOk result (λ read. map referent read.items ≡ without_returns (map referent parts.now)) }
-{
-    let mut read = Vec::new(alloc);
-    for (n, part) in parts.iter().enumerate() {
-        push(&mut read, line_of(*part, n + 1 == parts.len()))?;
-    }
-    Ok(read)
-}
-
-#[tactic(auto, unfolding(asm_lines::specs::Lines::lines))]
-fn lines<'a>(alloc: Global, text: &'a [u8]) -> Result<Vec<&'a [u8]>, NoMemory>
-    ensures { IfOk result (λ read. map referent read.items ≡ lines text.now) }
-{
-    let parts = split(alloc, text, b'\n')?;
-    let read = lines_of(alloc, parts.as_slice())?;
-    Ok(read)
-}
 
 fn add_lines<'t>(alloc: Global, notes: &mut Vec<Note<'t>>, lines: &[&[u8]]) -> Result<(), NoMemory>
     requires { length lines.now < 2 ^ 32 }

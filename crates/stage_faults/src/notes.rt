@@ -4,9 +4,8 @@ ghost use Rattle.sloth_base.specs.declared.refusal.Part.{Part};
 ghost use Rattle.least_fault.specs.Cases.{CaseOf, fault_at};
 ghost use Rattle.stage_faults.specs.Told.{Adds};
 
-use sloth_base::memory::NoMemory;
-use sloth_base::refusal::Code;
-use text_pieces::growth::push;
+use sloth_base::{Code, NoMemory};
+use text_pieces::push;
 
 /// Where in an OIL tree a fault stands.
 #[derive(Clone, Copy)]

@@ -7,13 +7,13 @@ ghost use Rattle.oil_table.specs.Cases.{OilCase};
 ghost use Rattle.stage_faults.specs.Told.{Adds};
 ghost use Rattle.stage_faults.specs.ToldModel.{is_at_fault, is_inside, fault_behind, ToldRow, ToldAttribute};
 
-use crate::notes::{Note, Position, add_at, add_following, add_named};
-use oil_parse::tree::{OilAttr, OilValue};
-use oil_rules::Front;
-use oil_rules::attribute_faults::{is_refused, is_unlisted, opened, place_by, refers_to_none};
+use crate::notes::{add_at, add_following, add_named};
+use crate::{Note, Position};
+use oil_parse::{OilAttr, OilValue};
+use oil_rules::attribute_faults::is_unlisted;
+use oil_rules::{Front, is_refused, opened, place_by, refers_to_none};
 use oil_table::{Attribute, EarlierUses, Limits, Place, attribute_of, is_beyond, is_second};
-use sloth_base::memory::NoMemory;
-use sloth_base::refusal::Code;
+use sloth_base::{Code, NoMemory};
 use std::alloc::Global;
 
 /// The word that a value is; none where it is no word.

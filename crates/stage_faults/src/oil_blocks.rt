@@ -7,18 +7,17 @@ ghost use Rattle.oil_table.specs.AlarmCounters.{limits_of};
 ghost use Rattle.oil_rules.specs.AlarmFaults.{InsideFault, BlockFault, PartFault, AlarmFault};
 ghost use Rattle.stage_faults.specs.Told.{Adds};
 
-use crate::notes::{Note, Position, add_at, add_if};
+use crate::notes::{add_at, add_if};
 use crate::oil_attributes::word_of;
-use oil_parse::tree::{OilAttr, OilObject};
-use oil_rules::alarm_faults::{is_unlisted, lacks_part};
-use oil_rules::blocks::{Block, blocks_of};
-use oil_rules::named_task::NamedTask;
+use crate::{Note, Position};
+use oil_parse::{OilAttr, OilObject};
+use oil_rules::alarm_faults::is_unlisted;
+use oil_rules::{Block, NamedTask, blocks_of, lacks_part};
 use oil_table::{
     CounterLimits, EarlierUses, Limits, Place, TaskEvents, attribute_of, block_place, is_beyond,
     is_of_kind, is_second,
 };
-use sloth_base::memory::NoMemory;
-use sloth_base::refusal::Code;
+use sloth_base::{Code, NoMemory};
 use std::alloc::Global;
 
 // ---- a block

@@ -8,17 +8,16 @@ ghost use Rattle.oil_rules.specs.ObjectFaults.{is_known, KindFault};
 ghost use Rattle.stage_faults.specs.Told.{Adds};
 ghost use Rattle.stage_faults.specs.ToldModel.{is_far_above, is_told_above, ToldKnown, ToldInner, ToldObject, ToldTree};
 
-use crate::notes::{Note, Position, add_at, add_if, add_named};
+use crate::notes::{add_at, add_if, add_named};
 use crate::oil_attributes::add_attributes;
 use crate::oil_tasks::{add_events, add_of_task};
-use oil_parse::tree::{OilObject, OilTree};
-use oil_rules::Front;
-use oil_rules::object_faults::{is_above, is_doubled, is_strange_mode, lacks_attribute};
-use oil_table::table::{is_nowhere, place_of};
-use oil_table::{CounterLimits, EventTable, is_of_kind};
-use sloth_base::limits::{ALARM_LIMIT, COUNTER_LIMIT, EVENT_LIMIT, RESOURCE_LIMIT, TASK_LIMIT};
-use sloth_base::memory::NoMemory;
-use sloth_base::refusal::Code;
+use crate::{Note, Position};
+use oil_parse::{OilObject, OilTree};
+use oil_rules::{Front, is_above, is_doubled, is_strange_mode, lacks_attribute};
+use oil_table::{CounterLimits, EventTable, is_nowhere, is_of_kind, place_of};
+use sloth_base::{
+    ALARM_LIMIT, COUNTER_LIMIT, Code, EVENT_LIMIT, NoMemory, RESOURCE_LIMIT, TASK_LIMIT,
+};
 use std::alloc::Global;
 
 // ---- an object

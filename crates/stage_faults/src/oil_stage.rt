@@ -6,17 +6,15 @@ ghost use Rattle.oil_table.specs.Events.{events_of};
 ghost use Rattle.stage_faults.specs.Told.{AreAll};
 ghost use Rattle.stage_faults.specs.ToldModel.{ToldModel};
 
-use crate::notes::Note;
+use crate::Note;
 use crate::oil_blocks::add_alarms;
 use crate::oil_objects::add_tree;
-use oil_parse::tree::OilTree;
+use oil_parse::OilTree;
 use oil_rules::Front;
-use oil_table::events::events_of;
-use oil_table::{CounterLimits, EventTable, TaskEvents, has_scheduler, names_of};
-use sloth_base::config::EventDecl;
-use sloth_base::memory::NoMemory;
+use oil_table::{CounterLimits, EventTable, TaskEvents, events_of, has_scheduler, names_of};
+use sloth_base::{EventDecl, NoMemory};
 use std::alloc::Global;
-use text_pieces::names::Names;
+use text_pieces::Names;
 
 fn notes_by<'t>(
     alloc: Global,

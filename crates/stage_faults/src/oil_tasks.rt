@@ -8,16 +8,13 @@ ghost use Rattle.oil_rules.specs.TaskFaults.{TaskFault};
 ghost use Rattle.oil_rules.specs.TreeFaults.{TaskFaults};
 ghost use Rattle.stage_faults.specs.Told.{Adds};
 
-use crate::notes::{Note, add_if, add_named};
+use crate::Note;
+use crate::notes::{add_if, add_named};
 use crate::oil_attributes::word_of;
-use oil_parse::tree::{OilAttr, OilObject};
-use oil_rules::Front;
-use oil_rules::references::References;
-use oil_rules::task_faults::{is_given_with, repeats_priority};
-use oil_table::events::{lacks_bit, number_masks, taken_more};
-use oil_table::{EventTable, is_of_kind};
-use sloth_base::memory::NoMemory;
-use sloth_base::refusal::Code;
+use oil_parse::{OilAttr, OilObject};
+use oil_rules::{Front, References, is_given_with, repeats_priority};
+use oil_table::{EventTable, is_of_kind, lacks_bit, number_masks, taken_more};
+use sloth_base::{Code, NoMemory};
 use std::alloc::Global;
 
 fn add_task_faults<'t>(

@@ -6,17 +6,15 @@ ghost use Rattle.asm_scopes.specs.Statements.{symbol_names};
 ghost use Rattle.stage_faults.specs.ToldNames.{is_symbol_beyond, ToldSymbol, ToldData};
 ghost use Rattle.stage_faults.specs.Told.{Adds};
 
+use crate::Note;
 use crate::earlier_lines::{line_of_first, push_if};
-use crate::notes::{Note, add_if, add_named};
+use crate::notes::{add_if, add_named};
 use asm_lines::SourceLine;
-use asm_parse::data_faults::{is_taken, is_too_much};
-use asm_parse::limits::{bytes_of, count_data};
+use asm_parse::{bytes_of, count_data, is_taken, is_too_much};
 use asm_scopes::{is_data, name_of};
-use sloth_base::limits::SYMBOL_LIMIT;
-use sloth_base::memory::NoMemory;
-use sloth_base::refusal::Code;
+use sloth_base::{Code, NoMemory, SYMBOL_LIMIT};
 use std::alloc::Global;
-use text_pieces::names::Names;
+use text_pieces::Names;
 
 // A6 of a symbol behind so many, of so many bytes, or a symbol behind more than there may be.
 fn is_symbol_beyond(count: usize, bytes: usize, line: &SourceLine) -> bool

@@ -3,10 +3,10 @@ ghost use Rattle.std.specs.Prelude.{◌≡◌, ◌+◌, ◌||◌, nat_lt, IfOk, 
 ghost use Rattle.std.specs.List.Sorted.{IsPermutation, IsNonDecreasingBy};
 ghost use Rattle.stage_faults.specs.Told.{note_order, told_from, AreInOrder, TellSame};
 
-use crate::notes::Note;
-use sloth_base::memory::NoMemory;
+use crate::Note;
+use sloth_base::NoMemory;
 use std::alloc::Global;
-use text_pieces::growth::push;
+use text_pieces::push;
 
 /// The place of a fault among all: by its line, and on one line by its code.
 pub fn order(note: &Note) -> u64

@@ -2,7 +2,7 @@
 ghost use Rattle.std.specs.Prelude.{◌≡◌, IfOk};
 ghost use Rattle.symbol_image.specs.Abbreviations.{abbreviation_section};
 
-use sloth_base::memory::NoMemory;
+use sloth_base::NoMemory;
 use std::alloc::Global;
 
 // The bytes of all kinds, a row for each: code, tag, whether it has children, attributes with their forms, two zeros.

@@ -9,11 +9,9 @@ ghost use Rattle.map_text.specs.LineRows.{item_count};
 use crate::data::put_array;
 use crate::fields::{put_bytes, put_length, put_text};
 use crate::types::Types;
-use image_file::number_fields::put_u32;
-use map_text::line_rows::{body_end, item_address};
-use sloth_base::app::{Func, Label};
-use sloth_base::memory::NoMemory;
-use sloth_base::places::Places;
+use image_file::put_u32;
+use map_text::{body_end, item_address};
+use sloth_base::{Func, Label, NoMemory, Places};
 
 // Whether a label stands before one of so many items.
 fn stands_before(items: usize, label: &Label) -> bool

@@ -6,11 +6,8 @@ ghost use Rattle.map_text.specs.LineRows.{item_address};
 ghost use Rattle.symbol_image.specs.BodyFrames.{advance_by, back_rule, body_rules, frame_at, inside, item_rules, items_rules, on_to, own_words, told_at};
 
 use crate::fields::{put_bytes, put_half, put_unsigned};
-use map_text::line_rows::item_address;
-use sloth_base::app::{App, Func, Op};
-use sloth_base::memory::NoMemory;
-use sloth_base::memory_map::WORD;
-use sloth_base::places::Places;
+use map_text::item_address;
+use sloth_base::{App, Func, NoMemory, Op, Places, WORD};
 use std::alloc::Global;
 
 /// A function goes on so many bytes behind what it finds.

@@ -5,9 +5,8 @@ ghost use Rattle.symbol_image.specs.EntryBytes.{Location, entries_bytes, entry_b
 
 use crate::fields::{put_bytes, put_length, put_text};
 use crate::types::{Shape, Types, shape_of};
-use image_file::number_fields::put_u32;
-use sloth_base::app::Symbol;
-use sloth_base::memory::NoMemory;
+use image_file::put_u32;
+use sloth_base::{NoMemory, Symbol};
 
 /// Appends an unsigned base type.
 pub fn put_base_type(info: &mut Vec<u8>, name: &[u8], bytes: u8) -> Result<(), NoMemory>

@@ -4,7 +4,7 @@ ghost use Rattle.symbol_image.specs.DataLines.{data_lines};
 
 use asm_lines::SourceLine;
 use asm_scopes::is_data;
-use sloth_base::memory::NoMemory;
+use sloth_base::NoMemory;
 use std::alloc::Global;
 
 /// The numbers of the lines that declare symbols, from 1.

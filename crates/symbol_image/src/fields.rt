@@ -3,8 +3,8 @@ ghost use Rattle.std.specs.Prelude.{◌≡◌, ◌≤◌, ◌++◌, IfOk, OnOk};
 ghost use Rattle.image_file.specs.Fields.{four_bytes, two_bytes};
 ghost use Rattle.symbol_image.specs.Fields.{groups, signed_leb, sized, text_bytes, unsigned_leb};
 
-use image_file::number_fields::{put_u16, put_u32};
-use sloth_base::memory::NoMemory;
+use image_file::{put_u16, put_u32};
+use sloth_base::NoMemory;
 use std::alloc::Global;
 
 /// How many numbers four bytes hold.

@@ -12,6 +12,7 @@ ghost use Rattle.symbol_image.specs.SymbolFile.{code_sections, data_sections, de
 ghost use Rattle.symbol_image.specs.Symbols.{locals_of, symbols_of};
 ghost use Rattle.symbol_image.specs.WordSymbols.{HasWords};
 
+use crate::Parts;
 use crate::abbreviations::abbreviation_section;
 use crate::fields::put_bytes;
 use crate::frames::frame_section;
@@ -21,15 +22,12 @@ use crate::layout::{
     FRONT, Laid, SectionFields, lay, lay_end, lay_names, lay_plain, lay_strings, none_laid,
 };
 use crate::line_section::line_section;
-use crate::parts::Parts;
 use crate::piece_symbols::{push_globals, push_locals};
 use crate::symbol::Symbol;
 use crate::symbol_table::{Tables, tables_of};
 use crate::word_symbols::push_words;
-use map_text::Row;
-use map_text::borders::{Borders, Range, borders_of, code_range};
-use sloth_base::memory::NoMemory;
-use sloth_base::memory_map::{MEMORY_BASE, VECTORS_BASE};
+use map_text::{Borders, Range, Row, borders_of, code_range};
+use sloth_base::{MEMORY_BASE, NoMemory, VECTORS_BASE};
 use std::alloc::Global;
 
 /// A section is loaded and written, or loaded and executed.

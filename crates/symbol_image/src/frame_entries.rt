@@ -4,8 +4,8 @@ ghost use Rattle.symbol_image.specs.FrameEntries.{common_bytes, common_entry, fr
 ghost use Rattle.symbol_image.specs.Fields.{sized};
 
 use crate::fields::{put_bytes, put_length, put_unsigned};
-use image_file::number_fields::put_u32;
-use sloth_base::memory::NoMemory;
+use image_file::put_u32;
+use sloth_base::NoMemory;
 use std::alloc::Global;
 
 /// What stands in a common entry in the place of one.

@@ -10,10 +10,7 @@ use crate::body_frames::body_rules;
 use crate::fields::{put_bytes, put_unsigned};
 use crate::frame_entries::{put_common_entry, put_frame_entry, put_unknown};
 use map_text::{Kind, Row};
-use sloth_base::app::{App, Func};
-use sloth_base::memory::NoMemory;
-use sloth_base::memory_map::{MEMORY_BASE, WORD};
-use sloth_base::places::Places;
+use sloth_base::{App, Func, MEMORY_BASE, NoMemory, Places, WORD};
 use std::alloc::Global;
 
 /// The columns by which code goes back: items by x1, services by x31, what interrupts by mepc.

@@ -8,12 +8,10 @@ ghost use Rattle.symbol_image.specs.HeaderViews.{AreOrdered, segment_of};
 
 use crate::fields::{put_bytes, put_length};
 use crate::layout::FRONT;
-use elf_image::headers::put_words;
-use image_file::number_fields::put_u16;
-use map_text::borders::Borders;
-use map_text::segments::{Segment, code_segment, data_segment, words_segment};
-use sloth_base::memory::NoMemory;
-use sloth_base::memory_map::{BOOT_BASE, MEMORY_BASE};
+use elf_image::put_words;
+use image_file::put_u16;
+use map_text::{Borders, Segment, code_segment, data_segment, words_segment};
+use sloth_base::{BOOT_BASE, MEMORY_BASE, NoMemory};
 
 // Appends numbers, each in two bytes.
 fn put_halves(file: &mut Vec<u8>, halves: &[u16]) -> Result<(), NoMemory>

@@ -10,11 +10,9 @@ use crate::bodies::put_bodies;
 use crate::data::{put_base_type, put_symbols};
 use crate::fields::{put_bytes, put_text, sized};
 use crate::types::Types;
-use image_file::number_fields::put_u32;
-use map_text::line_rows::item_address;
-use sloth_base::app::App;
-use sloth_base::memory::NoMemory;
-use sloth_base::places::Places;
+use image_file::put_u32;
+use map_text::item_address;
+use sloth_base::{App, NoMemory, Places};
 use std::alloc::Global;
 
 /// The bytes of a unit's length.

@@ -6,8 +6,8 @@ ghost use Rattle.symbol_image.specs.Layout.{laid_with, none_laid, padded, plain,
 ghost use Rattle.symbol_image.specs.LayoutViews.{laid_of, section_of};
 
 use crate::fields::{put_bytes, put_length, put_text};
-use elf_image::headers::put_words;
-use sloth_base::memory::NoMemory;
+use elf_image::put_words;
+use sloth_base::NoMemory;
 use std::alloc::Global;
 
 /// The bytes of the headers in front of all sections.

@@ -6,11 +6,10 @@ ghost use Rattle.symbol_image.specs.LineSection.{address_from, end_behind, first
 ghost use Rattle.symbol_image.specs.Fields.{sized};
 
 use crate::fields::{put_bytes, put_length, put_signed, put_text, put_unsigned, sized};
-use image_file::number_fields::{put_u16, put_u32};
-use map_text::line_rows::{LineRow, line_rows};
-use sloth_base::app::App;
-use sloth_base::memory::NoMemory;
-use sloth_base::places::Places;
+use image_file::{put_u16, put_u32};
+use map_text::LineRow;
+use map_text::line_rows::line_rows;
+use sloth_base::{App, NoMemory, Places};
 use std::alloc::Global;
 
 // The header behind its length.

@@ -1,8 +1,7 @@
 //! What a file for debuggers is made from.
 
-use sloth_base::app::App;
-use sloth_base::config::Config;
-use sloth_region::map::Map;
+use sloth_base::{App, Config};
+use sloth_region::Map;
 use std::marker::Model;
 
 /// The name of the source; what it means with its configuration; the map that is planned for it; the lines in which it declares its symbols;

@@ -8,15 +8,10 @@ ghost use Rattle.symbol_image.specs.Symbols.{global_at, global_symbols, local_at
 ghost use Rattle.symbol_image.specs.declared.symbol.SymbolKind.TheVariants as function;
 
 use crate::symbol::{Binding, Symbol, SymbolKind};
-use map_text::object_names::{counter_name, function_name, symbol_name, task_name};
-use map_text::piece_names::{block_symbol, copied, joined};
-use map_text::{Kind, Row};
-use sloth_base::app::App;
-use sloth_base::config::Config;
-use sloth_base::list::List;
-use sloth_base::memory::NoMemory;
+use map_text::{Kind, Row, block_symbol, copied, counter_name, function_name, joined, symbol_name};
+use sloth_base::{App, Config, List, NoMemory};
 use std::alloc::Global;
-use text_pieces::growth::push;
+use text_pieces::push;
 
 // Appends the local symbol of a row's bytes.
 fn push_local(
@@ -100,7 +95,7 @@ fn push_local_of(
         Kind::Boot => push_single(alloc, symbols, b"kernel$boot", code, row),
         Kind::Idle => push_single(alloc, symbols, b"kernel$idle", code, row),
         Kind::Prologue => {
-            let task = task_name(config, number);
+            let task = config.task_name(number);
             push_joined(alloc, symbols, b"prologue", task, code, row)
         }
         Kind::Tick => {
@@ -110,7 +105,7 @@ fn push_local_of(
         Kind::Service => push_service(alloc, symbols, config, row),
         Kind::Shared => push_single(alloc, symbols, b"kernel$stack", data, row),
         Kind::Stack => {
-            let task = task_name(config, number);
+            let task = config.task_name(number);
             push_joined(alloc, symbols, b"stack", task, data, row)
         }
     }

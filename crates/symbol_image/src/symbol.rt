@@ -1,5 +1,5 @@
 //! A symbol of the file.
-use sloth_base::list::List;
+use sloth_base::List;
 
 /// What stands at a symbol's address.
 #[derive(Clone, Copy)]

@@ -6,10 +6,9 @@ ghost use Rattle.symbol_image.specs.SymbolTable.{name_table, section_number, sym
 
 use crate::fields::{put_bytes, put_length, put_text};
 use crate::symbol::{Binding, Symbol, SymbolKind};
-use image_file::number_fields::{put_u16, put_u32};
-use map_text::borders::Borders;
-use sloth_base::memory::NoMemory;
-use sloth_base::memory_map::VECTORS_BASE;
+use image_file::{put_u16, put_u32};
+use map_text::Borders;
+use sloth_base::{NoMemory, VECTORS_BASE};
 use std::alloc::Global;
 
 // The number of the section in which an address lies: words, code, data or stacks.

@@ -8,19 +8,16 @@ ghost use Rattle.symbol_image.specs.Symbols.{alarm_words, context_symbol, counte
 ghost use Rattle.symbol_image.specs.WordSymbols.{HasWords};
 
 use crate::symbol::{Binding, Symbol, SymbolKind};
-use map_text::piece_names::{copied, joined};
-use sloth_base::config::{AlarmDecl, Config, CounterDecl, TaskDecl};
-use sloth_base::list::List;
-use sloth_base::memory::NoMemory;
-use sloth_base::memory_map::MEMORY_BASE;
-use sloth_base::name::Name;
-use sloth_base::numbers::RES_SCHEDULER;
-use sloth_region::layout::{
+use map_text::{copied, joined};
+use sloth_base::{
+    AlarmDecl, Config, CounterDecl, List, MEMORY_BASE, Name, NoMemory, RES_SCHEDULER, TaskDecl,
+};
+use sloth_region::{
     BELOW_WORD, CONTEXT_BYTES, CUR, IDLE_CONTEXT, active, alarm_cycle, alarm_left, counter_value,
     events, resume, saved, wait,
 };
 use std::alloc::Global;
-use text_pieces::growth::push;
+use text_pieces::push;
 
 /// The bytes of a word.
 const BYTES: usize = 4;

@@ -4,9 +4,7 @@ ghost use Rattle.sloth_base.specs.Named.{symbol_size};
 ghost use Rattle.sloth_base.specs.Arithmetic.{size_of};
 ghost use Rattle.task_verify.specs.Tests.{is_access_past, is_uneven, is_mask_past};
 
-use sloth_base::app::{App, Func, Op, Width};
-use sloth_base::limits::MASK_LIMIT;
-use sloth_base::numbers::SymId;
+use sloth_base::{App, Func, MASK_LIMIT, Op, SymId, Width};
 
 fn size(width: Width) -> usize
     ensures { result ≡ size_of width }

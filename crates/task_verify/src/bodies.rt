@@ -6,12 +6,9 @@ ghost use Rattle.code_rules.specs.WellFormed.{RuleFault};
 ghost use Rattle.call_graph.specs.Ranks.{RanksOf};
 
 use crate::faults::body_fault;
-use call_graph::ranking::Ranks;
+use call_graph::Ranks;
 use least_fault::merge;
-use sloth_base::app::App;
-use sloth_base::config::Config;
-use sloth_base::memory::NoMemory;
-use sloth_base::refusal::Refusal;
+use sloth_base::{App, Config, NoMemory, Refusal};
 use std::alloc::Global;
 
 /// The least of V2 to V12.

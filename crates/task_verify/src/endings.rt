@@ -2,8 +2,7 @@
 ghost use Rattle.std.specs.Prelude.{◌≡◌};
 ghost use Rattle.task_verify.specs.Tests.{is_ending, is_wrong_leave};
 
-use sloth_base::app::{Func, Op};
-use sloth_base::service::Service;
+use sloth_base::{Func, Op, Service};
 
 /// A service that ends the caller.
 pub fn is_ending(service: Service) -> bool

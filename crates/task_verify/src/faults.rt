@@ -6,15 +6,12 @@ ghost use Rattle.sloth_base.specs.Named.{function};
 ghost use Rattle.code_rules.specs.WellFormed.{BodyFault};
 ghost use Rattle.call_graph.specs.Ranks.{RanksOf};
 
-use crate::items::item_faults;
+use crate::item_faults;
 use crate::labels::label_faults;
 use crate::walk::held_faults;
-use call_graph::ranking::Ranks;
+use call_graph::Ranks;
 use least_fault::{fault_if, merge};
-use sloth_base::app::{App, Func};
-use sloth_base::config::Config;
-use sloth_base::memory::NoMemory;
-use sloth_base::refusal::{Code, Part, Refusal};
+use sloth_base::{App, Code, Config, Func, NoMemory, Part, Refusal};
 use std::alloc::Global;
 
 /// The least of V2 to V12 of a body.

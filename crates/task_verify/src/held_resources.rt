@@ -11,12 +11,9 @@ ghost use Rattle.task_verify.specs.Ways.{HasBodyLabel};
 
 use crate::endings::is_ending;
 use crate::tasks::contains;
-use crate::ways::way;
-use call_graph::ranking::Ranks;
-use sloth_base::app::{Call, Func, Op};
-use sloth_base::memory::NoMemory;
-use sloth_base::numbers::{FuncId, ResId};
-use sloth_base::service::Service;
+use crate::way;
+use call_graph::Ranks;
+use sloth_base::{Call, Func, FuncId, NoMemory, Op, ResId, Service};
 use std::alloc::Global;
 
 /// Whether a label's list is the held one.

@@ -6,16 +6,11 @@ ghost use Rattle.sloth_base.specs.Named.{item_of};
 ghost use Rattle.task_verify.specs.Ways.{IsMarked, IsReachedItem};
 ghost use Rattle.task_verify.specs.Cases.{AccessFault, FlowFault, PathFault, ItemFaults, AreOps, AreUsers};
 
-use crate::accesses::{is_access_past, is_mask_past, is_uneven};
-use crate::endings::is_wrong_leave;
-use crate::reachable::reached;
-use crate::tasks::is_undeclared_use;
-use crate::ways::is_run_out;
+use crate::{
+    is_access_past, is_mask_past, is_run_out, is_undeclared_use, is_uneven, is_wrong_leave, reached,
+};
 use least_fault::{fault_if, merge};
-use sloth_base::app::{App, Func};
-use sloth_base::config::Config;
-use sloth_base::memory::NoMemory;
-use sloth_base::refusal::{Code, Part, Refusal};
+use sloth_base::{App, Code, Config, Func, NoMemory, Part, Refusal};
 use std::alloc::Global;
 
 fn access_fault(app: &App, func: &Func, number: usize) -> Option<Refusal>

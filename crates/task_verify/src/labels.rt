@@ -6,12 +6,9 @@ ghost use Rattle.task_verify.specs.Labels.{or_else, first_label_below, last_labe
 ghost use Rattle.task_verify.specs.Cases.{IsBehindOther, LabelFault, LabelFaults};
 
 use least_fault::{fault_if, merge};
-use sloth_base::app::{Func, Label};
-use sloth_base::memory::NoMemory;
-use sloth_base::numbers::ResId;
-use sloth_base::refusal::{Code, Part, Refusal};
+use sloth_base::{Code, Func, Label, NoMemory, Part, Refusal, ResId};
 use std::alloc::Global;
-use text_pieces::growth::push;
+use text_pieces::push;
 
 /// As many places without a label.
 pub fn no_labels(alloc: Global, count: usize) -> Result<Vec<Option<usize>>, NoMemory>

@@ -28,12 +28,21 @@ pub mod walk;
 pub mod ways;
 
 use crate::bodies::judge;
-use crate::verified::Verified;
-use call_graph::ranking::Ranks;
-use sloth_base::app::App;
-use sloth_base::config::Config;
-use sloth_base::refusal::BuildError;
+pub use accesses::{is_access_past, is_mask_past, is_uneven};
+use call_graph::Ranks;
+pub use endings::is_wrong_leave;
+pub use held_resources::{
+    held_after, held_at_label, held_by, is_held, is_leave_with_resource, is_other_list_jump,
+    is_second_take, is_wrong_release,
+};
+pub use items::item_faults;
+pub use labels::last_labels;
+pub use reachable::reached;
+use sloth_base::{App, BuildError, Config};
 use std::alloc::Global;
+pub use tasks::is_undeclared_use;
+pub use verified::Verified;
+pub use ways::{falls, is_run_out, jump_of, next_of, way};
 
 fn copied(alloc: Global, config: &Config, app: &App) -> Result<Verified, BuildError>
     requires { WellFormed config.now app.now }

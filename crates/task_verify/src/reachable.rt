@@ -3,11 +3,10 @@ ghost use Rattle.std.specs.Prelude.{◌≡◌, ℕ, ◌+◌, ◌*◌, ◌<◌, �
 ghost use Rattle.sloth_base.specs.Named.{item_of};
 ghost use Rattle.task_verify.specs.Ways.{HasBodyLabel, IsMarked, IsReachedItem, unmarked_count, IsMarkVisit, IsMarking};
 
-use crate::ways::{jump_of, next_of};
-use sloth_base::app::Func;
-use sloth_base::memory::NoMemory;
+use crate::{jump_of, next_of};
+use sloth_base::{Func, NoMemory};
 use std::alloc::Global;
-use text_pieces::growth::push;
+use text_pieces::push;
 
 /// Marks an item and keeps it to go on from, where it is not marked yet.
 fn visit(marks: &mut [bool], pending: &mut Vec<usize>, at: usize) -> Result<(), NoMemory>

@@ -6,11 +6,8 @@ ghost use Rattle.code_rules.specs.Code.{is_in};
 ghost use Rattle.call_graph.specs.Bits.{is_member};
 ghost use Rattle.task_verify.specs.Uses.{is_unlisted, lacks, is_lacked, is_misuse, OperandsOf, is_undeclared_use};
 
-use call_graph::word_bits::has;
-use sloth_base::app::{Call, Func, Op};
-use sloth_base::config::{Config, TaskDecl};
-use sloth_base::numbers::{RES_SCHEDULER, ResId};
-use sloth_base::service::Service;
+use call_graph::has;
+use sloth_base::{Call, Config, Func, Op, RES_SCHEDULER, ResId, Service, TaskDecl};
 
 /// The members of a set are below this.
 const SET_SIZE: usize = 64;

@@ -2,8 +2,7 @@
 ghost use Rattle.std.specs.Prelude.{◌≡◌};
 ghost use Rattle.code_rules.specs.WellFormed.{WellFormed};
 
-use sloth_base::app::App;
-use sloth_base::config::Config;
+use sloth_base::{App, Config};
 use std::marker::Model;
 
 /// Well-formed task code with its configuration.

@@ -8,18 +8,14 @@ ghost use Rattle.call_graph.specs.Ranks.{RanksOf};
 ghost use Rattle.task_verify.specs.Labels.{first_label_below, ArePlaced, AreTables};
 ghost use Rattle.task_verify.specs.Cases.{FallIntoFault, FallFault, HeldFault, PlacesFault, AreOps};
 
-use crate::held_resources::{
-    held_after, held_at_label, is_held, is_leave_with_resource, is_other_list_jump, is_second_take,
-    is_wrong_release,
+use crate::labels::first_labels;
+use crate::{
+    falls, held_after, held_at_label, is_held, is_leave_with_resource, is_other_list_jump,
+    is_second_take, is_wrong_release, last_labels,
 };
-use crate::labels::{first_labels, last_labels};
-use crate::ways::falls;
-use call_graph::ranking::Ranks;
+use call_graph::Ranks;
 use least_fault::{fault_if, merge};
-use sloth_base::app::{App, Func};
-use sloth_base::config::Config;
-use sloth_base::memory::NoMemory;
-use sloth_base::refusal::{Code, Part, Refusal};
+use sloth_base::{App, Code, Config, Func, NoMemory, Part, Refusal};
 use std::alloc::Global;
 
 fn is_fallen_into(func: &Func, place: usize) -> bool

@@ -5,8 +5,7 @@ ghost use Rattle.code_rules.specs.Code.{ends_for_good, is_followed, way};
 ghost use Rattle.task_verify.specs.Tests.{is_label_past, is_run_out};
 ghost use Rattle.task_verify.specs.Ways.{inside_or, next_of, label_place, jump_of, HasBodyLabel};
 
-use sloth_base::app::{Call, Func, Op};
-use sloth_base::service::Service;
+use sloth_base::{Call, Func, Op, Service};
 
 /// Whether a path goes on to the next item.
 pub fn falls(op: Op) -> bool

@@ -1,6 +1,9 @@
+pub mod Cuts
+pub mod LineCounts
 pub mod Numbering
 pub mod Passing
 pub mod Places
 pub mod Ranges
 pub mod Tests
 pub mod Values
+pub mod Written

@@ -1,7 +1,7 @@
 //! Lists that grow.
 ghost use Rattle.std.specs.Prelude.{◌≡◌, [], ◌∷◌, ◌++◌, OnOk};
 
-use sloth_base::memory::NoMemory;
+use sloth_base::NoMemory;
 use std::alloc::AllocError;
 
 /// One more item, at the end.

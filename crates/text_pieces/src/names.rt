@@ -3,9 +3,9 @@ ghost use Rattle.std.specs.Prelude.{◌≡◌, ℕ, List, [], ◌∷◌, ◌++�
 ghost use Rattle.std.specs.List.{list_any};
 ghost use Rattle.text_pieces.specs.Names.{number_in, with_first};
 
-use crate::growth::push;
+use crate::push;
 use indexmap::IndexMap;
-use sloth_base::memory::NoMemory;
+use sloth_base::NoMemory;
 use std::alloc::{AllocError, Global};
 use std::marker::Model;
 

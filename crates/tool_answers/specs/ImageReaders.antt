@@ -25,7 +25,6 @@ reads_image tool.Response = false
 reads_image tool.Why = false
 reads_image tool.TaskBound = false
 reads_image tool.TaskResponse = false
-reads_image tool.RunResponse = false
 reads_image tool.Symbols = false
 reads_image tool.Labels = false
 reads_image tool.TraceReason = false

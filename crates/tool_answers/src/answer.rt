@@ -1,12 +1,10 @@
 //! The answers of tools.
 ghost use Rattle.std.specs.Prelude.{◌≡◌};
 
-use crate::status::{Explanation, Status};
-use image_file::elf_fault::ElfFault;
-use image_file::fault::ImageFault;
+use crate::{Explanation, Status};
+use image_file::{ElfFault, ImageFault};
 use rv32_instr::Stop;
-use sloth_base::list::List;
-use sloth_base::refusal::Refusal;
+use sloth_base::{List, Refusal};
 
 /// Why a text is no trace of a run.
 #[derive(Clone, Copy)]

@@ -9,4 +9,5 @@ pub mod status;
 pub mod text_answer;
 
 pub use answer::{Outcome, ToolAnswer, TraceFault};
-pub use status::Status;
+pub use status::{Explanation, Status};
+pub use text_answer::told;

@@ -2,8 +2,8 @@
 ghost use Rattle.std.specs.Prelude.{◌≡◌, []};
 ghost use Rattle.tool_answers.specs.declared.answer.ToolAnswer.TheVariants as tool_answer;
 
-use crate::answer::{Outcome, ToolAnswer};
-use sloth_base::list::List;
+use crate::{Outcome, ToolAnswer};
+use sloth_base::List;
 use std::alloc::Global;
 
 /// A text alone.

@@ -9,17 +9,18 @@ use Rattle.tool_answers.specs.declared.answer.ToolAnswer.TheVariants as answer
 use Rattle.tool_answers.specs.declared.status.Explanation.{Explanation}
 use Rattle.tool_answers.specs.declared.status.Explanation.TheVariants as explanation
 use Rattle.tool_commands.specs.WhyAnswers.{IsExplained, IsWhyAnswer}
-use Rattle.tool_commands.specs.LabelsAnswers.{IsLabelsAnswer, IsLabelsExplained}
+use Rattle.tool_commands.specs.LabelsAnswers.{AreRefusedEarly, IsLabelsAnswer, IsLabelsExplained}
 
-explained_as : (oil src : List ℕ) (kind : Explanation) (text : List ℕ) → kind ≡ explanation.Refusal → IsExplained oil src text → IsLabelsExplained oil src kind text
-explained_as oil src explanation.Refusal text e h = h
-explained_as oil src explanation.NoHolds text e h = absurd (let wrong : explanation.NoHolds ≡ explanation.Refusal = e in cc)
-explained_as oil src explanation.BadTrace text e h = absurd (let wrong : explanation.BadTrace ≡ explanation.Refusal = e in cc)
+explained_as : (oil src : List ℕ) → AreRefusedEarly oil src → (kind : Explanation) (text : List ℕ) → kind ≡ explanation.Refusal → IsExplained oil src text
+    → IsLabelsExplained oil src kind text
+explained_as oil src early explanation.Refusal text e h = (h, early)
+explained_as oil src early explanation.NoHolds text e h = absurd (let wrong : explanation.NoHolds ≡ explanation.Refusal = e in cc)
+explained_as oil src early explanation.BadTrace text e h = absurd (let wrong : explanation.BadTrace ≡ explanation.Refusal = e in cc)
 
 pub as_labels : (oil src : List ℕ) (r : Refusal) → EarlyRefusal oil src r → (a : ToolAnswer) → IsWhyAnswer oil src a → IsLabelsAnswer oil src a
 as_labels oil src r early (answer.Done outcome) h =
     let accepted = h.0 in absurd (never_both oil src accepted.0 accepted.1 r accepted.2 (early_first oil src r early))
-as_labels oil src r early (answer.Explained kind text) h = explained_as oil src kind text h.0 h.1
+as_labels oil src r early (answer.Explained kind text) h = explained_as oil src (r, early) kind text h.0 h.1
 as_labels oil src r early (answer.Refused refusal) h = absurd h
 as_labels oil src r early (answer.Stopped pc stop) h = absurd h
 as_labels oil src r early (answer.NotAnImage fault) h = absurd h

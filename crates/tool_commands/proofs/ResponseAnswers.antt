@@ -5,10 +5,9 @@ use Rattle.response_text.specs.declared.told.Told.{Told}
 use Rattle.response_text.specs.Inputs.{IsRefusal}
 use Rattle.response_text.specs.ResponseText.{IsResponseText}
 use Rattle.response_text.specs.TaskText.{IsTaskText}
-use Rattle.response_text.specs.RunResponseText.{IsRunResponseText}
 use Rattle.response_text.proofs.OneText.{one_text}
 use Rattle.response_text.proofs.Refused.{not_refused, one_way}
-use Rattle.tool_commands.specs.ResponseAnswers.{IsResponseAnswer, IsTaskResponseAnswer, IsRunResponseAnswer, response_answer}
+use Rattle.tool_commands.specs.ResponseAnswers.{IsResponseAnswer, IsTaskResponseAnswer, response_answer}
 use Rattle.tool_answers.specs.declared.answer.ToolAnswer.{ToolAnswer}
 use Rattle.tool_answers.specs.declared.answer.ToolAnswer.TheVariants as answer
 use Rattle.tool_commands.proofs.ElfAnswers.{same-outcome}
@@ -85,14 +84,5 @@ task_told_answer oil src load name told h = by told.is_open h
   where
     by : (late : Bool) → IsTaskText oil src load name (Some (record { text = told.text; is_open = late }))
         → IsTaskResponseAnswer oil src load name (response_answer (record { text = told.text; is_open = late }))
-    by true is = is
-    by false is = (is, refl)
-
--- and of what runs keep
-pub run_told_answer : (oil src load : List ℕ) (told : Told) → IsRunResponseText oil src load told → IsRunResponseAnswer oil src load (response_answer told)
-run_told_answer oil src load told h = by told.is_open h
-  where
-    by : (late : Bool) → IsRunResponseText oil src load (record { text = told.text; is_open = late })
-        → IsRunResponseAnswer oil src load (response_answer (record { text = told.text; is_open = late }))
     by true is = is
     by false is = (is, refl)

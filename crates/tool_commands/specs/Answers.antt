@@ -17,7 +17,7 @@ use Rattle.tool_commands.specs.WhyAnswers.{IsWhyAnswer, IsTaskBoundAnswer}
 use Rattle.tool_commands.specs.LabelsAnswers.{IsLabelsAnswer}
 use Rattle.tool_commands.specs.TraceReasons.{IsTraceReasonAnswer}
 use Rattle.tool_commands.specs.UnusedAnswers.{IsUnusedAnswer}
-use Rattle.tool_commands.specs.ResponseAnswers.{IsResponseAnswer, IsTaskResponseAnswer, IsRunResponseAnswer}
+use Rattle.tool_commands.specs.ResponseAnswers.{IsResponseAnswer, IsTaskResponseAnswer}
 use Rattle.tool_commands.specs.PictureAnswers.{IsPictureAnswer}
 use Rattle.tool_commands.specs.SymbolsAnswers.{IsSymbolsAnswer}
 use Rattle.tool_commands.specs.WaveAnswers.{IsWaveAnswer}
@@ -49,7 +49,6 @@ IsAnswer tool.Why counts names inputs answer = IsWhyAnswer (input inputs 0) (inp
 IsAnswer tool.TaskBound counts names inputs answer = IsTaskBoundAnswer (input inputs 0) (input inputs 1) (input names 2) answer
 IsAnswer tool.TaskResponse counts names inputs answer =
     IsTaskResponseAnswer (input inputs 0) (input inputs 1) (input inputs 2) (input names 3) answer
-IsAnswer tool.RunResponse counts names inputs answer = IsRunResponseAnswer (input inputs 0) (input inputs 1) (input inputs 2) answer
 IsAnswer tool.Symbols counts names inputs answer = IsSymbolsAnswer (input inputs 0) (input inputs 1) (input names 1) answer
 IsAnswer tool.Labels counts names inputs answer = IsLabelsAnswer (input inputs 0) (input inputs 1) answer
 IsAnswer tool.TraceReason counts names inputs answer =
@@ -76,7 +75,6 @@ is_determined tool.Response = true
 is_determined tool.Why = false
 is_determined tool.TaskBound = false
 is_determined tool.TaskResponse = false
-is_determined tool.RunResponse = false
 is_determined tool.Symbols = false
 is_determined tool.Labels = false
 is_determined tool.TraceReason = false

@@ -1,6 +1,8 @@
 -- The answers of `why` of the lists of labels.
 use Rattle.std.specs.Prelude.{ℕ, ◌≡◌, List, [], codes}
 use Rattle.tool_commands.specs.WhyAnswers.{IsExplained}
+use Rattle.sloth_base.specs.declared.refusal.Refusal.{Refusal}
+use Rattle.sloth_source.specs.RankedTexts.{EarlyRefusal}
 use Rattle.holds_infer.specs.LabelAnswers.{IsLabelAnswer}
 use Rattle.holds_infer.specs.declared.label_answers.LabelAnswer.TheVariants as label
 use Rattle.tool_answers.specs.declared.answer.ToolAnswer.{ToolAnswer}
@@ -8,10 +10,14 @@ use Rattle.tool_answers.specs.declared.answer.ToolAnswer.TheVariants as answer
 use Rattle.tool_answers.specs.declared.status.Explanation.{Explanation}
 use Rattle.tool_answers.specs.declared.status.Explanation.TheVariants as explanation
 
--- an explanation: why no lists keep the rules, or what stands behind the first refusal
+-- that the texts have a refusal before the rules of task code
+abbrev pub AreRefusedEarly : (oil src : List ℕ) → Type 0
+AreRefusedEarly oil src = (refusal : Refusal) × EarlyRefusal oil src refusal
+
+-- an explanation: why no lists keep the rules, or what stands behind the first refusal, which comes before the rules of task code
 abbrev pub IsLabelsExplained : (oil src : List ℕ) → Explanation → (text : List ℕ) → Type 0
 IsLabelsExplained oil src explanation.NoHolds text = IsLabelAnswer oil src (label.NoLists text)
-IsLabelsExplained oil src explanation.Refusal text = IsExplained oil src text
+IsLabelsExplained oil src explanation.Refusal text = IsExplained oil src text × AreRefusedEarly oil src
 IsLabelsExplained oil src explanation.BadTrace text = ⊥
 
 -- that lists keep the rules, or why none do; or the first refusal before the rules of task code, with what stands behind it

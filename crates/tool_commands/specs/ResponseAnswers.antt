@@ -1,10 +1,9 @@
--- The answers of `response` and `responds`.
+-- The answers of `response`.
 use Rattle.std.specs.Prelude.{ℕ, ◌≡◌, List, [], Some, None, true, false, cond}
 use Rattle.response_text.specs.declared.told.Told.{Told}
 use Rattle.response_text.specs.Inputs.{IsRefusal}
 use Rattle.response_text.specs.ResponseText.{IsResponseText}
 use Rattle.response_text.specs.TaskText.{IsTaskText}
-use Rattle.response_text.specs.RunResponseText.{IsRunResponseText}
 use Rattle.tool_answers.specs.declared.answer.ToolAnswer.{ToolAnswer}
 use Rattle.tool_answers.specs.declared.answer.ToolAnswer.TheVariants as answer
 
@@ -35,20 +34,6 @@ IsTaskResponseAnswer oil src load name (answer.NotAnElf fault) = ⊥
 IsTaskResponseAnswer oil src load name (answer.BadTrace fault) = ⊥
 IsTaskResponseAnswer oil src load name answer.NoHolds = ⊥
 IsTaskResponseAnswer oil src load name (answer.Explained kind lines) = ⊥
-
--- `responds`: the lines, with no deadline that is open, or with one; or the first refusal
-abbrev pub IsRunResponseAnswer : (oil src load : List ℕ) → ToolAnswer → Type 0
-IsRunResponseAnswer oil src load (answer.Done outcome) =
-    IsRunResponseText oil src load (record { text = outcome.text; is_open = false }) × (outcome.file ≡ [])
-IsRunResponseAnswer oil src load (answer.OpenDeadline lines) = IsRunResponseText oil src load (record { text = lines; is_open = true })
-IsRunResponseAnswer oil src load (answer.Refused refusal) = IsRefusal oil src load refusal
-IsRunResponseAnswer oil src load (answer.Stopped pc stop) = ⊥
-IsRunResponseAnswer oil src load (answer.NotAnImage fault) = ⊥
-IsRunResponseAnswer oil src load (answer.NotAnElf fault) = ⊥
-IsRunResponseAnswer oil src load (answer.BadTrace fault) = ⊥
-IsRunResponseAnswer oil src load answer.NoHolds = ⊥
-IsRunResponseAnswer oil src load (answer.Explained kind lines) = ⊥
-IsRunResponseAnswer oil src load answer.NoTask = ⊥
 
 -- the answer that says what is told
 abbrev pub response_answer : Told → ToolAnswer

@@ -12,14 +12,12 @@ ghost use Rattle.run_inputs.specs.RunInputs.{AreRunInputs};
 use crate::at_command::sight_of;
 use crate::at_lines::count_line;
 use run_inputs::{RunInputs, Unread, read_run};
-use run_samples::service_words::{WordsRead, words_at};
-use run_samples::{ServiceWords, push_system};
-use sloth_base::image::Image;
-use sloth_base::list::List;
-use sloth_base::memory::NoMemory;
-use sloth_runner::task_states::{Seen, Sight};
+use run_samples::{ServiceWords, WordsRead, push_system, words_at};
+use sloth_base::{Image, List, NoMemory};
+use sloth_runner::Sight;
+use sloth_runner::task_states::Seen;
 use std::alloc::Global;
-use tool_answers::answer::{Outcome, ToolAnswer};
+use tool_answers::{Outcome, ToolAnswer};
 
 // The answer that is this text.
 fn text_answer(alloc: Global, text: Vec<u8>) -> ToolAnswer

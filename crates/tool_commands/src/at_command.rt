@@ -10,14 +10,10 @@ ghost use Rattle.run_inputs.specs.RunInputs.{AreRunInputs};
 
 use crate::at_lines::states_text;
 use run_inputs::{RunInputs, Unread, read_run};
-use sloth_base::event::Arrival;
-use sloth_base::image::Image;
-use sloth_base::list::List;
-use sloth_base::memory::NoMemory;
-use sloth_runner::runner::Runner;
-use sloth_runner::task_states::Sight;
+use sloth_base::{Arrival, Image, List, NoMemory};
+use sloth_runner::{Runner, Sight};
 use std::alloc::Global;
-use tool_answers::answer::{Outcome, ToolAnswer};
+use tool_answers::{Outcome, ToolAnswer};
 
 // The answer to what a run of an image shows of its tasks.
 fn states_answer(alloc: Global, image: &Image, sight: &Sight) -> Result<ToolAnswer, NoMemory>

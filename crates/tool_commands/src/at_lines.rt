@@ -3,13 +3,11 @@ ghost use Rattle.std.specs.Prelude.{◌≡◌, ◌<◌, ◌+◌, ◌≤◌, ◌+
 ghost use Rattle.sloth_base.specs.ImageRange.{InFormat};
 ghost use Rattle.tool_commands.specs.StatesText.{state_text, task_line, count_line, states_text};
 
-use osek_scheduler::state::TaskState;
-use sloth_base::image::Image;
-use sloth_base::limits::TASK_LIMIT;
-use sloth_base::memory::NoMemory;
+use osek_scheduler::TaskState;
+use sloth_base::{Image, NoMemory, TASK_LIMIT};
 use sloth_runner::task_states::Seen;
 use std::alloc::Global;
-use trace_text::line_text::LineText;
+use trace_text::LineText;
 
 // Appends the word of a state, and the events that a task waits for.
 fn push_state(line: &mut LineText, state: TaskState)

@@ -3,14 +3,10 @@ ghost use Rattle.std.specs.Prelude.{◌≤◌, IfOk, length};
 ghost use Rattle.sloth_base.specs.Limits.{file_limit};
 ghost use Rattle.tool_commands.specs.BoundsAnswers.{IsBoundsAnswer, IsLatencyAnswer, IsLowerCountsAnswer};
 
-use bounds_text::bounds_text;
-use bounds_text::latency::latency_lines;
-use bounds_text::lower_counts::lower_count_lines;
-use sloth_base::memory::NoMemory;
-use sloth_base::refusal::BuildError;
+use bounds_text::{bounds_text, latency_lines, lower_count_lines};
+use sloth_base::{BuildError, NoMemory};
 use std::alloc::Global;
-use tool_answers::answer::ToolAnswer;
-use tool_answers::text_answer::told;
+use tool_answers::{ToolAnswer, told};
 
 /// How much work of lower tasks may stand between each task's becoming Ready and its entry; or the first refusal.
 pub fn bounds(alloc: Global, oil: &[u8], src: &[u8]) -> Result<ToolAnswer, NoMemory>

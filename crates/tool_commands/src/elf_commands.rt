@@ -8,14 +8,10 @@ ghost use Rattle.tool_commands.specs.ElfAnswers.{IsElfAnswer, IsUnelfAnswer};
 
 use crate::lines::written_line;
 use elf_image::{read_elf, write_elf};
-use image_file::elf_fault::ElfError;
-use image_file::fault::ImageError;
-use image_file::{read_image, write_image};
-use sloth_base::image::Image;
-use sloth_base::list::List;
-use sloth_base::memory::NoMemory;
+use image_file::{ElfError, ImageError, read_image, write_image};
+use sloth_base::{Image, List, NoMemory};
 use std::alloc::Global;
-use tool_answers::answer::{Outcome, ToolAnswer};
+use tool_answers::{Outcome, ToolAnswer};
 
 /// The outcome of a tool that writes a file.
 pub fn written(alloc: Global, file: Vec<u8>) -> Result<Outcome, NoMemory>

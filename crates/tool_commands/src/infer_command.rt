@@ -5,9 +5,9 @@ ghost use Rattle.tool_commands.specs.InferAnswers.{IsInferAnswer};
 
 use crate::elf_commands::written;
 use holds_infer::{FillError, fill_source};
-use sloth_base::memory::NoMemory;
+use sloth_base::NoMemory;
 use std::alloc::Global;
-use tool_answers::answer::ToolAnswer;
+use tool_answers::ToolAnswer;
 
 /// The source with the list of each label filled in; or that no lists keep every rule; or the first refusal before the rules V2 to V12.
 pub fn infer(alloc: Global, oil: &[u8], src: &[u8]) -> Result<ToolAnswer, NoMemory>

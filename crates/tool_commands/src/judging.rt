@@ -14,19 +14,17 @@ use crate::labels_command::labels;
 use crate::losses_command::losses;
 use crate::map_command::map;
 use crate::picture_command::picture;
-use crate::response_command::{response, run_response, task_response};
+use crate::response_command::{response, task_response};
 use crate::shares_command::shares;
 use crate::symbols_command::symbols;
 use crate::trace_reason_command::trace_reason;
 use crate::unused_command::unused;
 use crate::wave_command::wave;
 use crate::why_command::{task_bound, why};
-use command_line::counts::{Counts, number_of, window_of};
-use command_line::tool::Tool;
-use sloth_base::list::List;
-use sloth_base::memory::NoMemory;
+use command_line::{Counts, Tool, number_of, window_of};
+use sloth_base::{List, NoMemory};
 use std::alloc::Global;
-use tool_answers::answer::ToolAnswer;
+use tool_answers::ToolAnswer;
 use trace_check::check_command::check;
 
 // A name, by its place in the order of the words.
@@ -117,12 +115,6 @@ pub fn judge(
             inputs[1].items(),
             inputs[2].items(),
             name_of(names, 3),
-        ),
-        Tool::RunResponse => run_response(
-            alloc,
-            inputs[0].items(),
-            inputs[1].items(),
-            inputs[2].items(),
         ),
         Tool::Symbols => symbols(
             alloc,

@@ -7,11 +7,9 @@ ghost use Rattle.tool_commands.specs.LabelsAnswers.{IsLabelsAnswer};
 
 use crate::why_command::why;
 use holds_infer::{LabelAnswer, labels_text};
-use sloth_base::memory::NoMemory;
+use sloth_base::NoMemory;
 use std::alloc::Global;
-use tool_answers::answer::ToolAnswer;
-use tool_answers::status::Explanation;
-use tool_answers::text_answer::told;
+use tool_answers::{Explanation, ToolAnswer, told};
 
 fn filled(alloc: Global) -> Result<Vec<u8>, NoMemory>
     ensures { IfOk result (λ text. text.items ≡ codes "filled\n") }

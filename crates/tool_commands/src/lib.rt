@@ -33,4 +33,5 @@ mod wave_command;
 mod why_command;
 
 pub use judging::judge;
+pub use lines::{bad_trace_line, no_elf_line};
 pub use tool_answers::{Outcome, ToolAnswer, TraceFault};

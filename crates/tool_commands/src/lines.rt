@@ -3,10 +3,10 @@ ghost use Rattle.std.specs.Prelude.{◌≡◌, ◌≤◌, length};
 ghost use Rattle.tool_commands.specs.Lines.{written_line};
 ghost use Rattle.tool_answers.specs.Lines.{elf_fault_text, no_elf_line, bad_trace_line};
 
-use image_file::elf_fault::ElfFault;
+use image_file::ElfFault;
 use itoa::Buffer;
-use tool_answers::answer::TraceFault;
-use trace_text::line_text::LineText;
+use tool_answers::TraceFault;
+use trace_text::LineText;
 
 fn elf_fault_text(fault: ElfFault) -> &'static [u8]
     ensures is { result.now ≡ elf_fault_text fault }

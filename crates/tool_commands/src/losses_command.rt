@@ -9,11 +9,10 @@ ghost use Rattle.run_inputs.specs.RunInputs.{AreRunInputs};
 
 use crate::losses_lines::losses_text;
 use run_inputs::{RunInputs, Unread, read_run};
-use run_samples::telling::{Told, told_run};
-use sloth_base::list::List;
-use sloth_base::memory::NoMemory;
+use run_samples::{Told, told_run};
+use sloth_base::{List, NoMemory};
 use std::alloc::Global;
-use tool_answers::answer::{Outcome, ToolAnswer};
+use tool_answers::{Outcome, ToolAnswer};
 
 // The answer to an image and arrivals that were read.
 fn losses_of(alloc: Global, run: &RunInputs, n: u32) -> Result<ToolAnswer, NoMemory>

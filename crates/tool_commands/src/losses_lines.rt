@@ -7,13 +7,10 @@ ghost use Rattle.sloth_base.specs.Owners.{counter_line};
 ghost use Rattle.tool_commands.specs.LossesText.{count_line, task_counts, counter_counts, first_text, losses_text};
 
 use itoa::Buffer;
-use run_samples::Admission;
-use run_samples::telling::{came_count, first_lost, kept_count, lost_count};
-use sloth_base::image::Image;
-use sloth_base::lines::FIRST_COUNTER_LINE;
-use sloth_base::memory::NoMemory;
+use run_samples::{Admission, came_count, first_lost, kept_count, lost_count};
+use sloth_base::{FIRST_COUNTER_LINE, Image, NoMemory};
 use std::alloc::Global;
-use trace_text::line_text::LineText;
+use trace_text::LineText;
 
 // Appends a space and a number.
 fn push_count(line: &mut LineText, count: usize)

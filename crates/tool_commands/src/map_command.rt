@@ -4,11 +4,9 @@ ghost use Rattle.sloth_base.specs.Limits.{file_limit};
 ghost use Rattle.tool_commands.specs.MapAnswers.{IsMapAnswer};
 
 use map_text::map_text;
-use sloth_base::memory::NoMemory;
-use sloth_base::refusal::BuildError;
+use sloth_base::{BuildError, NoMemory};
 use std::alloc::Global;
-use tool_answers::answer::ToolAnswer;
-use tool_answers::text_answer::told;
+use tool_answers::{ToolAnswer, told};
 
 /// What the image of these texts takes of memory, and what its tasks need of the stacks; or the first refusal.
 pub fn map(alloc: Global, oil: &[u8], src: &[u8]) -> Result<ToolAnswer, NoMemory>

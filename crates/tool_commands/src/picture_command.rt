@@ -9,12 +9,12 @@ ghost use Rattle.tool_commands.specs.PictureAnswers.{IsPictureAnswer};
 ghost use Rattle.run_inputs.specs.RunInputs.{AreRunInputs};
 
 use crate::elf_commands::written;
-use command_line::counts::Window;
+use command_line::Window;
 use run_inputs::{RunInputs, Unread, read_run};
 use schedule_picture::{Picture, draw};
-use sloth_base::memory::NoMemory;
+use sloth_base::NoMemory;
 use std::alloc::Global;
-use tool_answers::answer::ToolAnswer;
+use tool_answers::ToolAnswer;
 
 // The answer to an image and arrivals that were read.
 fn picture_of(alloc: Global, run: &RunInputs, window: Window) -> Result<ToolAnswer, NoMemory>

@@ -1,15 +1,12 @@
-//! The commands `response` and `responds`.
+//! The command `response`.
 ghost use Rattle.std.specs.Prelude.{◌≡◌, ◌≤◌, IfOk, length};
 ghost use Rattle.sloth_base.specs.Limits.{file_limit};
-ghost use Rattle.tool_commands.specs.ResponseAnswers.{IsResponseAnswer, IsTaskResponseAnswer, IsRunResponseAnswer, response_answer};
+ghost use Rattle.tool_commands.specs.ResponseAnswers.{IsResponseAnswer, IsTaskResponseAnswer, response_answer};
 
-use response_text::told::Told;
-use response_text::{response_parts, response_text, run_response_text};
-use sloth_base::list::List;
-use sloth_base::memory::NoMemory;
-use sloth_base::refusal::BuildError;
+use response_text::{Told, response_parts, response_text};
+use sloth_base::{BuildError, List, NoMemory};
 use std::alloc::Global;
-use tool_answers::answer::{Outcome, ToolAnswer};
+use tool_answers::{Outcome, ToolAnswer};
 
 // What is told, as an answer.
 fn answer_of(alloc: Global, told: Told) -> ToolAnswer
@@ -26,7 +23,7 @@ fn answer_of(alloc: Global, told: Told) -> ToolAnswer
 }
 
 #[tactic(auto, using(crate::proofs::ResponseAnswers::told_answer))]
-/// How soon each task of two texts has left the processor under the load of a third; or the first refusal.
+/// How soon each task of two texts has left the processor in runs that keep the load of a third; or the first refusal.
 pub fn response(alloc: Global, oil: &[u8], src: &[u8], load: &[u8]) -> Result<ToolAnswer, NoMemory>
     requires oil { length oil.now ≤ file_limit }
     requires src { length src.now ≤ file_limit }
@@ -57,26 +54,6 @@ pub fn task_response(
     match response_parts(alloc, oil, src, load, name) {
         Ok(Some(told)) => Ok(answer_of(alloc, told)),
         Ok(None) => Ok(ToolAnswer::NoTask),
-        Err(BuildError::Refused(refusal)) => Ok(ToolAnswer::Refused(refusal)),
-        Err(BuildError::Memory) => Err(NoMemory),
-    }
-}
-
-#[tactic(auto, using(crate::proofs::ResponseAnswers::run_told_answer))]
-/// How soon each task of two texts has left the processor in every run that keeps the load of a third; or the first refusal.
-pub fn run_response(
-    alloc: Global,
-    oil: &[u8],
-    src: &[u8],
-    load: &[u8],
-) -> Result<ToolAnswer, NoMemory>
-    requires oil { length oil.now ≤ file_limit }
-    requires src { length src.now ≤ file_limit }
-    requires load { length load.now ≤ file_limit }
-    ensures { IfOk result (λ answer. IsRunResponseAnswer oil.now src.now load.now answer) }
-{
-    match run_response_text(alloc, oil, src, load) {
-        Ok(told) => Ok(answer_of(alloc, told)),
         Err(BuildError::Refused(refusal)) => Ok(ToolAnswer::Refused(refusal)),
         Err(BuildError::Memory) => Err(NoMemory),
     }

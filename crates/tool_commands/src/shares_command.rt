@@ -4,11 +4,9 @@ ghost use Rattle.sloth_base.specs.Limits.{file_limit};
 ghost use Rattle.tool_commands.specs.SharesAnswers.{IsSharesAnswer};
 
 use shares_text::shares_text;
-use sloth_base::memory::NoMemory;
-use sloth_base::refusal::BuildError;
+use sloth_base::{BuildError, NoMemory};
 use std::alloc::Global;
-use tool_answers::answer::ToolAnswer;
-use tool_answers::text_answer::told;
+use tool_answers::{ToolAnswer, told};
 
 /// Which data the tasks of these texts share, and what keeps their accesses apart; or the first refusal.
 pub fn shares(alloc: Global, oil: &[u8], src: &[u8]) -> Result<ToolAnswer, NoMemory>

@@ -3,11 +3,9 @@ ghost use Rattle.std.specs.Prelude.{◌≤◌, IfOk, length};
 ghost use Rattle.sloth_base.specs.Limits.{file_limit};
 ghost use Rattle.tool_commands.specs.TraceReasons.{IsTraceReasonAnswer};
 
-use sloth_base::memory::NoMemory;
+use sloth_base::NoMemory;
 use std::alloc::Global;
-use tool_answers::answer::ToolAnswer;
-use tool_answers::status::Explanation;
-use tool_answers::text_answer::told;
+use tool_answers::{Explanation, ToolAnswer, told};
 use trace_check::{TraceReason, explain_trace};
 
 /// Whether a text of events is that of a run of n instructions, or where it fails to be and what could stand there; or the first refusal of the other texts.

@@ -4,11 +4,9 @@ ghost use Rattle.sloth_base.specs.Limits.{file_limit};
 ghost use Rattle.tool_commands.specs.UnusedAnswers.{IsUnusedAnswer};
 
 use shares_text::unused_text;
-use sloth_base::memory::NoMemory;
-use sloth_base::refusal::BuildError;
+use sloth_base::{BuildError, NoMemory};
 use std::alloc::Global;
-use tool_answers::answer::ToolAnswer;
-use tool_answers::text_answer::told;
+use tool_answers::{ToolAnswer, told};
 
 /// What nothing in these texts uses, and the tasks that nothing activates; or the first refusal.
 pub fn unused(alloc: Global, oil: &[u8], src: &[u8]) -> Result<ToolAnswer, NoMemory>

@@ -9,9 +9,9 @@ ghost use Rattle.tool_commands.specs.WaveAnswers.{IsWaveAnswer};
 
 use crate::elf_commands::written;
 use run_inputs::{RunInputs, Unread, read_run};
-use sloth_base::memory::NoMemory;
+use sloth_base::NoMemory;
 use std::alloc::Global;
-use tool_answers::answer::ToolAnswer;
+use tool_answers::ToolAnswer;
 use wave_text::{Recorded, waves};
 
 // The answer to an image and arrivals that were read.

@@ -5,16 +5,12 @@ ghost use Rattle.why_text.specs.WhyLines.{IsWhy};
 ghost use Rattle.why_text.specs.declared.why.Why.TheVariants as why_is;
 ghost use Rattle.tool_commands.specs.WhyAnswers.{IsExplained, IsWhyAnswer, IsTaskBoundAnswer};
 
-use bounds_text::task_bound::task_bound_text;
-use command_line::last_line::refusal_line;
-use sloth_base::list::List;
-use sloth_base::memory::NoMemory;
-use sloth_base::refusal::{BuildError, Refusal};
+use bounds_text::task_bound_text;
+use command_line::refusal_line;
+use sloth_base::{BuildError, List, NoMemory, Refusal};
 use std::alloc::Global;
-use tool_answers::answer::{Outcome, ToolAnswer};
-use tool_answers::status::Explanation;
-use tool_answers::text_answer::told;
-use why_text::why::{Why, explain};
+use tool_answers::{Explanation, Outcome, ToolAnswer, told};
+use why_text::{Why, explain};
 
 // The line of a refusal, and the lines behind it.
 fn explained(

@@ -5,16 +5,12 @@ use crate::faults::Faults;
 use crate::repeats::number_before;
 use crate::rows::{Piece, Rows};
 use crate::syntax::shown;
-use crate::texts::{LONGEST, Texts, add_text, append, refill};
-use debug_command::words::DebugWords;
-use debug_command::{debug, debug_words};
-use debug_session::mem_input::MemInput;
-use sloth_base::list::List;
-use sloth_base::memory::NoMemory;
-use sloth_base::name::Name;
+use crate::texts::{LONGEST, Texts, add_text, append, push, refill};
+use debug_command::{DebugWords, debug, debug_words};
+use debug_session::MemInput;
+use sloth_base::{List, Name, NoMemory};
 use sloth_cli::{Status, sloth_top};
-use sloth_io::mem_sink::MemSink;
-use sloth_io::mem_store::{MemFile, MemStore};
+use sloth_io::{MemFile, MemSink, MemStore};
 use std::alloc::Global;
 
 /// The bytes that an image file may have, and those that a command may print.
@@ -68,6 +64,7 @@ pub fn words(alloc: Global, line: &str) -> Vec<String> {
 }
 
 /// What a command prints with how it ends, how many bytes it prints, and the image file behind it, which is the file `out` where that was written.
+/// The text is empty where memory was wanting.
 #[derive(Drop)]
 pub struct Outcome {
     pub text: String,
@@ -91,16 +88,6 @@ fn top(alloc: Global, words: &[String], files: &mut MemStore, out: &mut MemSink)
     }
 }
 
-// What was printed, with how the command ended behind it.
-fn ended(alloc: Global, printed: &[u8], status: Status) -> String {
-    let mut rows = Rows::new(alloc);
-    rows.text(shown(printed));
-    rows.text("=== ");
-    rows.debug(&status);
-    rows.text("\n");
-    rows.into_text()
-}
-
 // The image file that a command left: the file `out`, unless it holds nothing.
 fn image_left(files: &MemStore) -> &[u8] {
     match files.file("out") {
@@ -110,40 +97,48 @@ fn image_left(files: &MemStore) -> &[u8] {
 }
 
 // What a command printed, how it ended, and the image file that it left.
-fn outcome_of(alloc: Global, printed: &[u8], status: Status, files: &MemStore) -> Outcome {
-    let mut img = Vec::new(alloc);
-    append(&mut img, image_left(files));
+fn made_outcome(alloc: Global, printed: &[u8], ended: &str, img: &[u8]) -> Outcome {
+    let mut text = String::new(alloc);
+    push(&mut text, shown(printed));
+    push(&mut text, ended);
+    let mut left = Vec::new(alloc);
+    append(&mut left, img);
     Outcome {
-        text: ended(alloc, printed, status),
+        text,
         printed: printed.len(),
-        img,
+        img: left,
     }
 }
 
 // Runs the command of these words on these files.
-fn answer_on(
+fn command_outcome(
+    alloc: Global,
+    words: &[String],
+    files: &mut MemStore,
+    out: &mut MemSink,
+) -> Outcome {
+    let status = top(alloc, words, files, out);
+    match format!(in alloc; "=== {status:?}\n") {
+        Ok(ended) => made_outcome(alloc, out.taken(), ended.as_str(), image_left(&*files)),
+        Err(_) => made_outcome(alloc, b"", "", b""),
+    }
+}
+
+// The same with an output of this space.
+fn outcome_in_space(
     alloc: Global,
     words: &[String],
     files: &mut MemStore,
     space: u32,
     faults: &Faults,
-) -> Result<Outcome, NoMemory> {
-    let mut out = MemSink::new(alloc, space, &faults.sink)?;
-    let status = top(alloc, words, files, &mut out);
-    Ok(outcome_of(alloc, out.taken(), status, &*files))
-}
-
-// Runs the command of these words on files that hold these bytes.
-fn answer_words(
-    alloc: Global,
-    words: &[String],
-    texts: &Texts,
-    img: &[u8],
-    space: u32,
-    faults: &Faults,
-) -> Result<Outcome, NoMemory> {
-    let mut files = store(alloc, texts, img, space, &faults.store)?;
-    answer_on(alloc, words, &mut files, space, faults)
+) -> Outcome {
+    match MemSink::new(alloc, space, &faults.sink) {
+        Ok(out) => {
+            let mut out = out;
+            command_outcome(alloc, words, files, &mut out)
+        }
+        Err(_) => made_outcome(alloc, b"", "", b""),
+    }
 }
 
 // Runs the command of a line on these files, of at most 16,000,000 bytes each, with these failing calls.
@@ -154,65 +149,54 @@ fn answer(
     img: &[u8],
     space: u32,
     faults: &Faults,
-) -> Result<Outcome, NoMemory> {
+) -> Outcome {
     let words = words(alloc, line);
-    answer_words(alloc, words.as_slice(), texts, img, space, faults)
+    match store(alloc, texts, img, space, &faults.store) {
+        Ok(files) => {
+            let mut files = files;
+            outcome_in_space(alloc, words.as_slice(), &mut files, space, faults)
+        }
+        Err(_) => made_outcome(alloc, b"", "", b""),
+    }
 }
 
 // The same where no call fails.
-fn answer_whole(
-    alloc: Global,
-    line: &str,
-    texts: &Texts,
-    img: &[u8],
-    space: u32,
-) -> Result<Outcome, NoMemory> {
-    let none = Faults::none(alloc);
+fn answer_whole(alloc: Global, line: &str, texts: &Texts, img: &[u8], space: u32) -> Outcome {
+    let none = Faults::read(alloc, "", "");
     answer(alloc, line, texts, img, space, &none)
 }
 
 /// What the command of a line prints with how it ends, on these files, where no call fails.
-pub fn printed(alloc: Global, line: &str, texts: &Texts, img: &[u8]) -> Result<String, NoMemory> {
-    let answer = answer_whole(alloc, line, texts, img, LITTLE)?;
-    Ok(answer.text)
+pub fn printed(alloc: Global, line: &str, texts: &Texts, img: &[u8]) -> String {
+    let answer = answer_whole(alloc, line, texts, img, LITTLE);
+    answer.text
 }
 
 // Runs the command of a line, and keeps the image file that it leaves. Gives what it prints with how it ends.
-fn done(alloc: Global, line: &str, texts: &mut Texts) -> Result<String, NoMemory> {
-    let answer = answer_whole(alloc, line, texts, &texts.img, SPACE)?;
+fn done(alloc: Global, line: &str, texts: &mut Texts) -> String {
+    let answer = answer_whole(alloc, line, texts, &texts.img, SPACE);
     texts.img = answer.img;
-    Ok(answer.text)
+    answer.text
 }
 
 /// Runs the command of a line, and prints what it prints and its status. The image file that it leaves is kept.
 pub fn run(rows: &mut Rows, line: &str, texts: &mut Texts) {
-    match done(rows.alloc(), line, texts) {
-        Ok(text) => rows.text(text.as_str()),
-        Err(_) => rows.leave_out(),
-    }
+    let text = done(rows.alloc(), line, texts);
+    rows.text(text.as_str());
 }
 
-// Prints how many lines a text has, their CRC-32 (IEEE 802.3), and the last of them.
-fn list_sum(rows: &mut Rows, text: &str) {
-    let lines = text.lines().count();
-    let status = text.lines().last().unwrap_or("");
+/// Runs the command of a line, and prints how many lines it prints, their CRC-32 (IEEE 802.3), and how it ends. The image file that it
+/// leaves is kept.
+pub fn run_summed(rows: &mut Rows, line: &str, texts: &mut Texts) {
+    let text = done(rows.alloc(), line, texts);
     rows.row(
-        Piece::Count(lines),
+        Piece::Count(text.lines().count()),
         &[
             Piece::Text("lines"),
             Piece::Address(checksum(text.as_bytes())),
-            Piece::Text(status),
+            Piece::Text(text.lines().last().unwrap_or("")),
         ],
     );
-}
-
-/// Runs the command of a line, and prints how it ends, how many lines it prints, and their CRC-32 (IEEE 802.3). The image file that it
-/// leaves is kept.
-pub fn run_summed(rows: &mut Rows, line: &str, texts: &mut Texts) {
-    match done(rows.alloc(), line, texts) {
-        Ok(text) => list_sum(rows, text.as_str()),
-        Err(_) => rows.leave_out(),
-    }
 }
 
 /// Prints how many bytes the image file has, and their CRC-32 (IEEE 802.3).
@@ -229,31 +213,10 @@ pub fn show(rows: &mut Rows, texts: &Texts) {
 }
 
 /// Runs the command of a line, and puts what it prints in the place of the image file.
-pub fn run_kept(alloc: Global, line: &str, texts: &mut Texts) -> Result<(), NoMemory> {
-    let answer = answer_whole(alloc, line, texts, &texts.img, SPACE)?;
+pub fn run_kept(alloc: Global, line: &str, texts: &mut Texts) {
+    let answer = answer_whole(alloc, line, texts, &texts.img, SPACE);
     let printed = answer.text.as_bytes().get(..answer.printed).unwrap_or(b"");
     refill(&mut texts.img, printed);
-    Ok(())
-}
-
-// Prints how many bytes two texts have that are the same, or that they are not.
-fn compare(rows: &mut Rows, one: &str, other: &str) {
-    if one == other {
-        rows.row(
-            Piece::Text("both"),
-            &[Piece::Count(one.len()), Piece::Text("bytes")],
-        );
-    } else {
-        rows.line("they differ");
-    }
-}
-
-// Runs the command of a line, and compares what it prints with another text.
-fn run_other(rows: &mut Rows, line: &str, texts: &Texts, other: &str) {
-    match answer_whole(rows.alloc(), line, texts, &texts.img, SPACE) {
-        Ok(answer) => compare(rows, other, answer.text.as_str()),
-        Err(_) => rows.leave_out(),
-    }
 }
 
 /// Runs two commands, which ` / ` divides, one after the other, and prints how many bytes both answer, or that their answers differ.
@@ -261,9 +224,15 @@ pub fn run_both(rows: &mut Rows, lines: &str, texts: &mut Texts) {
     let Some((one, other)) = lines.split_once(" / ") else {
         return;
     };
-    match done(rows.alloc(), one, texts) {
-        Ok(first) => run_other(rows, other, texts, first.as_str()),
-        Err(_) => rows.leave_out(),
+    let first = done(rows.alloc(), one, texts);
+    let second = done(rows.alloc(), other, texts);
+    if first == second {
+        rows.row(
+            Piece::Text("both"),
+            &[Piece::Count(first.len()), Piece::Text("bytes")],
+        );
+    } else {
+        rows.line("they differ");
     }
 }
 
@@ -281,36 +250,22 @@ fn show_new(rows: &mut Rows, number: usize, things: &str, text: String, last: &m
 pub fn run_cut(rows: &mut Rows, line: &str, texts: &Texts) {
     let mut last = String::new(rows.alloc());
     for size in 0..=texts.img.len() {
-        match printed(rows.alloc(), line, texts, &texts.img[..size]) {
-            Ok(text) => show_new(rows, size, "bytes", text, &mut last),
-            Err(_) => rows.leave_out(),
-        }
+        let text = printed(rows.alloc(), line, texts, &texts.img[..size]);
+        show_new(rows, size, "bytes", text, &mut last);
     }
-}
-
-// Runs the command of a line with 0, 1, 2, .. line feeds behind each text, up to a number.
-fn lengthen_to(
-    rows: &mut Rows,
-    number: u32,
-    line: &str,
-    texts: &mut Texts,
-) -> Result<(), NoMemory> {
-    let mut last = String::new(rows.alloc());
-    for more in 0..=number {
-        let text = printed(rows.alloc(), line, texts, &texts.img)?;
-        show_new(rows, more as usize, "more", text, &mut last);
-        texts.lengthen();
-    }
-    Ok(())
 }
 
 /// Runs the command of a line with 0, 1, 2, .. line feeds behind each text, up to a number: `600 order oil src arr img 300`. Where the answer is
 /// another one than with a line feed less, prints how many there are and the answer.
 pub fn run_lengthened(rows: &mut Rows, asked: &str, texts: &mut Texts) {
-    if let Some((number, line)) = number_before(asked) {
-        if lengthen_to(rows, number, line, texts).is_err() {
-            rows.leave_out();
-        }
+    let Some((number, line)) = number_before(asked) else {
+        return;
+    };
+    let mut last = String::new(rows.alloc());
+    for more in 0..=number {
+        let text = printed(rows.alloc(), line, texts, &texts.img);
+        show_new(rows, more as usize, "more", text, &mut last);
+        texts.lengthen();
     }
 }
 
@@ -330,41 +285,24 @@ fn checksum(bytes: &[u8]) -> u32 {
     !sum
 }
 
-// What an image file is, beside the one before and the one that the command leaves where no call fails.
-fn state(img: &[u8], before: &[u8], image: &[u8]) -> &'static str {
-    if img == before {
-        "as before"
-    } else if img == image {
-        "the image"
+// Prints an answer, and what the image file is, beside the one before and the one that the command leaves where no call fails.
+fn list_state(rows: &mut Rows, answer: &Outcome, before: &[u8], image: &[u8]) {
+    rows.text(answer.text.as_str());
+    if answer.img.as_slice() == before {
+        rows.line("IMG as before");
+    } else if answer.img.as_slice() == image {
+        rows.line("IMG the image");
     } else {
-        "another"
+        rows.line("IMG another");
     }
 }
 
-// Prints an answer, and what the image file is.
-fn list_state(rows: &mut Rows, text: &str, img: &[u8], before: &[u8], image: &[u8]) {
-    rows.text(text);
-    rows.row(
-        Piece::Text("IMG"),
-        &[Piece::Text(state(img, before, image))],
-    );
-}
-
-// Runs the command of a line with failing calls, and prints the answer, and what the image file is beside the one that the command leaves where
-// no call fails.
-fn run_beside(rows: &mut Rows, line: &str, texts: &Texts, faults: &Faults, image: &[u8]) {
-    match answer(rows.alloc(), line, texts, &texts.img, LITTLE, faults) {
-        Ok(answer) => list_state(rows, answer.text.as_str(), &answer.img, &texts.img, image),
-        Err(_) => rows.leave_out(),
-    }
-}
-
-// The same, behind a run where no call fails.
+// Runs the command of a line where no call fails, and then with failing calls, and prints the second answer, and what the image file is
+// beside the one that the first leaves.
 fn run_faulty(rows: &mut Rows, line: &str, texts: &Texts, faults: &Faults) {
-    match answer_whole(rows.alloc(), line, texts, &texts.img, LITTLE) {
-        Ok(whole) => run_beside(rows, line, texts, faults, &whole.img),
-        Err(_) => rows.leave_out(),
-    }
+    let whole = answer_whole(rows.alloc(), line, texts, &texts.img, LITTLE);
+    let answer = answer(rows.alloc(), line, texts, &texts.img, LITTLE, faults);
+    list_state(rows, &answer, &texts.img, &whole.img);
 }
 
 /// Runs a command with failing calls: of the store, ` / `, of the sink, ` / `, the command. Prints the answer, and what the image file is.

@@ -1,131 +1,69 @@
 //! The listing of a configuration.
 ghost use Rattle.sloth_base.specs.ConfigRange.{InRange};
 
-use crate::rows::{Piece, Rows};
+use crate::rows::Rows;
+use crate::syntax::shown;
 use prio_levels::assign;
-use sloth_base::config::{Action, AlarmDecl, Config, CounterDecl, EventDecl, TaskDecl};
-use sloth_base::name::Name;
-use sloth_base::numbers::ResId;
-use sloth_base::places::Levels;
+use sloth_base::{Action, AlarmDecl, Config, CounterDecl, ResId, TaskDecl};
 
-fn list_listed(rows: &mut Rows, resources: &[ResId]) {
+/// Prints a row for each resource: a text, and its number.
+pub fn list_numbers(rows: &mut Rows, text: &str, resources: &[ResId]) {
     for resource in resources {
-        rows.row(Piece::Text("lists"), &[Piece::Number(resource.0)]);
+        rows.numbers(text, &[resource.0]);
     }
 }
 
 fn list_task(rows: &mut Rows, task: &TaskDecl) {
-    rows.row(
-        Piece::Text("task"),
-        &[
-            Piece::Bytes(task.name.bytes()),
-            Piece::Number(task.priority),
-            Piece::Text("extended"),
-            Piece::Flag(task.extended),
-        ],
-    );
-    rows.row(
-        Piece::Text("non"),
-        &[
-            Piece::Flag(task.non),
-            Piece::Text("autostart"),
-            Piece::Flag(task.autostart),
-            Piece::Text("events"),
-            Piece::Number(task.events),
-        ],
-    );
-    list_listed(rows, task.resources.items())
-}
-
-fn list_tasks(rows: &mut Rows, tasks: &[TaskDecl]) {
-    for task in tasks {
-        list_task(rows, task);
-    }
-}
-
-fn list_resources(rows: &mut Rows, resources: &[Name]) {
-    for resource in resources {
-        rows.row(Piece::Text("resource"), &[Piece::Bytes(resource.bytes())]);
-    }
-}
-
-fn list_events(rows: &mut Rows, events: &[EventDecl]) {
-    for event in events {
-        rows.row(
-            Piece::Text("event"),
-            &[Piece::Bytes(event.name.bytes()), Piece::Number(event.mask)],
-        );
-    }
+    let name = shown(task.name.bytes());
+    rows.named("task ", name, " % extended ", &[task.priority as i64]);
+    rows.flag(task.extended, "\nnon ");
+    rows.flag(task.non, " autostart ");
+    rows.flag(task.autostart, " events ");
+    rows.form("%\n", &[task.events as i64]);
+    list_numbers(rows, "lists", task.resources.items())
 }
 
 fn list_counters(rows: &mut Rows, counters: &[CounterDecl]) {
     for counter in counters {
-        rows.row(
-            Piece::Text("counter"),
-            &[
-                Piece::Bytes(counter.name.bytes()),
-                Piece::Number(counter.max),
-                Piece::Number(counter.min_cycle),
-            ],
+        rows.named(
+            "counter ",
+            shown(counter.name.bytes()),
+            " % %\n",
+            &[counter.max as i64, counter.min_cycle as i64],
         );
     }
 }
 
 fn list_alarm(rows: &mut Rows, alarm: &AlarmDecl) {
-    let name = Piece::Bytes(alarm.name.bytes());
-    let counter = Piece::Number(alarm.counter);
-    let time = Piece::Number(alarm.time);
-    let cycle = Piece::Number(alarm.cycle);
+    let name = shown(alarm.name.bytes());
+    rows.named("alarm ", name, " % ", &[alarm.counter as i64]);
     match alarm.action {
-        Action::Activate(task) => {
-            let (does, task) = (Piece::Text("activates"), Piece::Number(task.0));
-            rows.row(
-                Piece::Text("alarm"),
-                &[name, counter, does, task, time, cycle],
-            )
-        }
-        Action::Set(task, mask) => {
-            let (does, task, mask) = (
-                Piece::Text("sets"),
-                Piece::Number(task.0),
-                Piece::Number(mask),
-            );
-            rows.row(
-                Piece::Text("alarm"),
-                &[name, counter, does, task, mask, time, cycle],
-            )
-        }
+        Action::Activate(task) => rows.form("activates %", &[task.0 as i64]),
+        Action::Set(task, mask) => rows.form("sets % %", &[task.0 as i64, mask as i64]),
+    }
+    rows.form(" % %\n", &[alarm.time as i64, alarm.cycle as i64])
+}
+
+// The tasks, resources and events.
+fn list_objects(rows: &mut Rows, config: &Config) {
+    for task in config.tasks.items() {
+        list_task(rows, task);
+    }
+    for resource in config.resources.items() {
+        rows.named("resource ", shown(resource.bytes()), "\n", &[]);
+    }
+    for event in config.events.items() {
+        let name = shown(event.name.bytes());
+        rows.named("event ", name, " %\n", &[event.mask as i64]);
     }
 }
 
-fn list_alarms(rows: &mut Rows, alarms: &[AlarmDecl]) {
-    for alarm in alarms {
+// The counters and alarms.
+fn list_clock(rows: &mut Rows, config: &Config) {
+    list_counters(rows, config.counters.items());
+    for alarm in config.alarms.items() {
         list_alarm(rows, alarm);
     }
-}
-
-fn list_objects(rows: &mut Rows, config: &Config) {
-    list_tasks(rows, config.tasks.items());
-    list_resources(rows, config.resources.items());
-    list_events(rows, config.events.items());
-    list_counters(rows, config.counters.items());
-    list_alarms(rows, config.alarms.items())
-}
-
-fn list_levels(rows: &mut Rows, levels: &Levels, scheduler: bool) {
-    rows.text("levels ");
-    rows.debug(&levels.task);
-    rows.text("\nceilings ");
-    rows.debug(&levels.ceiling);
-    rows.text("\n");
-    rows.row(
-        Piece::Text("top"),
-        &[
-            Piece::Number(levels.top.into()),
-            Piece::Text("scheduler"),
-            Piece::Flag(scheduler),
-        ],
-    );
 }
 
 /// Prints the tasks, resources, events, counters and alarms, and the levels of the tasks and of the resources' ceilings.
@@ -133,5 +71,12 @@ pub fn list_config(rows: &mut Rows, config: &Config)
     requires { InRange config.now }
 {
     list_objects(rows, config);
-    list_levels(rows, &assign(config), config.res_scheduler)
+    list_clock(rows, config);
+    let levels = assign(config);
+    rows.text("levels ");
+    rows.debug(&levels.task);
+    rows.text("\nceilings ");
+    rows.debug(&levels.ceiling);
+    rows.form("\ntop % scheduler ", &[levels.top as i64]);
+    rows.flag(config.res_scheduler, "\n")
 }

@@ -1,11 +1,10 @@
 //! Events as rows show them, and an event of each kind.
-use crate::plain_values::{put_between, put_number, put_service};
 use crate::rows::Rows;
-use sloth_base::event::Event;
-use sloth_base::service::Service;
+use crate::syntax::shown;
+use sloth_base::{Event, Service};
 
-/// The task, function and counter number of none.
-pub const NONE: u32 = 4_294_967_295;
+// The task, function and counter number of none.
+const NONE: u32 = 4_294_967_295;
 
 /// An event of each kind, and of the ticks that of no counter.
 pub const EVENTS: [Event; 12] = [
@@ -35,47 +34,42 @@ pub const EVENTS: [Event; 12] = [
     Event::Tick(NONE),
 ];
 
-fn put_run(rows: &mut Rows, task: u32, func: u32, item: u32, answer: u32) {
-    put_number(rows, "Run { task: ", task);
-    put_number(rows, ", func: ", func);
-    put_number(rows, ", item: ", item);
-    put_between(rows, ", result: ", answer, " }")
-}
-
-fn put_answer(rows: &mut Rows, task: u32, service: Service, status: u32) {
-    put_number(rows, "Call { task: ", task);
-    put_service(rows, ", service: ", service);
-    put_between(rows, ", status: ", status, " }")
-}
-
-fn put_left(rows: &mut Rows, task: u32, service: Service) {
-    put_number(rows, "Left { task: ", task);
-    put_service(rows, ", service: ", service);
-    rows.text(" }");
-}
-
 /// Appends an event.
 pub fn put_event(rows: &mut Rows, event: &Event) {
     match event {
-        Event::Boot => rows.text("Boot"),
-        Event::Admit(task) => put_between(rows, "Admit(", *task, ")"),
-        Event::Enter(task) => put_between(rows, "Enter(", *task, ")"),
+        Event::Admit(task) => rows.form("Admit(%)", &[*task as i64]),
+        Event::Enter(task) => rows.form("Enter(%)", &[*task as i64]),
         Event::Run {
             task,
             func,
             item,
             result,
-        } => put_run(rows, *task, *func, *item, *result),
+        } => rows.form(
+            "Run { task: %, func: %, item: %, result: % }",
+            &[*task as i64, *func as i64, *item as i64, *result as i64],
+        ),
         Event::Call {
             task,
             service,
             status,
-        } => put_answer(rows, *task, *service, *status),
-        Event::Left { task, service } => put_left(rows, *task, *service),
-        Event::Back(task) => put_between(rows, "Back(", *task, ")"),
+        } => {
+            rows.form("Call { task: %, service: ", &[*task as i64]);
+            rows.named(
+                "",
+                shown(service.name()),
+                ", status: % }",
+                &[*status as i64],
+            )
+        }
+        Event::Left { task, service } => {
+            rows.form("Left { task: %, service: ", &[*task as i64]);
+            rows.named("", shown(service.name()), " }", &[])
+        }
+        Event::Back(task) => rows.form("Back(%)", &[*task as i64]),
+        Event::Due(counter) => rows.form("Due(%)", &[*counter as i64]),
+        Event::Tick(counter) => rows.form("Tick(%)", &[*counter as i64]),
+        Event::Boot => rows.text("Boot"),
         Event::Idle => rows.text("Idle"),
         Event::Stray => rows.text("Stray"),
-        Event::Due(counter) => put_between(rows, "Due(", *counter, ")"),
-        Event::Tick(counter) => put_between(rows, "Tick(", *counter, ")"),
     }
 }

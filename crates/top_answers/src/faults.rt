@@ -38,14 +38,6 @@ fn pair(word: &str) -> Option<(u32, u32)> {
 }
 
 impl Faults {
-    /// No call fails.
-    pub fn none(alloc: Global) -> Faults {
-        Faults {
-            store: Vec::new(alloc),
-            sink: Vec::new(alloc),
-        }
-    }
-
     /// The calls of the store by words such as `3`, and those of the sink by words such as `2:1`. Other words name none.
     pub fn read(alloc: Global, store: &str, sink: &str) -> Faults {
         Faults {

@@ -1,21 +1,13 @@
 //! Commands on files of the system, and the picture of a run that the README shows.
 use crate::commands::words;
 use crate::rows::{Piece, Rows};
-use sloth_cli::program::run_words;
-use sloth_io::file_store::FileStore;
-use sloth_io::store::Store;
+use sloth_cli::run_words;
+use sloth_io::{FileStore, Store};
 use std::os::unix::fs::symlink;
 use std::rt::Files;
 
 /// The most bytes of a picture.
 const LIMIT: usize = 1_000_000;
-
-// Prints the number of a status.
-fn print_status(rt: &(impl Print + AllocGlobal), status: u8) {
-    let mut rows = Rows::new(rt.alloc());
-    rows.numbers("status", &[status.into()]);
-    rows.print(rt);
-}
 
 // Prints a text, and whether it is so.
 fn print_flag(rt: &(impl Print + AllocGlobal), text: &str, flag: bool) {
@@ -24,16 +16,13 @@ fn print_flag(rt: &(impl Print + AllocGlobal), text: &str, flag: bool) {
     rows.print(rt);
 }
 
-// Runs the command of these words, and prints the number of its status.
-fn run_line(rt: &(impl Files + Print + Input + AllocGlobal), words: &[String]) {
-    let status = run_words(rt, words);
-    print_status(rt, status.code());
-}
-
 // Runs the command of a line, and prints the number of its status.
 fn run(rt: &(impl Files + Print + Input + AllocGlobal), line: &str) {
     let words = words(rt.alloc(), line);
-    run_line(rt, words.as_slice());
+    let status = run_words(rt, words.as_slice());
+    let mut rows = Rows::new(rt.alloc());
+    rows.numbers("status", &[status.code().into()]);
+    rows.print(rt);
 }
 
 // The bytes of a file; none where it cannot be read.

@@ -1,31 +1,21 @@
 //! The listing of a generated application.
 use crate::rows::Rows;
 use crate::syntax::shown;
-use app_gen::application::Sample;
-use app_gen::sample;
-use sloth_base::event::Arrival;
-use sloth_base::limits::TASK_LIMIT;
-use text_pieces::bytes::{before, behind};
-use text_pieces::numerals::value;
+use app_gen::{Sample, sample};
+use sloth_base::TASK_LIMIT;
+use text_pieces::{before, behind, value};
 
 // The number of decimal digits, or 0 where it is none of 32 bits.
 fn number(digits: &[u8]) -> u32 {
     u32::try_from(value(digits, 10)).unwrap_or(0)
 }
 
-fn list_arrivals(rows: &mut Rows, arrivals: &[Arrival]) {
-    for arrival in arrivals {
-        rows.value(arrival.at);
-        rows.text(" T");
-        rows.value(arrival.line.0);
-        rows.text("\n");
-    }
-}
-
 fn list_texts(rows: &mut Rows, sample: &Sample) {
     rows.text(shown(sample.oil.items()));
     rows.text(shown(sample.src.items()));
-    list_arrivals(rows, sample.arrivals.items())
+    for arrival in sample.arrivals.items() {
+        rows.form("% T%\n", &[arrival.at as i64, arrival.line.0 as i64]);
+    }
 }
 
 /// Prints the two texts and the arrivals of the application that a seed and a number of tasks ask for.

@@ -10,11 +10,8 @@ ghost use Rattle.sloth_build.specs.Gathered.{MayBuild, MayGenerate};
 
 use crate::rows::{Piece, Rows};
 use rv32_instr::Block;
-use sloth_base::app::{App, Item};
-use sloth_base::config::Config;
-use sloth_base::image::Image;
-use sloth_base::places::{Bounds, Levels, Places};
-use sloth_region::map::Map;
+use sloth_base::{App, Bounds, Config, Item, Levels, Places};
+use sloth_region::Map;
 
 // The address of each routine, and how many words it has.
 fn list_blocks(rows: &mut Rows, blocks: &[Block]) {
@@ -66,24 +63,19 @@ fn list_first_item(rows: &mut Rows, app: &App, places: &Places)
     list_item(rows, &items[0], 0, app, places)
 }
 
-// How long an image is.
-fn list_image(rows: &mut Rows, image: &Image) {
-    rows.row(
-        Piece::Text("image"),
-        &[
-            Piece::Count(image.memory.items().len()),
-            Piece::Text("marks"),
-            Piece::Count(image.marks.items().len()),
-        ],
-    )
-}
-
-// The image of these routines with the items and symbols of the task code.
+// The length of the image of these routines with the items and symbols of the task code.
 fn list_linked(rows: &mut Rows, config: &Config, app: &App, map: &Map, blocks: &[Block])
     requires { MayLink config.now app.now map.now blocks.now }
 {
     match sloth_link::link(rows.alloc(), blocks, app, config, map) {
-        Ok(image) => list_image(rows, &image),
+        Ok(image) => rows.row(
+            Piece::Text("image"),
+            &[
+                Piece::Count(image.memory.items().len()),
+                Piece::Text("marks"),
+                Piece::Count(image.marks.items().len()),
+            ],
+        ),
         Err(_) => rows.leave_out(),
     }
 }

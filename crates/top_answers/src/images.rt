@@ -1,36 +1,30 @@
 //! Public calls on the image file.
-ghost use Rattle.std.specs.Prelude.{◌≡◌, ◌<◌, IfOk, length};
+ghost use Rattle.std.specs.Prelude.{◌<◌, length};
 ghost use Rattle.sloth_base.specs.Arrivals.{AreArrivals};
 ghost use Rattle.sloth_base.specs.ImageRange.{InFormat};
 ghost use Rattle.sloth_base.specs.Owners.{owners_named};
 
 use crate::event_lines::list_events;
+use crate::events::EVENTS;
 use crate::machine::{list_choice, list_first_step, list_flat_word};
 use crate::observed::list_observed;
 use crate::readers::list_error;
 use crate::rows::{Piece, Rows};
-use crate::stops::{list_controller_stops, list_stops};
+use crate::stops::{PAIRS, list_controller_stops, list_stops};
+use crate::syntax::shown;
 use crate::texts::{LONGEST, Texts};
 use image_file::{read_image, write_image};
-use sloth_base::event::Arrival;
-use sloth_base::image::Image;
-use sloth_base::memory::NoMemory;
+use sloth_base::{Arrival, Image};
 use sloth_cli::{RunEnd, Runner};
-use sloth_io::mem_sink::MemSink;
-use std::alloc::Global;
-use trace_text::listing_line;
-use trace_text::printing::Form;
+use sloth_io::MemSink;
+use trace_text::{Form, listing_line};
 
-// Whether the same memory is read from a file.
-fn is_read_back(alloc: Global, file: &[u8], memory: &[u8]) -> bool {
-    match read_image(alloc, file) {
+// The length of a file, and whether this memory is read from it.
+fn list_written(rows: &mut Rows, file: &[u8], memory: &[u8]) {
+    let again = match read_image(rows.alloc(), file) {
         Ok(read) => read.memory.items() == memory,
         Err(_) => false,
-    }
-}
-
-fn list_written(rows: &mut Rows, file: &[u8], memory: &[u8]) {
-    let again = is_read_back(rows.alloc(), file, memory);
+    };
     rows.row(
         Piece::Text("file"),
         &[
@@ -51,56 +45,23 @@ fn list_file(rows: &mut Rows, image: &Image)
     }
 }
 
-// The first line of the listing of an image.
-fn list_listing_line(rows: &mut Rows, image: &Image)
-    requires { InFormat image.now }
-{
-    let line = listing_line(image, 0);
-    rows.row(Piece::Text("listing"), &[Piece::Bytes(line.bytes())])
-}
-
-// Both buses and the machine.
-fn list_memories(rows: &mut Rows, image: &Image)
-    requires { InFormat image.now }
-{
-    list_flat_word(rows, image);
-    list_choice(rows, image);
-    list_first_step(rows, image)
-}
-
-// Whether a run of 400 instructions is whole. Its lines go to the output.
-fn is_run(
-    alloc: Global,
-    image: &Image,
-    arrivals: &[Arrival],
-    out: &mut MemSink,
-) -> Result<bool, NoMemory>
+// Whether a run of 400 instructions is whole, and how many bytes it puts.
+fn list_put_run(rows: &mut Rows, image: &Image, arrivals: &[Arrival], out: &mut MemSink)
     requires format { InFormat image.now }
     requires arrivals { AreArrivals (owners_named image.now) arrivals.now }
 {
-    let mut runner = Runner::new(alloc, image, arrivals)?;
-    let whole = match runner.run(400, Form::Counted, out) {
-        Ok(RunEnd::Whole) => true,
-        _ => false,
-    };
-    Ok(whole)
-}
-
-// Whether a run is whole, and how many bytes it puts.
-fn list_end(rows: &mut Rows, whole: bool, count: usize) {
-    rows.row(
-        Piece::Text("run"),
-        &[Piece::Flag(whole), Piece::Count(count)],
-    );
-}
-
-fn list_run_to(rows: &mut Rows, image: &Image, arrivals: &[Arrival], out: MemSink)
-    requires format { InFormat image.now }
-    requires arrivals { AreArrivals (owners_named image.now) arrivals.now }
-{
-    let mut out = out;
-    match is_run(rows.alloc(), image, arrivals, &mut out) {
-        Ok(whole) => list_end(rows, whole, out.taken().len()),
+    match Runner::new(rows.alloc(), image, arrivals) {
+        Ok(runner) => {
+            let mut runner = runner;
+            let whole = match runner.run(400, Form::Counted, out) {
+                Ok(RunEnd::Whole) => true,
+                _ => false,
+            };
+            rows.row(
+                Piece::Text("run"),
+                &[Piece::Flag(whole), Piece::Count(out.taken().len())],
+            )
+        }
         Err(_) => rows.leave_out(),
     }
 }
@@ -111,26 +72,24 @@ fn list_run(rows: &mut Rows, image: &Image, arrivals: &[Arrival])
     requires arrivals { AreArrivals (owners_named image.now) arrivals.now }
 {
     match MemSink::new(rows.alloc(), 100_000, &[]) {
-        Ok(out) => list_run_to(rows, image, arrivals, out),
+        Ok(out) => {
+            let mut out = out;
+            list_put_run(rows, image, arrivals, &mut out)
+        }
         Err(_) => rows.leave_out(),
     }
 }
 
-// How many of its events are entries.
-fn entries(alloc: Global, image: &Image, arrivals: &[Arrival]) -> Result<u32, NoMemory>
-    requires format { InFormat image.now }
-    requires arrivals { AreArrivals (owners_named image.now) arrivals.now }
-{
-    let mut runner = Runner::new(alloc, image, arrivals)?;
-    Ok(runner.tally(400).counts[2])
-}
-
+// How many events of a run of 400 instructions are entries.
 fn list_entries(rows: &mut Rows, image: &Image, arrivals: &[Arrival])
     requires format { InFormat image.now }
     requires arrivals { AreArrivals (owners_named image.now) arrivals.now }
 {
-    match entries(rows.alloc(), image, arrivals) {
-        Ok(entries) => rows.numbers("entries", &[entries]),
+    match Runner::new(rows.alloc(), image, arrivals) {
+        Ok(runner) => {
+            let mut runner = runner;
+            rows.numbers("entries", &[runner.tally(400).counts[2]])
+        }
         Err(_) => rows.leave_out(),
     }
 }
@@ -164,24 +123,27 @@ fn list_image(rows: &mut Rows, image: &Image, text: &[u8])
     requires text { length text.now < 4294967295 }
 {
     list_file(rows, image);
-    list_listing_line(rows, image);
-    list_memories(rows, image);
+    rows.text("listing ");
+    rows.line(shown(listing_line(image, 0).bytes()));
+    list_flat_word(rows, image);
+    list_choice(rows, image);
+    list_first_step(rows, image);
     list_runs(rows, image, text)
 }
 
 fn list_asked(rows: &mut Rows, asked: &str, image: &Image, text: &[u8])
     requires { InFormat image.now }
 {
-    if asked == "stops" {
-        list_stops(rows, image)
-    } else if asked == "vectors" {
-        list_controller_stops(rows, image)
-    } else if asked == "events" {
-        list_events(rows, image)
-    } else if asked == "steps" {
-        list_observed(rows, image)
-    } else if text.len() <= LONGEST {
-        list_image(rows, image, text)
+    match asked {
+        "stops" => list_stops(rows, image, &PAIRS),
+        "vectors" => list_controller_stops(rows, image),
+        "events" => list_events(rows, &EVENTS, image),
+        "steps" => list_observed(rows, image),
+        _ => {
+            if text.len() <= LONGEST {
+                list_image(rows, image, text)
+            }
+        }
     }
 }
 

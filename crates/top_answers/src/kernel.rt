@@ -12,20 +12,12 @@ ghost use Rattle.vector_gen.specs.Vectors.{AreInReach};
 use crate::plain_values::mark_name;
 use crate::repeats::number_before;
 use crate::rows::{Piece, Rows};
-use rv32_instr::{Block, Instr, encode};
-use sloth_base::app::{App, Func};
-use sloth_base::config::Config;
-use sloth_base::image::Mark;
-use sloth_base::limits::{CEILING_COUNT, FRAME_LIMIT, TASK_LIMIT};
-use sloth_base::list::List;
-use sloth_base::memory::NoMemory;
-use sloth_base::memory_map::LINE_COUNT;
-use sloth_base::name::Name;
-use sloth_base::numbers::TaskId;
-use sloth_base::places::{BLOCK_COUNT, Levels, Places};
-use sloth_base::service::Service;
-use sloth_region::extent::Extent;
-use sloth_region::map::Map;
+use rv32_instr::{Block, encode};
+use sloth_base::{
+    App, BLOCK_COUNT, CEILING_COUNT, Config, FRAME_LIMIT, Func, LINE_COUNT, Levels, List, Name,
+    NoMemory, Places, Service, TASK_LIMIT, TaskId,
+};
+use sloth_region::{Extent, Map};
 use std::alloc::Global;
 use vector_gen::{boot, idle, prologue, vectors};
 
@@ -143,31 +135,23 @@ fn map(alloc: Global) -> Result<Map, NoMemory>
     })
 }
 
-fn list_marks(rows: &mut Rows, marks: &[Mark]) {
-    for mark in marks {
-        rows.text("mark ");
-        rows.address(mark.address);
-        rows.text(" ");
-        rows.text(mark_name(&mark.kind));
-        rows.end(&[
-            Piece::Number(mark.a.into()),
-            Piece::Number(mark.b.into()),
-            Piece::Number(mark.c),
-        ]);
-    }
-}
-
-fn list_code(rows: &mut Rows, code: &[Instr]) {
-    for instr in code {
-        rows.row(Piece::Address(encode(*instr)), &[]);
-    }
-}
-
 // Prints the name of a block, its address and its marks, and its words, each on a line.
 fn list_block(rows: &mut Rows, name: &str, block: &Block) {
     rows.row(Piece::Text(name), &[Piece::Address(block.at)]);
-    list_marks(rows, block.marks.items());
-    list_code(rows, block.code.items());
+    for mark in block.marks.items() {
+        rows.text("mark ");
+        rows.address(mark.address);
+        rows.named(
+            " ",
+            mark_name(&mark.kind),
+            " % % %\n",
+            &[mark.a as i64, mark.b as i64, mark.c as i64],
+        );
+    }
+    for instr in block.code.items() {
+        rows.address(encode(*instr));
+        rows.text("\n");
+    }
 }
 
 fn list_made(rows: &mut Rows, name: &str, made: Result<Block, NoMemory>) {
@@ -338,12 +322,14 @@ fn list_alarm_services(rows: &mut Rows, config: &Config, levels: &Levels, map: &
 fn list_blocks(rows: &mut Rows, asked: &str, config: &Config, levels: &Levels, map: &Map)
     requires { InRange config.now }
 {
-    if asked == "services" {
-        list_services(rows, config, levels, map);
-    } else if asked == "events" {
-        list_event_services(rows, config, levels, map);
-    } else if config.alarms.items().len() == 3 {
-        list_alarm_services(rows, config, levels, map);
+    match asked {
+        "services" => list_services(rows, config, levels, map),
+        "events" => list_event_services(rows, config, levels, map),
+        _ => {
+            if config.alarms.items().len() == 3 {
+                list_alarm_services(rows, config, levels, map);
+            }
+        }
     }
 }
 
@@ -353,16 +339,12 @@ fn list_common(rows: &mut Rows, asked: &str, config: &Config, levels: &Levels, m
     requires reach { AreInReach map.now.handlers }
     requires levels { levels.now.top < level_count }
 {
-    if asked == "vectors" {
-        list_vectors(rows, map);
-    } else if asked == "idle" {
-        list_idle(rows, map);
-    } else if asked == "boot" {
-        list_boot(rows, config, levels, map);
-    } else if asked == "tick" {
-        list_tick(rows, config, levels, map);
-    } else {
-        list_blocks(rows, asked, config, levels, map);
+    match asked {
+        "vectors" => list_vectors(rows, map),
+        "idle" => list_idle(rows, map),
+        "boot" => list_boot(rows, config, levels, map),
+        "tick" => list_tick(rows, config, levels, map),
+        _ => list_blocks(rows, asked, config, levels, map),
     }
 }
 

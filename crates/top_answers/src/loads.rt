@@ -2,32 +2,18 @@
 ghost use Rattle.std.specs.Prelude.{◌≤◌, length};
 
 use crate::readers::list_error;
-use crate::rows::{Piece, Rows};
+use crate::rows::Rows;
 use load_text::{Entry, Form, read_load};
-use sloth_base::config::Config;
-use sloth_base::declared_names::{counter_names, task_names};
-use sloth_base::list::List;
-use sloth_base::memory::NoMemory;
-use sloth_base::name::Name;
-use std::alloc::Global;
-
-fn form_text(form: Form) -> &'static str {
-    match form {
-        Form::Every => "every",
-        Form::Work => "work",
-        Form::Deadline => "deadline",
-    }
-}
+use sloth_base::{Config, Name, counter_names, task_names};
 
 fn list_entries(rows: &mut Rows, load: &[Entry]) {
     for entry in load {
-        rows.row(
-            Piece::Text(form_text(entry.form)),
-            &[
-                Piece::Number(u32::from(entry.owner.0)),
-                Piece::Number(entry.number),
-            ],
-        );
+        rows.text(match entry.form {
+            Form::Every => "every",
+            Form::Work => "work",
+            Form::Deadline => "deadline",
+        });
+        rows.form(" % %\n", &[entry.owner.0 as i64, entry.number as i64]);
     }
 }
 
@@ -40,25 +26,21 @@ fn answer_load(rows: &mut Rows, text: &[u8], tasks: &[Name], counters: &[Name])
     }
 }
 
-// The names of the tasks and of the counters.
-#[derive(Drop)]
-struct OwnerNames {
-    tasks: List<Name>,
-    counters: List<Name>,
-}
-
-fn names_of(alloc: Global, config: &Config) -> Result<OwnerNames, NoMemory> {
-    let tasks = task_names(alloc, config)?;
-    let counters = counter_names(alloc, config)?;
-    Ok(OwnerNames { tasks, counters })
+fn list_load_entries(rows: &mut Rows, config: &Config, text: &[u8], tasks: &[Name])
+    requires { length text.now ≤ 16000000 }
+{
+    match counter_names(rows.alloc(), config) {
+        Ok(counters) => answer_load(rows, text, tasks, counters.items()),
+        Err(_) => rows.leave_out(),
+    }
 }
 
 /// Prints the entries of a load's text for a configuration, or its fault.
 pub fn list_load(rows: &mut Rows, config: &Config, text: &[u8])
     requires { length text.now ≤ 16000000 }
 {
-    match names_of(rows.alloc(), config) {
-        Ok(names) => answer_load(rows, text, names.tasks.items(), names.counters.items()),
+    match task_names(rows.alloc(), config) {
+        Ok(tasks) => list_load_entries(rows, config, text, tasks.items()),
         Err(_) => rows.leave_out(),
     }
 }

@@ -7,9 +7,7 @@ use crate::rows::{Piece, Rows};
 use irq_ctrl::Controller;
 use rv32_instr::{Instr, InstrKind, decode, encode};
 use rv32_machine::{Bus, FlatBus, Machine, SlothBus};
-use sloth_base::app::Width;
-use sloth_base::image::Image;
-use sloth_base::numbers::{Line, Reg};
+use sloth_base::{Image, Line, Reg, Width};
 
 /// A word of memory.
 const WORD: u32 = 0x8000_0000;
@@ -57,18 +55,12 @@ fn list_lines(rows: &mut Rows, lines: &Controller) {
     )
 }
 
-// A controller whose line 3 is enabled at level 2, and arrives.
-fn arrived() -> Controller {
+/// A line that is enabled at level 2, arrives, is chosen and is taken.
+pub fn list_controller(rows: &mut Rows) {
     let mut lines = Controller::new();
     lines.store(35, 1);
     lines.store(67, 2);
     lines.arrive(Line(3));
-    lines
-}
-
-/// A line that arrives, is chosen and is taken.
-pub fn list_controller(rows: &mut Rows) {
-    let mut lines = arrived();
     list_lines(rows, &lines);
     lines.take(Line(3));
     list_lines(rows, &lines)
@@ -80,9 +72,10 @@ pub fn is_stored<B: Bus>(bus: &mut B, address: u32, width: Width, value: u32) ->
 }
 
 // A word that is stored and loaded again.
-fn list_word<B: Bus>(rows: &mut Rows, bus: &mut B) {
-    let stored = is_stored(bus, WORD, Width::Word, 42);
-    let loaded = bus.load(WORD, Width::Word).unwrap_or(0);
+fn list_word(rows: &mut Rows, memory: FlatBus) {
+    let mut memory = memory;
+    let stored = is_stored(&mut memory, WORD, Width::Word, 42);
+    let loaded = memory.load(WORD, Width::Word).unwrap_or(0);
     rows.row(
         Piece::Text("stored"),
         &[
@@ -93,44 +86,29 @@ fn list_word<B: Bus>(rows: &mut Rows, bus: &mut B) {
     )
 }
 
-fn list_word_in(rows: &mut Rows, memory: FlatBus) {
-    let mut memory = memory;
-    list_word(rows, &mut memory)
-}
-
 /// A word of a memory without a controller.
 pub fn list_flat_word(rows: &mut Rows, image: &Image)
     requires { InFormat image.now }
 {
     match FlatBus::new(rows.alloc(), image) {
-        Ok(memory) => list_word_in(rows, memory),
+        Ok(memory) => list_word(rows, memory),
         Err(_) => rows.leave_out(),
     }
 }
 
-// The line that a bus chooses.
-fn list_chosen<B: Bus>(rows: &mut Rows, bus: &B) {
-    rows.row(Piece::Text("chosen"), &[number(bus.choose(1))])
-}
-
-// The line that a bus chooses once line 1 is enabled at level 2, and none behind its taking.
-fn list_choices<B: Bus>(rows: &mut Rows, bus: &mut B) {
-    let enabled = is_stored(bus, ENABLED, Width::Byte, 1);
-    let leveled = is_stored(bus, LEVEL, Width::Byte, 2);
+// The line that a bus chooses at which line 1 arrives, once the line is enabled at level 2, and none behind its taking.
+fn list_choices(rows: &mut Rows, bus: SlothBus) {
+    let mut bus = bus;
+    bus.arrive(Line(1));
+    let enabled = is_stored(&mut bus, ENABLED, Width::Byte, 1);
+    let leveled = is_stored(&mut bus, LEVEL, Width::Byte, 2);
     rows.row(
         Piece::Text("enabled"),
         &[Piece::Flag(enabled), Piece::Flag(leveled)],
     );
-    list_chosen(rows, &*bus);
+    rows.row(Piece::Text("chosen"), &[number(bus.choose(1))]);
     bus.take(Line(1));
-    list_chosen(rows, &*bus)
-}
-
-// The same of a bus at which line 1 arrives.
-fn list_choices_on(rows: &mut Rows, bus: SlothBus) {
-    let mut bus = bus;
-    bus.arrive(Line(1));
-    list_choices(rows, &mut bus)
+    rows.row(Piece::Text("chosen"), &[number(bus.choose(1))])
 }
 
 /// The choices of a bus at which line 1 arrives.
@@ -138,7 +116,7 @@ pub fn list_choice(rows: &mut Rows, image: &Image)
     requires { InFormat image.now }
 {
     match SlothBus::new(rows.alloc(), image) {
-        Ok(bus) => list_choices_on(rows, bus),
+        Ok(bus) => list_choices(rows, bus),
         Err(_) => rows.leave_out(),
     }
 }
@@ -169,7 +147,7 @@ fn list_steps(rows: &mut Rows, machine: &mut Machine<SlothBus>)
 }
 
 // The same of a machine over a bus.
-fn list_steps_on(rows: &mut Rows, bus: SlothBus) {
+fn list_machine_steps(rows: &mut Rows, bus: SlothBus) {
     let mut machine = Machine::new(bus);
     list_steps(rows, &mut machine)
 }
@@ -179,7 +157,7 @@ pub fn list_first_step(rows: &mut Rows, image: &Image)
     requires { InFormat image.now }
 {
     match SlothBus::new(rows.alloc(), image) {
-        Ok(bus) => list_steps_on(rows, bus),
+        Ok(bus) => list_machine_steps(rows, bus),
         Err(_) => rows.leave_out(),
     }
 }

@@ -1,8 +1,8 @@
 //! Runs commands of the program on files in memory, and prints what they print and how they end. A text ends before a line `=== oil`,
 //! `=== src`, `=== arr` or `=== img`, which says what it is; it stays until the next one of its kind. A line
 //! `%repeat N TEXT` in it stands for copies (`repeats`). Other lines behind `=== `:
-//! - `image HEX` makes the image file of these bytes, `change AT HEX` writes bytes over those from a place on, or behind the end, and
-//!   `exchange AT AT` exchanges two marks; `-AT` counts back from the end;
+//! - `image HEX` makes the image file of these bytes, `change AT HEX` writes bytes over those from a place on, or behind the end; `-AT` counts
+//!   back from the end;
 //! - `text` prints the image file as a text, `checksum` how many bytes it has and a checksum of them;
 //! - `cut`, and a command such as `exec img arr 10`: it is run with the image file cut to each length, and each new answer is printed;
 //! - `lengthened`, and a number and a command, such as `600 order oil src arr img 300`: it is run with 0 to 600 line feeds more behind each text,
@@ -26,7 +26,7 @@
 //! `instructions` asks for the instruction of each word that stands before it on a line, in hexadecimal. `words boot` and the like ask for the code of a
 //! kernel of the last OIL text (`kernel`).
 //!
-//! `calls texts` asks for what public calls give of the OIL text and the task source that no command shows, `calls image` of the image file;
+//! `source` asks for what public calls give of the OIL text and the task source that no command shows, `calls image` of the image file;
 //! `calls stops`, `calls vectors`, `calls events` and `calls steps` of small image files (`images`).
 //!
 //! Behind all of that stand public calls that need no text, and commands on the files of the folder `data`: the picture of a run that the README shows
@@ -80,7 +80,7 @@ use crate::sweeps::run_sweep;
 use crate::syntax::shown;
 use crate::system_files::list_outside;
 use crate::texts::{LONGEST, Texts};
-use sloth_cli::program::run_program;
+use sloth_cli::run_program;
 use std::io::{Input, Read};
 use std::process::ExitCode;
 use std::rt::Files;
@@ -100,22 +100,6 @@ fn words(rows: &mut Rows, asked: &str, texts: &Texts) {
     }
 }
 
-// Answers what public calls give of the texts, or of the image file.
-fn call(rows: &mut Rows, asked: &str, texts: &Texts) {
-    if asked == "texts" {
-        list_sources(rows, texts)
-    } else {
-        list_image_file(rows, asked, texts)
-    }
-}
-
-// Runs a command, and keeps what it prints.
-fn keep(rows: &mut Rows, rest: &str, texts: &mut Texts) {
-    if run_kept(rows.alloc(), rest, texts).is_err() {
-        rows.leave_out();
-    }
-}
-
 // Answers a question, whose first word and further words these are.
 fn answer(rows: &mut Rows, asked: &str, word: &str, rest: &str, texts: &mut Texts) {
     match word {
@@ -131,48 +115,41 @@ fn answer(rows: &mut Rows, asked: &str, word: &str, rest: &str, texts: &mut Text
         | "load"
         | "generated" => read(rows, asked, texts),
         "both" => run_both(rows, rest, texts),
-        "keep" => keep(rows, rest, texts),
+        "keep" => run_kept(rows.alloc(), rest, texts),
         "lengthened" => run_lengthened(rows, rest, texts),
         "failing" => run_failing(rows, rest, texts),
         "sweep" => run_sweep(rows, rest, texts),
         "summed" => run_summed(rows, rest, texts),
         "cut" => run_cut(rows, rest, texts),
-        "calls" => call(rows, rest, texts),
+        "source" => list_sources(rows, texts),
+        "calls" => list_image_file(rows, rest, texts),
         "instructions" => list_instructions(rows, shown(&texts.lines)),
         "words" => words(rows, rest, texts),
         _ => run(rows, asked, texts),
     }
 }
 
-// Does what a line behind `=== ` asks for, with the lines before it.
-fn obey(rows: &mut Rows, asked: &str, texts: &mut Texts) {
-    let (word, rest) = asked.split_once(' ').unwrap_or((asked, ""));
-    if !texts.replace(asked) && !texts.alter(rows.alloc(), word, rest) {
-        answer(rows, asked, word, rest, texts);
-    }
-}
-
-// Reads a line, and does what it asks for.
+// Reads a line, and behind `=== ` does what it asks for with the lines before it.
 fn answer_line(rows: &mut Rows, line: &[u8], texts: &mut Texts) {
     match line.strip_prefix(b"=== ") {
         Some(asked) => {
-            obey(rows, shown(asked), texts);
+            let asked = shown(asked);
+            let (word, rest) = asked.split_once(' ').unwrap_or((asked, ""));
+            if !texts.replace(asked) && !texts.alter(rows.alloc(), word, rest) {
+                answer(rows, asked, word, rest, texts);
+            }
             texts.lines.clear();
         }
         None => add_line(rows.alloc(), &mut texts.lines, line),
     }
 }
 
-fn answer_lines(rows: &mut Rows, input: &[u8], texts: &mut Texts) {
-    for line in input.split(|byte| *byte == b'\n') {
-        answer_line(rows, line, texts);
-    }
-}
-
 // Answers all that is asked on this input.
 fn answer_all(rows: &mut Rows, input: &[u8]) {
     let mut texts = Texts::new(rows.alloc());
-    answer_lines(rows, input, &mut texts);
+    for line in input.split(|byte| *byte == b'\n') {
+        answer_line(rows, line, &mut texts);
+    }
 }
 
 // What public calls give that need no text.
@@ -180,7 +157,7 @@ fn list_lower(rows: &mut Rows) {
     list_regions(rows);
     list_instruction(rows);
     list_controller(rows);
-    list_summary(rows);
+    list_summary(rows, &[1, 20, 300, 4, 0, 6, 70, 4_294_967_295, 0, 8]);
 }
 
 // Prints the answers to what is asked on standard input, and what public calls give that need no text.

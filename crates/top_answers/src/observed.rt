@@ -6,10 +6,7 @@ ghost use Rattle.observe.specs.Progress.{expected_count, remaining};
 use crate::events::put_event;
 use crate::rows::Rows;
 use observe::Observer;
-use sloth_base::event::{Arrival, Stamped};
-use sloth_base::image::Image;
-use sloth_base::numbers::Line;
-use sloth_base::step::Step;
+use sloth_base::{Arrival, Image, Line, Step};
 
 // The address, the line that is taken before it, MIE and the running task's word behind it, the line that it touches.
 #[derive(Clone, Copy)]
@@ -89,7 +86,7 @@ const ARRIVALS: [Arrival; 9] = [
 ];
 
 // The step of this count, where the one before left MIE and the running task's word so.
-fn step_of(count: u32, before: (bool, u32), row: Row) -> Step
+fn numbered_step(count: u32, before: (bool, u32), row: Row) -> Step
     ensures { result.count ≡ count }
 {
     let Row(pc, entered, enabled_after, cur_after, touched) = row;
@@ -107,22 +104,15 @@ fn step_of(count: u32, before: (bool, u32), row: Row) -> Step
     }
 }
 
-fn list_event(rows: &mut Rows, event: &Stamped) {
-    rows.value(event.stamp.from);
-    rows.text(" ");
-    rows.value(event.stamp.at);
-    rows.text(" ");
-    put_event(rows, &event.event);
-    rows.text("\n");
-}
-
 // The events that are finished.
 fn drain(rows: &mut Rows, observer: &mut Observer)
     ensures drained { remaining observer.new ≡ [] }
     ensures expected { expected_count observer.new ≡ expected_count observer.old }
 {
     while let Some(event) = observer.next() {
-        list_event(rows, &event);
+        rows.form("% % ", &[event.stamp.from as i64, event.stamp.at as i64]);
+        put_event(rows, &event.event);
+        rows.text("\n");
     }
 }
 
@@ -133,18 +123,10 @@ fn feed_all(rows: &mut Rows, observer: &mut Observer, steps: &[Row])
 {
     let mut before = (false, 0);
     for (count, row) in steps.iter().enumerate() {
-        observer.feed(&step_of(count as u32, before, *row));
+        observer.feed(&numbered_step(count as u32, before, *row));
         drain(rows, observer);
         before = (row.2, row.3);
     }
-}
-
-fn feed_to(rows: &mut Rows, observer: Observer)
-    requires new { expected_count observer ≡ 0 }
-    requires drained { remaining observer ≡ [] }
-{
-    let mut observer = observer;
-    feed_all(rows, &mut observer, &ROWS)
 }
 
 /// The events of the steps above, under the marks of an image, with the arrivals above.
@@ -152,7 +134,10 @@ pub fn list_observed(rows: &mut Rows, image: &Image)
     requires { InFormat image.now }
 {
     match Observer::new(rows.alloc(), image, &ARRIVALS) {
-        Ok(observer) => feed_to(rows, observer),
+        Ok(observer) => {
+            let mut observer = observer;
+            feed_all(rows, &mut observer, &ROWS)
+        }
         Err(_) => rows.leave_out(),
     }
 }

@@ -1,196 +1,35 @@
 //! Items, kinds of marks and rules as rows show them: a name, and behind it in braces or parentheses what it holds.
 use crate::rows::Rows;
 use crate::syntax::shown;
-use sloth_base::app::{AluKind, BranchKind, Call, ImmKind, Op, Width};
-use sloth_base::image::MarkKind;
-use sloth_base::numbers::{Reg, SymId};
-use sloth_base::refusal::Code;
-use sloth_base::service::Service;
+use sloth_base::{Code, MarkKind, Op};
 
-fn alu_name(kind: &AluKind) -> &'static str {
-    match kind {
-        AluKind::Add => "Add",
-        AluKind::Sub => "Sub",
-        AluKind::Sll => "Sll",
-        AluKind::Slt => "Slt",
-        AluKind::Sltu => "Sltu",
-        AluKind::Xor => "Xor",
-        AluKind::Srl => "Srl",
-        AluKind::Sra => "Sra",
-        AluKind::Or => "Or",
-        AluKind::And => "And",
-    }
-}
+/// Names of variants in their order.
+const ALU_KINDS: &str = "Add Sub Sll Slt Sltu Xor Srl Sra Or And";
 
-fn imm_name(kind: &ImmKind) -> &'static str {
-    match kind {
-        ImmKind::Addi => "Addi",
-        ImmKind::Slti => "Slti",
-        ImmKind::Sltiu => "Sltiu",
-        ImmKind::Xori => "Xori",
-        ImmKind::Ori => "Ori",
-        ImmKind::Andi => "Andi",
-        ImmKind::Slli => "Slli",
-        ImmKind::Srli => "Srli",
-        ImmKind::Srai => "Srai",
-    }
-}
+const IMM_KINDS: &str = "Addi Slti Sltiu Xori Ori Andi Slli Srli Srai";
 
-fn branch_name(kind: &BranchKind) -> &'static str {
-    match kind {
-        BranchKind::Beq => "Beq",
-        BranchKind::Bne => "Bne",
-        BranchKind::Blt => "Blt",
-        BranchKind::Bge => "Bge",
-        BranchKind::Bltu => "Bltu",
-        BranchKind::Bgeu => "Bgeu",
-    }
-}
+const BRANCH_KINDS: &str = "Beq Bne Blt Bge Bltu Bgeu";
 
-fn width_name(width: &Width) -> &'static str {
-    match width {
-        Width::Byte => "Byte",
-        Width::Half => "Half",
-        Width::Word => "Word",
-        Width::ByteU => "ByteU",
-        Width::HalfU => "HalfU",
-    }
+const WIDTHS: &str = "Byte Half Word ByteU HalfU";
+
+const MARK_KINDS: &str = "Item Jump Opening Idle Back";
+
+const CODES: &str = "O1 O2 O3 O4 O5 O6 O7 O8 O9 O10 O11 O12 O13 O14 O15 A1 A2 A3 A4 A5 A6 A7 \
+    V1 V2 V3 V4 V5 V6 V7 V8 V9 V10 V11 V12 T1 T2 T3 T4 L1 L2 L3 L4";
+
+// The name of this number, from 0.
+fn name(names: &'static str, number: usize) -> &'static str {
+    names.split(' ').nth(number).unwrap_or("?")
 }
 
 /// The name of a kind of mark.
 pub fn mark_name(kind: &MarkKind) -> &'static str {
-    match kind {
-        MarkKind::Item => "Item",
-        MarkKind::Jump => "Jump",
-        MarkKind::Opening => "Opening",
-        MarkKind::Idle => "Idle",
-        MarkKind::Back => "Back",
-    }
+    name(MARK_KINDS, *kind as usize)
 }
 
 /// The name of a rule.
 pub fn code_name(code: &Code) -> &'static str {
-    match code {
-        Code::O1 => "O1",
-        Code::O2 => "O2",
-        Code::O3 => "O3",
-        Code::O4 => "O4",
-        Code::O5 => "O5",
-        Code::O6 => "O6",
-        Code::O7 => "O7",
-        Code::O8 => "O8",
-        Code::O9 => "O9",
-        Code::O10 => "O10",
-        Code::O11 => "O11",
-        Code::O12 => "O12",
-        Code::O13 => "O13",
-        Code::O14 => "O14",
-        Code::O15 => "O15",
-        Code::A1 => "A1",
-        Code::A2 => "A2",
-        Code::A3 => "A3",
-        Code::A4 => "A4",
-        Code::A5 => "A5",
-        Code::A6 => "A6",
-        Code::A7 => "A7",
-        Code::V1 => "V1",
-        Code::V2 => "V2",
-        Code::V3 => "V3",
-        Code::V4 => "V4",
-        Code::V5 => "V5",
-        Code::V6 => "V6",
-        Code::V7 => "V7",
-        Code::V8 => "V8",
-        Code::V9 => "V9",
-        Code::V10 => "V10",
-        Code::V11 => "V11",
-        Code::V12 => "V12",
-        Code::T1 => "T1",
-        Code::T2 => "T2",
-        Code::T3 => "T3",
-        Code::T4 => "T4",
-        Code::L1 => "L1",
-        Code::L2 => "L2",
-        Code::L3 => "L3",
-        Code::L4 => "L4",
-    }
-}
-
-/// Appends a number between two texts.
-pub fn put_between(rows: &mut Rows, before: &str, number: u32, behind: &str) {
-    rows.text(before);
-    rows.value(number);
-    rows.text(behind);
-}
-
-/// Appends a number behind its label.
-pub fn put_number(rows: &mut Rows, label: &str, number: u32) {
-    put_between(rows, label, number, "")
-}
-
-fn put_register(rows: &mut Rows, label: &str, reg: &Reg) {
-    rows.text(label);
-    put_between(rows, "Reg(", u32::from(reg.0), ")")
-}
-
-/// Appends the name of a service behind its label.
-pub fn put_service(rows: &mut Rows, label: &str, service: Service) {
-    rows.text(label);
-    rows.text(shown(service.name()));
-}
-
-fn put_alu(rows: &mut Rows, kind: &AluKind, rd: &Reg, rs1: &Reg, rs2: &Reg) {
-    rows.text("Alu { kind: ");
-    rows.text(alu_name(kind));
-    put_register(rows, ", rd: ", rd);
-    put_register(rows, ", rs1: ", rs1);
-    put_register(rows, ", rs2: ", rs2);
-    rows.text(" }");
-}
-
-fn put_alu_imm(rows: &mut Rows, kind: &ImmKind, rd: &Reg, rs1: &Reg, imm: i32) {
-    rows.text("AluImm { kind: ");
-    rows.text(imm_name(kind));
-    put_register(rows, ", rd: ", rd);
-    put_register(rows, ", rs1: ", rs1);
-    rows.text(", imm: ");
-    rows.value(imm);
-    rows.text(" }");
-}
-
-// A register and a number, each behind its label.
-fn put_pair(rows: &mut Rows, first: &str, reg: &Reg, second: &str, number: u32) {
-    put_register(rows, first, reg);
-    put_between(rows, second, number, " }")
-}
-
-// The width of an access, and a symbol.
-fn put_access(rows: &mut Rows, name: &str, width: &Width, symbol: &SymId, label: &str, reg: &Reg) {
-    rows.text(name);
-    rows.text(width_name(width));
-    put_register(rows, label, reg);
-    put_between(rows, ", symbol: SymId(", symbol.0, ")")
-}
-
-fn put_offset(rows: &mut Rows, offset: u32) {
-    put_between(rows, ", offset: ", offset, " }")
-}
-
-fn put_index(rows: &mut Rows, index: &Reg, mask: u32) {
-    put_pair(rows, ", index: ", index, ", mask: ", mask)
-}
-
-fn put_branch(rows: &mut Rows, kind: &BranchKind, rs1: &Reg, rs2: &Reg, label: u32) {
-    rows.text("Branch { kind: ");
-    rows.text(branch_name(kind));
-    put_register(rows, ", rs1: ", rs1);
-    put_pair(rows, ", rs2: ", rs2, ", label: ", label)
-}
-
-fn put_call(rows: &mut Rows, call: &Call) {
-    put_service(rows, "Serve(Call { service: ", call.service);
-    put_number(rows, ", object: ", call.object);
-    put_between(rows, ", mask: ", call.mask, " })")
+    name(CODES, *code as usize)
 }
 
 // An access to data.
@@ -201,39 +40,54 @@ fn put_data(rows: &mut Rows, op: &Op) {
             rd,
             symbol,
             offset,
-        } => {
-            put_access(rows, "Load { width: ", width, symbol, ", rd: ", rd);
-            put_offset(rows, *offset)
-        }
+        } => rows.named(
+            "Load { width: ",
+            name(WIDTHS, *width as usize),
+            ", rd: Reg(%), symbol: SymId(%), offset: % }",
+            &[rd.0 as i64, symbol.0 as i64, *offset as i64],
+        ),
         Op::Store {
             width,
             rs,
             symbol,
             offset,
-        } => {
-            put_access(rows, "Store { width: ", width, symbol, ", rs: ", rs);
-            put_offset(rows, *offset)
-        }
+        } => rows.named(
+            "Store { width: ",
+            name(WIDTHS, *width as usize),
+            ", rs: Reg(%), symbol: SymId(%), offset: % }",
+            &[rs.0 as i64, symbol.0 as i64, *offset as i64],
+        ),
+        _ => put_indexed(rows, op),
+    }
+}
+
+// An access to data at an index.
+fn put_indexed(rows: &mut Rows, op: &Op) {
+    match op {
         Op::LoadAt {
             width,
             rd,
             symbol,
             index,
             mask,
-        } => {
-            put_access(rows, "LoadAt { width: ", width, symbol, ", rd: ", rd);
-            put_index(rows, index, *mask)
-        }
+        } => rows.named(
+            "LoadAt { width: ",
+            name(WIDTHS, *width as usize),
+            ", rd: Reg(%), symbol: SymId(%), index: Reg(%), mask: % }",
+            &[rd.0 as i64, symbol.0 as i64, index.0 as i64, *mask as i64],
+        ),
         Op::StoreAt {
             width,
             rs,
             symbol,
             index,
             mask,
-        } => {
-            put_access(rows, "StoreAt { width: ", width, symbol, ", rs: ", rs);
-            put_index(rows, index, *mask)
-        }
+        } => rows.named(
+            "StoreAt { width: ",
+            name(WIDTHS, *width as usize),
+            ", rs: Reg(%), symbol: SymId(%), index: Reg(%), mask: % }",
+            &[rs.0 as i64, symbol.0 as i64, index.0 as i64, *mask as i64],
+        ),
         _ => {}
     }
 }
@@ -241,22 +95,57 @@ fn put_data(rows: &mut Rows, op: &Op) {
 /// Appends an operation.
 pub fn put_op(rows: &mut Rows, op: &Op) {
     match op {
-        Op::Alu { kind, rd, rs1, rs2 } => put_alu(rows, kind, rd, rs1, rs2),
-        Op::AluImm { kind, rd, rs1, imm } => put_alu_imm(rows, kind, rd, rs1, *imm),
-        Op::Lui { rd, imm } => put_pair(rows, "Lui { rd: ", rd, ", imm: ", *imm),
-        Op::Li { rd, value } => put_pair(rows, "Li { rd: ", rd, ", value: ", *value),
-        Op::FrameLoad { rd, word } => put_pair(rows, "FrameLoad { rd: ", rd, ", word: ", *word),
-        Op::FrameStore { rs, word } => put_pair(rows, "FrameStore { rs: ", rs, ", word: ", *word),
+        Op::Alu { kind, rd, rs1, rs2 } => rows.named(
+            "Alu { kind: ",
+            name(ALU_KINDS, *kind as usize),
+            ", rd: Reg(%), rs1: Reg(%), rs2: Reg(%) }",
+            &[rd.0 as i64, rs1.0 as i64, rs2.0 as i64],
+        ),
+        Op::AluImm { kind, rd, rs1, imm } => rows.named(
+            "AluImm { kind: ",
+            name(IMM_KINDS, *kind as usize),
+            ", rd: Reg(%), rs1: Reg(%), imm: % }",
+            &[rd.0 as i64, rs1.0 as i64, *imm as i64],
+        ),
         Op::Branch {
             kind,
             rs1,
             rs2,
             label,
-        } => put_branch(rows, kind, rs1, rs2, *label),
-        Op::Jump { label } => put_between(rows, "Jump { label: ", *label, " }"),
-        Op::Invoke { func } => put_between(rows, "Invoke { func: FuncId(", func.0, ") }"),
+        } => rows.named(
+            "Branch { kind: ",
+            name(BRANCH_KINDS, *kind as usize),
+            ", rs1: Reg(%), rs2: Reg(%), label: % }",
+            &[rs1.0 as i64, rs2.0 as i64, *label as i64],
+        ),
+        _ => put_plain(rows, op),
+    }
+}
+
+// An operation without a kind.
+fn put_plain(rows: &mut Rows, op: &Op) {
+    match op {
+        Op::Lui { rd, imm } => rows.form("Lui { rd: Reg(%), imm: % }", &[rd.0 as i64, *imm as i64]),
+        Op::Li { rd, value } => {
+            rows.form("Li { rd: Reg(%), value: % }", &[rd.0 as i64, *value as i64])
+        }
+        Op::FrameLoad { rd, word } => rows.form(
+            "FrameLoad { rd: Reg(%), word: % }",
+            &[rd.0 as i64, *word as i64],
+        ),
+        Op::FrameStore { rs, word } => rows.form(
+            "FrameStore { rs: Reg(%), word: % }",
+            &[rs.0 as i64, *word as i64],
+        ),
+        Op::Jump { label } => rows.form("Jump { label: % }", &[*label as i64]),
+        Op::Invoke { func } => rows.form("Invoke { func: FuncId(%) }", &[func.0 as i64]),
         Op::Return => rows.text("Return"),
-        Op::Serve(call) => put_call(rows, call),
+        Op::Serve(call) => rows.named(
+            "Serve(Call { service: ",
+            shown(call.service.name()),
+            ", object: %, mask: % })",
+            &[call.object as i64, call.mask as i64],
+        ),
         _ => put_data(rows, op),
     }
 }

@@ -16,12 +16,8 @@ use crate::task_code::{list_app, list_counts, list_sizes, list_stacks};
 use asm_parse::parse_app;
 use oil_lex::tokens;
 use oil_model::resolve;
-use oil_parse::parse;
-use oil_parse::tree::OilTree;
-use sloth_base::app::App;
-use sloth_base::config::Config;
-use sloth_base::places::Bounds;
-use sloth_base::refusal::{BuildError, Refusal};
+use oil_parse::{OilTree, parse};
+use sloth_base::{App, Bounds, BuildError, Config};
 use sloth_source::read;
 use stack_bounds::offsets;
 use std::alloc::Global;
@@ -61,18 +57,13 @@ pub fn answer_words(rows: &mut Rows, asked: &str, oil: &[u8])
     }
 }
 
-fn list_refusal(rows: &mut Rows, refusal: &Refusal) {
-    rows.text("refused ");
-    rows.value(refusal.line);
-    rows.text(" ");
-    rows.text(code_name(&refusal.code));
-    rows.text("\n");
-}
-
 /// Prints why a text has no meaning.
 pub fn list_error(rows: &mut Rows, error: BuildError) {
     match error {
-        BuildError::Refused(refusal) => list_refusal(rows, &refusal),
+        BuildError::Refused(refusal) => {
+            rows.form("refused % ", &[refusal.line as i64]);
+            rows.line(code_name(&refusal.code));
+        }
         BuildError::Memory => rows.line("no memory"),
     }
 }
@@ -140,12 +131,10 @@ fn answer_stacks(rows: &mut Rows, oil: &[u8], text: &[u8])
 fn list_code(rows: &mut Rows, asked: &str, app: &App)
     requires { IsTaskCode app.now }
 {
-    if asked == "listing" {
-        list_app(rows, app)
-    } else if asked == "sizes" {
-        list_sizes(rows, app)
-    } else {
-        list_counts(rows, app)
+    match asked {
+        "listing" => list_app(rows, app),
+        "sizes" => list_sizes(rows, app),
+        _ => list_counts(rows, app),
     }
 }
 
@@ -164,18 +153,13 @@ fn answer_asked(rows: &mut Rows, asked: &str, oil: &[u8], text: &[u8])
     requires oil { length oil.now ≤ 16000000 }
     requires text { length text.now ≤ 16000000 }
 {
-    if asked == "tokens" {
-        answer_tokens(rows, text)
-    } else if asked == "tree" {
-        answer_tree(rows, text)
-    } else if asked == "config" {
-        answer_config(rows, text)
-    } else if asked == "stacks" {
-        answer_stacks(rows, oil, text)
-    } else if asked == "load" {
-        answer_load(rows, oil, text)
-    } else {
-        answer_code(rows, asked, oil, text)
+    match asked {
+        "tokens" => answer_tokens(rows, text),
+        "tree" => answer_tree(rows, text),
+        "config" => answer_config(rows, text),
+        "stacks" => answer_stacks(rows, oil, text),
+        "load" => answer_load(rows, oil, text),
+        _ => answer_code(rows, asked, oil, text),
     }
 }
 

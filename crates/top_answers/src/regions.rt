@@ -1,6 +1,6 @@
 //! Regions of addresses.
 use crate::rows::{Piece, Rows};
-use sloth_region::region::Region;
+use sloth_region::Region;
 
 // Whether a piece of so many bytes is placed, at a multiple of 16 or of 4.
 fn is_placed(region: &mut Region, len: u32, wide: bool) -> bool {
@@ -10,23 +10,18 @@ fn is_placed(region: &mut Region, len: u32, wide: bool) -> bool {
     region.place(len, if wide { 16 } else { 4 }).is_ok()
 }
 
-// The extents of a region.
-fn list_extents(rows: &mut Rows, region: &Region) {
+// Which of the pieces are placed, and the extents of the region then.
+fn list_placed(rows: &mut Rows, region: &mut Region, pieces: &[(u32, bool)]) {
+    for (len, wide) in pieces {
+        let placed = is_placed(region, *len, *wide);
+        rows.row(Piece::Text("placed"), &[Piece::Flag(placed)]);
+    }
     for extent in region.extents() {
         rows.row(
             Piece::Text("extent"),
             &[Piece::Address(extent.base), Piece::Number(extent.len)],
         );
     }
-}
-
-// Which of the pieces are placed, and where.
-fn list_placed(rows: &mut Rows, region: &mut Region, pieces: &[(u32, bool)]) {
-    for (len, wide) in pieces {
-        let placed = is_placed(region, *len, *wide);
-        rows.row(Piece::Text("placed"), &[Piece::Flag(placed)]);
-    }
-    list_extents(rows, region)
 }
 
 /// Two pieces of a region with room for both, and three of one with no room for the third.

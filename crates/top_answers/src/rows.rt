@@ -129,6 +129,29 @@ impl Rows {
         self.text("\n");
     }
 
+    /// Appends a flag, and a text behind it.
+    pub fn flag(&mut self, flag: bool, text: &str) {
+        self.value(flag);
+        self.text(text);
+    }
+
+    /// Appends a text in which a number stands for each `%`.
+    pub fn form(&mut self, text: &str, numbers: &[i64]) {
+        for (place, part) in text.split('%').enumerate() {
+            self.text(part);
+            if let Some(number) = numbers.get(place) {
+                self.value(*number);
+            }
+        }
+    }
+
+    /// Appends two texts, and a third in which a number stands for each `%`.
+    pub fn named(&mut self, before: &str, name: &str, behind: &str, numbers: &[i64]) {
+        self.text(before);
+        self.text(name);
+        self.form(behind, numbers)
+    }
+
     /// Prints the rows, and behind them where some are left out. What cannot be printed is missing where the output is compared.
     pub fn print(&mut self, rt: &impl Print) {
         if self.wanting {

@@ -5,12 +5,10 @@ ghost use Rattle.call_graph.specs.Ranks.{RanksOf};
 use crate::readers::list_error;
 use crate::rows::{Piece, Rows};
 use crate::task_code::list_stacks;
-use call_graph::ranking::Ranks;
-use sloth_base::app::App;
-use sloth_base::config::Config;
+use call_graph::Ranks;
+use sloth_base::{App, Config};
 use stack_bounds::bound;
-use task_verify::verified::Verified;
-use task_verify::verify;
+use task_verify::{Verified, verify};
 
 /// How many tasks there are in a copy of a configuration.
 pub fn list_copied_config(rows: &mut Rows, config: &Config) {
@@ -28,31 +26,21 @@ pub fn list_copied_app(rows: &mut Rows, app: &App) {
     }
 }
 
-// How many tasks and functions were verified.
-fn list_verified(rows: &mut Rows, verified: &Verified) {
-    let tasks = verified.config().tasks.items().len();
-    let functions = verified.app().funcs.items().len();
-    rows.row(
-        Piece::Text("verified"),
-        &[Piece::Count(tasks), Piece::Count(functions)],
-    )
-}
-
-// The bytes of stack of the tasks, and of the stack that the basic tasks share.
-fn list_bounds(rows: &mut Rows, verified: &Verified, ranks: &Ranks)
+// How many tasks and functions were verified, the bytes of stack of the tasks, and of the stack that the basic tasks share.
+fn list_accepted(rows: &mut Rows, verified: &Verified, ranks: &Ranks)
     requires { RanksOf verified.now.app ranks.now }
 {
+    rows.row(
+        Piece::Text("verified"),
+        &[
+            Piece::Count(verified.config().tasks.items().len()),
+            Piece::Count(verified.app().funcs.items().len()),
+        ],
+    );
     match bound(rows.alloc(), verified, ranks) {
         Ok(bounds) => list_stacks(rows, &bounds, &[]),
         Err(_) => rows.leave_out(),
     }
-}
-
-fn list_accepted(rows: &mut Rows, verified: &Verified, ranks: &Ranks)
-    requires { RanksOf verified.now.app ranks.now }
-{
-    list_verified(rows, verified);
-    list_bounds(rows, verified, ranks)
 }
 
 fn list_ranked(rows: &mut Rows, config: &Config, app: &App, ranks: &Ranks)

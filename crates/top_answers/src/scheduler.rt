@@ -1,17 +1,9 @@
 //! The abstract scheduler.
 ghost use Rattle.code_rules.specs.WellFormed.{WellFormed};
 
-use crate::rows::{Piece, Rows};
+use crate::rows::Rows;
 use osek_machine::Osek;
-use sloth_base::app::App;
-use sloth_base::config::Config;
-use sloth_base::event::Event;
-use sloth_base::numbers::TaskId;
-
-// Whether an event has a next state.
-fn is_next(osek: &mut Osek, event: Event) -> bool {
-    osek.step(&event).is_ok()
-}
+use sloth_base::{App, Config, Event, TaskId};
 
 // The state of a task, if there is one.
 fn list_state(rows: &mut Rows, osek: &Osek, task: u32) {
@@ -21,25 +13,14 @@ fn list_state(rows: &mut Rows, osek: &Osek, task: u32) {
     }
 }
 
-// The states of the first two tasks.
-fn list_states(rows: &mut Rows, osek: &Osek) {
-    list_state(rows, osek, 0);
-    list_state(rows, osek, 1)
-}
-
-fn list_steps(rows: &mut Rows, osek: &mut Osek) {
-    let booted = is_next(osek, Event::Boot);
-    let early = is_next(osek, Event::Idle);
-    rows.row(
-        Piece::Text("boot"),
-        &[Piece::Flag(booted), Piece::Text("idle"), Piece::Flag(early)],
-    );
-    list_states(rows, &*osek)
-}
-
-fn list_steps_of(rows: &mut Rows, osek: Osek) {
+// Whether the first steps have a next state, and the states of the first two tasks behind them.
+fn list_steps(rows: &mut Rows, osek: Osek) {
     let mut osek = osek;
-    list_steps(rows, &mut osek)
+    rows.text("boot ");
+    rows.flag(osek.step(&Event::Boot).is_ok(), " idle ");
+    rows.flag(osek.step(&Event::Idle).is_ok(), "\n");
+    list_state(rows, &osek, 0);
+    list_state(rows, &osek, 1)
 }
 
 /// The first step of the abstract scheduler, and the states of the tasks after it.
@@ -47,7 +28,7 @@ pub fn list_scheduler(rows: &mut Rows, config: &Config, app: &App)
     requires { WellFormed config.now app.now }
 {
     match Osek::boot(rows.alloc(), config, app) {
-        Ok(osek) => list_steps_of(rows, osek),
+        Ok(osek) => list_steps(rows, osek),
         Err(_) => rows.leave_out(),
     }
 }

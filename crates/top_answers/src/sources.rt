@@ -8,16 +8,13 @@ use crate::rows::{Piece, Rows};
 use crate::rules::{list_copied_app, list_copied_config, list_judged};
 use crate::scheduler::list_scheduler;
 use crate::texts::{LONGEST, Texts};
-use sloth_base::app::App;
-use sloth_base::config::Config;
-use sloth_base::places::Bounds;
-use sloth_base::refusal::BuildError;
+use sloth_base::{App, Bounds, BuildError, Config};
 use sloth_build::build;
 use sloth_source::{Source, read};
 use std::alloc::Global;
 
 // What both texts mean.
-fn source_of(alloc: Global, oil: &[u8], src: &[u8]) -> Result<Source, BuildError>
+fn accepted_source(alloc: Global, oil: &[u8], src: &[u8]) -> Result<Source, BuildError>
     requires oil { length oil.now ≤ 16000000 }
     requires src { length src.now ≤ 16000000 }
     ensures { IfOk result (λ source. MayBuild source.config source.app source.bounds) }
@@ -40,18 +37,13 @@ fn list_sizes(rows: &mut Rows, config: &Config, app: &App) {
     )
 }
 
-// Copies of both, and how much there is of each kind.
-fn list_copied(rows: &mut Rows, config: &Config, app: &App) {
-    list_sizes(rows, config, app);
-    list_copied_config(rows, config);
-    list_copied_app(rows, app)
-}
-
 // What the rules, the generators and the abstract scheduler give of what both texts mean.
 fn list_meaning(rows: &mut Rows, config: &Config, app: &App, bounds: &Bounds)
     requires { MayBuild config.now app.now bounds.now }
 {
-    list_copied(rows, config, app);
+    list_sizes(rows, config, app);
+    list_copied_config(rows, config);
+    list_copied_app(rows, app);
     list_levels(rows, config);
     list_judged(rows, config, app);
     list_generated(rows, config, app, bounds);
@@ -62,7 +54,7 @@ fn list_source(rows: &mut Rows, oil: &[u8], src: &[u8])
     requires oil { length oil.now ≤ 16000000 }
     requires src { length src.now ≤ 16000000 }
 {
-    match source_of(rows.alloc(), oil, src) {
+    match accepted_source(rows.alloc(), oil, src) {
         Ok(source) => list_meaning(rows, &source.config, &source.app, &source.bounds),
         Err(error) => list_error(rows, error),
     }

@@ -4,12 +4,9 @@ ghost use Rattle.sloth_base.specs.ImageRange.{InFormat};
 ghost use Rattle.sloth_base.specs.Limits.{count_limit};
 
 use crate::machine::is_stored;
-use crate::plain_values::put_between;
 use crate::rows::{Piece, Rows};
 use rv32_machine::{Bus, FlatBus, Machine, SlothBus, Step, Stop};
-use sloth_base::app::Width;
-use sloth_base::image::Image;
-use sloth_base::numbers::Line;
+use sloth_base::{Image, Line, Width};
 
 const NOP: u32 = 0x0000_0013;
 
@@ -23,8 +20,8 @@ const LOAD: u32 = 0x0052_c303;
 // csrrsi x0, mstatus, 8
 const ENABLE: u32 = 0x3004_6073;
 
-// Two instructions behind each other.
-const PAIRS: [(u32, u32); 11] = [
+/// Two instructions behind each other.
+pub const PAIRS: [(u32, u32); 11] = [
     (JUMP_TO_ZERO, NOP),
     (NOP, 0),
     // csrrs t0, 0x301, x0
@@ -55,53 +52,37 @@ fn second_step<B: Bus + Drop>(bus: B, first: u32, second: u32) -> Result<Step, S
     machine.step()
 }
 
-fn list_line(rows: &mut Rows, line: Option<Line>) {
-    match line {
-        Some(line) => rows.row(Piece::Text("touches"), &[Piece::Number(line.0.into())]),
-        None => rows.line("touches none"),
-    }
-}
-
 fn list_stop(rows: &mut Rows, stop: Stop) {
     match stop {
-        Stop::Fetch(pc) => put_between(rows, "Fetch(", pc, ")\n"),
-        Stop::Illegal(word) => put_between(rows, "Illegal(", word, ")\n"),
+        Stop::Fetch(pc) => rows.form("Fetch(%)\n", &[pc as i64]),
+        Stop::Illegal(word) => rows.form("Illegal(%)\n", &[word as i64]),
         Stop::Environment => rows.line("Environment"),
-        Stop::Misaligned(address) => put_between(rows, "Misaligned(", address, ")\n"),
-        Stop::Access(address) => put_between(rows, "Access(", address, ")\n"),
+        Stop::Misaligned(address) => rows.form("Misaligned(%)\n", &[address as i64]),
+        Stop::Access(address) => rows.form("Access(%)\n", &[address as i64]),
     }
 }
 
+// The line that a step touches, or how it stops.
 fn list_step(rows: &mut Rows, step: Result<Step, Stop>) {
     match step {
-        Ok(step) => list_line(rows, step.touched),
+        Ok(step) => match step.touched {
+            Some(line) => rows.form("touches %\n", &[line.0 as i64]),
+            None => rows.line("touches none"),
+        },
         Err(stop) => list_stop(rows, stop),
     }
 }
 
-// How the second of two instructions stops over a memory without a controller.
-fn list_second(rows: &mut Rows, image: &Image, first: u32, second: u32)
-    requires { InFormat image.now }
-{
-    match FlatBus::new(rows.alloc(), image) {
-        Ok(bus) => list_step(rows, second_step(bus, first, second)),
-        Err(_) => rows.leave_out(),
-    }
-}
-
-fn list_each(rows: &mut Rows, image: &Image, pairs: &[(u32, u32)])
+/// How the second of two instructions stops over a memory without a controller, for each of these pairs.
+pub fn list_stops(rows: &mut Rows, image: &Image, pairs: &[(u32, u32)])
     requires { InFormat image.now }
 {
     for (first, second) in pairs {
-        list_second(rows, image, *first, *second);
+        match FlatBus::new(rows.alloc(), image) {
+            Ok(bus) => list_step(rows, second_step(bus, *first, *second)),
+            Err(_) => rows.leave_out(),
+        }
     }
-}
-
-/// How the second of two instructions stops over a memory without a controller, for each of the pairs above.
-pub fn list_stops(rows: &mut Rows, image: &Image)
-    requires { InFormat image.now }
-{
-    list_each(rows, image, &PAIRS)
 }
 
 // The line that the second of two instructions touches, which loads a byte of the controller.
@@ -112,18 +93,6 @@ fn list_touched(rows: &mut Rows, image: &Image)
         Ok(bus) => list_step(rows, second_step(bus, CONTROLLER, LOAD)),
         Err(_) => rows.leave_out(),
     }
-}
-
-// Enables line 3 at level 2. The first instruction is one that enables interrupts.
-fn enable<B: Bus>(bus: &mut B) {
-    let _ = is_stored(bus, 0x1000_0023, Width::Byte, 1);
-    let _ = is_stored(bus, 0x1000_0043, Width::Byte, 2);
-    let _ = is_stored(bus, 0x8000_0480, Width::Word, ENABLE);
-}
-
-// The address of the next instruction.
-fn list_address(rows: &mut Rows, machine: &Machine<SlothBus>) {
-    rows.row(Piece::Text("next"), &[Piece::Address(machine.next_pc())])
 }
 
 // How a step stops, or that it does not.
@@ -144,14 +113,16 @@ fn list_waiting(rows: &mut Rows, machine: &mut Machine<SlothBus>)
     machine.arrive(Line(3));
     list_next(rows, machine);
     list_next(rows, machine);
-    list_address(rows, &*machine);
+    rows.row(Piece::Text("next"), &[Piece::Address(machine.next_pc())]);
     list_next(rows, machine)
 }
 
-// The same of a machine over that bus.
-fn list_waiting_on(rows: &mut Rows, bus: SlothBus) {
+// The same of a machine over a bus where line 3 is enabled at level 2. The first instruction is one that enables interrupts.
+fn list_waiting_bus(rows: &mut Rows, bus: SlothBus) {
     let mut bus = bus;
-    enable(&mut bus);
+    let _ = is_stored(&mut bus, 0x1000_0023, Width::Byte, 1);
+    let _ = is_stored(&mut bus, 0x1000_0043, Width::Byte, 2);
+    let _ = is_stored(&mut bus, 0x8000_0480, Width::Word, ENABLE);
     let mut machine = Machine::new(bus);
     list_waiting(rows, &mut machine)
 }
@@ -160,7 +131,7 @@ fn list_vectors(rows: &mut Rows, image: &Image)
     requires { InFormat image.now }
 {
     match SlothBus::new(rows.alloc(), image) {
-        Ok(bus) => list_waiting_on(rows, bus),
+        Ok(bus) => list_waiting_bus(rows, bus),
         Err(_) => rows.leave_out(),
     }
 }

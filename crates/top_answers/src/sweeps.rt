@@ -1,219 +1,110 @@
 //! A command that is run once for each moment of an arrival.
 use crate::commands::printed;
-use crate::repeats::{number_before, push_number};
-use crate::rows::{Piece, Rows};
-use crate::texts::{Texts, add, add_text, append};
-use sloth_base::memory::NoMemory;
-use std::alloc::Global;
-
-// What is asked of the lines of all runs.
-#[derive(Clone, Copy, PartialEq, Eq)]
-enum Kind {
-    // each line that begins so
-    Each,
-    // the one line of each run that begins so
-    Once,
-    // the last event of each run
-    Last,
-}
-
-// A question, and what was seen: how many runs have exactly one such line, and what different lines there are.
-#[derive(Drop)]
-struct Question<'a> {
-    kind: Kind,
-    prefix: &'a str,
-    once: u32,
-    seen: Vec<String>,
-}
-
-impl<'a> Question<'a> {
-    // The question that words such as `once enter High` ask.
-    fn read(alloc: Global, words: &'a str) -> Question<'a> {
-        let (kind, prefix) = if let Some(prefix) = words.strip_prefix("once ") {
-            (Kind::Once, prefix)
-        } else if let Some(prefix) = words.strip_prefix("each ") {
-            (Kind::Each, prefix)
-        } else {
-            (Kind::Last, "")
-        };
-        Question {
-            kind,
-            prefix,
-            once: 0,
-            seen: Vec::new(alloc),
-        }
-    }
-
-    // Notes a line that was not seen before.
-    fn note(&mut self, alloc: Global, line: &str) {
-        if !self.seen.iter().any(|seen| seen.as_str() == line) {
-            add_text(alloc, &mut self.seen, line);
-        }
-    }
-
-    // Whether the line of an event is asked for wherever it stands.
-    fn asks_for(&self, event: &str) -> bool {
-        self.kind != Kind::Last && event.starts_with(self.prefix)
-    }
-
-    // Looks at the end of a run with so many lines that are asked for.
-    fn end(&mut self, alloc: Global, found: u32, last: &str) {
-        if found == 1 {
-            self.once = self.once.saturating_add(1);
-        }
-        if self.kind == Kind::Last && !last.is_empty() {
-            self.note(alloc, last);
-        }
-    }
-
-    // Looks at the events of a printed run, of which the last line is its status.
-    fn look(&mut self, alloc: Global, text: &str) {
-        let mut found: u32 = 0;
-        let mut last = "";
-        for line in text.lines() {
-            if let Some(event) = event_of(line) {
-                last = event;
-                if self.asks_for(event) {
-                    found = found.saturating_add(1);
-                    self.note(alloc, event);
-                }
-            }
-        }
-        self.end(alloc, found, last);
-    }
-
-    // Prints what was seen in so many runs.
-    fn print(&self, rows: &mut Rows, runs: u32) {
-        for line in self.seen.iter() {
-            if self.kind == Kind::Last {
-                rows.text("last ");
-            }
-            rows.line(line.as_str());
-        }
-        if self.kind == Kind::Once {
-            rows.row(
-                Piece::Text("once in"),
-                &[
-                    Piece::Number(self.once),
-                    Piece::Text("of"),
-                    Piece::Number(runs),
-                    Piece::Text("runs"),
-                ],
-            );
-        }
-    }
-}
+use crate::repeats::number_before;
+use crate::rows::Rows;
+use crate::texts::{Texts, push, refill};
 
 // A line behind its two counts. A status has none.
-fn event_of(line: &str) -> Option<&str> {
+fn event_text(line: &str) -> Option<&str> {
     let (_, rest) = line.split_once(' ')?;
     let (_, event) = rest.split_once(' ')?;
     Some(event)
 }
 
-// The first and the last moment of a sweep, and the task of its arrivals.
-fn moments(words: &str) -> Option<(u32, u32, &str)> {
-    let (first, rest) = number_before(words)?;
-    let (last, task) = number_before(rest)?;
-    Some((first, last, task))
+// Prints a line that was not seen before.
+fn note(rows: &mut Rows, seen: &mut String, before: &str, line: &str) {
+    for earlier in seen.lines() {
+        if earlier == line {
+            return;
+        }
+    }
+    push(seen, line);
+    push(seen, "\n");
+    rows.text(before);
+    rows.line(line);
 }
 
-// Puts one arrival of a task in the place of the arrivals.
-fn put_arrival(alloc: Global, moment: u32, task: &str, arrivals: &mut Vec<u8>) {
-    arrivals.clear();
-    push_number(alloc, arrivals, moment);
-    append(arrivals, b" ");
-    append(arrivals, task.as_bytes());
-    append(arrivals, b"\n");
+// Prints the different lines of events that begin so, and gives how many runs there are, and how many of them have exactly one such line.
+fn list_each(rows: &mut Rows, prefix: &str, text: &str) -> (u32, u32) {
+    let mut seen = String::new(rows.alloc());
+    let (mut runs, mut once, mut found): (u32, u32, u32) = (0, 0, 0);
+    for line in text.lines() {
+        match event_text(line) {
+            Some(event) => {
+                if event.starts_with(prefix) {
+                    found = found.saturating_add(1);
+                    note(rows, &mut seen, "", event);
+                }
+            }
+            None => {
+                runs = runs.saturating_add(1);
+                once = once.saturating_add(u32::from(found == 1));
+                found = 0;
+            }
+        }
+    }
+    (runs, once)
 }
 
-// Looks at a printed run for each question.
-fn look_all(alloc: Global, questions: &mut [Question], text: &str) {
-    for question in questions.iter_mut() {
-        question.look(alloc, text);
+// Prints the different last events of the runs.
+fn list_last(rows: &mut Rows, text: &str) {
+    let mut seen = String::new(rows.alloc());
+    let mut last = "";
+    for line in text.lines() {
+        match event_text(line) {
+            Some(event) => last = event,
+            None => {
+                if !last.is_empty() {
+                    note(rows, &mut seen, "last ", last);
+                }
+                last = "";
+            }
+        }
     }
 }
 
-// Runs the command with one arrival of a task at a moment, and looks at its events for each question.
-fn run_at(
-    alloc: Global,
-    moment: u32,
-    task: &str,
-    command: &str,
-    texts: &mut Texts,
-    questions: &mut [Question],
-) -> Result<(), NoMemory> {
-    put_arrival(alloc, moment, task, &mut texts.arr);
-    let text = printed(alloc, command, texts, &texts.img)?;
-    look_all(alloc, questions, text.as_str());
-    Ok(())
-}
-
-// What words with ` / ` between them ask.
-fn questions<'a>(alloc: Global, words: &'a str) -> Vec<Question<'a>> {
-    let mut questions = Vec::new(alloc);
-    for words in words.split(" / ") {
-        add(&mut questions, Question::read(alloc, words));
-    }
-    questions
-}
-
-// Prints what was seen in so many runs.
-fn print_all(rows: &mut Rows, questions: &[Question], runs: u32) {
-    for question in questions {
-        question.print(rows, runs);
+// Prints what a question such as `once enter High` asks of the printed runs.
+fn answer(rows: &mut Rows, question: &str, text: &str) {
+    match question.split_once(' ') {
+        Some((word, prefix)) => {
+            let (runs, once) = list_each(rows, prefix, text);
+            if word == "once" {
+                rows.form("once in % of % runs\n", &[once as i64, runs as i64]);
+            }
+        }
+        None => list_last(rows, text),
     }
 }
 
-// Runs the command for each of the moments, and gives how many they are.
-fn sweep(
-    alloc: Global,
-    words: &str,
-    command: &str,
-    texts: &mut Texts,
-    questions: &mut [Question],
-) -> Result<u32, NoMemory> {
-    let Some((first, last, task)) = moments(words) else {
-        return Ok(0);
+// Appends what a command prints with one arrival of a task at each of the moments that words such as `1 400 High` name.
+fn run_each(rows: &mut Rows, words: &str, command: &str, texts: &mut Texts, text: &mut String) {
+    let Some((first, rest)) = number_before(words) else {
+        return;
     };
-    let mut runs: u32 = 0;
+    let Some((last, task)) = number_before(rest) else {
+        return;
+    };
     for moment in first..=last {
-        run_at(alloc, moment, task, command, texts, questions)?;
-        runs = runs.saturating_add(1);
-    }
-    Ok(runs)
-}
-
-// Runs the command for each of the moments, and prints what was asked.
-fn sweep_all(
-    rows: &mut Rows,
-    words: &str,
-    command: &str,
-    texts: &mut Texts,
-    questions: Vec<Question>,
-) {
-    let mut questions = questions;
-    match sweep(
-        rows.alloc(),
-        words,
-        command,
-        texts,
-        questions.as_mut_slice(),
-    ) {
-        Ok(runs) => print_all(rows, questions.as_slice(), runs),
-        Err(_) => rows.leave_out(),
+        if let Ok(line) = format!(in rows.alloc(); "{moment} {task}\n") {
+            refill(&mut texts.arr, line.as_bytes());
+        }
+        let run = printed(rows.alloc(), command, texts, &texts.img);
+        push(text, run.as_str());
     }
 }
 
 /// Runs a command once for each moment, with one arrival of a task then, and prints what was asked of the lines: behind words such as
-/// `1 400 High` stand the command and the questions, with ` / ` between them.
+/// `1 400 High` stand the command and the questions, with ` / ` between them. A question is `once` or `each` and how lines begin, or `last`.
 pub fn run_sweep(rows: &mut Rows, asked: &str, texts: &mut Texts) {
     let Some((words, rest)) = asked.split_once(" / ") else {
         return;
     };
-    let Some((command, asked)) = rest.split_once(" / ") else {
+    let Some((command, questions)) = rest.split_once(" / ") else {
         return;
     };
-    let questions = questions(rows.alloc(), asked);
-    sweep_all(rows, words, command, texts, questions);
+    let mut text = String::new(rows.alloc());
+    run_each(rows, words, command, texts, &mut text);
+    for question in questions.split(" / ") {
+        answer(rows, question, text.as_str());
+    }
 }

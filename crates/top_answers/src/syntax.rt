@@ -1,7 +1,7 @@
 //! The listings of tokens and trees.
 use crate::rows::{Piece, Rows};
 use oil_lex::{Token, TokenKind};
-use oil_parse::tree::{OilAttr, OilObject, OilTree, OilValue};
+use oil_parse::{OilAttr, OilObject, OilTree, OilValue};
 
 /// Bytes as text, or `?` where they are none.
 pub fn shown(bytes: &[u8]) -> &str {
@@ -39,38 +39,31 @@ fn shown_value(value: &OilValue) -> Piece<'_> {
     }
 }
 
-fn list_attr(rows: &mut Rows, attr: &OilAttr) {
-    rows.row(
-        Piece::Number(attr.line),
-        &[
-            Piece::Number(attr.depth),
-            Piece::Bytes(attr.name.bytes()),
-            Piece::Text("="),
-            shown_value(&attr.value),
-        ],
-    )
-}
-
 fn list_attrs(rows: &mut Rows, attrs: &[OilAttr]) {
     for attr in attrs {
-        list_attr(rows, attr);
+        rows.row(
+            Piece::Number(attr.line),
+            &[
+                Piece::Number(attr.depth),
+                Piece::Bytes(attr.name.bytes()),
+                Piece::Text("="),
+                shown_value(&attr.value),
+            ],
+        );
     }
 }
 
 fn list_object(rows: &mut Rows, object: &OilObject) {
-    rows.row(
-        Piece::Number(object.line),
-        &[
-            Piece::Bytes(object.kind.bytes()),
-            Piece::Bytes(object.name.bytes()),
-        ],
-    );
+    rows.form("% ", &[object.line as i64]);
+    rows.text(shown(object.kind.bytes()));
+    rows.text(" ");
+    rows.line(shown(object.name.bytes()));
     list_attrs(rows, object.attrs.items())
 }
 
 /// Prints the line, kind and name of each object, and the line, depth, name and value of each of its attributes.
 pub fn list_tree(rows: &mut Rows, tree: &OilTree) {
-    rows.row(Piece::Number(tree.cpu_line), &[Piece::Text("CPU")]);
+    rows.form("% CPU\n", &[tree.cpu_line as i64]);
     for object in tree.objects.items() {
         list_object(rows, object);
     }

@@ -1,31 +1,28 @@
 //! Files of the system, and standard output.
 use crate::rows::{Piece, Rows};
-use sloth_io::file_store::FileStore;
-use sloth_io::mem_sink::MemSink;
-use sloth_io::out_sink::OutSink;
-use sloth_io::sink::Sink;
-use sloth_io::store::{Store, StoreFault};
+use crate::syntax::shown;
+use sloth_io::{FileStore, MemSink, OutSink, Sink, Store, StoreFault};
 use std::fs;
 use std::fs::Permissions;
 use std::os::unix::fs::{PermissionsExt, symlink};
 use std::rt::Files;
 
-fn list_fault(rows: &mut Rows, name: &str, fault: StoreFault) {
-    rows.text(name);
-    rows.text(" ");
-    rows.line(match fault {
+fn fault_name(fault: StoreFault) -> &'static str {
+    match fault {
         StoreFault::Failed => "Failed",
         StoreFault::TooLong => "TooLong",
         StoreFault::Memory => "Memory",
-    });
+    }
 }
 
 // What is read of a file of at most this length, or why it is not read.
 fn list_read<R: Files>(rows: &mut Rows, files: &mut FileStore<'_, R>, name: &str, limit: usize) {
     let mut bytes = Vec::new(rows.alloc());
+    rows.text(name);
+    rows.text(" ");
     match files.read(name, limit, &mut bytes) {
-        Ok(()) => rows.row(Piece::Text(name), &[Piece::Bytes(bytes.as_slice())]),
-        Err(fault) => list_fault(rows, name, fault),
+        Ok(()) => rows.line(shown(bytes.as_slice())),
+        Err(fault) => rows.line(fault_name(fault)),
     }
 }
 
@@ -38,14 +35,6 @@ fn list_write<R: Files>(rows: &mut Rows, files: &mut FileStore<'_, R>, name: &st
     );
 }
 
-// No call but a failed read is counted as one.
-fn list_count<R: Files>(rows: &mut Rows, files: &FileStore<'_, R>) {
-    rows.row(
-        Piece::Text("failed reads"),
-        &[Piece::Sum(files.failed_reads())],
-    );
-}
-
 // A file that is not there, files that are written, and one that is too long and is not.
 fn list_files<R: Files>(rows: &mut Rows, files: &mut FileStore<'_, R>) {
     list_read(rows, files, "none", 9);
@@ -53,20 +42,10 @@ fn list_files<R: Files>(rows: &mut Rows, files: &mut FileStore<'_, R>) {
     list_write(rows, files, "no/folder");
     list_read(rows, files, "made", 2);
     list_read(rows, files, "made", 3);
-    list_count(rows, &*files);
-}
-
-// The mode of a file.
-fn list_mode(rt: &impl Files, rows: &mut Rows, name: &str) {
-    if let Ok(found) = fs::metadata(rt, name) {
-        rows.row(
-            Piece::Text(name),
-            &[
-                Piece::Text("mode"),
-                Piece::Number(found.permissions().mode() & 0o777),
-            ],
-        );
-    }
+    rows.row(
+        Piece::Text("failed reads"),
+        &[Piece::Sum(files.failed_reads())],
+    );
 }
 
 // The mode of a file behind a write.
@@ -79,7 +58,15 @@ fn list_kept_mode<R: Files>(
 ) {
     let _ = fs::set_permissions(rt, name, Permissions::from_mode(mode));
     list_write(rows, files, name);
-    list_mode(rt, rows, name);
+    if let Ok(found) = fs::metadata(rt, name) {
+        rows.row(
+            Piece::Text(name),
+            &[
+                Piece::Text("mode"),
+                Piece::Number(found.permissions().mode() & 0o777),
+            ],
+        );
+    }
 }
 
 // A file is not written where one of the new one's name stands, and both stay as they are.
@@ -91,22 +78,15 @@ fn list_standing<R: Files>(rt: &R, rows: &mut Rows, files: &mut FileStore<'_, R>
     list_read(rows, files, "old.new", 9);
 }
 
-// Whether a link is one.
-fn list_is_link(rt: &impl Files, rows: &mut Rows, name: &str) {
-    if let Ok(found) = fs::symlink_metadata(rt, name) {
-        rows.row(
-            Piece::Text(name),
-            &[Piece::Text("stays"), Piece::Flag(found.is_symlink())],
-        );
-    }
-}
-
 // What a link leads to is written, and the link stays.
 fn list_link<R: Files>(rt: &R, rows: &mut Rows, files: &mut FileStore<'_, R>) {
     let _ = symlink(rt, "linked", "link");
     list_write(rows, files, "link");
     list_read(rows, files, "linked", 9);
-    list_is_link(rt, rows, "link");
+    if let Ok(found) = fs::symlink_metadata(rt, "link") {
+        rows.text("link stays ");
+        rows.flag(found.is_symlink(), "\n");
+    }
 }
 
 // Whether two names are of one file.
@@ -128,17 +108,12 @@ fn list_names<R: Files>(rows: &mut Rows, files: &mut FileStore<'_, R>) {
     list_same(rows, files, "/dev/null", "/dev/null");
 }
 
-// Files that are replaced: their modes, what stands beside them, and links.
-fn list_replaced<R: Files>(rt: &R, rows: &mut Rows, files: &mut FileStore<'_, R>) {
-    list_kept_mode(rt, rows, files, "made", 0o640);
-    list_standing(rt, rows, files);
-    list_link(rt, rows, files);
-}
-
 fn list_store(rt: &(impl Files + AllocGlobal), rows: &mut Rows) {
     let mut files = FileStore::new(rt, rt.alloc());
     list_files(rows, &mut files);
-    list_replaced(rt, rows, &mut files);
+    list_kept_mode(rt, rows, &mut files, "made", 0o640);
+    list_standing(rt, rows, &mut files);
+    list_link(rt, rows, &mut files);
     list_names(rows, &mut files);
 }
 
@@ -158,18 +133,16 @@ fn list_line(rt: &impl Print, rows: &mut Rows) {
 }
 
 // A line that an output in memory takes.
-fn list_taken_by(rows: &mut Rows, out: MemSink) {
-    let mut out = out;
-    let put = out.put(b"line\n").is_ok();
-    rows.row(
-        Piece::Text("put"),
-        &[Piece::Flag(put), Piece::Count(out.taken().len())],
-    );
-}
-
 fn list_taken(rows: &mut Rows) {
     match MemSink::new(rows.alloc(), 100, &[]) {
-        Ok(out) => list_taken_by(rows, out),
+        Ok(out) => {
+            let mut out = out;
+            let put = out.put(b"line\n").is_ok();
+            rows.row(
+                Piece::Text("put"),
+                &[Piece::Flag(put), Piece::Count(out.taken().len())],
+            )
+        }
         Err(_) => rows.leave_out(),
     }
 }

@@ -1,36 +1,21 @@
 //! The listing of task code.
 ghost use Rattle.code_rules.specs.AppRange.{IsTaskCode};
 
+use crate::configuration::list_numbers;
 use crate::plain_values::put_op;
 use crate::rows::{Piece, Rows};
 use crate::syntax::shown;
 use rv32_expand::sizes;
-use sloth_base::app::{App, Func, Item, Label, Symbol};
-use sloth_base::numbers::ResId;
-use sloth_base::places::Bounds;
+use sloth_base::{App, Bounds, Func, Item, Label, Symbol};
 
-// How many items the bodies have, and how many labels.
-fn items_and_labels(funcs: &[Func]) -> (usize, usize) {
+// How many bodies, items and labels there are.
+fn list_bodies(rows: &mut Rows, funcs: &[Func]) {
     let mut items: usize = 0;
     let mut labels: usize = 0;
     for func in funcs {
         items = items.saturating_add(func.items.items().len());
         labels = labels.saturating_add(func.labels.items().len());
     }
-    (items, labels)
-}
-
-// How many bytes the symbols have.
-fn bytes_of(symbols: &[Symbol]) -> usize {
-    let mut bytes: usize = 0;
-    for symbol in symbols {
-        bytes = bytes.saturating_add(symbol.bytes.items().len());
-    }
-    bytes
-}
-
-fn list_bodies(rows: &mut Rows, funcs: &[Func]) {
-    let (items, labels) = items_and_labels(funcs);
     rows.row(
         Piece::Text("bodies"),
         &[
@@ -43,13 +28,18 @@ fn list_bodies(rows: &mut Rows, funcs: &[Func]) {
     )
 }
 
+// How many symbols and bytes there are.
 fn list_symbols(rows: &mut Rows, symbols: &[Symbol]) {
+    let mut bytes: usize = 0;
+    for symbol in symbols {
+        bytes = bytes.saturating_add(symbol.bytes.items().len());
+    }
     rows.row(
         Piece::Text("symbols"),
         &[
             Piece::Count(symbols.len()),
             Piece::Text("bytes"),
-            Piece::Count(bytes_of(symbols)),
+            Piece::Count(bytes),
         ],
     )
 }
@@ -60,83 +50,50 @@ pub fn list_counts(rows: &mut Rows, app: &App) {
     list_symbols(rows, app.symbols.items())
 }
 
-fn list_held(rows: &mut Rows, resources: &[ResId]) {
-    for resource in resources {
-        rows.row(Piece::Text("holds"), &[Piece::Number(resource.0)]);
-    }
-}
-
-fn list_label(rows: &mut Rows, label: &Label) {
-    rows.row(
-        Piece::Text("label"),
-        &[
-            Piece::Bytes(label.name.bytes()),
-            Piece::Text("line"),
-            Piece::Number(label.line),
-            Piece::Text("item"),
-            Piece::Number(label.item),
-        ],
-    );
-    list_held(rows, label.holds.items())
-}
-
 fn list_labels(rows: &mut Rows, labels: &[Label]) {
     for label in labels {
-        list_label(rows, label);
+        rows.named(
+            "label ",
+            shown(label.name.bytes()),
+            " line % item %\n",
+            &[label.line as i64, label.item as i64],
+        );
+        list_numbers(rows, "holds", label.holds.items());
     }
 }
 
 fn list_items(rows: &mut Rows, items: &[Item]) {
     for item in items {
-        rows.value(item.line);
-        rows.text(" ");
+        rows.form("% ", &[item.line as i64]);
         put_op(rows, &item.op);
         rows.text("\n");
     }
 }
 
-fn list_head(rows: &mut Rows, func: &Func) {
-    rows.row(
-        Piece::Text("body"),
-        &[
-            Piece::Bytes(func.name.bytes()),
-            Piece::Text("line"),
-            Piece::Number(func.line),
-            Piece::Text("frame"),
-            Piece::Number(func.frame_words),
-        ],
+fn list_func(rows: &mut Rows, func: &Func) {
+    rows.named(
+        "body ",
+        shown(func.name.bytes()),
+        " line % frame %\n",
+        &[func.line as i64, func.frame_words as i64],
     );
     if let Some(task) = func.task {
         rows.numbers("of task", &[task.0]);
     }
-}
-
-fn list_func(rows: &mut Rows, func: &Func) {
-    list_head(rows, func);
     list_items(rows, func.items.items());
     list_labels(rows, func.labels.items())
 }
 
-fn list_bytes(rows: &mut Rows, symbols: &[Symbol]) {
-    for symbol in symbols {
-        rows.text("symbol ");
-        rows.text(shown(symbol.name.bytes()));
-        rows.text(" ");
+/// Prints the symbols with their bytes, and the bodies with their items and labels.
+pub fn list_app(rows: &mut Rows, app: &App) {
+    for symbol in app.symbols.items() {
+        rows.named("symbol ", shown(symbol.name.bytes()), " ", &[]);
         rows.debug(&symbol.bytes.items());
         rows.text("\n");
     }
-}
-
-fn list_funcs(rows: &mut Rows, funcs: &[Func]) {
-    for func in funcs {
+    for func in app.funcs.items() {
         list_func(rows, func);
     }
-}
-
-/// Prints the symbols with their bytes, and the bodies with their items and labels.
-pub fn list_app(rows: &mut Rows, app: &App) {
-    list_bytes(rows, app.symbols.items());
-    list_funcs(rows, app.funcs.items())
 }
 
 fn list_lengths(rows: &mut Rows, sizes: &[u32]) {

@@ -19,6 +19,11 @@ pub fn append(text: &mut Vec<u8>, bytes: &[u8]) {
     let _ = text.extend_from_slice(bytes);
 }
 
+/// Appends a text.
+pub fn push(text: &mut String, more: &str) {
+    let _ = text.push_str(more);
+}
+
 /// Adds a thing to a list.
 pub fn add<T: Drop>(list: &mut Vec<T>, thing: T) {
     let _ = list.push(thing);
@@ -68,33 +73,11 @@ impl Texts {
         append(&mut self.arr, b"\n");
     }
 
-    // Takes a line out of the image file, by its number from 1.
-    fn drop_line(&mut self, alloc: Global, number: &str) {
-        if let Ok(number) = number.parse::<usize>() {
-            self.img = without_line(alloc, &self.img, number);
-        }
-    }
-
     // The place in the image file that a number names; behind `-` it counts back from the end.
     fn place(&self, word: &str) -> Option<usize> {
         match word.strip_prefix("-") {
             None => word.parse::<usize>().ok(),
             Some(back) => self.img.len().checked_sub(back.parse::<usize>().ok()?),
-        }
-    }
-
-    // The places that two words name.
-    fn places(&self, words: &str) -> Option<(usize, usize)> {
-        let (one, other) = words.split_once(' ')?;
-        Some((self.place(one)?, self.place(other)?))
-    }
-
-    // Writes bytes over those of the image file from a place on.
-    fn write(&mut self, at: usize, bytes: &[u8]) {
-        for (i, byte) in bytes.iter().enumerate() {
-            if at < self.img.len() && i < self.img.len() - at {
-                self.img[at + i] = *byte;
-            }
         }
     }
 
@@ -109,45 +92,41 @@ impl Texts {
     fn put(&mut self, at: usize, bytes: &[u8]) {
         if at == self.img.len() {
             append(&mut self.img, bytes);
-        } else {
-            self.write(at, bytes);
+            return;
         }
-    }
-
-    // Writes the bytes of these hexadecimal digits.
-    fn put_digits(&mut self, alloc: Global, at: usize, digits: &str) {
-        if let Ok(bytes) = hex::decode(alloc, digits) {
-            self.put(at, &bytes);
+        for (i, byte) in bytes.iter().enumerate() {
+            if at < self.img.len() && i < self.img.len() - at {
+                self.img[at + i] = *byte;
+            }
         }
     }
 
     // Changes the image file: `AT HEX` writes these bytes over those from a place on, and behind the last byte appends them.
     fn change(&mut self, alloc: Global, words: &str) {
-        if let Some((place, digits)) = words.split_once(' ') {
-            if let Some(at) = self.place(place) {
-                self.put_digits(alloc, at, digits);
+        let Some((place, digits)) = words.split_once(' ') else {
+            return;
+        };
+        if let Some(at) = self.place(place) {
+            if let Ok(bytes) = hex::decode(alloc, digits) {
+                self.put(at, &bytes);
             }
         }
     }
 
-    // Exchanges 12 bytes at these places of the image file.
-    fn swap(&mut self, one: usize, other: usize) {
-        for i in 0..12 {
-            if one < LONGEST
-                && other < LONGEST
-                && one + i < self.img.len()
-                && other + i < self.img.len()
-            {
-                self.img.swap(one + i, other + i);
+    // Takes a line out of the image file, by its number from 1.
+    fn drop_line(&mut self, alloc: Global, number: &str) {
+        let Ok(number) = number.parse::<usize>() else {
+            return;
+        };
+        let mut kept = Vec::new(alloc);
+        for (i, line) in self.img.split(|byte| *byte == b'\n').enumerate() {
+            if Some(i) != number.checked_sub(1) {
+                append(&mut kept, line);
+                append(&mut kept, b"\n");
             }
         }
-    }
-
-    // Exchanges two marks of 12 bytes at the end of the image file, whose places are counted back from there.
-    fn exchange(&mut self, words: &str) {
-        if let Some((one, other)) = self.places(words) {
-            self.swap(one, other);
-        }
+        kept.pop();
+        self.img = kept;
     }
 
     /// Changes the image file, if that is what this word asks for.
@@ -155,7 +134,6 @@ impl Texts {
         match word {
             "image" => self.make(alloc, rest),
             "change" => self.change(alloc, rest),
-            "exchange" => self.exchange(rest),
             "drop" => self.drop_line(alloc, rest),
             "shorten" => {
                 self.img.pop();
@@ -164,22 +142,4 @@ impl Texts {
         }
         true
     }
-}
-
-/// Appends a line with its line feed.
-pub fn push_line(text: &mut Vec<u8>, line: &[u8]) {
-    append(text, line);
-    append(text, b"\n");
-}
-
-// The lines without the one of this number, from 1.
-fn without_line(alloc: Global, text: &[u8], number: usize) -> Vec<u8> {
-    let mut kept = Vec::new(alloc);
-    for (i, line) in text.split(|byte| *byte == b'\n').enumerate() {
-        if Some(i) != number.checked_sub(1) {
-            push_line(&mut kept, line);
-        }
-    }
-    kept.pop();
-    kept
 }

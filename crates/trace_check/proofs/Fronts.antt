@@ -8,7 +8,7 @@ use Rattle.sloth_base.specs.declared.declared_names.DeclaredNames.{DeclaredNames
 use Rattle.sloth_base.specs.declared.config.Config.{Config}
 use Rattle.sloth_base.specs.declared.app.App.{App}
 use Rattle.sloth_base.specs.declared.event.Stamped.{Stamped}
-use Rattle.asm_lines.specs.Operands.{behind}
+use Rattle.text_pieces.specs.Bytes.{behind}
 use Rattle.osek_scheduler.specs.Runs.{OsekRun}
 use Rattle.trace_text.specs.EventLines.{counted_line}
 use Rattle.trace_check.specs.TraceText.{HasLine, HasNoFirstLine, IsEventText, text_of}

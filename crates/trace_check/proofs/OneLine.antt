@@ -11,7 +11,7 @@ use Rattle.sloth_base.specs.declared.event.Event.TheVariants as event
 use Rattle.sloth_base.specs.declared.service.Service.{Service}
 use Rattle.sloth_base.specs.declared.service.Service.TheVariants as service
 use Rattle.text_pieces.specs.Bytes.{is_byte_of}
-use Rattle.asm_lines.proofs.Cuts.{lacks, has_in}
+use Rattle.text_pieces.proofs.Cuts.{lacks, has_in}
 use Rattle.trace_text.specs.EventNumbers.{HasEventNumbers}
 use Rattle.sloth_base.specs.ServiceCodes.{service_name}
 use Rattle.sloth_base.specs.Events.{named_task}

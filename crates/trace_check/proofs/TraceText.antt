@@ -11,8 +11,8 @@ use Rattle.sloth_base.specs.declared.event.Event.{Event}
 use Rattle.sloth_base.specs.declared.event.Event.TheVariants as event
 use Rattle.sloth_base.specs.declared.event.Stamped.{Stamped}
 use Rattle.text_pieces.specs.Bytes.{is_byte_of}
-use Rattle.asm_lines.specs.Operands.{before, behind}
-use Rattle.asm_lines.proofs.Cuts.{has_here, before_is, behind_is}
+use Rattle.text_pieces.specs.Bytes.{before, behind}
+use Rattle.text_pieces.proofs.Cuts.{has_here, before_is, behind_is}
 use Rattle.trace_text.specs.EventNumbers.{HasEventNumbers}
 use Rattle.trace_text.specs.EventLines.{IsLineOf, counted_line}
 use Rattle.trace_text.specs.EventWords.{name_of, event_text}

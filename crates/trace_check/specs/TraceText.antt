@@ -1,7 +1,7 @@
 -- What a text in the counted form shows, and its first line that shows nothing.
 use Rattle.std.specs.Prelude.{ℕ, ◌+◌, ◌≡◌, ◌≢◌, List, [], ◌∷◌, ◌++◌, length, All}
 use Rattle.sloth_base.specs.declared.event.Stamped.{Stamped}
-use Rattle.asm_lines.specs.Operands.{behind}
+use Rattle.text_pieces.specs.Bytes.{behind}
 use Rattle.trace_text.specs.EventLines.{IsLineOf, counted_line}
 use Rattle.trace_text.specs.Texts.{lines_with}
 use Rattle.trace_text.specs.declared.printing.Form.TheVariants as form

@@ -2,10 +2,9 @@
 ghost use Rattle.std.specs.Prelude.{◌<◌, IfOk, length};
 ghost use Rattle.trace_check.specs.TraceAnswers.{IsTraceAnswer};
 
-use crate::verdict::{Verdict, check};
+use crate::{Verdict, check};
 use run_inputs::read_inputs;
-use sloth_base::memory::NoMemory;
-use sloth_base::refusal::{BuildError, Refusal};
+use sloth_base::{BuildError, NoMemory, Refusal};
 use std::alloc::Global;
 
 /// What is said of a configuration, its task source, arrivals and a text of events.

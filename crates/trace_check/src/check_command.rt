@@ -3,12 +3,10 @@ ghost use Rattle.std.specs.Prelude.{◌≤◌, IfOk, length};
 ghost use Rattle.sloth_base.specs.Limits.{file_limit};
 ghost use Rattle.trace_check.specs.CheckAnswers.{IsCheckAnswer};
 
-use crate::answer::{TraceAnswer, judge_trace};
-use crate::verdict::Verdict;
-use sloth_base::memory::NoMemory;
+use crate::{TraceAnswer, Verdict, judge_trace};
+use sloth_base::NoMemory;
 use std::alloc::Global;
-use tool_answers::answer::{ToolAnswer, TraceFault};
-use tool_answers::text_answer::told;
+use tool_answers::{ToolAnswer, TraceFault, told};
 
 /// Whether a text of events is that of a run of n instructions, or where it fails to be; or the first refusal of the other texts.
 pub fn check(

@@ -4,8 +4,7 @@ ghost use Rattle.trace_check.specs.Counts.{AreLinesInRange, admit_numbers, least
 ghost use Rattle.trace_check.specs.Lateness.{IsFirstDifference};
 
 use crate::numbers::{arrival_numbers, push_number, sort};
-use sloth_base::event::{Arrival, Stamped};
-use sloth_base::memory::NoMemory;
+use sloth_base::{Arrival, NoMemory, Stamped};
 use std::alloc::Global;
 
 // The numbers of admissions.

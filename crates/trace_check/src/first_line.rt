@@ -3,9 +3,8 @@ ghost use Rattle.std.specs.Prelude.{IfSome, IfNone};
 ghost use Rattle.sloth_base.specs.ImageRange.{AreNamesApart, AreNames};
 ghost use Rattle.trace_check.specs.TraceText.{HasFirstLine, HasNoFirstLine};
 
-use sloth_base::event::Stamped;
-use sloth_base::name::Name;
-use text_pieces::bytes::{before, has};
+use sloth_base::{Name, Stamped};
+use text_pieces::{before, has};
 use trace_text::read_line;
 
 /// The event of the first line, if an LF ends it.

@@ -11,16 +11,14 @@ ghost use Rattle.trace_check.specs.Front.{IsFront, IsLineEnd, IsLineStep};
 ghost use Rattle.trace_check.specs.Walk.{IsWalked};
 
 use crate::lines::{push_rows, push_states};
-use crate::rows::next_events;
+use crate::next_events;
 use crate::verdict::next_event;
 use crate::walk::Walk;
 use osek_machine::NotARun;
-use sloth_base::app::App;
-use sloth_base::config::Config;
-use sloth_base::declared_names::{DeclaredNames, declared_names};
-use sloth_base::memory::NoMemory;
+use sloth_base::declared_names::declared_names;
+use sloth_base::{App, Config, DeclaredNames, NoMemory};
 use std::alloc::Global;
-use text_pieces::bytes::behind;
+use text_pieces::behind;
 
 // Walks along the first line of a text, if that is possible.
 fn walk_line(names: &DeclaredNames, walk: &mut Walk, text: &[u8]) -> bool

@@ -16,18 +16,13 @@ ghost use Rattle.trace_check.specs.TraceText.{IsEventText};
 
 use crate::lateness::{Lateness, reason_of};
 use crate::verdict::next_event;
-use sloth_base::app::App;
-use sloth_base::config::Config;
-use sloth_base::declared_names::{DeclaredNames, declared_names};
-use sloth_base::event::{Arrival, Event, Stamp, Stamped};
-use sloth_base::lines::FIRST_COUNTER_LINE;
-use sloth_base::memory::NoMemory;
+use sloth_base::declared_names::declared_names;
+use sloth_base::{
+    App, Arrival, Config, DeclaredNames, Event, FIRST_COUNTER_LINE, NoMemory, Stamp, Stamped,
+};
 use std::alloc::Global;
-use text_pieces::bytes::behind;
-use text_pieces::growth::push;
-use trace_text::events::push_event;
-use trace_text::line_words::LineText;
-use trace_text::printing::push_counts;
+use text_pieces::{behind, push};
+use trace_text::{LineText, push_counts, push_event};
 
 // The line of the first counter.
 const FIRST_COUNTER: u32 = FIRST_COUNTER_LINE as u32;

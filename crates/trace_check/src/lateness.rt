@@ -8,8 +8,7 @@ ghost use Rattle.trace_check.specs.Lateness.{AreInPlace, IsFirstDifference, IsFi
 
 use crate::differences::first_difference;
 use crate::pass::{Pass, admitted_line};
-use sloth_base::event::{Arrival, Stamped};
-use sloth_base::memory::NoMemory;
+use sloth_base::{Arrival, NoMemory, Stamped};
 use std::alloc::Global;
 
 /// Why the events of a run are not in time. A place is the number of an event's line, a line one of the controller.

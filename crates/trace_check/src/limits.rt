@@ -7,11 +7,8 @@ ghost use Rattle.osek_scheduler.specs.Priority.{is_active};
 ghost use Rattle.trace_check.specs.Rows.{event_limit, least_moment, leaves_count, lesser_limit, task_limit};
 
 use crate::walk::Walk;
-use osek_machine::Osek;
-use osek_machine::priority::is_active;
-use sloth_base::event::Event;
-use sloth_base::memory_map::LINE_COUNT;
-use sloth_base::numbers::TaskId;
+use osek_machine::{Osek, is_active};
+use sloth_base::{Event, LINE_COUNT, TaskId};
 
 // The lesser of two numbers.
 fn lesser(one: u32, other: u32) -> u32

@@ -3,18 +3,12 @@ ghost use Rattle.std.specs.Prelude.{◌≡◌, ◌+◌, ◌≤◌, ◌++◌, IfO
 ghost use Rattle.sloth_base.specs.ImageRange.{AreNames};
 ghost use Rattle.trace_check.specs.ReasonLines.{limit_text, row_line, row_lines, state_lines, verdict_line};
 
-use crate::Verdict;
-use crate::next_event::NextEvent;
+use crate::{NextEvent, Verdict};
 use osek_machine::Osek;
-use run_samples::lines::state_line;
-use sloth_base::declared_names::DeclaredNames;
-use sloth_base::list::List;
-use sloth_base::memory::NoMemory;
-use sloth_base::name::Name;
-use sloth_base::numbers::TaskId;
+use run_samples::state_line;
+use sloth_base::{DeclaredNames, List, Name, NoMemory, TaskId};
 use std::alloc::Global;
-use trace_text::events::push_event;
-use trace_text::line_words::LineText;
+use trace_text::{LineText, push_event};
 
 // The line of a verdict.
 fn verdict_line(verdict: Verdict) -> LineText

@@ -5,17 +5,12 @@ ghost use Rattle.osek_machine.specs.PlanSteps.{IsRead};
 ghost use Rattle.osek_machine.specs.Steps.{IsSound};
 ghost use Rattle.trace_check.specs.MachineEvents.{item_event, own_plan, planned_event, served_event, service_event, shown_result};
 
-use osek_machine::events::{answer_plan, back_plan, entry_plan, leave_plan, running_plan};
-use osek_machine::items::{own_operation, run_plan};
-use osek_machine::priority::{is_idle, is_next_tick, no_ticks};
-use osek_machine::services::{call_in, call_plan};
-use osek_machine::store::Store;
-use osek_machine::{Osek, events};
-use osek_scheduler::plan::Plan;
-use sloth_base::app::App;
-use sloth_base::config::Config;
-use sloth_base::event::Event;
-use sloth_base::service::Service;
+use osek_machine::{
+    Osek, Store, answer_plan, back_plan, call_in, call_plan, entry_plan, events, is_idle,
+    is_next_tick, leave_plan, no_ticks, own_operation, run_plan, running_plan,
+};
+use osek_scheduler::Plan;
+use sloth_base::{App, Config, Event, Service};
 
 // Whether an event has a next state.
 fn is_next(config: &Config, app: &App, store: &Store, event: &Event) -> bool

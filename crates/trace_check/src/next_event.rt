@@ -1,6 +1,6 @@
 //! Events that may come next.
 
-use sloth_base::event::Event;
+use sloth_base::Event;
 
 /// An event that may come next, if it begins before the limit, where there is one.
 #[derive(Clone, Copy)]

@@ -7,10 +7,9 @@ ghost use Rattle.trace_check.specs.Counts.{SameCounts, arrival_number, last_mome
 ghost use Rattle.sloth_base.specs.Events.{admitted_line};
 
 use crate::pass::admitted_line;
-use sloth_base::event::{Arrival, Stamped};
-use sloth_base::memory::NoMemory;
+use sloth_base::{Arrival, NoMemory, Stamped};
 use std::alloc::Global;
-use text_pieces::growth::push;
+use text_pieces::push;
 
 // A moment and a line as one number.
 fn number_at(moment: u32, line: u64) -> u64

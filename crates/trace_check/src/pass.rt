@@ -3,8 +3,7 @@ ghost use Rattle.std.specs.Prelude.{◌≡◌, ◌<◌, cond, option_copied, tru
 ghost use Rattle.sloth_base.specs.Events.{admitted_line, is_single};
 ghost use Rattle.trace_check.specs.Scan.{scan_after_admit, scan_after_other, behind_first, from_moment, is_stamped, scan_after_event, scan_start};
 
-use sloth_base::event::{Arrival, Event, Stamped};
-use sloth_base::lines::FIRST_COUNTER_LINE;
+use sloth_base::{Arrival, Event, FIRST_COUNTER_LINE, Stamped};
 use std::marker::Model;
 
 /// Where a pass stands.

@@ -16,12 +16,7 @@ use crate::late::time_lines;
 use crate::lines::verdict_text;
 use crate::{Verdict, check};
 use run_inputs::{Inputs, read_inputs};
-use sloth_base::app::App;
-use sloth_base::config::Config;
-use sloth_base::event::Arrival;
-use sloth_base::list::List;
-use sloth_base::memory::NoMemory;
-use sloth_base::refusal::{BuildError, Refusal};
+use sloth_base::{App, Arrival, BuildError, Config, List, NoMemory, Refusal};
 use std::alloc::Global;
 
 /// What is said of a configuration, its task source, arrivals and a text of events.

@@ -10,14 +10,13 @@ ghost use Rattle.trace_check.specs.Walk.{IsWalked};
 ghost use Rattle.trace_check.specs.NextEvents.{AreNextEvents};
 ghost use Rattle.trace_check.specs.Rows.{all_rows, next_event, rows_below, rows_of, task_rows};
 
+use crate::NextEvent;
 use crate::limits::{event_limit, leaves_count};
 use crate::machine_events::{has_next, item_event, service_event};
-use crate::next_event::NextEvent;
 use crate::walk::Walk;
-use sloth_base::event::Event;
-use sloth_base::memory::NoMemory;
+use sloth_base::{Event, NoMemory};
 use std::alloc::Global;
-use text_pieces::growth::push;
+use text_pieces::push;
 
 // The row of an event, if it may come next.
 fn next_event(walk: &Walk, event: Event) -> Option<NextEvent>

@@ -5,8 +5,7 @@ ghost use Rattle.sloth_base.specs.Stretches.{Boots, longest_stretch, stretch_lim
 ghost use Rattle.sloth_base.specs.Limits.{counter_limit};
 ghost use Rattle.trace_check.specs.Timed.{HasFewClocks};
 
-use sloth_base::config::Config;
-use sloth_base::limits::{ALARM_INSTRUCTIONS, BOOT_INSTRUCTIONS, STRETCH_INSTRUCTIONS};
+use sloth_base::{ALARM_INSTRUCTIONS, BOOT_INSTRUCTIONS, Config, STRETCH_INSTRUCTIONS};
 
 /// The most instructions of boot.
 pub fn boot_limit(_config: &Config) -> u32

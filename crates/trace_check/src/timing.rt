@@ -12,9 +12,7 @@ ghost use Rattle.trace_check.specs.Timed.{HasFewClocks, TimedBy, is_late};
 use crate::numbers::{are_admits_of, last_moment, may_leave, push_number};
 use crate::pass::Pass;
 use crate::stretches::{boot_limit, longest_stretch};
-use sloth_base::config::Config;
-use sloth_base::event::{Arrival, Event, Stamped};
-use sloth_base::memory::NoMemory;
+use sloth_base::{Arrival, Config, Event, NoMemory, Stamped};
 use std::alloc::Global;
 use std::marker::Model;
 

@@ -14,13 +14,10 @@ ghost use Rattle.trace_check.specs.Begun.{IsBegun};
 use crate::Timing;
 use crate::first_line::first_event;
 use crate::walk::Walk;
-use sloth_base::app::App;
-use sloth_base::config::Config;
-use sloth_base::declared_names::{DeclaredNames, declared_names};
-use sloth_base::event::{Arrival, Stamped};
-use sloth_base::memory::NoMemory;
+use sloth_base::declared_names::declared_names;
+use sloth_base::{App, Arrival, Config, DeclaredNames, NoMemory, Stamped};
 use std::alloc::Global;
-use text_pieces::bytes::behind;
+use text_pieces::behind;
 
 /// What is said of a text of events.
 #[derive(Clone, Copy)]

@@ -13,26 +13,19 @@ ghost use Rattle.osek_scheduler.specs.Services.{if_suspended};
 ghost use Rattle.trace_check.specs.Moments.{all_later, noted_moments};
 ghost use Rattle.trace_check.specs.Walk.{IsWalkEnd, IsWalked, IsWalkOrStray, IsWalkStep, event_passes, task_passes, with_moment};
 
-use osek_machine::priority::is_active;
-use osek_machine::store::is_suspended;
-use osek_machine::{NotARun, Osek};
-use sloth_base::app::App;
-use sloth_base::config::Config;
-use sloth_base::event::{Event, Stamped};
-use sloth_base::memory::NoMemory;
-use sloth_base::memory_map::LINE_COUNT;
-use sloth_base::numbers::TaskId;
+use osek_machine::{NotARun, Osek, is_active, is_suspended};
+use sloth_base::{App, Config, Event, LINE_COUNT, NoMemory, Stamped, TaskId};
 use std::alloc::Global;
 use std::marker::Model;
 
 /// The scheduler, and for each task that is Ready since an admit that admit's moment, else 0.
-pub struct Walk {
-    osek: Osek,
+pub struct Walk<'t> {
+    osek: Osek<'t>,
     moments: [u32; LINE_COUNT],
 }
 
 // Written out: what is derived is proved anew wherever a value is let go.
-impl Drop for Walk {
+impl Drop for Walk<'_> {
     fn drop(self) {
         let Walk {
             osek: _,
@@ -41,7 +34,7 @@ impl Drop for Walk {
     }
 }
 
-impl Model for Walk {
+impl<'t> Model for Walk<'t> {
     ghost use Rattle.trace_check.specs.Walk.{Walk as Place};
 
     ghost Value = { Place };
@@ -81,9 +74,9 @@ fn keep(moments: &mut [u32; LINE_COUNT], note: Option<(u32, u32)>)
     }
 }
 
-impl Walk {
+impl<'t> Walk<'t> {
     /// Before the first event.
-    pub fn new(alloc: Global, config: &Config, app: &App) -> Result<Walk, NoMemory>
+    pub fn new(alloc: Global, config: &'t Config, app: &'t App) -> Result<Walk<'t>, NoMemory>
         requires { WellFormed config.now app.now }
         ensures { IfOk result (λ w. IsWalked config.now app.now [] w) }
     {
@@ -95,7 +88,7 @@ impl Walk {
     }
 
     /// The scheduler as it stands. Takes no memory.
-    pub fn osek(&self) -> &Osek
+    pub fn osek(&self) -> &Osek<'t>
         ensures { result.now ≡ self.now.machine }
     {
         &self.osek

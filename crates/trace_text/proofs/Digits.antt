@@ -8,7 +8,7 @@ use Rattle.std.proofs.lemmas.Fmt.{decimal_by_steps}
 use Rattle.std.proofs.lemmas.List.Folds.{list_all-append}
 use Rattle.text_pieces.specs.Bytes.{is_byte_of}
 use Rattle.text_pieces.specs.Digits.{digit_value, value_from, capped_value}
-use Rattle.asm_lines.proofs.Cuts.{lacks}
+use Rattle.text_pieces.proofs.Cuts.{lacks}
 use Rattle.trace_text.specs.EventsRead.{number}
 
 value_more : (ds : List ℕ) (v c : ℕ) → value_from 10 v (ds ++ c ∷ []) ≡ 10 * value_from 10 v ds + digit_value c

@@ -15,7 +15,7 @@ use Rattle.sloth_base.specs.declared.service.Service.{Service}
 use Rattle.sloth_base.specs.declared.service.Service.TheVariants as service
 use Rattle.text_pieces.specs.Bytes.{is_byte_of}
 use Rattle.text_pieces.proofs.Places.{position_at}
-use Rattle.asm_lines.proofs.Cuts.{lacks, has_in, before_is, behind_is}
+use Rattle.text_pieces.proofs.Cuts.{lacks, has_in, before_is, behind_is}
 use Rattle.trace_text.specs.EventNumbers.{IsNameNumber, IsNumberOrNone, HasEventNumbers}
 use Rattle.trace_text.specs.EventsRead.{◌>>=◌, first_word, other_words, number, place, place_or_none, run_in, call_in, left_in, more_in, is_single, of_task, admission_of, admit_in, named_in, event_in, word_of}
 use Rattle.sloth_base.specs.ServiceCodes.{service_named}

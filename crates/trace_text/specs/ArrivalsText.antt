@@ -14,7 +14,7 @@ use Rattle.least_fault.specs.Search.{Somewhere}
 use Rattle.least_fault.specs.Cases.{CaseOf}
 use Rattle.text_pieces.specs.Bytes.{is_name}
 use Rattle.text_pieces.specs.Digits.{value_from}
-use Rattle.asm_lines.specs.Lines.{lines}
+use Rattle.text_pieces.specs.Lines.{lines}
 
 -- ---- a line
 

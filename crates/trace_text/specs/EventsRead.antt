@@ -6,7 +6,7 @@ use Rattle.sloth_base.specs.declared.event.Event.{Event}
 use Rattle.sloth_base.specs.declared.event.Event.TheVariants as event
 use Rattle.sloth_base.specs.declared.event.Stamped.{Stamped}
 use Rattle.text_pieces.specs.Digits.{value_from, capped_value}
-use Rattle.asm_lines.specs.Operands.{before, behind}
+use Rattle.text_pieces.specs.Bytes.{before, behind}
 use Rattle.trace_text.specs.EventWords.{bare_in, single_in}
 
 infixl 10 ◌>>=◌

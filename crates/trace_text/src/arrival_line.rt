@@ -9,14 +9,11 @@ ghost use Rattle.trace_text.specs.ArrivalsText.{is_comment, are_digits, is_arriv
 ghost use Rattle.trace_text.specs.ArrivalsText.{last_moment, is_outside, is_t1, is_t2, is_t3, is_t4, ArrivalLineFault};
 
 use least_fault::{fault_if, merge};
-use sloth_base::event::Arrival;
-use sloth_base::limits::{ARRIVAL_LIMIT, COUNT_LIMIT, TASK_LIMIT};
-use sloth_base::lines::FIRST_COUNTER_LINE;
-use sloth_base::name::Name;
-use sloth_base::numbers::Line;
-use sloth_base::refusal::{Code, Part, Refusal};
-use text_pieces::bytes::{before, behind, is_name, same};
-use text_pieces::numerals::value;
+use sloth_base::{
+    ARRIVAL_LIMIT, Arrival, COUNT_LIMIT, Code, FIRST_COUNTER_LINE, Line, Name, Part, Refusal,
+    TASK_LIMIT,
+};
+use text_pieces::{before, behind, is_name, same, value};
 
 /// How many numbers a controller's line may have.
 const LINES: usize = 256;

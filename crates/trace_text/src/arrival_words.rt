@@ -1,9 +1,8 @@
 //! Arrivals read.
 ghost use Rattle.std.specs.Prelude.{◌≡◌, ◌++◌, ◌∷◌, [], OnOk};
 
-use sloth_base::event::Arrival;
-use sloth_base::memory::NoMemory;
-use text_pieces::growth::push;
+use sloth_base::{Arrival, NoMemory};
+use text_pieces::push;
 
 /// One more arrival, at the end.
 pub fn push_arrival(read: &mut Vec<Arrival>, arrival: Arrival) -> Result<(), NoMemory>

@@ -3,39 +3,13 @@ ghost use Rattle.std.specs.Prelude.{◌≡◌, ◌<◌, ◌^◌, ◌∷◌, [], 
 ghost use Rattle.sloth_base.specs.Arrivals.{AreArrivals};
 ghost use Rattle.least_fault.specs.Order.{ErrorIs, NoFault};
 ghost use Rattle.text_pieces.specs.Names.{referent};
-ghost use Rattle.asm_lines.specs.Lines.{lines, without_returns};
 ghost use Rattle.trace_text.specs.ArrivalsText.{arrivals_of, arrivals_in, owners_read, ArrivalLineFault, LinesFault, ArrivalsFault};
 
 use crate::arrival_line::{arrival_of, is_arrival, line_fault};
 use crate::arrival_words::push_arrival;
-use asm_lines::cutting::{line_of, split};
-use sloth_base::event::Arrival;
-use sloth_base::memory::NoMemory;
-use sloth_base::name::Name;
-use sloth_base::refusal::BuildError;
+use sloth_base::{Arrival, BuildError, Name};
 use std::alloc::Global;
-use text_pieces::growth::push;
-
-// The lines of the parts between LF bytes.
-fn lines_of<'a>(alloc: Global, parts: &[&'a [u8]]) -> Result<Vec<&'a [u8]>, NoMemory>
-    ensures { IfOk result (λ read. map referent read.items ≡ without_returns (map referent parts.now)) }
-{
-    let mut read = Vec::new(alloc);
-    for (n, part) in parts.iter().enumerate() {
-        push(&mut read, line_of(*part, n + 1 == parts.len()))?;
-    }
-    Ok(read)
-}
-
-/// The lines of a text.
-#[tactic(auto, unfolding(asm_lines::specs::Lines::lines))]
-pub fn lines<'a>(alloc: Global, text: &'a [u8]) -> Result<Vec<&'a [u8]>, NoMemory>
-    ensures { IfOk result (λ read. map referent read.items ≡ lines text.now) }
-{
-    let parts = split(alloc, text, b'\n')?;
-    let read = lines_of(alloc, parts.as_slice())?;
-    Ok(read)
-}
+use text_pieces::lines;
 
 // Reads a line behind these arrivals.
 fn read_line(

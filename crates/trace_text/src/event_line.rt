@@ -8,15 +8,10 @@ ghost use Rattle.trace_text.specs.EventsRead.{admit_in, call_in, event_in, is_si
 ghost use Rattle.trace_text.specs.EventsRead.{place_or_none, run_in, stamped_in, tick_in};
 
 use crate::arrival_line::position;
-use crate::events::push_event;
-use crate::line_words::LineText;
-use crate::printing::push_counts;
 use crate::reading::{bare_in, single_in};
-use sloth_base::event::{Event, Stamp, Stamped};
-use sloth_base::name::Name;
-use sloth_base::service::service_named;
-use text_pieces::bytes::{before, behind, same};
-use text_pieces::numerals::value;
+use crate::{LineText, push_counts, push_event};
+use sloth_base::{Event, Name, Stamp, Stamped, service_named};
+use text_pieces::{before, behind, same, value};
 
 /// The number of no task and of no counter.
 const NONE: u32 = 4_294_967_295;

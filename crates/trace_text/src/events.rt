@@ -4,10 +4,8 @@ ghost use Rattle.sloth_base.specs.ServiceCodes.{service_name};
 ghost use Rattle.sloth_base.specs.Limits.{name_limit};
 ghost use Rattle.trace_text.specs.EventWords.{event_text, kind_of, name_of};
 
-use crate::line_words::LineText;
-use sloth_base::event::Event;
-use sloth_base::name::Name;
-use sloth_base::service::Service;
+use crate::LineText;
+use sloth_base::{Event, Name, Service};
 
 /// The number of an event's kind, in the order of the summary.
 pub fn kind_of(event: &Event) -> usize

@@ -30,7 +30,14 @@ pub mod reading;
 pub mod stop_line;
 pub mod summary;
 
+pub use arrival_line::{are_digits, is_comment, owner_line, task_line};
 pub use arrivals::read_arrivals;
 pub use event_line::read_line;
+pub use events::{kind_of, push_event};
+pub use line_words::LineText;
 pub use listing::listing_line;
-pub use printing::print;
+pub use marks::push_mark;
+pub use number::{instructions, number_below};
+pub use printing::{Form, print, push_counts};
+pub use stop_line::stopped_line;
+pub use summary::{KINDS, kind_line};

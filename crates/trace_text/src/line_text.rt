@@ -1,3 +1,3 @@
 //! A line in a fixed buffer.
 
-pub use crate::line_words::LineText;
+pub use crate::LineText;

@@ -4,10 +4,8 @@ ghost use Rattle.hex.specs.Hex.{encode_lower};
 ghost use Rattle.sloth_base.specs.ImageRange.{InFormat, AreAscending};
 ghost use Rattle.trace_text.specs.Listing.{line_at, mark_on, sizes_line, word_bytes, word_line};
 
-use crate::line_words::LineText;
-use crate::marks::push_mark;
-use sloth_base::image::{Image, Mark};
-use sloth_base::memory_map::MEMORY_BASE;
+use crate::{LineText, push_mark};
+use sloth_base::{Image, MEMORY_BASE, Mark};
 
 /// Line k of the listing of an image, counted from 0, without its LF: how many tasks, functions, bytes and marks there are; then each
 /// word of memory with its address, and what the mark on it says. k is at most the number of words.

@@ -5,11 +5,9 @@ ghost use Rattle.sloth_base.specs.Limits.{name_limit};
 ghost use Rattle.trace_text.specs.EventWords.{name_of};
 ghost use Rattle.trace_text.specs.MarkWords.{called_text, mark_text};
 
+use crate::LineText;
 use crate::events::push_name;
-use crate::line_words::LineText;
-use sloth_base::image::{Mark, MarkKind};
-use sloth_base::name::Name;
-use sloth_base::service::Service;
+use sloth_base::{Mark, MarkKind, Name, Service};
 
 /// Appends what a mark says.
 pub fn push_mark(line: &mut LineText, functions: &[Name], mark: &Mark)

@@ -3,7 +3,7 @@ ghost use Rattle.std.specs.Prelude.{◌≡◌, ◌≤◌, ℕ, IfSome, IfNone, d
 ghost use Rattle.sloth_base.specs.Limits.{count_limit};
 
 use itoa::Buffer;
-use sloth_base::limits::COUNT_LIMIT;
+use sloth_base::COUNT_LIMIT;
 
 /// A word of 32 bits in decimal digits, without sign and without a leading zero.
 pub fn number(word: &str) -> Option<u32>

@@ -3,10 +3,9 @@ ghost use Rattle.std.specs.Prelude.{◌≡◌, ◌+◌, ◌≤◌, ◌++◌, len
 ghost use Rattle.sloth_base.specs.ImageRange.{InFormat};
 ghost use Rattle.trace_text.specs.Lines.{counts_text, line_of};
 
-pub use crate::events::push_event;
-use crate::line_words::LineText;
-use sloth_base::event::Stamped;
-use sloth_base::image::Image;
+use crate::LineText;
+pub use crate::push_event;
+use sloth_base::{Image, Stamped};
 
 /// The form of an event line: with the counts of its first and last instruction in front, or bare.
 #[derive(Clone, Copy)]

@@ -3,8 +3,8 @@ ghost use Rattle.std.specs.Prelude.{◌≡◌, ℕ, IfSome};
 ghost use Rattle.trace_text.specs.EventNumbers.{HasEventNumbers, IsNumberOrNone};
 ghost use Rattle.trace_text.specs.EventWords.{bare_in, single_in};
 
-use sloth_base::event::Event;
-use text_pieces::bytes::same;
+use sloth_base::Event;
+use text_pieces::same;
 
 /// An event that is one word.
 #[tactic(auto, unfolding(crate::specs::EventWords::bare_in))]

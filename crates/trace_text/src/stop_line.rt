@@ -3,7 +3,7 @@ ghost use Rattle.std.specs.Prelude.{◌≡◌, ◌+◌, ◌≤◌, ◌++◌, len
 ghost use Rattle.trace_text.specs.MarkWords.{word_text};
 ghost use Rattle.trace_text.specs.StopLine.{cause_text, stopped_line};
 
-use crate::line_words::LineText;
+use crate::LineText;
 use rv32_instr::Stop;
 
 // Appends a cause that has a number.

@@ -2,8 +2,8 @@
 ghost use Rattle.std.specs.Prelude.{◌≡◌, ◌<◌, ◌≤◌, length};
 ghost use Rattle.trace_text.specs.Summary.{kind_word, kind_line};
 
-pub use crate::events::kind_of;
-use crate::line_words::LineText;
+use crate::LineText;
+pub use crate::kind_of;
 
 /// How many kinds of events there are.
 pub const KINDS: usize = 10;

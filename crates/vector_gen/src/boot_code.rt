@@ -7,23 +7,18 @@ ghost use Rattle.vector_gen.specs.Boot.{register_code, line_start_code, lines_co
 ghost use Rattle.sloth_base.specs.Owners.{first_counter_line};
 ghost use Rattle.sloth_base.specs.Limits.{task_limit, counter_limit, level_count};
 
-use block_parts::boot::{counter_level, raise_autostarted};
+use block_parts::{counter_level, raise_autostarted};
 use masked_code::emit::emit;
-use rv32_instr::asm::{X1, X2, X3, X4, ZERO, addi, csrrw, lui, mret, sb};
-use rv32_instr::constant::{hi, lo};
-use rv32_instr::csr::{MEPC, MPIE, MSTATUS};
-use rv32_instr::{Block, Instr};
-use sloth_base::config::{Config, CounterDecl, TaskDecl};
-use sloth_base::limits::TASK_LIMIT;
-use sloth_base::lines::FIRST_COUNTER_LINE;
-use sloth_base::list::List;
-use sloth_base::memory::NoMemory;
-use sloth_base::memory_map::BOOT_BASE;
-use sloth_base::places::Levels;
-use sloth_region::layout::{
-    CONTEXT_BYTES, CONTROLLER_HIGH, IDLE_CONTEXT, WORDS_HIGH, enabled_byte, level_byte,
+use rv32_instr::{
+    Block, Instr, MEPC, MPIE, MSTATUS, X1, X2, X3, X4, ZERO, addi, csrrw, hi, lo, lui, mret, sb,
 };
-use sloth_region::map::Map;
+use sloth_base::{
+    BOOT_BASE, Config, CounterDecl, FIRST_COUNTER_LINE, Levels, List, NoMemory, TASK_LIMIT,
+    TaskDecl,
+};
+use sloth_region::{
+    CONTEXT_BYTES, CONTROLLER_HIGH, IDLE_CONTEXT, Map, WORDS_HIGH, enabled_byte, level_byte,
+};
 use std::alloc::{AllocError, Global};
 
 /// The block of boot. It stores no zero to a pending byte and loads none.

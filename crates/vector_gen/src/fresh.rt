@@ -3,13 +3,13 @@ ghost use Rattle.std.specs.Prelude.{◌≡◌, ◌<◌, ◌≤◌, ◌++◌, OnO
 ghost use Rattle.sloth_base.specs.Limits.{task_limit, level_count, frame_limit};
 ghost use Rattle.vector_gen.specs.Pieces.{context_saving_code, csr_saving_code, words_saving_code, active_marking_code, beginning_code, fresh_start_code};
 
-use block_parts::prologues::ask_preempted;
-use masked_code::emit::{X5, clear, clear_words, emit, save};
-use rv32_instr::Instr;
-use rv32_instr::asm::{X1, X2, X4, ZERO, addi, csrrs, csrrw, csrrwi, lui, lw, mret, sw};
-use rv32_instr::constant::{hi, lo};
-use rv32_instr::csr::{MEPC, PLEVEL};
-use sloth_region::layout::{
+use block_parts::ask_preempted;
+use masked_code::emit::emit;
+use masked_code::{X5, clear, clear_words, save};
+use rv32_instr::{
+    Instr, MEPC, PLEVEL, X1, X2, X4, ZERO, addi, csrrs, csrrw, csrrwi, hi, lo, lui, lw, mret, sw,
+};
+use sloth_region::{
     BELOW_WORD, CONTEXT_BELOW, CONTEXT_CUR, CONTEXT_LEVEL, CONTEXT_PC, CUR, active,
 };
 use std::alloc::AllocError;

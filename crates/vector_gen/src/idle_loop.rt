@@ -2,12 +2,10 @@
 ghost use Rattle.std.specs.Prelude.{◌≡◌, ◌≤◌, ◌∷◌, [], length, IfOk};
 ghost use Rattle.vector_gen.specs.Idle.{idle_mark, IsIdleCode};
 
-use block_parts::boot::stay;
+use block_parts::stay;
 use rv32_instr::Block;
-use sloth_base::image::{Mark, MarkKind};
-use sloth_base::list::List;
-use sloth_base::memory::NoMemory;
-use sloth_region::map::Map;
+use sloth_base::{List, Mark, MarkKind, NoMemory};
+use sloth_region::Map;
 use std::alloc::Global;
 
 /// The idle loop, under its mark.

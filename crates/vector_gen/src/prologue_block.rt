@@ -8,16 +8,11 @@ ghost use Rattle.vector_gen.specs.Places.{IsStackTop, IsTaskPrologue, IsPrologue
 
 use crate::fresh::{mark_active, save_context, start_anew};
 use crate::resumption::take_up;
-use block_parts::prologues::start_level;
+use block_parts::start_level;
 use code_lengths::body_of;
 use rv32_instr::{Block, Instr};
-use sloth_base::app::App;
-use sloth_base::config::Config;
-use sloth_base::list::List;
-use sloth_base::memory::NoMemory;
-use sloth_base::numbers::TaskId;
-use sloth_base::places::Levels;
-use sloth_region::map::Map;
+use sloth_base::{App, Config, Levels, List, NoMemory, TaskId};
+use sloth_region::Map;
 use std::alloc::{AllocError, Global};
 
 /// The prologue of a task, at the address of its line's handler in the map: 73 instructions for a basic task, 108 for an extended

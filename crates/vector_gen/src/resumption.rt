@@ -3,12 +3,12 @@ ghost use Rattle.std.specs.Prelude.{◌≡◌, ◌<◌, ◌++◌, OnOk};
 ghost use Rattle.sloth_base.specs.Limits.{task_limit};
 ghost use Rattle.vector_gen.specs.Pieces.{wait_answer_code, going_on_code, kept_context_test, context_taking_code};
 
-use block_parts::prologues::take_own;
-use masked_code::emit::{emit, past, restore};
-use rv32_instr::Instr;
-use rv32_instr::asm::{A0, X1, X4, ZERO, addi, beq, lw, mret};
-use sloth_base::service::E_OK;
-use sloth_region::layout::resume;
+use block_parts::take_own;
+use masked_code::emit::emit;
+use masked_code::{past, restore};
+use rv32_instr::{A0, Instr, X1, X4, ZERO, addi, beq, lw, mret};
+use sloth_base::E_OK;
+use sloth_region::resume;
 use std::alloc::AllocError;
 
 /// How many instructions take up a task's own context.

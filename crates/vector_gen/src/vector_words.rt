@@ -3,13 +3,11 @@ ghost use Rattle.std.specs.Prelude.{◌≡◌, ◌≤◌, [], length, IfOk};
 ghost use Rattle.sloth_base.specs.MemoryMap.{vectors_base, line_count};
 ghost use Rattle.vector_gen.specs.Vectors.{AreInReach, AreJumps, StepToHandlers};
 
-use block_parts::boot::jump;
+use block_parts::jump;
 use masked_code::emit::emit;
 use rv32_instr::Block;
-use sloth_base::list::List;
-use sloth_base::memory::NoMemory;
-use sloth_base::memory_map::{LINE_COUNT, VECTORS_BASE};
-use sloth_region::map::Map;
+use sloth_base::{LINE_COUNT, List, NoMemory, VECTORS_BASE};
+use sloth_region::Map;
 use std::alloc::Global;
 
 /// The 32 vector words.

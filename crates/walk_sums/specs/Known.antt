@@ -1,19 +1,19 @@
 -- When the summary of a function is right.
-use Rattle.std.specs.Prelude.{ℕ, ◌+◌, ◌<◌, ◌≤◌, ◌≡◌, ◌⊎◌, min, MatchBool, List, length, Option, None}
+use Rattle.std.specs.Prelude.{ℕ, ◌+◌, ◌<◌, ◌≤◌, ◌≡◌, ◌⊎◌, min, MatchBool, List, length, get_or, Option, None}
 use Rattle.sloth_base.specs.declared.config.Config.{Config}
 use Rattle.sloth_base.specs.declared.app.App.{App}
-use Rattle.sloth_base.specs.declared.app.Func.{Func}
 use Rattle.sloth_base.specs.Named.{function}
 use Rattle.sloth_base.specs.Limits.{size_limit}
 use Rattle.code_rules.specs.Code.{HasCall}
 use Rattle.code_rules.specs.WellFormed.{WellFormed}
-use Rattle.bound_rules.specs.declared.bodies.Body.{Body}
 use Rattle.bound_rules.specs.declared.sizes.Summary.{Summary}
 use Rattle.bound_rules.specs.declared.weights.BodyWeights.{BodyWeights}
 use Rattle.bound_rules.specs.Summaries.{summary_of, AreCountedUp}
 use Rattle.walk_sums.specs.declared.kinds.Kind.{Kind}
 use Rattle.walk_sums.specs.declared.kinds.Kind.TheVariants as kind
-use Rattle.walk_sums.specs.KnownBodies.{IsKnownBody}
+use Rattle.walk_sums.specs.KnownBodies.{IsKnownBody, no_body}
+use Rattle.walk_sums.specs.WalkedCode.{WalkedCode}
+use Rattle.walk_sums.specs.Computed.{KnownBody, known_body_of}
 use Rattle.walk_sums.specs.Weights.{AreWeights, AreWeightless, SmallEndings}
 use Rattle.walk_sums.specs.Parts.{SumsOn, SumsBack, SumsWithin, SumsOut}
 
@@ -63,16 +63,39 @@ abbrev pub IsSummed : (weights : List BodyWeights) → Kind → (level : Option 
 IsSummed weights k level =
     (k ≡ kind.Sections) ⊎ ((level ≡ None) × ((k ≡ kind.Turns) ⊎ (k ≡ kind.Rounds))) ⊎ (AreWeightless weights × SmallEndings weights)
 
--- what is known before the summary of function f: its body, and the summaries of the functions that it calls
-pub record IsBefore (config : Config) (app : App) (weights : List BodyWeights) (kind : Kind) (f : ℕ) (func : Func) (body : Body) (level : Option ℕ) (whole own : List Summary)
-    : Type 0 where
-  pub well_formed : WellFormed config app
-  pub fit : AreWeights app weights
-  pub known : f < length app.funcs
-  pub is_func : func ≡ function app f
-  pub is_body : IsKnownBody config app f body
-  pub whole_is : (g : ℕ) → HasCall app f g → IsSummary config app weights kind None g (summary_of whole g)
-  pub own_is : (g : ℕ) → HasCall app f g → IsSummary config app weights kind level g (summary_of own g)
-  pub whole_small : AreCountedUp whole
-  pub own_small : AreCountedUp own
-  pub summed : IsSummed weights kind level
+-- a function before its summary: its parts are summed by these weights, and what is known of its body
+pub record CallerCode : Type 0 where
+  pub config : Config
+  pub app : App
+  pub weights : List BodyWeights
+  pub kind : Kind
+  pub number : ℕ
+  pub known : KnownBody
+
+-- what its body is, and the summaries of the functions that it calls
+pub record IsBefore (c : CallerCode) : Type 0 where
+  pub well_formed : WellFormed c.config c.app
+  pub fit : AreWeights c.app c.weights
+  pub known : c.number < length c.app.funcs
+  pub is_func : c.known.func ≡ function c.app c.number
+  pub is_body : IsKnownBody c.config c.app c.number c.known.body
+  pub whole_is : (g : ℕ) → HasCall c.app c.number g → IsSummary c.config c.app c.weights c.kind None g (summary_of c.known.whole g)
+  pub own_is : (g : ℕ) → HasCall c.app c.number g → IsSummary c.config c.app c.weights c.kind c.known.level g (summary_of c.known.own g)
+  pub whole_small : AreCountedUp c.known.whole
+  pub own_small : AreCountedUp c.known.own
+  pub summed : IsSummed c.weights c.kind c.known.level
+
+-- its summary
+abbrev pub IsSummaryFor : CallerCode → Summary → Type 0
+IsSummaryFor c s = IsSummary c.config c.app c.weights c.kind c.known.level c.number s
+
+-- function f of task code that is walked, before its summary at a level
+abbrev pub caller_code : WalkedCode → (weights : List BodyWeights) → Kind → (level : Option ℕ) → (f : ℕ) → (whole own : List Summary) → CallerCode
+caller_code w weights kind level f whole own = record {
+  config = w.config;
+  app = w.app;
+  weights = weights;
+  kind = kind;
+  number = f;
+  known = known_body_of (function w.app f) (get_or w.bodies f no_body) level whole own;
+}

@@ -6,6 +6,7 @@ pub mod CallOrder
 pub mod Activations
 pub mod KnownBodies
 pub mod Ceilings
+pub mod WalkedCode
 pub mod Links
 pub mod Rounds
 pub mod Kinds
@@ -13,8 +14,9 @@ pub mod Weights
 pub mod Parts
 pub mod Computed
 pub mod Shapes
-pub mod Lists
 pub mod Known
+pub mod Lists
+pub mod WeighedCode
 pub mod Counted
 pub mod Clears
 pub mod Told

@@ -12,15 +12,11 @@ ghost use Rattle.walk_sums.specs.Ceilings.{AreResourceCeilings};
 use crate::ceilings::{ceilings, ceilings_before};
 use crate::links::body_ways;
 use crate::search::reachable;
-use bound_rules::bodies::Body;
-use bound_rules::marks::is_marked;
-use raised_sections::chaining::chains_itself;
-use sloth_base::app::{App, Func, Op};
-use sloth_base::config::Config;
-use sloth_base::list::List;
-use sloth_base::memory::NoMemory;
+use bound_rules::{Body, is_marked};
+use raised_sections::chains_itself;
+use sloth_base::{App, Config, Func, List, NoMemory, Op};
 use std::alloc::Global;
-use text_pieces::growth::push;
+use text_pieces::push;
 
 /// A function by its number.
 pub fn function_at(app: &App, number: usize) -> &Func

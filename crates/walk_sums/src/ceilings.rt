@@ -1,23 +1,21 @@
 //! The greatest ceiling of what a function holds before each of its items (OSEK OS 2.2.3, section 8.6).
 ghost use Rattle.std.specs.Prelude.{◌≡◌, ◌≤◌, ◌<◌, ◌+◌, ℕ, length, map, get_or, None, IfOk};
+ghost use Rattle.sloth_base.specs.Limits.{ceiling_count};
 ghost use Rattle.code_rules.specs.Code.{held_list_at};
 ghost use Rattle.osek_scheduler.specs.Priority.{greatest, ceiling};
 ghost use Rattle.task_verify.specs.Labels.{last_label_below, ArePlaced};
 ghost use Rattle.walk_sums.specs.Ceilings.{AreResourceCeilings};
 
-use osek_scheduler::ceilings::ceiling;
-use sloth_base::app::Func;
-use sloth_base::config::Config;
-use sloth_base::memory::NoMemory;
-use sloth_base::numbers::RES_SCHEDULER;
+use osek_scheduler::ceiling;
+use sloth_base::{Config, Func, NoMemory, RES_SCHEDULER};
 use std::alloc::Global;
-use task_verify::held_resources::{held_after, held_at_label};
-use task_verify::labels::last_labels;
-use text_pieces::growth::push;
+use task_verify::{held_after, held_at_label, last_labels};
+use text_pieces::push;
 
 /// The ceilings of all resources, that of RES_SCHEDULER behind the others.
 pub fn ceilings(alloc: Global, config: &Config) -> Result<Vec<u32>, NoMemory>
-    ensures { IfOk result (λ table. AreResourceCeilings config.now table.items) }
+    ensures count { IfOk result (λ table. length table.items ≡ ceiling_count) }
+    ensures exact { IfOk result (λ table. AreResourceCeilings config.now table.items) }
 {
     let mut table = Vec::new(alloc);
     for resource in 0..RES_SCHEDULER + 1 {
@@ -37,7 +35,8 @@ fn ceiling_by(config: &Config, table: &[u32], resource: u32) -> u32
     }
 }
 
-fn greatest_ceiling(config: &Config, table: &[u32], held: &[u32]) -> u32
+/// The greatest ceiling of these resources, 0 where there is none.
+pub fn greatest_ceiling(config: &Config, table: &[u32], held: &[u32]) -> u32
     requires { AreResourceCeilings config.now table.now }
     ensures { result ≡ greatest (map (ceiling config.now) held.now) }
 {

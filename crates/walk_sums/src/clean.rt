@@ -11,44 +11,12 @@ ghost use Rattle.walk_sums.specs.Counted.{counted_weights};
 ghost use Rattle.walk_sums.specs.Known.{AreSums};
 ghost use Rattle.walk_sums.specs.Clears.{clears_it, AreClearing, AreAlsoClearing};
 
-use crate::counted::{Counted, counted_weights};
-use crate::kinds::Kind;
-use crate::levels::whole_sums;
 use crate::tasks::summary_at;
-use bound_rules::bodies::Body;
-use bound_rules::marks::is_marked;
-use bound_rules::sizes::Summary;
-use sloth_base::app::App;
-use sloth_base::config::Config;
-use sloth_base::memory::NoMemory;
+use crate::{Counted, Kind, Walks, counted_weights};
+use bound_rules::{Body, Summary, is_marked};
+use sloth_base::{App, Config, NoMemory};
 use std::alloc::Global;
-use text_pieces::growth::push;
-
-/// The sums of walks from one WaitEvent to the next, on which nothing clears some of these events and the second one waits for some.
-fn uncleared(
-    alloc: Global,
-    config: &Config,
-    app: &App,
-    bodies: &[Body],
-    order: &[usize],
-    events: u32,
-) -> Result<Vec<Summary>, NoMemory>
-    requires well_formed { WellFormed config.now app.now }
-    requires bodies { AreKnownBodies config.now app.now bodies.now }
-    requires order { IsCallOrder app.now order.now }
-    ensures { IfOk result (λ table. AreSums config.now app.now (counted_weights (counts.Waits events) app.now) (kinds.Uncleared events) None table.items) }
-{
-    let weights = counted_weights(alloc, app, Counted::Waits(events))?;
-    whole_sums(
-        alloc,
-        config,
-        app,
-        &weights,
-        Kind::Uncleared(events),
-        bodies,
-        order,
-    )
-}
+use text_pieces::push;
 
 /// Whether no such walk of the task waits for any of them.
 fn clears_it(app: &App, table: &[Summary], task: usize) -> bool
@@ -84,34 +52,14 @@ fn also_clear(
 ) -> Result<Vec<bool>, NoMemory>
     requires bodies { (t : ℕ) → t < length config.now.tasks → HasTaskBody app.now.funcs t }
     requires count { length table.now ≡ length app.now.funcs }
-    ensures { IfOk result (λ both. AreAlsoClearing app.now.funcs (length config.now.tasks) table.now marks.now both.items) }
+    ensures { IfOk result (λ both.
+        AreAlsoClearing app.now.funcs (length config.now.tasks) table.now marks.now both.items) }
 {
     let mut both = Vec::new(alloc);
     for task in 0..config.tasks.items().len() {
         push(&mut both, also_clears(app, table, marks, task))?;
     }
     Ok(both)
-}
-
-/// Of each task whether it clears one bit more.
-fn next_bit(
-    alloc: Global,
-    config: &Config,
-    app: &App,
-    bodies: &[Body],
-    order: &[usize],
-    bit: u32,
-    marks: &[bool],
-) -> Result<Vec<bool>, NoMemory>
-    requires well_formed { WellFormed config.now app.now }
-    requires bodies { AreKnownBodies config.now app.now bodies.now }
-    requires order { IsCallOrder app.now order.now }
-    requires bit { bit < 32 }
-    requires marks { AreClearing app.now (length config.now.tasks) bit marks.now }
-    ensures { IfOk result (λ both. AreClearing app.now (length config.now.tasks) (bit + 1) both.items) }
-{
-    let table = uncleared(alloc, config, app, bodies, order, mask_of(bit))?;
-    also_clear(alloc, config, app, &table, marks)
 }
 
 fn all_marks(alloc: Global, count: usize) -> Result<Vec<bool>, NoMemory>
@@ -125,7 +73,44 @@ fn all_marks(alloc: Global, count: usize) -> Result<Vec<bool>, NoMemory>
     Ok(marks)
 }
 
-/// Of each task whether it clears, on each walk from one WaitEvent to the next, all events that the next one waits for.
+impl Walks<'_> {
+    /// The sums of walks from one WaitEvent to the next, on which nothing clears some of these events and the second
+    /// one waits for some.
+    fn uncleared(&self, events: u32) -> Result<Vec<Summary>, NoMemory>
+        ensures { IfOk result (λ table.
+            AreSums self.now.config self.now.app (counted_weights (counts.Waits events) self.now.app)
+            (kinds.Uncleared events) None table.items) }
+    {
+        let weights = counted_weights(self.alloc(), self.app(), Counted::Waits(events))?;
+        self.whole_sums(&weights, Kind::Uncleared(events))
+    }
+
+    /// Of each task whether it clears one bit more.
+    fn next_bit(&self, bit: u32, marks: &[bool]) -> Result<Vec<bool>, NoMemory>
+        requires bit { bit < 32 }
+        requires marks { AreClearing self.now.app (length self.now.config.tasks) bit marks.now }
+        ensures { IfOk result (λ both. AreClearing self.now.app (length self.now.config.tasks) (bit + 1) both.items) }
+    {
+        let table = self.uncleared(mask_of(bit))?;
+        also_clear(self.alloc(), self.config(), self.app(), &table, marks)
+    }
+
+    /// Of each task whether it clears, on each walk from one WaitEvent to the next, all events that the next one waits
+    /// for.
+    pub fn clean_tasks(&self) -> Result<Vec<bool>, NoMemory>
+        ensures count { IfOk result (λ clean. length clean.items ≡ length self.now.config.tasks) }
+        ensures exact { IfOk result (λ clean. (t : ℕ) → t < length self.now.config.tasks
+            → Decides (get_or clean.items t false) (IsClean self.now.app t)) }
+    {
+        let mut clean = all_marks(self.alloc(), self.config().tasks.items().len())?;
+        for bit in 0..32 {
+            clean = self.next_bit(bit, &clean)?;
+        }
+        Ok(clean)
+    }
+}
+
+/// The same, of these parts.
 pub fn clean_tasks(
     alloc: Global,
     config: &Config,
@@ -137,11 +122,8 @@ pub fn clean_tasks(
     requires bodies { AreKnownBodies config.now app.now bodies.now }
     requires order { IsCallOrder app.now order.now }
     ensures count { IfOk result (λ clean. length clean.items ≡ length config.now.tasks) }
-    ensures exact { IfOk result (λ clean. (t : ℕ) → t < length config.now.tasks → Decides (get_or clean.items t false) (IsClean app.now t)) }
+    ensures exact { IfOk result (λ clean. (t : ℕ) → t < length config.now.tasks
+        → Decides (get_or clean.items t false) (IsClean app.now t)) }
 {
-    let mut clean = all_marks(alloc, config.tasks.items().len())?;
-    for bit in 0..32 {
-        clean = next_bit(alloc, config, app, bodies, order, bit, &clean)?;
-    }
-    Ok(clean)
+    Walks::new(alloc, config, app, order, bodies).clean_tasks()
 }

@@ -4,14 +4,10 @@ ghost use Rattle.walk_sums.specs.Weights.{AreWeights};
 ghost use Rattle.walk_sums.specs.Counted.{one_if, calls, calls_for, awaits, is_going_counted, is_ending_counted, body_counts, counted_weights};
 ghost use Rattle.sloth_base.specs.declared.service.Service.TheVariants as service;
 
-use bound_rules::items::is_schedule;
-use bound_rules::weights::BodyWeights;
-use sloth_base::app::{App, Func, Item, Op};
-use sloth_base::list::List;
-use sloth_base::memory::NoMemory;
-use sloth_base::service::Service;
+use bound_rules::{BodyWeights, is_schedule};
+use sloth_base::{App, Func, Item, List, NoMemory, Op, Service};
 use std::alloc::Global;
-use text_pieces::growth::push;
+use text_pieces::push;
 
 /// What is counted.
 #[derive(Clone, Copy)]

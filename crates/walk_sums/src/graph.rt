@@ -2,10 +2,9 @@
 ghost use Rattle.std.specs.Prelude.{◌≡◌, ℕ, ◌<◌, [], ◌∷◌, ◌++◌, length, get_or, set, true, false, IfOk, OnOk};
 ghost use Rattle.walk_sums.specs.Graph.{unseen_way, unseen_of, is_open, leads_to_open, AreInside, IsSearching, IsSearchEnd, IsSearched, IsFound};
 
-use sloth_base::list::List;
-use sloth_base::memory::NoMemory;
+use sloth_base::{List, NoMemory};
 use std::alloc::Global;
-use text_pieces::growth::push;
+use text_pieces::push;
 
 /// Where a node leads.
 #[derive(Clone, Copy)]

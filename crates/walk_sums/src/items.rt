@@ -7,17 +7,12 @@ ghost use Rattle.walk_sums.specs.Trails.{AreSizesInLimit};
 ghost use Rattle.walk_sums.specs.Kinds.{is_going};
 ghost use Rattle.walk_sums.specs.Computed.{is_alive, is_passed, going_size, ending_size, leaving_size};
 
-use crate::kinds::{Kind, is_going};
-use bound_rules::bodies::Body;
-use bound_rules::callees::summary_of;
-use bound_rules::items::reaches_level;
-use bound_rules::marks::{is_marked, number_at};
-use bound_rules::sizes::Summary;
-use bound_rules::weights::joined;
-use sloth_base::app::{Func, Op};
-use sloth_base::memory::NoMemory;
+use crate::Kind;
+use crate::kinds::is_going;
+use bound_rules::{Body, Summary, is_marked, joined, number_at, reaches_level, summary_of};
+use sloth_base::{Func, NoMemory, Op};
 use std::alloc::Global;
-use text_pieces::growth::push;
+use text_pieces::push;
 
 fn is_alive(body: &Body, level: Option<u32>, number: usize) -> bool
     ensures { result ≡ is_alive body.now level number }

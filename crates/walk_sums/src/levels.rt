@@ -1,24 +1,19 @@
 //! The summaries of all functions at a level, by weights that may be 0.
 ghost use Rattle.std.specs.Prelude.{◌≡◌, ℕ, ◌<◌, None, Some, length, get_or, IfOk};
 ghost use Rattle.code_rules.specs.WellFormed.{WellFormed};
+ghost use Rattle.bound_rules.specs.Summaries.{IsCountedUp, summary_of, unknown};
 ghost use Rattle.walk_sums.specs.CallOrder.{IsCallOrder};
-ghost use Rattle.bound_rules.specs.Summaries.{summary_of, unknown};
 ghost use Rattle.walk_sums.specs.KnownBodies.{no_body, AreKnownBodies};
 ghost use Rattle.walk_sums.specs.Weights.{AreWeights};
 ghost use Rattle.walk_sums.specs.declared.kinds.Kind.TheVariants as kinds;
-ghost use Rattle.walk_sums.specs.Known.{AreSums, IsSummed};
+ghost use Rattle.walk_sums.specs.Known.{AreSums, IsSummed, IsBefore, IsSummaryFor, caller_code};
 
-use crate::bodies::function_at;
-use crate::kinds::Kind;
-use crate::summary::summary;
-use bound_rules::bodies::Body;
-use bound_rules::sizes::{Summary, UNKNOWN};
-use bound_rules::weights::BodyWeights;
-use sloth_base::app::App;
-use sloth_base::config::Config;
-use sloth_base::memory::NoMemory;
+use crate::caller::Caller;
+use crate::{Kind, Walks, function_at};
+use bound_rules::{Body, BodyWeights, Summary, UNKNOWN};
+use sloth_base::{App, Config, NoMemory};
 use std::alloc::Global;
-use text_pieces::growth::push;
+use text_pieces::push;
 
 fn unknown(alloc: Global, count: usize) -> Result<Vec<Summary>, NoMemory>
     ensures count { IfOk result (λ table. length table.items ≡ count) }
@@ -39,7 +34,75 @@ fn body_at(bodies: &[Body], number: usize) -> &Body
     &bodies[number]
 }
 
-/// The summaries of all functions where their callers have raised the task.
+impl Walks<'_> {
+    /// The summary of function `number`, from those of the functions that it calls.
+    fn summary_of(
+        &self,
+        weights: &[BodyWeights],
+        kind: Kind,
+        level: Option<u32>,
+        number: usize,
+        whole: &[Summary],
+        own: &[Summary],
+    ) -> Result<Summary, NoMemory>
+        requires { IsBefore (caller_code self.now weights.now kind level number whole.now own.now) }
+        ensures is { IfOk result (IsSummaryFor (caller_code self.now weights.now kind level number whole.now own.now)) }
+        ensures small { IfOk result IsCountedUp }
+    {
+        let caller = Caller {
+            alloc: self.alloc(),
+            config: self.config(),
+            app: self.app(),
+            weights: &*weights,
+            kind,
+            number,
+            func: function_at(self.app(), number),
+            body: body_at(self.bodies(), number),
+            level,
+            whole: &*whole,
+            own: &*own,
+        };
+        caller.summary()
+    }
+
+    /// The summaries of all functions where their callers have raised the task.
+    pub fn whole_sums(&self, weights: &[BodyWeights], kind: Kind) -> Result<Vec<Summary>, NoMemory>
+        requires weights { AreWeights self.now.app weights.now }
+        requires summed { IsSummed weights.now kind None }
+        ensures { IfOk result (λ whole. AreSums self.now.config self.now.app weights.now kind None whole.items) }
+    {
+        let mut whole = unknown(self.alloc(), self.app().funcs.items().len())?;
+        for number in self.order() {
+            let summary = self.summary_of(&*weights, kind, None, *number, &whole, &whole)?;
+            whole[*number] = summary;
+        }
+        Ok(whole)
+    }
+
+    /// The summaries of all functions, of raised sections, where they raise the task to a priority by what they hold
+    /// themselves.
+    pub fn own_sums(
+        &self,
+        weights: &[BodyWeights],
+        priority: u32,
+        whole: &[Summary],
+    ) -> Result<Vec<Summary>, NoMemory>
+        requires weights { AreWeights self.now.app weights.now }
+        requires whole { AreSums self.now.config self.now.app weights.now kinds.Sections None whole.now }
+        ensures { IfOk result (λ own.
+            AreSums self.now.config self.now.app weights.now kinds.Sections (Some priority) own.items) }
+    {
+        let kind = Kind::Sections;
+        let mut own = unknown(self.alloc(), self.app().funcs.items().len())?;
+        for number in self.order() {
+            let summary = self.summary_of(&*weights, kind, Some(priority), *number, &*whole, &own)?;
+            own[*number] = summary;
+        }
+        Ok(own)
+    }
+}
+
+/// The summaries of all functions where their callers have raised the task, of these parts.
 pub fn whole_sums(
     alloc: Global,
     config: &Config,
@@ -56,27 +119,10 @@ pub fn whole_sums(
     requires order { IsCallOrder app.now order.now }
     ensures { IfOk result (λ whole. AreSums config.now app.now weights.now kind None whole.items) }
 {
-    let mut whole = unknown(alloc, app.funcs.items().len())?;
-    for number in order {
-        let summary = summary(
-            alloc,
-            config,
-            app,
-            weights,
-            kind,
-            *number,
-            function_at(app, *number),
-            body_at(bodies, *number),
-            None,
-            &whole,
-            &whole,
-        )?;
-        whole[*number] = summary;
-    }
-    Ok(whole)
+    Walks::new(alloc, config, app, order, bodies).whole_sums(weights, kind)
 }
 
-/// The summaries of all functions, of raised sections, where they raise the task to a priority by what they hold themselves.
+/// Those of raised sections, of these parts.
 pub fn own_sums(
     alloc: Global,
     config: &Config,
@@ -94,22 +140,5 @@ pub fn own_sums(
     requires whole { AreSums config.now app.now weights.now kinds.Sections None whole.now }
     ensures { IfOk result (λ own. AreSums config.now app.now weights.now kinds.Sections (Some priority) own.items) }
 {
-    let mut own = unknown(alloc, app.funcs.items().len())?;
-    for number in order {
-        let summary = summary(
-            alloc,
-            config,
-            app,
-            weights,
-            Kind::Sections,
-            *number,
-            function_at(app, *number),
-            body_at(bodies, *number),
-            Some(priority),
-            whole,
-            &own,
-        )?;
-        own[*number] = summary;
-    }
-    Ok(own)
+    Walks::new(alloc, config, app, order, bodies).own_sums(weights, priority, whole)
 }

@@ -7,12 +7,11 @@ ghost use Rattle.walk_sums.specs.Graph.{ways_of};
 ghost use Rattle.walk_sums.specs.Links.{open_way, goes_past, next_way, label_way, item_ways};
 
 use crate::graph::Ways;
-use bound_rules::marks::is_marked;
-use sloth_base::app::{Func, Op};
-use sloth_base::memory::NoMemory;
+use bound_rules::is_marked;
+use sloth_base::{Func, NoMemory, Op};
 use std::alloc::Global;
-use task_verify::ways::{falls, way};
-use text_pieces::growth::push;
+use task_verify::{falls, way};
+use text_pieces::push;
 
 /// Whether a path goes on to the next item, which is this one.
 pub fn falls_to(op: Op, from: usize, to: usize) -> bool

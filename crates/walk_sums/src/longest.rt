@@ -5,10 +5,10 @@ ghost use Rattle.walk_sums.specs.Graph.{HasWay, IsOrder};
 ghost use Rattle.walk_sums.specs.Trails.{along, longest_from, AreSizes, AreSizesInLimit, IsLongest};
 
 use crate::graph::Ways;
-use bound_rules::weights::joined;
-use sloth_base::memory::NoMemory;
+use bound_rules::joined;
+use sloth_base::NoMemory;
 use std::alloc::Global;
-use text_pieces::growth::push;
+use text_pieces::push;
 
 fn larger(one: u32, other: u32) -> u32
     ensures { result ≡ max one other }

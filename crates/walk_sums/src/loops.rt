@@ -7,8 +7,8 @@ ghost use Rattle.walk_sums.specs.Loops.{LeadsBack, IsWeighingLoop, HasWeighingLo
 use crate::graph::Ways;
 use crate::ranks::{ranks_of, some_raises};
 use crate::search::reachable;
-use bound_rules::marks::{is_marked, number_at};
-use sloth_base::memory::NoMemory;
+use bound_rules::{is_marked, number_at};
+use sloth_base::NoMemory;
 use std::alloc::Global;
 
 /// Whether a way leads to where a node is reached from.

@@ -5,10 +5,9 @@ ghost use Rattle.call_graph.specs.Ranks.{RanksOf};
 ghost use Rattle.walk_sums.specs.CallOrder.{IsCallOrder, IsLeastRank, lesser_of, lesser};
 
 use crate::graph::{keep, no_marks};
-use bound_rules::marks::{is_marked, number_at};
-use call_graph::ranking::Ranks;
-use sloth_base::app::App;
-use sloth_base::memory::NoMemory;
+use bound_rules::{is_marked, number_at};
+use call_graph::Ranks;
+use sloth_base::{App, NoMemory};
 use std::alloc::Global;
 
 /// The one of lesser rank.

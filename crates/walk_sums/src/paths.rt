@@ -1,32 +1,30 @@
-//! What is made of a body before its summary: the ways between its items, and the longest trails along them.
-ghost use Rattle.std.specs.Prelude.{◌≡◌, ◌<◌, ℕ, length, get_or, IfOk};
-ghost use Rattle.sloth_base.specs.Named.{item_of};
-ghost use Rattle.walk_sums.specs.Graph.{AreInside};
-ghost use Rattle.task_verify.specs.Ways.{HasBodyLabel};
-ghost use Rattle.walk_sums.specs.Trails.{AreSizesInLimit};
-ghost use Rattle.walk_sums.specs.Computed.{going_size};
-ghost use Rattle.bound_rules.specs.Summaries.{AreCountedUp};
+//! What is made of a body before its summary: the ways between its items, how trails go along them, and the longest
+//! ones.
+ghost use Rattle.std.specs.Prelude.{◌≡◌, ◌<◌, ℕ, false, length, get_or, IfOk};
 ghost use Rattle.walk_sums.specs.Shapes.{HasOrder};
-ghost use Rattle.walk_sums.specs.Lists.{AreEndingTrails, AreLeavingTrails, ArePaths, AreTrailSizes};
+ghost use Rattle.walk_sums.specs.Trails.{AreSizesInLimit};
+ghost use Rattle.walk_sums.specs.Computed.{is_alive};
+ghost use Rattle.walk_sums.specs.Lists.{weights_of, AreBodyWays, AreSteps, ArePaths, AreEndingTrails, AreLeavingTrails};
+ghost use Rattle.walk_sums.specs.Lists.{AreTrailSizes};
 
+use crate::caller::Caller;
 use crate::graph::Ways;
-use crate::items::{alive_items, ending_sizes, going_items, leaving_sizes, passed_functions};
-use crate::kinds::Kind;
+use crate::items::{
+    alive_items, ending_sizes, going_items, going_sizes, leaving_sizes, passed_functions,
+};
 use crate::links::body_ways;
-use crate::shape::{Shape, longest_by};
-use bound_rules::bodies::Body;
-use bound_rules::sizes::Summary;
-use bound_rules::weights::BodyWeights;
-use sloth_base::app::Func;
-use sloth_base::list::List;
-use sloth_base::memory::NoMemory;
-use std::alloc::Global;
+use crate::shape::{Shape, longest_by, shape_of};
+use bound_rules::{BodyWeights, weights_at};
+use sloth_base::{List, NoMemory};
 
-/// The items of a body before which the task is raised, and the ways between those that go on.
+/// The items of a body before which the task is raised, the ways between those that go on, what each item adds to a
+/// part that goes on behind it, and how trails go along the ways.
 #[derive(Drop)]
 pub struct Paths {
     pub alive: List<bool>,
     pub ways: List<Ways>,
+    pub steps: List<u32>,
+    pub shape: Shape,
 }
 
 /// For each item the size of the longest trail from it, and of the longest that ends with the body's `ret`.
@@ -36,107 +34,116 @@ pub struct TrailSizes {
     pub back: List<u32>,
 }
 
-/// The ways of a body.
-pub fn paths_of(
-    alloc: Global,
-    kind: Kind,
-    func: &Func,
-    body: &Body,
-    level: Option<u32>,
-    whole: &[Summary],
-) -> Result<Paths, NoMemory>
-    requires { (i : ℕ) → i < length func.now.items → HasBodyLabel func.now (item_of func.now i).op }
-    ensures { IfOk result (ArePaths kind func.now body.now level whole.now) }
-{
-    let alive = alive_items(alloc, func, body, level)?;
-    let going = going_items(alloc, func, kind, &alive)?;
-    let passed = passed_functions(alloc, whole)?;
-    let ways = body_ways(alloc, func, &passed, &going, &alive)?;
-    Ok(Paths {
-        alive: List::from_vec(alive),
-        ways: List::from_vec(ways),
-    })
-}
+impl Caller<'_> {
+    /// The weights of the body.
+    fn own_weights(&self) -> &BodyWeights
+        ensures is { result.now ≡ weights_of self.now }
+        ensures going { AreSizesInLimit result.now.going }
+        ensures ending { AreSizesInLimit result.now.ending }
+    {
+        weights_at(self.weights, self.number)
+    }
 
-/// For each item the size of the longest trail from it.
-fn ending_trails(
-    alloc: Global,
-    func: &Func,
-    weights: &BodyWeights,
-    whole: &[Summary],
-    paths: &Paths,
-    shape: &Shape,
-    steps: &[u32],
-) -> Result<Vec<u32>, NoMemory>
-    requires inside { AreInside paths.now.ways }
-    requires order { HasOrder paths.now.ways shape.now }
-    requires count { length paths.now.ways ≡ length func.now.items }
-    requires steps_count { length steps.now ≡ length func.now.items }
-    requires steps { (i : ℕ) → i < length func.now.items → get_or steps.now i 0 ≡ going_size whole.now (get_or weights.now.going i 0) (item_of func.now i).op }
-    requires whole { AreCountedUp whole.now }
-    requires going { AreSizesInLimit weights.now.going }
-    requires ending { AreSizesInLimit weights.now.ending }
-    ensures trails { IfOk result (λ on. AreEndingTrails func.now weights.now whole.now paths.now steps.now on.items) }
-    ensures small { IfOk result (λ on. AreSizesInLimit on.items) }
-{
-    let ends = ending_sizes(
-        alloc,
-        func,
-        weights.ending.items(),
-        paths.alive.items(),
-        whole,
-    )?;
-    longest_by(alloc, paths.ways.items(), shape, steps, &ends)
-}
+    /// The ways between items before which the task is raised.
+    fn ways(&self, alive: &[bool]) -> Result<Vec<Ways>, NoMemory>
+        requires count { length alive.now ≡ length self.now.known.func.items }
+        requires alive { (i : ℕ) → i < length self.now.known.func.items
+            → get_or alive.now i false ≡ is_alive self.now.known.body self.now.known.level i }
+        ensures { IfOk result (λ ways.
+            AreBodyWays self.now.kind self.now.known.func self.now.known.body self.now.known.level
+            self.now.known.whole alive.now ways.items) }
+    {
+        let going = going_items(self.alloc, self.func, self.kind, alive)?;
+        let passed = passed_functions(self.alloc, self.whole)?;
+        let ways = body_ways(self.alloc, self.func, &passed, &going, alive)?;
+        Ok(ways)
+    }
 
-/// For each item the size of the longest trail from it that ends with the body's `ret`.
-fn leaving_trails(
-    alloc: Global,
-    func: &Func,
-    weights: &BodyWeights,
-    whole: &[Summary],
-    paths: &Paths,
-    shape: &Shape,
-    steps: &[u32],
-) -> Result<Vec<u32>, NoMemory>
-    requires inside { AreInside paths.now.ways }
-    requires order { HasOrder paths.now.ways shape.now }
-    requires count { length paths.now.ways ≡ length func.now.items }
-    requires steps_count { length steps.now ≡ length func.now.items }
-    requires steps { (i : ℕ) → i < length func.now.items → get_or steps.now i 0 ≡ going_size whole.now (get_or weights.now.going i 0) (item_of func.now i).op }
-    requires going { AreSizesInLimit weights.now.going }
-    ensures trails { IfOk result (λ back. AreLeavingTrails func.now weights.now paths.now steps.now back.items) }
-    ensures small { IfOk result (λ back. AreSizesInLimit back.items) }
-{
-    let leaves = leaving_sizes(alloc, func, weights.going.items(), paths.alive.items())?;
-    longest_by(alloc, paths.ways.items(), shape, steps, &leaves)
-}
+    /// What each item adds to a part that goes on behind it.
+    fn steps(&self) -> Result<Vec<u32>, NoMemory>
+        ensures { IfOk result (λ steps.
+            AreSteps self.now.known.func (weights_of self.now) self.now.known.whole steps.items) }
+    {
+        let weights = self.own_weights();
+        let steps = going_sizes(self.alloc, self.func, weights.going.items(), self.whole)?;
+        Ok(steps)
+    }
 
-/// The longest trails along the ways of a body.
-pub fn trail_sizes(
-    alloc: Global,
-    func: &Func,
-    weights: &BodyWeights,
-    whole: &[Summary],
-    paths: &Paths,
-    shape: &Shape,
-    steps: &[u32],
-) -> Result<TrailSizes, NoMemory>
-    requires inside { AreInside paths.now.ways }
-    requires order { HasOrder paths.now.ways shape.now }
-    requires count { length paths.now.ways ≡ length func.now.items }
-    requires steps_count { length steps.now ≡ length func.now.items }
-    requires steps { (i : ℕ) → i < length func.now.items → get_or steps.now i 0 ≡ going_size whole.now (get_or weights.now.going i 0) (item_of func.now i).op }
-    requires whole { AreCountedUp whole.now }
-    requires going { AreSizesInLimit weights.now.going }
-    requires ending { AreSizesInLimit weights.now.ending }
-    ensures trails { IfOk result (AreTrailSizes func.now weights.now whole.now paths.now steps.now) }
-    ensures small { IfOk result (λ sizes. AreSizesInLimit sizes.on × AreSizesInLimit sizes.back) }
-{
-    let on = ending_trails(alloc, func, weights, whole, paths, shape, steps)?;
-    let back = leaving_trails(alloc, func, weights, whole, paths, shape, steps)?;
-    Ok(TrailSizes {
-        on: List::from_vec(on),
-        back: List::from_vec(back),
-    })
+    /// The paths of the body.
+    pub fn paths(&self) -> Result<Paths, NoMemory>
+        ensures { IfOk result (ArePaths self.now) }
+    {
+        let alive = alive_items(self.alloc, self.func, self.body, self.level)?;
+        let ways = self.ways(&alive)?;
+        let steps = self.steps()?;
+        let shape = shape_of(self.alloc, &ways, &steps)?;
+        Ok(Paths {
+            alive: List::from_vec(alive),
+            ways: List::from_vec(ways),
+            steps: List::from_vec(steps),
+            shape,
+        })
+    }
+
+    /// For each item the size of the longest trail from it.
+    fn ending_trails(&self, paths: &Paths) -> Result<Vec<u32>, NoMemory>
+        requires paths { ArePaths self.now paths.now }
+        requires order { HasOrder paths.now.ways paths.now.shape }
+        ensures trails { IfOk result (λ on. AreEndingTrails self.now paths.now on.items) }
+        ensures small { IfOk result (λ on. AreSizesInLimit on.items) }
+    {
+        let weights = self.own_weights();
+        let ends = ending_sizes(
+            self.alloc,
+            self.func,
+            weights.ending.items(),
+            paths.alive.items(),
+            self.whole,
+        )?;
+        longest_by(
+            self.alloc,
+            paths.ways.items(),
+            &paths.shape,
+            paths.steps.items(),
+            &ends,
+        )
+    }
+
+    /// For each item the size of the longest trail from it that ends with the body's `ret`.
+    fn leaving_trails(&self, paths: &Paths) -> Result<Vec<u32>, NoMemory>
+        requires paths { ArePaths self.now paths.now }
+        requires order { HasOrder paths.now.ways paths.now.shape }
+        ensures trails { IfOk result (λ back. AreLeavingTrails self.now paths.now back.items) }
+        ensures small { IfOk result (λ back. AreSizesInLimit back.items) }
+    {
+        let weights = self.own_weights();
+        let leaves = leaving_sizes(
+            self.alloc,
+            self.func,
+            weights.going.items(),
+            paths.alive.items(),
+        )?;
+        longest_by(
+            self.alloc,
+            paths.ways.items(),
+            &paths.shape,
+            paths.steps.items(),
+            &leaves,
+        )
+    }
+
+    /// The longest trails along the paths of the body.
+    pub fn trail_sizes(&self, paths: &Paths) -> Result<TrailSizes, NoMemory>
+        requires paths { ArePaths self.now paths.now }
+        requires order { HasOrder paths.now.ways paths.now.shape }
+        ensures trails { IfOk result (AreTrailSizes self.now paths.now) }
+        ensures small { IfOk result (λ sizes. AreSizesInLimit sizes.on × AreSizesInLimit sizes.back) }
+    {
+        let on = self.ending_trails(paths)?;
+        let back = self.leaving_trails(paths)?;
+        Ok(TrailSizes {
+            on: List::from_vec(on),
+            back: List::from_vec(back),
+        })
+    }
 }

@@ -5,9 +5,8 @@ ghost use Rattle.walk_sums.specs.Loops.{raises, raises_at};
 
 use crate::graph::Ways;
 use crate::longest::zeros;
-use bound_rules::marks::number_at;
-use sloth_base::limits::COUNT_LIMIT;
-use sloth_base::memory::NoMemory;
+use bound_rules::number_at;
+use sloth_base::{COUNT_LIMIT, NoMemory};
 use std::alloc::Global;
 
 /// The rank that a way asks of its node: that of the node to which it leads, and one more where its own node weighs something.

@@ -4,9 +4,9 @@ ghost use Rattle.walk_sums.specs.Graph.{AreInside, HasMark};
 ghost use Rattle.walk_sums.specs.Search.{IsReachable, IsSpreading};
 
 use crate::graph::{Ways, keep, no_marks, unseen_of};
-use sloth_base::memory::NoMemory;
+use sloth_base::NoMemory;
 use std::alloc::Global;
-use text_pieces::growth::push;
+use text_pieces::push;
 
 /// Goes on from the nodes of the stack until all that they lead to are marked.
 fn spread(

@@ -1,31 +1,20 @@
 //! The greatest sums of the sections of all tasks for one another.
-ghost use Rattle.std.specs.Prelude.{◌≡◌, ◌<◌, None, Some, length, IfOk};
+ghost use Rattle.std.specs.Prelude.{◌≡◌, ◌<◌, Some, length, IfOk};
 ghost use Rattle.code_rules.specs.WellFormed.{WellFormed};
-ghost use Rattle.osek_scheduler.specs.Apart.{static_priority};
 ghost use Rattle.call_graph.specs.Ranks.{RanksOf};
+ghost use Rattle.osek_scheduler.specs.Apart.{static_priority};
 ghost use Rattle.walk_sums.specs.declared.kinds.Kind.TheVariants as kinds;
-ghost use Rattle.walk_sums.specs.CallOrder.{IsCallOrder};
-ghost use Rattle.walk_sums.specs.KnownBodies.{AreKnownBodies};
 ghost use Rattle.walk_sums.specs.Known.{AreSums};
 ghost use Rattle.walk_sums.specs.Weights.{AreWeights};
 ghost use Rattle.walk_sums.specs.Sections.{IsSumFor, AreToldSums, AreAllSums, greater, greatest_of};
 
-use crate::bodies::bodies;
-use crate::kinds::Kind;
-use crate::levels::{own_sums, whole_sums};
-use crate::order::callees_first;
-use crate::sum::Sum;
-use crate::tasks::section_sum;
-use bound_rules::bodies::Body;
-use bound_rules::sizes::Summary;
-use bound_rules::weights::BodyWeights;
-use call_graph::ranking::Ranks;
-use sloth_base::app::App;
-use sloth_base::config::Config;
-use sloth_base::list::List;
-use sloth_base::memory::NoMemory;
+use crate::weighed::Weighed;
+use crate::{Kind, Sum, Walks, known_code, section_sum};
+use bound_rules::{BodyWeights, Summary};
+use call_graph::Ranks;
+use sloth_base::{App, Config, List, NoMemory};
 use std::alloc::Global;
-use text_pieces::growth::push;
+use text_pieces::push;
 
 fn priority_of(config: &Config, task: usize) -> u32
     requires { task < length config.now.tasks }
@@ -34,110 +23,78 @@ fn priority_of(config: &Config, task: usize) -> u32
     config.tasks.items()[task].priority
 }
 
-/// The sum of the sections of a task for task `above`: 0 where it is no lower one.
-fn sum_for(
-    config: &Config,
-    app: &App,
-    weights: &[BodyWeights],
-    whole: &[Summary],
-    own: &[Summary],
-    above: usize,
-    task: usize,
-) -> Sum
-    requires well_formed { WellFormed config.now app.now }
-    requires weights { AreWeights app.now weights.now }
-    requires whole { AreSums config.now app.now weights.now kinds.Sections None whole.now }
-    requires own { AreSums config.now app.now weights.now kinds.Sections (Some (static_priority config.now above)) own.now }
-    requires above { above < length config.now.tasks }
-    requires inside { task < length config.now.tasks }
-    ensures { IsSumFor config.now app.now weights.now above task result }
-{
-    let own_priority = priority_of(config, task);
-    let priority = priority_of(config, above);
-    if own_priority < priority {
-        section_sum(config, app, weights, whole, own, above, task)
-    } else {
-        Sum::Counts(0)
+impl Weighed<'_> {
+    /// The sum of the sections of a task for task `above`: 0 where it is no lower one.
+    fn sum_for_task(&self, own: &[Summary], above: usize, task: usize) -> Sum
+        requires own { AreSums self.now.walks.config self.now.walks.app self.now.weights kinds.Sections (Some
+            (static_priority self.now.walks.config above)) own.now }
+        requires above { above < length self.now.walks.config.tasks }
+        requires inside { task < length self.now.walks.config.tasks }
+        ensures { IsSumFor self.now.walks.config self.now.walks.app self.now.weights above task result }
+    {
+        let walks = self.walks();
+        let config = walks.config();
+        let priority = priority_of(config, task);
+        let other = priority_of(config, above);
+        if priority < other {
+            section_sum(
+                config,
+                walks.app(),
+                self.weights(),
+                self.whole(),
+                own,
+                above,
+                task,
+            )
+        } else {
+            Sum::Counts(0)
+        }
+    }
+
+    /// Those of all tasks for task `above`.
+    fn sums_above(&self, above: usize) -> Result<Vec<Sum>, NoMemory>
+        requires { above < length self.now.walks.config.tasks }
+        ensures { IfOk result (λ sums.
+            AreToldSums self.now.walks.config self.now.walks.app self.now.weights above sums.items) }
+    {
+        let config = self.walks().config();
+        let own = self
+            .walks()
+            .own_sums(self.weights(), priority_of(config, above), self.whole())?;
+        let mut sums = Vec::new(self.walks().alloc());
+        for task in 0..config.tasks.items().len() {
+            push(&mut sums, self.sum_for_task(&own, above, task))?;
+        }
+        Ok(sums)
+    }
+
+    /// Those for each task.
+    fn all_sums(&self) -> Result<Vec<List<Sum>>, NoMemory>
+        ensures { IfOk result (λ table.
+            AreAllSums self.now.walks.config self.now.walks.app self.now.weights table.items) }
+    {
+        let config = self.walks().config();
+        let mut table = Vec::new(self.walks().alloc());
+        for task in 0..config.tasks.items().len() {
+            let sums = self.sums_above(task)?;
+            push(&mut table, List::from_vec(sums))?;
+        }
+        Ok(table)
     }
 }
 
-/// Those of all tasks.
-fn sums_at(
-    alloc: Global,
-    config: &Config,
-    app: &App,
-    weights: &[BodyWeights],
-    whole: &[Summary],
-    own: &[Summary],
-    above: usize,
-) -> Result<Vec<Sum>, NoMemory>
-    requires well_formed { WellFormed config.now app.now }
-    requires weights { AreWeights app.now weights.now }
-    requires whole { AreSums config.now app.now weights.now kinds.Sections None whole.now }
-    requires own { AreSums config.now app.now weights.now kinds.Sections (Some (static_priority config.now above)) own.now }
-    requires above { above < length config.now.tasks }
-    ensures { IfOk result (λ sums. AreToldSums config.now app.now weights.now above sums.items) }
-{
-    let mut sums = Vec::new(alloc);
-    for task in 0..config.tasks.items().len() {
-        push(
-            &mut sums,
-            sum_for(config, app, weights, whole, own, above, task),
-        )?;
+impl Walks<'_> {
+    /// For each two tasks the greatest sum, by these weights, of the sections of the one for the other.
+    pub fn section_sums(&self, weights: &[BodyWeights]) -> Result<Vec<List<Sum>>, NoMemory>
+        requires { AreWeights self.now.app weights.now }
+        ensures { IfOk result (λ table. AreAllSums self.now.config self.now.app weights.now table.items) }
+    {
+        let whole = self.whole_sums(weights, Kind::Sections)?;
+        Weighed::new(self, weights, &whole).all_sums()
     }
-    Ok(sums)
 }
 
-/// The same, from what is known of all bodies.
-fn task_sums(
-    alloc: Global,
-    config: &Config,
-    app: &App,
-    weights: &[BodyWeights],
-    bodies: &[Body],
-    order: &[usize],
-    whole: &[Summary],
-    above: usize,
-) -> Result<Vec<Sum>, NoMemory>
-    requires well_formed { WellFormed config.now app.now }
-    requires weights { AreWeights app.now weights.now }
-    requires above { above < length config.now.tasks }
-    requires bodies { AreKnownBodies config.now app.now bodies.now }
-    requires order { IsCallOrder app.now order.now }
-    requires whole { AreSums config.now app.now weights.now kinds.Sections None whole.now }
-    ensures { IfOk result (λ sums. AreToldSums config.now app.now weights.now above sums.items) }
-{
-    let priority = priority_of(config, above);
-    let own = own_sums(alloc, config, app, weights, bodies, order, priority, whole)?;
-    sums_at(alloc, config, app, weights, whole, &own, above)
-}
-
-/// Those for each task.
-fn all_sums(
-    alloc: Global,
-    config: &Config,
-    app: &App,
-    weights: &[BodyWeights],
-    bodies: &[Body],
-    order: &[usize],
-    whole: &[Summary],
-) -> Result<Vec<List<Sum>>, NoMemory>
-    requires well_formed { WellFormed config.now app.now }
-    requires weights { AreWeights app.now weights.now }
-    requires bodies { AreKnownBodies config.now app.now bodies.now }
-    requires order { IsCallOrder app.now order.now }
-    requires whole { AreSums config.now app.now weights.now kinds.Sections None whole.now }
-    ensures { IfOk result (λ table. AreAllSums config.now app.now weights.now table.items) }
-{
-    let mut table = Vec::new(alloc);
-    for task in 0..config.tasks.items().len() {
-        let sums = task_sums(alloc, config, app, weights, bodies, order, whole, task)?;
-        push(&mut table, List::from_vec(sums))?;
-    }
-    Ok(table)
-}
-
-/// For each two tasks the greatest sum, by these weights, of the sections of the one for the other.
+/// The same, of verified task code.
 pub fn section_sums(
     alloc: Global,
     config: &Config,
@@ -150,10 +107,8 @@ pub fn section_sums(
     requires weights { AreWeights app.now weights.now }
     ensures { IfOk result (λ table. AreAllSums config.now app.now weights.now table.items) }
 {
-    let order = callees_first(alloc, app, ranks)?;
-    let bodies = bodies(alloc, config, app, &order)?;
-    let whole = whole_sums(alloc, config, app, weights, Kind::Sections, &bodies, &order)?;
-    all_sums(alloc, config, app, weights, &bodies, &order, &whole)
+    let known = known_code(alloc, config, app, ranks)?;
+    Walks::of(alloc, config, app, &known).section_sums(weights)
 }
 
 /// The greater of two sums.

@@ -6,7 +6,7 @@ ghost use Rattle.walk_sums.specs.Loops.{AreAttained, HasGrown};
 
 use crate::graph::Ways;
 use crate::longest::{longest_from, zeros};
-use sloth_base::memory::NoMemory;
+use sloth_base::NoMemory;
 use std::alloc::Global;
 
 /// Makes the entry of a node what its ways say, where that is more: whether it has grown.

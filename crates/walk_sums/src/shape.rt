@@ -8,8 +8,7 @@ use crate::graph::{Found, Ways, finish_order};
 use crate::longest::longest;
 use crate::loops::has_weighing_loop;
 use crate::settle::settled;
-use sloth_base::list::List;
-use sloth_base::memory::NoMemory;
+use sloth_base::{List, NoMemory};
 use std::alloc::Global;
 
 /// How trails go.

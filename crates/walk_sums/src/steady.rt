@@ -10,35 +10,12 @@ ghost use Rattle.walk_sums.specs.Known.{AreSums};
 ghost use Rattle.walk_sums.specs.Rounds.{IsSteady};
 ghost use Rattle.walk_sums.specs.Clears.{is_steady, AreSteadyMarks};
 
-use crate::counted::{Counted, counted_weights};
-use crate::kinds::Kind;
-use crate::levels::whole_sums;
 use crate::tasks::summary_at;
-use bound_rules::bodies::Body;
-use bound_rules::sizes::Summary;
-use sloth_base::app::App;
-use sloth_base::config::Config;
-use sloth_base::memory::NoMemory;
+use crate::{Counted, Kind, Walks, counted_weights};
+use bound_rules::{Body, Summary};
+use sloth_base::{App, Config, NoMemory};
 use std::alloc::Global;
-use text_pieces::growth::push;
-
-/// The sums of turns, by what counts where a turn ends with it.
-fn counted_turns(
-    alloc: Global,
-    config: &Config,
-    app: &App,
-    bodies: &[Body],
-    order: &[usize],
-    counted: Counted,
-) -> Result<Vec<Summary>, NoMemory>
-    requires well_formed { WellFormed config.now app.now }
-    requires bodies { AreKnownBodies config.now app.now bodies.now }
-    requires order { IsCallOrder app.now order.now }
-    ensures { IfOk result (λ table. AreSums config.now app.now (counted_weights counted app.now) kinds.Turns None table.items) }
-{
-    let weights = counted_weights(alloc, app, counted)?;
-    whole_sums(alloc, config, app, &weights, Kind::Turns, bodies, order)
-}
+use text_pieces::push;
 
 fn is_steady(config: &Config, app: &App, table: &[Summary], task: usize) -> bool
     requires inside { task < length config.now.tasks }
@@ -57,7 +34,8 @@ fn marks(
 ) -> Result<Vec<bool>, NoMemory>
     requires bodies { (t : ℕ) → t < length config.now.tasks → HasTaskBody app.now.funcs t }
     requires count { length table.now ≡ length app.now.funcs }
-    ensures { IfOk result (λ steady. AreSteadyMarks config.now.tasks app.now.funcs (length config.now.tasks) table.now steady.items) }
+    ensures { IfOk result (λ steady.
+        AreSteadyMarks config.now.tasks app.now.funcs (length config.now.tasks) table.now steady.items) }
 {
     let mut steady = Vec::new(alloc);
     for task in 0..config.tasks.items().len() {
@@ -66,7 +44,27 @@ fn marks(
     Ok(steady)
 }
 
-/// Of each task whether it is not preemptable and no walk of it reaches a Schedule.
+impl Walks<'_> {
+    /// The sums of turns, by what counts where a turn ends with it.
+    fn counted_turns(&self, counted: Counted) -> Result<Vec<Summary>, NoMemory>
+        ensures { IfOk result (λ table.
+            AreSums self.now.config self.now.app (counted_weights counted self.now.app) kinds.Turns None table.items) }
+    {
+        let weights = counted_weights(self.alloc(), self.app(), counted)?;
+        self.whole_sums(&weights, Kind::Turns)
+    }
+
+    /// Of each task whether it is not preemptable and no walk of it reaches a Schedule.
+    pub fn steady_tasks(&self) -> Result<Vec<bool>, NoMemory>
+        ensures { IfOk result (λ steady. (t : ℕ) → t < length self.now.config.tasks
+            → Decides (get_or steady.items t false) (IsSteady self.now.config self.now.app t)) }
+    {
+        let table = self.counted_turns(Counted::Schedules)?;
+        marks(self.alloc(), self.config(), self.app(), &table)
+    }
+}
+
+/// The same, of these parts.
 pub fn steady_tasks(
     alloc: Global,
     config: &Config,
@@ -77,8 +75,8 @@ pub fn steady_tasks(
     requires well_formed { WellFormed config.now app.now }
     requires bodies { AreKnownBodies config.now app.now bodies.now }
     requires order { IsCallOrder app.now order.now }
-    ensures { IfOk result (λ steady. (t : ℕ) → t < length config.now.tasks → Decides (get_or steady.items t false) (IsSteady config.now app.now t)) }
+    ensures { IfOk result (λ steady. (t : ℕ) → t < length config.now.tasks
+        → Decides (get_or steady.items t false) (IsSteady config.now app.now t)) }
 {
-    let table = counted_turns(alloc, config, app, bodies, order, Counted::Schedules)?;
-    marks(alloc, config, app, &table)
+    Walks::new(alloc, config, app, order, bodies).steady_tasks()
 }

@@ -12,15 +12,11 @@ ghost use Rattle.walk_sums.specs.Rounds.{IsTurn};
 ghost use Rattle.walk_sums.specs.Known.{AreSums};
 ghost use Rattle.walk_sums.specs.Told.{told, told_rounds, told_turn, told_section, IsToldSum, AreToldRounds};
 
+use crate::Sum;
 use crate::items::less_one;
-use crate::sum::Sum;
-use bound_rules::bound::task_summary;
-use bound_rules::sizes::Summary;
-use bound_rules::weights::BodyWeights;
-use sloth_base::app::App;
-use sloth_base::config::Config;
-use sloth_base::limits::COUNT_LIMIT;
-use stack_bounds::task_bodies::body_of;
+use bound_rules::{BodyWeights, Summary, task_summary};
+use sloth_base::{App, COUNT_LIMIT, Config};
+use stack_bounds::body_of;
 
 /// The greatest sums of the rounds of a task that begin with its first item, and of those that begin behind a WaitEvent.
 #[derive(Clone, Copy)]

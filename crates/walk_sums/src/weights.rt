@@ -3,13 +3,10 @@ ghost use Rattle.std.specs.Prelude.{◌≡◌, cond, map, not, IfOk};
 ghost use Rattle.raised_sections.specs.Sections.{is_counted};
 ghost use Rattle.walk_sums.specs.Weights.{item_weight, body_weights, item_weights, AreWeights};
 
-use bound_rules::weights::BodyWeights;
-use sloth_base::app::{App, Call, Func, Item, Op};
-use sloth_base::list::List;
-use sloth_base::memory::NoMemory;
-use sloth_base::service::Service;
+use bound_rules::BodyWeights;
+use sloth_base::{App, Call, Func, Item, List, NoMemory, Op, Service};
 use std::alloc::Global;
-use text_pieces::growth::push;
+use text_pieces::push;
 
 fn is_terminate(call: Call) -> bool
     ensures { result ≡ not (is_counted (Op.Serve call)) }

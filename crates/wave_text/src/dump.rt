@@ -13,9 +13,10 @@ use crate::signals::{
     LEVEL, MASKED, Scope, Width, alarm_count, first_code, level_value, masked_value, value_of,
     width_of,
 };
-use itoa::Buffer;
+use sloth_base::NoMemory;
 use sloth_base::lines::Owners;
-use sloth_base::memory::NoMemory;
+use text_pieces::line;
+use text_pieces::pieces::Piece::{Number, Word};
 
 // Whether two values are the same.
 fn same_value(one: Option<u32>, other: Option<u32>) -> bool
@@ -100,12 +101,9 @@ fn push_unknown(text: &mut Vec<u8>, width: Width) -> Result<(), NoMemory>
     ensures { OnOk result (text.new.items ≡ text.old.items ++ value_text width None) }
 {
     match width {
-        Width::One => text.extend_from_slice(b"x")?,
-        Width::Two => text.extend_from_slice(b"bx ")?,
-        Width::Eight => text.extend_from_slice(b"bx ")?,
-        Width::ThirtyTwo => text.extend_from_slice(b"bx ")?,
+        Width::One => line!(text; Word(b"x")),
+        Width::Two | Width::Eight | Width::ThirtyTwo => line!(text; Word(b"bx ")),
     }
-    Ok(())
 }
 
 // Appends a value, or the one that is unknown.
@@ -150,11 +148,7 @@ fn push_change(
 fn push_moment(text: &mut Vec<u8>, count: u32) -> Result<(), NoMemory>
     ensures { OnOk result (text.new.items ≡ text.old.items ++ entry_line (DumpEntry.moment count)) }
 {
-    let mut buffer = Buffer::new();
-    text.extend_from_slice(b"#")?;
-    text.extend_from_slice(buffer.format(count).as_bytes())?;
-    text.extend_from_slice(b"\n")?;
-    Ok(())
+    line!(text; Word(b"#"), Number(count), Word(b"\n"))
 }
 
 /// The text of waves so far, and whether the moment that is written has its line.

@@ -7,12 +7,9 @@ ghost use Rattle.wave_text.specs.Signals.{code_text, first_code, width_of};
 ghost use Rattle.wave_text.specs.declared.signals.Scope.TheVariants.{Alarms};
 
 use crate::signals::{Scope, Width, first_code, width_of};
-use sloth_base::image::Image;
-use sloth_base::limits::ALARM_LIMIT;
-use sloth_base::memory::NoMemory;
-use sloth_base::name::Name;
+use sloth_base::{ALARM_LIMIT, Image, Name, NoMemory};
 use std::alloc::Global;
-use trace_text::line_text::LineText;
+use trace_text::LineText;
 
 fn scope_name(scope: Scope) -> &'static [u8]
     ensures is { result.now ≡ scope_name scope }

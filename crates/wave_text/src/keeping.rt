@@ -7,9 +7,9 @@ ghost use Rattle.wave_text.specs.Signals.{KeepValues, most_signals, state_value,
 
 use crate::moments::Moment;
 use crate::signals::Scope;
-use osek_scheduler::state::TaskState;
-use sloth_base::limits::{ALARM_LIMIT, COUNTER_LIMIT, TASK_LIMIT};
-use sloth_inspect::state_numbers::state_number;
+use osek_scheduler::TaskState;
+use sloth_base::{ALARM_LIMIT, COUNTER_LIMIT, TASK_LIMIT};
+use sloth_inspect::state_number;
 use sloth_runner::task_states::Seen;
 
 // Whether the states of the tasks have the same numbers.

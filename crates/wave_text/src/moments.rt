@@ -3,7 +3,7 @@ ghost use Rattle.std.specs.Prelude.{◌≡◌, cond};
 ghost use Rattle.wave_text.specs.Moments.{no_words, is_open, words_behind_look};
 
 use run_samples::{Sample, ServiceWords};
-use sloth_base::limits::{ALARM_LIMIT, COUNTER_LIMIT, TASK_LIMIT};
+use sloth_base::{ALARM_LIMIT, COUNTER_LIMIT, TASK_LIMIT};
 use sloth_runner::task_states::Seen;
 
 /// A count of a run.

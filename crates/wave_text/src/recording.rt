@@ -10,11 +10,9 @@ use crate::dump::Dump;
 use crate::header::header;
 use crate::moments::{Moment, no_words, words_behind_look};
 use run_samples::Sampler;
-use sloth_base::event::Arrival;
-use sloth_base::image::Image;
 use sloth_base::lines::Owners;
-use sloth_base::memory::NoMemory;
-use sloth_runner::runner::Halt;
+use sloth_base::{Arrival, Image, NoMemory};
+use sloth_runner::Halt;
 use std::alloc::Global;
 
 /// The waves of a run, or where and why it stops.

@@ -4,8 +4,8 @@ ghost use Rattle.sloth_base.specs.Limits.{alarm_limit};
 ghost use Rattle.wave_text.specs.Signals.{first_code, width_of, most_signals, alarm_count, number_seen, value_in, value_of, level_value, masked_value};
 
 use crate::moments::Moment;
-use sloth_base::limits::ALARM_LIMIT;
-use sloth_inspect::state_numbers::state_number;
+use sloth_base::ALARM_LIMIT;
+use sloth_inspect::state_number;
 use sloth_runner::task_states::Seen;
 
 /// How many binary digits a signal has.

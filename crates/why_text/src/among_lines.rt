@@ -2,10 +2,11 @@
 ghost use Rattle.std.specs.Prelude.{◌≡◌, ◌++◌, OnOk, take};
 ghost use Rattle.why_text.specs.NameLines.{concerned_words, among_line, among_lines, more_lines, told_lines};
 
-use crate::pieces::{push_bytes, push_number, push_word};
-use command_line::last_line::code_text;
-use sloth_base::memory::NoMemory;
+use command_line::code_text;
+use sloth_base::NoMemory;
 use stage_faults::Note;
+use text_pieces::line;
+use text_pieces::pieces::Piece::{Number, Word};
 
 // How many faults are told.
 const AMONG_LIMIT: usize = 1_000;
@@ -16,17 +17,15 @@ fn push_concerned(text: &mut Vec<u8>, name: &[u8]) -> Result<(), NoMemory>
     if name.is_empty() {
         return Ok(());
     }
-    push_word(text, name)
+    line!(text; Word(b" "), Word(name))
 }
 
 fn push_note(text: &mut Vec<u8>, note: &Note) -> Result<(), NoMemory>
     ensures { OnOk result (text.new.items ≡ text.old.items ++ among_line note.now) }
 {
-    push_bytes(text, b"among")?;
-    push_number(text, note.line)?;
-    push_word(text, code_text(note.code))?;
+    line!(text; Word(b"among "), Number(note.line), Word(b" "), Word(code_text(note.code)))?;
     push_concerned(text, note.name)?;
-    push_bytes(text, b"\n")
+    line!(text; Word(b"\n"))
 }
 
 fn push_notes(text: &mut Vec<u8>, notes: &[Note]) -> Result<(), NoMemory>
@@ -52,7 +51,7 @@ fn push_more(text: &mut Vec<u8>, more: bool) -> Result<(), NoMemory>
     ensures { OnOk result (text.new.items ≡ text.old.items ++ more_lines more) }
 {
     if more {
-        return push_bytes(text, b"among more\n");
+        return line!(text; Word(b"among more\n"));
     }
     Ok(())
 }

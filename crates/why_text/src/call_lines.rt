@@ -1,19 +1,18 @@
 //! The lines of calls.
-ghost use Rattle.std.specs.Prelude.{◌≡◌, ◌++◌, codes, OnOk};
+ghost use Rattle.std.specs.Prelude.{◌≡◌, ◌++◌, OnOk};
 ghost use Rattle.why_text.specs.RuleLines.{pair_words, link_words, service_words, ending_words, calls_line};
 
 use crate::numbered::func_name;
-use crate::pieces::{push_bytes, push_number, push_word};
-use fault_witnesses::chains::Link;
-use sloth_base::app::{App, Item, Op};
-use sloth_base::memory::NoMemory;
+use fault_witnesses::Link;
+use sloth_base::{App, Item, NoMemory, Op};
+use text_pieces::line;
+use text_pieces::pieces::Piece::{Number, Word};
 
 // A space, a name, and a line.
 fn push_pair(text: &mut Vec<u8>, name: &[u8], line: u32) -> Result<(), NoMemory>
     ensures { OnOk result (text.new.items ≡ text.old.items ++ pair_words name.now line) }
 {
-    push_word(text, name)?;
-    push_number(text, line)
+    line!(text; Word(b" "), Word(name), Word(b" "), Number(line))
 }
 
 // Calls, each behind a comma.
@@ -21,7 +20,7 @@ fn push_links(text: &mut Vec<u8>, app: &App, links: &[Link]) -> Result<(), NoMem
     ensures { OnOk result (text.new.items ≡ text.old.items ++ link_words app.now links.now) }
 {
     for link in links {
-        push_bytes(text, b",")?;
+        line!(text; Word(b","))?;
         push_pair(text, func_name(app, link.func), link.line)?;
     }
     Ok(())
@@ -42,7 +41,7 @@ fn push_ending(text: &mut Vec<u8>, ending: Option<Item>) -> Result<(), NoMemory>
 {
     match ending {
         Some(item) => {
-            push_bytes(text, b",")?;
+            line!(text; Word(b","))?;
             push_service(text, item)
         },
         None => Ok(()),
@@ -60,9 +59,8 @@ pub fn push_calls(
 ) -> Result<(), NoMemory>
     ensures { OnOk result (text.new.items ≡ text.old.items ++ calls_line app.now name.now line links.now ending) }
 {
-    push_bytes(text, b"calls")?;
-    push_pair(text, name, line)?;
+    line!(text; Word(b"calls "), Word(name), Word(b" "), Number(line))?;
     push_links(text, app, links)?;
     push_ending(text, ending)?;
-    push_bytes(text, b"\n")
+    line!(text; Word(b"\n"))
 }

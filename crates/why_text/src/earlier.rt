@@ -1,9 +1,9 @@
 //! The earlier thing with which one collides (O9).
 
-use oil_parse::tree::{OilAttr, OilObject};
+use oil_parse::{OilAttr, OilObject};
 use oil_table::{declares, is_of_kind};
 use stage_faults::Position;
-use text_pieces::bytes::same;
+use text_pieces::same;
 
 // The line of the first object of this kind and name.
 fn declared_on(objects: &[OilObject], kind: &[u8], name: &[u8]) -> Option<u32> {

@@ -16,15 +16,9 @@ use crate::naming::{forms_text, names_text};
 use crate::rule_lines::{cycle_line, witness_lines};
 use asm_lines::{SourceLine, read};
 use asm_parse::parse_app;
-use call_graph::ranking::Ranks;
-use fault_witnesses::chains::function_at;
-use fault_witnesses::cycles::cycle_calls;
-use fault_witnesses::witnesses::witness_of;
-use sloth_base::app::App;
-use sloth_base::config::Config;
-use sloth_base::list::List;
-use sloth_base::memory::NoMemory;
-use sloth_base::refusal::{BuildError, Code, Refusal};
+use call_graph::Ranks;
+use fault_witnesses::{cycle_calls, witness_of};
+use sloth_base::{App, BuildError, Code, Config, List, NoMemory, Refusal};
 use sloth_source::{Ranked, read_config, read_ranked};
 use std::alloc::Global;
 
@@ -70,7 +64,7 @@ fn body_on(app: &App, line: u32) -> Option<usize>
     ensures line { IfSome result (λ b. line ≡ (function app.now b).line) }
 {
     for number in 0..app.funcs.items().len() {
-        if function_at(app, number).line == line {
+        if app.function(number).line == line {
             return Some(number);
         }
     }

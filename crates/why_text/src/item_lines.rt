@@ -5,20 +5,15 @@ ghost use Rattle.why_text.specs.RuleLines.{name_line, number_line, symbol_lines,
 
 use crate::call_lines::push_calls;
 use crate::numbered::{
-    event_name, func_line, func_name, item_line, item_op, label_holds, label_name, resource_name,
-    symbol_name, symbol_size, task_name,
+    event_name, func_line, func_name, item_line, item_op, label_holds, resource_name, symbol_name,
+    symbol_size,
 };
 use crate::pieces::{push_count_line, push_line, push_name, push_number_line};
-use crate::way_lines::push_list_line;
-use fault_witnesses::chains::{Calls, Link, chain_end};
-use fault_witnesses::users::User;
-use sloth_base::app::{App, Func, Item, Op};
-use sloth_base::config::Config;
-use sloth_base::memory::NoMemory;
-use sloth_base::service::Service;
+use crate::{label_name, push_list_line};
+use fault_witnesses::{Calls, Link, User, chain_end};
+use sloth_base::{App, Config, Func, Item, NoMemory, Op, Service};
 use std::alloc::Global;
-use task_verify::held_resources::held_by;
-use task_verify::ways::{falls, way};
+use task_verify::{falls, held_by, way};
 
 fn push_symbol(text: &mut Vec<u8>, app: &App, symbol: u32) -> Result<(), NoMemory>
     ensures { OnOk result (text.new.items ≡ text.old.items ++ symbol_lines app.now symbol) }
@@ -291,7 +286,7 @@ fn push_user_of(
 ) -> Result<(), NoMemory>
     ensures { OnOk result (text.new.items ≡ text.old.items ++ user_lines config.now app.now op.now (Some user.now)) }
 {
-    push_line(text, b"task", task_name(config, user.task))?;
+    push_line(text, b"task", config.task_name(user.task))?;
     push_lacked(text, config, op, user.event)?;
     push_user_calls(text, app, user.body, user.links.items())
 }

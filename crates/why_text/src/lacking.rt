@@ -1,12 +1,11 @@
 //! The attributes that objects lack (O11).
 
-use oil_parse::tree::{OilAttr, OilObject};
-use oil_rules::blocks::{first_block, is_used_in};
+use oil_parse::{OilAttr, OilObject};
+use oil_rules::{first_block, is_used_in};
 use oil_table::{Place, block_place, first_use, is_of_kind, is_used};
-use sloth_base::memory::NoMemory;
-use sloth_base::refusal::Code;
+use sloth_base::{Code, NoMemory};
 use stage_faults::{Note, Position};
-use text_pieces::growth::push;
+use text_pieces::push;
 
 fn add_unless<'t>(
     named: &mut Vec<Note<'t>>,

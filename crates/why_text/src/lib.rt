@@ -25,5 +25,5 @@ pub mod why;
 
 pub use explaining::{fault_of, ranked_of};
 pub use numbered::{label_line, label_name};
-pub use pieces::{push_bytes, push_number, push_word};
 pub use way_lines::{push_list_line, push_way_line};
+pub use why::{Why, explain};

@@ -12,13 +12,10 @@ use crate::named_faults::with_names;
 use crate::naming::refusal_name;
 use crate::oil_names::oil_names;
 use oil_lex::tokens;
-use oil_parse::parse;
-use oil_parse::tree::OilTree;
-use sloth_base::list::List;
-use sloth_base::memory::NoMemory;
-use sloth_base::refusal::{BuildError, Refusal};
-use stage_faults::told_list::{put_in_order, told_list};
-use stage_faults::{Note, model_notes};
+use oil_parse::{OilTree, parse};
+use sloth_base::{BuildError, List, NoMemory, Refusal};
+use stage_faults::told_list::told_list;
+use stage_faults::{Note, model_notes, put_in_order};
 use std::alloc::Global;
 
 // The tree of a text.

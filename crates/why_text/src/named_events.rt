@@ -3,11 +3,9 @@
 use asm_forms::Mnemonic;
 use asm_lines::{Operand, SourceLine};
 use asm_scopes::{Kind, kind_of, written};
-use sloth_base::config::Config;
-use sloth_base::memory::NoMemory;
+use sloth_base::{Config, NoMemory};
 use std::alloc::Global;
-use text_pieces::growth::push;
-use text_pieces::names::Names;
+use text_pieces::{Names, push};
 
 fn event_names<'t>(alloc: Global, config: &'t Config) -> Result<Names<'t>, NoMemory> {
     let mut names = Names::new(alloc);

@@ -6,12 +6,11 @@ ghost use Rattle.stage_faults.specs.Told.{note_order, AreInOrder};
 ghost use Rattle.why_text.specs.NamedFaults.{is_at, is_key, apart_with, first_of_each, AddsGroup, NamesAll, AreKeys, StandApart};
 
 use indexmap::IndexSet;
-use oil_table::sets::insert;
-use sloth_base::memory::NoMemory;
-use stage_faults::Note;
-use stage_faults::told_list::{order, put_in_order};
+use oil_table::insert;
+use sloth_base::NoMemory;
+use stage_faults::{Note, order, put_in_order};
 use std::alloc::Global;
-use text_pieces::growth::push;
+use text_pieces::push;
 
 // ---- groups
 

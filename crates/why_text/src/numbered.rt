@@ -1,12 +1,10 @@
 //! Things of task code by their numbers.
 ghost use Rattle.std.specs.Prelude.{◌≡◌, ◌==◌, [], cond, codes, get_or};
 ghost use Rattle.sloth_base.specs.ConfigRange.{scheduler_number, no_event};
-ghost use Rattle.sloth_base.specs.Named.{declaration, function, item_of, label_of, no_symbol, symbol_size};
+ghost use Rattle.sloth_base.specs.Named.{function, item_of, label_of, no_symbol, symbol_size};
 ghost use Rattle.why_text.specs.RuleLines.{resource_name};
 
-use sloth_base::app::{App, Func, Op};
-use sloth_base::config::Config;
-use sloth_base::numbers::{RES_SCHEDULER, ResId};
+use sloth_base::{App, Config, Func, Op, RES_SCHEDULER, ResId};
 
 /// The name of a function, and the line of its header.
 pub fn func_name(app: &App, number: usize) -> &[u8]
@@ -74,16 +72,6 @@ pub fn label_holds(func: &Func, number: usize) -> &[ResId]
     match func.labels.items().get(number) {
         Some(label) => label.holds.items(),
         None => &[],
-    }
-}
-
-/// The name of a task.
-pub fn task_name(config: &Config, number: usize) -> &[u8]
-    ensures { result.now ≡ (declaration config.now number).name }
-{
-    match config.tasks.items().get(number) {
-        Some(task) => task.name.bytes(),
-        None => b"",
     }
 }
 

@@ -3,12 +3,11 @@
 use crate::earlier::earlier_line;
 use crate::lacking::add_lacking;
 use crate::priorities::add_priorities;
-use oil_parse::tree::{OilObject, OilTree};
-use sloth_base::memory::NoMemory;
-use sloth_base::refusal::{Code, Refusal};
+use oil_parse::{OilObject, OilTree};
+use sloth_base::{Code, NoMemory, Refusal};
 use stage_faults::Note;
 use std::alloc::Global;
-use text_pieces::growth::push;
+use text_pieces::push;
 
 /// Whether the fault is that of the refusal.
 pub fn is_of(note: &Note, refusal: Refusal) -> bool {

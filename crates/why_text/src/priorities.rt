@@ -1,14 +1,12 @@
 //! The tasks that gave a priority first (O13).
 
 use indexmap::IndexSet;
-use oil_parse::tree::OilObject;
-use oil_table::sets::insert;
-use oil_table::{first_use, is_of_kind, number_of};
-use sloth_base::memory::NoMemory;
-use sloth_base::refusal::Code;
+use oil_parse::OilObject;
+use oil_table::{first_use, insert, is_of_kind, number_of};
+use sloth_base::{Code, NoMemory};
 use stage_faults::{Note, Position};
 use std::alloc::Global;
-use text_pieces::growth::push;
+use text_pieces::push;
 
 fn priority_line(task: &OilObject) -> Option<u32> {
     match first_use(task.attrs.items(), b"PRIORITY") {

@@ -12,19 +12,15 @@ use crate::item_lines::{
     push_left, push_release, push_run_out, push_size, push_taken, push_target, push_user,
 };
 use crate::numbered::{func_line, func_name};
-use crate::pieces::{push_bytes, push_name};
-use crate::way_lines::{push_behind, push_from, push_list_line, push_shown_way, push_way};
-use fault_witnesses::chains::{Link, function_at};
-use fault_witnesses::label_rules::{held_at, held_entering, label_before};
-use fault_witnesses::places::Place;
-use fault_witnesses::ways::Way;
-use fault_witnesses::witnesses::Witness;
-use sloth_base::app::{App, Func};
-use sloth_base::config::Config;
-use sloth_base::memory::NoMemory;
-use sloth_base::refusal::{Code, Refusal};
+use crate::pieces::push_name;
+use crate::push_list_line;
+use crate::way_lines::{push_behind, push_from, push_shown_way, push_way};
+use fault_witnesses::{Link, Place, Way, Witness, held_at, held_entering, label_before};
+use sloth_base::{App, Code, Config, Func, NoMemory, Refusal};
 use std::alloc::Global;
-use task_verify::ways::way;
+use task_verify::way;
+use text_pieces::line;
+use text_pieces::pieces::Piece::Word;
 
 fn label_number(label: Option<u32>) -> Option<usize>
     ensures { result ≡ label }
@@ -159,7 +155,7 @@ fn push_entry(
         Some(way) => push_way(text, func, way),
         None => {
             push_before(text, func, label_before(func, label))?;
-            push_bytes(text, b"way -\n")
+            line!(text; Word(b"way -\n"))
         },
     }
 }
@@ -194,7 +190,7 @@ fn push_entered(
     ensures { OnOk result (text.new.items ≡ text.old.items ++ entered_lines config.now func.now label way.now) }
 {
     if lists_at_begin(func, label) {
-        return push_bytes(text, b"way -\nholds -\n");
+        return line!(text; Word(b"way -\nholds -\n"));
     }
     push_entering(alloc, text, config, func, label, way)
 }
@@ -230,11 +226,11 @@ fn push_place(
     match witness.place {
         Place::Header(body) => push_name(text, func_name(app, body)),
         Place::Label { body, label } => {
-            let func = function_at(app, body);
+            let func = app.function(body);
             push_label(alloc, text, config, func, label, &witness.way)
         },
         Place::Item { body, item } => {
-            let func = function_at(app, body);
+            let func = app.function(body);
             push_item(alloc, text, config, app, func, item, code, witness)
         },
     }

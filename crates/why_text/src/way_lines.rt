@@ -1,21 +1,21 @@
 //! The lines of ways and of what is held.
-ghost use Rattle.std.specs.Prelude.{◌≡◌, ◌++◌, [], codes, OnOk};
+ghost use Rattle.std.specs.Prelude.{◌≡◌, ◌++◌, [], OnOk};
 ghost use Rattle.why_text.specs.RuleLines.{item_words, start_line, start_lines, way_line, way_lines, shown_way_lines, resource_words, list_words, list_line, behind_lines};
 
-use crate::numbered::{item_line, label_line, label_name, resource_name};
-use crate::pieces::{push_bytes, push_number, push_number_line, push_word};
-use fault_witnesses::ways::Way;
-use sloth_base::app::Func;
-use sloth_base::config::Config;
-use sloth_base::memory::NoMemory;
-use sloth_base::numbers::ResId;
+use crate::numbered::{item_line, resource_name};
+use crate::pieces::push_number_line;
+use crate::{label_line, label_name};
+use fault_witnesses::Way;
+use sloth_base::{Config, Func, NoMemory, ResId};
+use text_pieces::line;
+use text_pieces::pieces::Piece::{Number, Word};
 
 // The lines of these items.
 fn push_items(text: &mut Vec<u8>, func: &Func, items: &[usize]) -> Result<(), NoMemory>
     ensures { OnOk result (text.new.items ≡ text.old.items ++ item_words func.now items.now) }
 {
     for item in items {
-        push_number(text, item_line(func, *item))?;
+        line!(text; Word(b" "), Number(item_line(func, *item)))?;
     }
     Ok(())
 }
@@ -24,10 +24,8 @@ fn push_items(text: &mut Vec<u8>, func: &Func, items: &[usize]) -> Result<(), No
 pub fn push_from(text: &mut Vec<u8>, func: &Func, label: usize) -> Result<(), NoMemory>
     ensures { OnOk result (text.new.items ≡ text.old.items ++ start_line func.now label) }
 {
-    push_bytes(text, b"from")?;
-    push_number(text, label_line(func, label))?;
-    push_word(text, label_name(func, label))?;
-    push_bytes(text, b"\n")
+    let line = label_line(func, label);
+    line!(text; Word(b"from "), Number(line), Word(b" "), Word(label_name(func, label)), Word(b"\n"))
 }
 
 fn push_start(text: &mut Vec<u8>, func: &Func, label: Option<usize>) -> Result<(), NoMemory>
@@ -43,9 +41,9 @@ fn push_start(text: &mut Vec<u8>, func: &Func, label: Option<usize>) -> Result<(
 pub fn push_way_line(text: &mut Vec<u8>, func: &Func, items: &[usize]) -> Result<(), NoMemory>
     ensures { OnOk result (text.new.items ≡ text.old.items ++ way_line func.now items.now) }
 {
-    push_bytes(text, b"way")?;
+    line!(text; Word(b"way"))?;
     push_items(text, func, items)?;
-    push_bytes(text, b"\n")
+    line!(text; Word(b"\n"))
 }
 
 /// The lines of a way.
@@ -80,7 +78,7 @@ fn push_resources(text: &mut Vec<u8>, config: &Config, list: &[u32]) -> Result<(
     ensures { OnOk result (text.new.items ≡ text.old.items ++ resource_words config.now list.now) }
 {
     for resource in list {
-        push_word(text, resource_name(config, *resource))?;
+        line!(text; Word(b" "), Word(resource_name(config, *resource)))?;
     }
     Ok(())
 }
@@ -89,7 +87,7 @@ fn push_list(text: &mut Vec<u8>, config: &Config, list: &[u32]) -> Result<(), No
     ensures { OnOk result (text.new.items ≡ text.old.items ++ list_words config.now list.now) }
 {
     if list.is_empty() {
-        return push_bytes(text, b" -");
+        return line!(text; Word(b" -"));
     }
     push_resources(text, config, list)
 }
@@ -103,7 +101,7 @@ pub fn push_list_line(
 ) -> Result<(), NoMemory>
     ensures { OnOk result (text.new.items ≡ text.old.items ++ list_line config.now word.now list.now) }
 {
-    push_bytes(text, word)?;
+    line!(text; Word(word))?;
     push_list(text, config, list)?;
-    push_bytes(text, b"\n")
+    line!(text; Word(b"\n"))
 }

@@ -4,9 +4,7 @@ ghost use Rattle.sloth_source.specs.Texts.{FirstRefusal};
 ghost use Rattle.why_text.specs.WhyLines.{IsVerdict, IsWhy};
 
 use crate::explaining::lines_behind;
-use sloth_base::list::List;
-use sloth_base::memory::NoMemory;
-use sloth_base::refusal::{BuildError, Refusal};
+use sloth_base::{BuildError, List, NoMemory, Refusal};
 use sloth_source::read;
 use std::alloc::Global;
 

@@ -1,9 +1,10 @@
-use Rattle.app_gen.specs.Source.{waking_text}
-use Rattle.app_gen.proofs.Steps.{behind}
+use Rattle.std.proofs.Common.{◌++◌, ◌∙◌, ap, append_assoc}
+use Rattle.std.proofs.lemmas.Result.{on_ok_weaker}
+use Rattle.app_gen.specs.Pieces.{number_behind}
+use Rattle.app_gen.specs.Source.{waking_text, setting_text}
 use Rattle.app_gen.proofs.source.put_wake.Goals as goal
 
 pub returns : goal.returns
-unfolding waking_text
+unfolding waking_text number_behind
 returns c =
-    let line = behind _ _ _ _ _ c.in_ok-put.ensures c.in_ok-extend_from_slice.ensures.items in
-    let all = behind _ _ _ _ _ line c.in_ok-put_sets.ensures in all
+    on_ok_weaker c.put_sets.result (λ h. h ∙ ap (λ t. t ++ setting_text c.args.task) c.in_ok-line.ensures ∙ simp append_assoc) c.put_sets.ensures

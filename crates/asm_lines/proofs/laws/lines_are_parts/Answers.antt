@@ -1,5 +1,5 @@
 use Rattle.std.proofs.lemmas.List.Splits.{join_with_byte-slice_split}
-use Rattle.asm_lines.proofs.Counts.{lines_count}
+use Rattle.text_pieces.proofs.LineCounts.{lines_count}
 use Rattle.asm_lines.proofs.laws.lines_are_parts.Goals as goal
 
 pub returns-clause-joined : goal.returns-clause-joined

@@ -1,6 +1,6 @@
 use Rattle.std.proofs.Common.{◌≡◌, ◌++◌, map, drop}
 use Rattle.text_pieces.specs.Names.{referent}
-use Rattle.asm_lines.specs.Lines.{without_returns}
+use Rattle.text_pieces.specs.Lines.{without_returns}
 use Rattle.asm_lines.specs.SourceLines.{source_line}
 use Rattle.asm_lines.proofs.reader.read_parts.Given as goal
 

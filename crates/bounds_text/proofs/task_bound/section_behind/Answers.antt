@@ -6,4 +6,4 @@ use Rattle.bounds_text.proofs.task_bound.section_behind.Goals as goal
 pub returns : goal.returns
 returns c =
     let two = c.if-items-lt2.false in
-    IfOk-weaker c.way_of.result _ _ (λ way is. shown_section c.args.config.now c.args.app.now c.args.task c.args.items way (omega (arith, two)) is) c.way_of.ensures
+    IfOk-weaker c.way_of.result _ _ (λ way is. shown_section c.args.walks.now.config c.args.walks.now.app c.args.task c.args.items way (omega (arith, two)) is) c.way_of.ensures

@@ -4,5 +4,5 @@ use Rattle.bounds_text.proofs.task_bound.task_bound_text.Goals as goal
 pub returns-clause-text : goal.returns-clause-text
 returns-clause-text c =
     let code = c.in_ok-checked.checked.verified in
-    IfOk-weaker c.text_of.result _ _ (λ text has. record { config = code.config; app = code.app; accepted = c.in_ok-checked.ensures.accepted; has = has })
-    c.text_of.ensures.text
+    IfOk-weaker c.checked_lines.result _ _ (λ text has. record { config = code.config; app = code.app; accepted = c.in_ok-checked.ensures.accepted; has = has })
+    c.checked_lines.ensures.text

@@ -6,6 +6,7 @@ use Rattle.core_commands.proofs.CallFiles.{stays-kept}
 use Rattle.core_commands.proofs.InOrder.{still-delivered, texts-delivered}
 use Rattle.core_commands.proofs.Causes.{read-ends, judge-ends, perform-ends, built-of, done, both-ok}
 use Rattle.core_commands.specs.ToolTables.{LacksTools}
+use Rattle.core_commands.proofs.SampleCauses.{built-owned}
 use Rattle.core_commands.proofs.top.attempt.Goals as goal
 
 pub returns-in_err-inputs-clause-err : goal.returns-in_err-inputs-clause-err
@@ -26,7 +27,7 @@ pub returns-clause-err : goal.returns-clause-err
 returns-clause-err g c =
     let of = c.in_ok-judged.ensures in
     let built =
-    built-of _ _ (building_of c.args.c.now) _ _ c.in_ok-judged.judged.built.image _ _ _ _ c.in_ok-inputs.ensures.ok c.in_ok-inputs.ensures.delivered of.accepted of.read of.in_range of.image c.requires c.read_inputs.ensures.keeps in
+    built-of _ _ (building_of c.args.c.now) _ _ c.in_ok-judged.judged.built.image _ _ _ _ c.in_ok-inputs.ensures.ok c.in_ok-inputs.ensures.delivered of.accepted of.read of.in_range of.image c.read_inputs.ensures.keeps in
     IfErr-weaker c.perform.result _ _ (λ failure h. perform-ends failure _ _ _ _ (building_of c.args.c.now) c.in_ok-judged.judged.built.image _ built c.perform.ensures.reads h)
     (rw c.as_slice.ensures.value at c.perform.ensures.err)
 
@@ -34,7 +35,7 @@ pub returns-clause-done : goal.returns-clause-done
 returns-clause-done g c =
     let of = c.in_ok-judged.ensures in
     let built =
-    built-of _ _ (building_of c.args.c.now) _ _ c.in_ok-judged.judged.built.image _ _ _ _ c.in_ok-inputs.ensures.ok c.in_ok-inputs.ensures.delivered of.accepted of.read of.in_range of.image c.requires c.read_inputs.ensures.keeps in
+    built-of _ _ (building_of c.args.c.now) _ _ c.in_ok-judged.judged.built.image _ _ _ _ c.in_ok-inputs.ensures.ok c.in_ok-inputs.ensures.delivered of.accepted of.read of.in_range of.image c.read_inputs.ensures.keeps in
     both-ok c.perform.result _ _ _ (λ written text. (_, done _ _ _ (building_of c.args.c.now) c.in_ok-judged.judged.built.image _ built c.perform.ensures.reads written, text))
     c.perform.ensures.written (rw c.as_slice.ensures.value at c.perform.ensures.text)
 
@@ -51,3 +52,11 @@ returns-clause-reads g c =
     let mid = g.F.Store.seen c.read_inputs.new.files in
     still-delivered old mid (g.F.Store.seen c.perform.new.files) (inputs_of (Builds (building_of c.args.c.now))) c.perform.ensures.reads
     (texts-delivered old mid (building_of c.args.c.now) _ _ _ c.in_ok-inputs.ensures.delivered)
+
+pub perform-requires-clause-format : goal.perform-requires-clause-format
+perform-requires-clause-format g c = c.in_ok-judged.ensures.image.format
+
+pub perform-requires-clause-arrivals : goal.perform-requires-clause-arrivals
+perform-requires-clause-arrivals g c =
+    let built = c.in_ok-judged.judged.built in
+    rw c.as_slice.ensures.value (built-owned built.config built.app built.image _ c.in_ok-judged.ensures.image c.in_ok-judged.ensures.in_range)

@@ -7,11 +7,11 @@ use Rattle.fault_witnesses.proofs.Broken.{all_lead}
 use Rattle.fault_witnesses.proofs.breaches.is_jump_breach.Goals as goal
 
 pub jumps_otherwise-requires-clause-inside : goal.jumps_otherwise-requires-clause-inside
-jumps_otherwise-requires-clause-inside c = subst (λ (f : Func). c.args.item < length f.items) (sym c.function_at.ensures) c.requires.inside
+jumps_otherwise-requires-clause-inside c = subst (λ (f : Func). c.args.item < length f.items) (sym c.function.ensures) c.requires.inside
 
 pub jumps_otherwise-requires-clause-labels : goal.jumps_otherwise-requires-clause-labels
 jumps_otherwise-requires-clause-labels c =
-    subst (λ (f : Func). HasBodyLabel f (item_of f c.args.item).op) (sym c.function_at.ensures)
+    subst (λ (f : Func). HasBodyLabel f (item_of f c.args.item).op) (sym c.function.ensures)
     (all_lead c.args.config.now c.args.app.now c.args.body c.requires.in_range c.requires.known c.args.item c.requires.inside)
 
 pub returns-then-is_label_code : goal.returns-then-is_label_code
@@ -22,4 +22,4 @@ returns-then-is_label_code c = λ h.
     subst (IsBreach c.args.config.now app b i) (sym (c.is_label_code.ensures c.if-is_label_code.true))
     (is_other_list_jump
     (subst (λ (held : List ℕ). IsOtherListJump (function app b) held (operation app b i)) c.requires.held
-    (subst (λ (f : Func). IsOtherListJump f c.args.held.now (item_of f i).op) c.function_at.ensures (c.jumps_otherwise.ensures.0 h))))
+    (subst (λ (f : Func). IsOtherListJump f c.args.held.now (item_of f i).op) c.function.ensures (c.jumps_otherwise.ensures.0 h))))

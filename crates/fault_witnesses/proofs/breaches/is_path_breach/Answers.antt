@@ -8,13 +8,13 @@ use Rattle.fault_witnesses.proofs.breaches.is_path_breach.Goals as goal
 
 pub is_unreached-requires-clause-labels : goal.is_unreached-requires-clause-labels
 is_unreached-requires-clause-labels c =
-    subst (λ (f : Func). (i : ℕ) → i < length f.items → HasBodyLabel f (item_of f i).op) (sym c.function_at.ensures)
+    subst (λ (f : Func). (i : ℕ) → i < length f.items → HasBodyLabel f (item_of f i).op) (sym c.function.ensures)
     (λ i l. all_lead c.args.config.now c.args.app.now c.args.body c.requires.in_range c.requires.known i l)
 
 pub is_unreached-requires-clause-inside : goal.is_unreached-requires-clause-inside
-is_unreached-requires-clause-inside c = subst (λ (f : Func). c.args.item < length f.items) (sym c.function_at.ensures) c.requires.inside
+is_unreached-requires-clause-inside c = subst (λ (f : Func). c.args.item < length f.items) (sym c.function.ensures) c.requires.inside
 
 pub returns : goal.returns
 returns c = λ h.
     subst (IsBreach c.args.config.now c.args.app.now c.args.body c.args.item) (sym (c.is_path_code.ensures c.if-not-is_path_code.false))
-    (is_unreached (subst (λ (f : Func). IsUnreached f c.args.item) c.function_at.ensures (c.in_ok-unreached.ensures h)))
+    (is_unreached (subst (λ (f : Func). IsUnreached f c.args.item) c.function.ensures (c.in_ok-unreached.ensures h)))

@@ -9,5 +9,5 @@ use Rattle.fault_witnesses.proofs.chains.makes_call_in.Goals as goal
 
 pub returns : goal.returns
 returns c = λ h. call_found c.args.app.now c.args.caller c.args.link c.requires
-    (subst (λ (f : Func). list_any (λ (item : Item). is_call c.args.link.func item.op && (item.line == c.args.link.line)) f.items ≡ true) c.function_at.ensures
+    (subst (λ (f : Func). list_any (λ (item : Item). is_call c.args.link.func item.op && (item.line == c.args.link.line)) f.items ≡ true) c.function.ensures
     (sym c.calls_on.ensures ∙ h))

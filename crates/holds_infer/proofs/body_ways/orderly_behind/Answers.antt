@@ -11,7 +11,7 @@ returns c =
     let f = c.args.func.now in
     let i = c.args.item in
     let held = c.args.held.items in
-    subst (AreHeldBehind f i) (sym (c.from_vec.ensures ∙ c.in_ok-behind.ensures ∙ ap (λ (o : Op). held_after o held) c.op_at-op.ensures))
+    subst (AreHeldBehind f i) (sym (c.from_vec.ensures ∙ c.in_ok-behind.ensures ∙ ap (λ (o : Op). held_after o held) c.op-op.ensures))
     (behind_item f i held c.requires.inside c.requires.held
-    (subst (λ (o : Op). is_orderly held o ≡ true) c.op_at-op.ensures
-    (subst (λ (h : List ℕ). is_orderly h c.op_at-op.result ≡ true) c.deref.ensures.value (sym c.is_orderly.ensures ∙ c.if-not-is_orderly.false))))
+    (subst (λ (o : Op). is_orderly held o ≡ true) c.op-op.ensures
+    (subst (λ (h : List ℕ). is_orderly h c.op-op.result ≡ true) c.deref.ensures.value (sym c.is_orderly.ensures ∙ c.if-not-is_orderly.false))))

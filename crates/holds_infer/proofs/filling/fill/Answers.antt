@@ -1,7 +1,7 @@
 use Rattle.std.proofs.Common.{ℕ, List, map, ap, sym, subst, inl, ◌∙◌}
 use Rattle.std.specs.List.{join_with_byte}
 use Rattle.text_pieces.specs.Names.{referent}
-use Rattle.asm_lines.specs.Lines.{lines, without_returns}
+use Rattle.text_pieces.specs.Lines.{lines, without_returns}
 use Rattle.asm_lines.specs.SourceLines.{source_line}
 use Rattle.sloth_source.specs.SourceText.{HasApp, SourceText}
 use Rattle.holds_infer.specs.Relabel.{all_holds}

@@ -5,7 +5,7 @@ use Rattle.std.specs.Borrow.{Bor}
 use Rattle.std.specs.List.{join_with_byte}
 use Rattle.text_pieces.specs.Names.{referent}
 use Rattle.asm_lines.specs.declared.source_line.SourceLine.{SourceLine}
-use Rattle.asm_lines.specs.Lines.{line_of}
+use Rattle.text_pieces.specs.Lines.{line_of}
 use Rattle.asm_lines.specs.SourceLines.{source_line}
 use Rattle.asm_scopes.specs.Statements.{is_label}
 use Rattle.holds_infer.specs.FilledText.{filled_part, filled_parts}

@@ -20,7 +20,7 @@ loop-number-preserved c =
     let before = c.loop-number.invariant.held in
     let orderly : is_orderly held (item_of f item).op ≡ true = subst (λ (h : List ℕ). is_orderly h (item_of f item).op ≡ true) c.deref.ensures.value (c.leads.ensures.orderly ok) in
     record {
-      held = c.in_ok-held.ensures ∙ ap (λ (o : Op). held_after o held) c.op_at.ensures ∙ ap (held_after (item_of f item).op) before
+      held = c.in_ok-held.ensures ∙ ap (λ (o : Op). held_after o held) c.op.ensures ∙ ap (held_after (item_of f item).op) before
           ∙ sym (held_next f way n 0 c.loop-number-test.true);
       each = steps_more f place way n
           (one_step f place way n item c.way_place.result held (get_or_default way n 0 place c.loop-number-test.true) c.way_place.ensures before

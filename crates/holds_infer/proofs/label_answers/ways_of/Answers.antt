@@ -7,5 +7,5 @@ use Rattle.holds_infer.proofs.label_answers.ways_of.Goals as goal
 pub other_ways-requires : goal.other_ways-requires
 other_ways-requires c =
     let b = c.loop-body.body in
-    subst HasItsLabels (sym c.function_at-func.ensures)
+    subst HasItsLabels (sym c.function-func.ensures)
     (have_labels c.args.config.now c.args.app.now c.requires b (subst (λ (fs : List Func). b < length fs) c.items-body-end.ensures c.loop-body-test.true))

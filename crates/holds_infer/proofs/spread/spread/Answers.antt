@@ -11,8 +11,8 @@ pub returns-in-None : goal.returns-in-None
 returns-in-None c =
     spread_done c.args.func.now c.loop-from.lists c.loop-from.pending.items (sym c.loop-from.pending.ok.0 ∙ c.in-None.ensures.cases.0) c.loop-from.invariant
 
-pub op_at-requires : goal.op_at-requires
-op_at-requires c =
+pub op-requires : goal.op-requires
+op-requires c =
     (taken_inside c.args.func.now c.loop-from.lists c.loop-from.pending.items c.pop.new.self.items c.in-Some.from c.in-Some.ensures.items c.loop-from.invariant).0
 
 pub next_of-requires : goal.next_of-requires
@@ -56,11 +56,11 @@ loop-from-preserved c =
     let more = c.visit.new.pending.items in
     let kept = c.visit-in-Some.new.pending.items in
     let behind = c.in_ok-behind-in-Some.behind.items in
-    let behind_is : behind ≡ list_after c.op_at.result (list_at lists x) = c.in_ok-behind-in-Some.ensures ∙ ap (list_after c.op_at.result) c.list_at.ensures in
+    let behind_is : behind ≡ list_after c.op.result (list_at lists x) = c.in_ok-behind-in-Some.ensures ∙ ap (list_after c.op.result) c.list_at.ensures in
     turned f lists mid new c.loop-from.pending.items rest more kept x behind (record {
       spreading = c.loop-from.invariant;
       taken_from = c.in-Some.ensures.items;
-      behind_is = behind_is ∙ ap (λ o. list_after o (list_at lists x)) c.op_at.ensures;
+      behind_is = behind_is ∙ ap (λ o. list_after o (list_at lists x)) c.op.ensures;
       next = subst (λ (y : ℕ). IsListVisit lists mid rest more y behind) c.next_of.ensures
           (subst (λ (held : List ℕ). IsListVisit lists mid rest more c.next_of.result held) c.as_slice.ensures.value c.in_ok-visit-in-Some.ensures);
       jump = subst (λ (y : ℕ). IsListVisit mid new more kept y behind) c.jump_of.ensures

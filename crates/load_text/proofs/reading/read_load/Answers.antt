@@ -2,7 +2,7 @@ use Rattle.std.proofs.Common.{◌∙◌, arith, ap, subst, map, length, List, �
 use Rattle.std.specs.Prelude.{◌==◌, OnOk, IfErr}
 use Rattle.std.proofs.lemmas.List.{length-map}
 use Rattle.std.proofs.lemmas.List.Sums.{count_by-le-length}
-use Rattle.asm_lines.proofs.Counts.{lines_count}
+use Rattle.text_pieces.proofs.LineCounts.{lines_count}
 use Rattle.least_fault.specs.Order.{NoFault, ErrorIs}
 use Rattle.text_pieces.specs.Names.{referent}
 use Rattle.load_text.specs.LoadText.{LinesFault}

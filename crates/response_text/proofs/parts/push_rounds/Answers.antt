@@ -1,4 +1,4 @@
-use Rattle.response_bounds.specs.Windows.{numbers_of}
+use Rattle.run_windows.specs.Windows.{numbers_of}
 use Rattle.response_text.proofs.PartLines.{rounds_begun, rounds_longer}
 use Rattle.response_text.proofs.parts.push_rounds.Goals as goal
 

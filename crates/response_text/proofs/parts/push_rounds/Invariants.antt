@@ -1,5 +1,5 @@
 use Rattle.std.proofs.Common.{◌≡◌, ◌++◌}
-use Rattle.response_bounds.specs.Windows.{numbers_of}
+use Rattle.run_windows.specs.Windows.{numbers_of}
 use Rattle.response_text.specs.Parts.{round_lines}
 use Rattle.response_text.proofs.parts.push_rounds.Given as goal
 

@@ -1,9 +1,9 @@
 use Rattle.sloth_base.specs.declared.config.TaskDecl.{TaskDecl}
 use Rattle.std.proofs.Common.{List, arith, length, subst, ◌≤◌}
-use Rattle.response_bounds.specs.declared.costs.Level.{Level}
-use Rattle.response_bounds.specs.Costs.{no_level}
-use Rattle.run_responses.specs.RunCosts.{IsRunLevel}
-use Rattle.response_costs.proofs.Growing.{each_more, each_of}
+use Rattle.run_windows.specs.declared.costs.Level.{Level}
+use Rattle.run_windows.specs.Costs.{no_level}
+use Rattle.run_costs.specs.RunCosts.{IsRunLevel}
+use Rattle.run_costs.proofs.Growing.{each_more, each_of}
 use Rattle.run_costs.proofs.levels.levels_by.Goals as goal
 
 pub loop-above-preserved : goal.loop-above-preserved

@@ -1,6 +1,6 @@
-use Rattle.response_bounds.specs.Costs.{no_level}
-use Rattle.run_responses.specs.RunCosts.{IsRunLevel}
-use Rattle.response_costs.specs.CostsOf.{AreEach}
+use Rattle.run_windows.specs.Costs.{no_level}
+use Rattle.run_costs.specs.RunCosts.{IsRunLevel}
+use Rattle.run_costs.specs.CostsOf.{AreEach}
 use Rattle.run_costs.proofs.levels.levels_by.Given as goal
 
 abbrev pub invariant-loop-above : goal.invariant-loop-above

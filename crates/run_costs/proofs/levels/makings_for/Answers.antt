@@ -1,10 +1,10 @@
 use Rattle.sloth_base.specs.declared.config.TaskDecl.{TaskDecl}
 use Rattle.std.proofs.Common.{List, [], arith, length, subst, sym, ◌≤◌}
-use Rattle.response_bounds.specs.declared.costs.SectionMakings.{SectionMakings}
-use Rattle.response_bounds.specs.Costs.{no_section_makings}
-use Rattle.response_costs.specs.CostsOf.{AreEach}
-use Rattle.run_responses.specs.RunCosts.{IsRunSectionMaking}
-use Rattle.response_costs.proofs.Growing.{each_more, each_of}
+use Rattle.run_windows.specs.declared.costs.SectionMakings.{SectionMakings}
+use Rattle.run_windows.specs.Costs.{no_section_makings}
+use Rattle.run_costs.specs.CostsOf.{AreEach}
+use Rattle.run_costs.specs.RunCosts.{IsRunSectionMaking}
+use Rattle.run_costs.proofs.Growing.{each_more, each_of}
 use Rattle.run_costs.proofs.levels.makings_for.Goals as goal
 
 pub loop-named-preserved : goal.loop-named-preserved

@@ -1,7 +1,7 @@
 use Rattle.std.proofs.Common.{[], length}
-use Rattle.response_bounds.specs.Costs.{no_section_makings}
-use Rattle.run_responses.specs.RunCosts.{IsRunSectionMaking}
-use Rattle.response_costs.specs.CostsOf.{AreEach}
+use Rattle.run_windows.specs.Costs.{no_section_makings}
+use Rattle.run_costs.specs.RunCosts.{IsRunSectionMaking}
+use Rattle.run_costs.specs.CostsOf.{AreEach}
 use Rattle.run_costs.proofs.levels.makings_for.Given as goal
 
 abbrev pub invariant-loop-named : goal.invariant-loop-named

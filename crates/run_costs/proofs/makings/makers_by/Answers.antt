@@ -1,9 +1,9 @@
 use Rattle.sloth_base.specs.declared.config.TaskDecl.{TaskDecl}
 use Rattle.std.proofs.Common.{List, arith, length, subst, ◌≤◌}
-use Rattle.response_bounds.specs.declared.costs.Makings.{Makings}
-use Rattle.response_bounds.specs.Costs.{no_makings}
-use Rattle.run_responses.specs.RunCosts.{AreRunMakings}
-use Rattle.response_costs.proofs.Growing.{each_more, each_of}
+use Rattle.run_windows.specs.declared.costs.Makings.{Makings}
+use Rattle.run_windows.specs.Costs.{no_makings}
+use Rattle.run_costs.specs.RunCosts.{AreRunMakings}
+use Rattle.run_costs.proofs.Growing.{each_more, each_of}
 use Rattle.run_costs.proofs.makings.makers_by.Goals as goal
 
 pub loop-maker-preserved : goal.loop-maker-preserved

@@ -1,6 +1,6 @@
-use Rattle.response_bounds.specs.Costs.{no_makings}
-use Rattle.run_responses.specs.RunCosts.{AreRunMakings}
-use Rattle.response_costs.specs.CostsOf.{AreEach}
+use Rattle.run_windows.specs.Costs.{no_makings}
+use Rattle.run_costs.specs.RunCosts.{AreRunMakings}
+use Rattle.run_costs.specs.CostsOf.{AreEach}
 use Rattle.run_costs.proofs.makings.makers_by.Given as goal
 
 abbrev pub invariant-loop-maker : goal.invariant-loop-maker

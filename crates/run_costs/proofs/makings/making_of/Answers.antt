@@ -1,7 +1,7 @@
 use Rattle.std.proofs.Common.{List, get_or, ap, ◌∙◌}
 use Rattle.walk_sums.specs.declared.tasks.RoundSums.{RoundSums}
-use Rattle.response_costs.specs.Tables.{no_sums}
-use Rattle.run_costs.proofs.RunMaking.{making_is}
+use Rattle.run_costs.specs.Tables.{no_sums}
+use Rattle.run_costs.proofs.Making.{making_is}
 use Rattle.run_costs.proofs.makings.making_of.Goals as goal
 
 pub returns : goal.returns

@@ -1,7 +1,7 @@
 use Rattle.std.proofs.Common.{[], length}
-use Rattle.response_bounds.specs.Costs.{no_makings}
-use Rattle.run_responses.specs.RunCosts.{AreRunMakings}
-use Rattle.response_costs.specs.CostsOf.{AreEach}
+use Rattle.run_windows.specs.Costs.{no_makings}
+use Rattle.run_costs.specs.RunCosts.{AreRunMakings}
+use Rattle.run_costs.specs.CostsOf.{AreEach}
 use Rattle.run_costs.proofs.makings.makings.Given as goal
 
 abbrev pub invariant-loop-named : goal.invariant-loop-named

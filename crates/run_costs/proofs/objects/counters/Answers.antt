@@ -1,9 +1,9 @@
 use Rattle.sloth_base.specs.declared.config.CounterDecl.{CounterDecl}
 use Rattle.std.proofs.Common.{List, arith, length, subst, ◌≤◌}
-use Rattle.response_bounds.specs.declared.costs.CounterCosts.{CounterCosts}
-use Rattle.response_costs.specs.CostsOf.{no_counter}
-use Rattle.run_responses.specs.RunCosts.{IsRunCounter}
-use Rattle.response_costs.proofs.Growing.{each_more, each_of}
+use Rattle.run_windows.specs.declared.costs.CounterCosts.{CounterCosts}
+use Rattle.run_costs.specs.CostsOf.{no_counter}
+use Rattle.run_costs.specs.RunCosts.{IsRunCounter}
+use Rattle.run_costs.proofs.Growing.{each_more, each_of}
 use Rattle.run_costs.proofs.objects.counters.Goals as goal
 
 pub loop-number-preserved : goal.loop-number-preserved

@@ -1,6 +1,6 @@
-use Rattle.response_costs.specs.CostsOf.{no_counter}
-use Rattle.run_responses.specs.RunCosts.{IsRunCounter}
-use Rattle.response_costs.specs.CostsOf.{AreEach}
+use Rattle.run_costs.specs.CostsOf.{no_counter}
+use Rattle.run_costs.specs.RunCosts.{IsRunCounter}
+use Rattle.run_costs.specs.CostsOf.{AreEach}
 use Rattle.run_costs.proofs.objects.counters.Given as goal
 
 abbrev pub invariant-loop-number : goal.invariant-loop-number

@@ -9,4 +9,4 @@ tasks-requires-clause-clean c =
 
 pub record_by-requires-clause-clean : goal.record_by-requires-clause-clean
 record_by-requires-clause-clean c =
-    subst (λ (l : List Bool). (t : ℕ) → t < length c.args.config.now.tasks → Decides (get_or l t false) (IsClean c.args.app.now t)) (sym c.deref-4.ensures.value) c.in_ok-clean.ensures.exact
+    subst (λ (l : List Bool). (t : ℕ) → t < length c.args.config.now.tasks → Decides (get_or l t false) (IsClean c.args.app.now t)) (sym c.deref-3.ensures.value) c.in_ok-clean.ensures.exact

@@ -1,7 +1,7 @@
 use Rattle.std.proofs.Common.{ℕ, ◌<◌, Bool, List, false, length, get_or, sym, subst}
 use Rattle.std.specs.Prelude.{Decides}
 use Rattle.walk_sums.specs.Rounds.{IsSteady}
-use Rattle.run_costs.proofs.Sizes.{counts_weigh_all}
+use Rattle.run_costs.proofs.Weighing.{counts_weigh_all}
 use Rattle.run_costs.proofs.record.record_by.Goals as goal
 
 pub makings-requires-clause-steady : goal.makings-requires-clause-steady

@@ -1,4 +1,4 @@
-use Rattle.run_costs.proofs.RunTaking.{run_take_counts}
+use Rattle.run_costs.proofs.Taking.{run_take_counts}
 use Rattle.run_costs.proofs.record.record_of.Goals as goal
 
 pub returns : goal.returns

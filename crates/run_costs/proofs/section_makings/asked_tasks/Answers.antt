@@ -1,7 +1,7 @@
 use Rattle.sloth_base.specs.declared.config.TaskDecl.{TaskDecl}
 use Rattle.std.proofs.Common.{Bool, List, ap, arith, false, get_or, length, subst, ◌∙◌, ◌≡◌, ◌≤◌}
 use Rattle.run_costs.specs.RunRecord.{is_asked}
-use Rattle.response_costs.proofs.Growing.{each_more, each_of}
+use Rattle.run_costs.proofs.Growing.{each_more, each_of}
 use Rattle.run_costs.proofs.section_makings.asked_tasks.Goals as goal
 
 pub loop-task-preserved : goal.loop-task-preserved

@@ -1,6 +1,6 @@
 use Rattle.std.proofs.Common.{◌≡◌, false, get_or}
 use Rattle.run_costs.specs.RunRecord.{is_asked}
-use Rattle.response_costs.specs.CostsOf.{AreEach}
+use Rattle.run_costs.specs.CostsOf.{AreEach}
 use Rattle.run_costs.proofs.section_makings.asked_tasks.Given as goal
 
 abbrev pub invariant-loop-task : goal.invariant-loop-task

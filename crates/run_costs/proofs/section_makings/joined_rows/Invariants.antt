@@ -1,6 +1,6 @@
-use Rattle.response_bounds.specs.Costs.{no_section_makings}
-use Rattle.run_responses.specs.RunCosts.{IsRunSectionMaking}
-use Rattle.response_costs.specs.CostsOf.{AreEach}
+use Rattle.run_windows.specs.Costs.{no_section_makings}
+use Rattle.run_costs.specs.RunCosts.{IsRunSectionMaking}
+use Rattle.run_costs.specs.CostsOf.{AreEach}
 use Rattle.run_costs.proofs.section_makings.joined_rows.Given as goal
 
 abbrev pub invariant-loop-task : goal.invariant-loop-task

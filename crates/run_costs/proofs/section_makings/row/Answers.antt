@@ -6,7 +6,7 @@ use Rattle.walk_sums.specs.declared.sum.Sum.TheVariants as told
 use Rattle.walk_sums.specs.declared.sum.Sum.{Sum}
 use Rattle.walk_sums.specs.Counted.{counted_weights}
 use Rattle.walk_sums.specs.Told.{IsToldSum}
-use Rattle.response_costs.specs.CostsOf.{AreEach}
+use Rattle.run_costs.specs.CostsOf.{AreEach}
 use Rattle.run_costs.specs.RunRecord.{is_limited, times, AreTimes}
 use Rattle.run_costs.proofs.Times.{asked_lower, times_are}
 use Rattle.run_costs.proofs.section_makings.row.Goals as goal

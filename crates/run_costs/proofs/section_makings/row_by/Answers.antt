@@ -2,7 +2,7 @@ use Rattle.sloth_base.specs.declared.config.TaskDecl.{TaskDecl}
 use Rattle.std.proofs.Common.{ℕ, Option, None, List, ap, arith, false, get_or, length, subst, ◌∙◌, ◌≡◌, ◌≤◌}
 use Rattle.walk_sums.specs.declared.sum.Sum.TheVariants as told
 use Rattle.run_costs.specs.RunRecord.{is_limited, times}
-use Rattle.response_costs.proofs.Growing.{each_more, each_of}
+use Rattle.run_costs.proofs.Growing.{each_more, each_of}
 use Rattle.run_costs.proofs.section_makings.row_by.Goals as goal
 
 pub loop-task-preserved : goal.loop-task-preserved

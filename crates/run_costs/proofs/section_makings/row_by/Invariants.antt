@@ -1,7 +1,7 @@
 use Rattle.std.proofs.Common.{◌≡◌, None, false, get_or}
 use Rattle.walk_sums.specs.declared.sum.Sum.TheVariants as told
 use Rattle.run_costs.specs.RunRecord.{is_limited, times}
-use Rattle.response_costs.specs.CostsOf.{AreEach}
+use Rattle.run_costs.specs.CostsOf.{AreEach}
 use Rattle.run_costs.proofs.section_makings.row_by.Given as goal
 
 abbrev pub invariant-loop-task : goal.invariant-loop-task

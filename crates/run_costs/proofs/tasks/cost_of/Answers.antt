@@ -1,6 +1,6 @@
 use Rattle.std.proofs.Common.{ℕ, Option, ap, ◌∙◌}
-use Rattle.response_costs.specs.Rounds.{round_cost}
-use Rattle.run_responses.specs.RunCosts.{round_entry}
+use Rattle.run_costs.specs.Rounds.{round_cost}
+use Rattle.run_costs.specs.RunCosts.{round_entry}
 use Rattle.run_costs.proofs.tasks.cost_of.Goals as goal
 
 pub returns : goal.returns

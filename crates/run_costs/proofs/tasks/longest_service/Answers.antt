@@ -1,6 +1,6 @@
 use Rattle.std.proofs.Common.{max, ap, ◌∙◌, arith}
 use Rattle.walk_sums.proofs.Bodily.{facts_of}
-use Rattle.response_costs.proofs.Greatest.{greatest_none, greatest_more, greatest_all}
+use Rattle.run_costs.proofs.Greatest.{greatest_none, greatest_more, greatest_all}
 use Rattle.run_windows.specs.RunWindows.{call_path}
 use Rattle.run_costs.proofs.tasks.longest_service.Goals as goal
 

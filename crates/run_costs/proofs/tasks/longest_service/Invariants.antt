@@ -1,4 +1,4 @@
-use Rattle.response_costs.specs.Services.{IsGreatestTo}
+use Rattle.run_costs.specs.Services.{IsGreatestTo}
 use Rattle.run_windows.specs.RunWindows.{call_path}
 use Rattle.run_costs.proofs.tasks.longest_service.Given as goal
 

@@ -1,9 +1,9 @@
-use Rattle.std.proofs.Common.{Bool, refl, sym, subst}
+use Rattle.std.proofs.Common.{Bool, sym, subst}
 use Rattle.std.specs.Prelude.{Decides}
 use Rattle.sloth_base.specs.Named.{declaration}
 use Rattle.walk_sums.specs.Rounds.{IsClean}
-use Rattle.response_costs.specs.Rounds.{AreRounds}
-use Rattle.response_costs.proofs.Bodies.{task_body}
+use Rattle.run_costs.specs.Rounds.{AreRounds}
+use Rattle.run_costs.proofs.Bodies.{task_body}
 use Rattle.run_costs.proofs.tasks.task_costs.Goals as goal
 
 pub cost_of-first-requires-clause-body : goal.cost_of-first-requires-clause-body
@@ -19,16 +19,14 @@ returns c =
       priority = c.priority_of.ensures;
       clean = c.is_marked-is_clean.result;
       clears = subst (λ (b : Bool). Decides b (IsClean c.args.app.now c.args.task)) (sym clean) (c.requires.clean c.args.task c.requires.inside);
-      is_preemptable = c.counts_once.ensures;
+      is_entered_once = c.counts_once.ensures;
       is_autostarted = c.is_autostarted.ensures;
-      is_clean = refl;
-      waits = refl;
+      is_cut = c.is_cut.ensures;
       distance = search;
       told = c.sums_of-sums.result;
       rounds = subst (λ (b : Bool). AreRounds c.args.app.now b (declaration c.args.config.now c.args.task).extended c.args.task c.args.weights.now c.sums_of-sums.result) (sym clean) c.sums_of-sums.ensures;
       first = c.cost_of-first.ensures;
       next = c.cost_of-next.ensures;
-      entry = search;
+      raising = search;
       service = search;
-      leaving = refl;
     }

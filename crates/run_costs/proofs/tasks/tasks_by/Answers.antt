@@ -1,9 +1,9 @@
 use Rattle.sloth_base.specs.declared.config.TaskDecl.{TaskDecl}
 use Rattle.std.proofs.Common.{List, arith, length, subst, ◌≤◌}
-use Rattle.response_bounds.specs.declared.costs.TaskCosts.{TaskCosts}
-use Rattle.response_bounds.specs.Costs.{no_task}
-use Rattle.run_responses.specs.RunCosts.{AreRunTaskCosts}
-use Rattle.response_costs.proofs.Growing.{each_more, each_of}
+use Rattle.run_windows.specs.declared.costs.TaskCosts.{TaskCosts}
+use Rattle.run_windows.specs.Costs.{no_task}
+use Rattle.run_costs.specs.RunCosts.{AreRunTaskCosts}
+use Rattle.run_costs.proofs.Growing.{each_more, each_of}
 use Rattle.run_costs.proofs.tasks.tasks_by.Goals as goal
 
 pub loop-task-preserved : goal.loop-task-preserved

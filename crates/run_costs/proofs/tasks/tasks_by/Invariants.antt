@@ -1,6 +1,6 @@
-use Rattle.response_bounds.specs.Costs.{no_task}
-use Rattle.run_responses.specs.RunCosts.{AreRunTaskCosts}
-use Rattle.response_costs.specs.CostsOf.{AreEach}
+use Rattle.run_windows.specs.Costs.{no_task}
+use Rattle.run_costs.specs.RunCosts.{AreRunTaskCosts}
+use Rattle.run_costs.specs.CostsOf.{AreEach}
 use Rattle.run_costs.proofs.tasks.tasks_by.Given as goal
 
 abbrev pub invariant-loop-task : goal.invariant-loop-task

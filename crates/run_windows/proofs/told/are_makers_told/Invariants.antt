@@ -1,6 +1,6 @@
 use Rattle.std.proofs.Common.{◌≡◌, ℕ, ◌<◌, false}
-use Rattle.response_bounds.specs.Costs.{making}
-use Rattle.response_bounds.specs.Windows.{is_lower}
+use Rattle.run_windows.specs.Costs.{making}
+use Rattle.run_windows.specs.Windows.{is_lower}
 use Rattle.run_windows.specs.RunWindows.{AreMakingsTold}
 use Rattle.run_windows.proofs.told.are_makers_told.Given as goal
 

@@ -1,6 +1,6 @@
 use Rattle.std.proofs.Common.{◌≡◌, ℕ, ◌<◌, true, false}
-use Rattle.response_bounds.specs.Costs.{section_making}
-use Rattle.response_bounds.specs.Windows.{is_lower}
+use Rattle.run_windows.specs.Costs.{section_making}
+use Rattle.run_windows.specs.Windows.{is_lower}
 use Rattle.run_windows.specs.RunWindows.{AreSectionMakingsTold}
 use Rattle.run_windows.proofs.told.are_section_makers_told.Given as goal
 

@@ -1,6 +1,6 @@
 use Rattle.std.proofs.Common.{◌≡◌, ℕ, ◌<◌, true}
-use Rattle.response_bounds.specs.Costs.{section}
-use Rattle.response_bounds.specs.Windows.{is_lower}
+use Rattle.run_windows.specs.Costs.{section}
+use Rattle.run_windows.specs.Windows.{is_lower}
 use Rattle.run_windows.specs.RunWindows.{IsTold}
 use Rattle.run_windows.proofs.told.are_sections_told.Given as goal
 

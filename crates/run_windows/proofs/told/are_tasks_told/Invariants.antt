@@ -1,6 +1,6 @@
 use Rattle.std.proofs.Common.{◌≡◌, ℕ, ◌<◌, false}
-use Rattle.response_bounds.specs.Costs.{task}
-use Rattle.response_bounds.specs.Windows.{is_lower}
+use Rattle.run_windows.specs.Costs.{task}
+use Rattle.run_windows.specs.Windows.{is_lower}
 use Rattle.run_windows.specs.RunWindows.{AreRoundsTold}
 use Rattle.run_windows.proofs.told.are_tasks_told.Given as goal
 

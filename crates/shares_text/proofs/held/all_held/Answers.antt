@@ -11,12 +11,12 @@ use Rattle.shares_text.proofs.held.all_held.Goals as goal
 pub held_before-requires-clause-placed : goal.held_before-requires-clause-placed
 held_before-requires-clause-placed c =
     let inside = subst (λ (x : List Func). c.loop-number.number < length x) c.items-number-end.ensures c.loop-number-test.true in
-    subst ArePlaced (sym c.function_at.ensures) (λ k lt. (facts c.args.config.now c.args.app.now c.requires.well_formed).label_items c.loop-number.number k inside lt)
+    subst ArePlaced (sym c.function.ensures) (λ k lt. (facts c.args.config.now c.args.app.now c.requires.well_formed).label_items c.loop-number.number k inside lt)
 
 pub loop-number-preserved : goal.loop-number-preserved
 loop-number-preserved c =
     let g =
     held_more HeldRow (λ f row. AreHeld c.args.config.now (function c.args.app.now f) row.items) c.loop-number.rows.items c.push.new.list.items c.in_ok-row.row no_row c.loop-number.number
     c.loop-number.invariant.count c.loop-number.invariant.each c.in_ok-push.ensures
-    (subst (λ (f : Func). AreHeld c.args.config.now f c.in_ok-row.row.items) c.function_at.ensures c.in_ok-row.ensures) in
+    (subst (λ (f : Func). AreHeld c.args.config.now f c.in_ok-row.row.items) c.function.ensures c.in_ok-row.ensures) in
     record { count = g.count; each = g.each }

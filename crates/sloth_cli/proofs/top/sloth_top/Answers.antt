@@ -1,6 +1,7 @@
 use Rattle.core_commands.proofs.Complete.{tells-usage, tells-refused, is-complete}
 use Rattle.core_commands.proofs.ImageComplete.{tells-fault, tells-no-image, tells-exec-refused, tells-executed, tells-listed}
 use Rattle.core_commands.proofs.SampleComplete.{tells-sample-refused, tells-sampled}
+use Rattle.sloth_commands.proofs.BuiltResponses.{built-keep-responses}
 use Rattle.sloth_commands.proofs.BuiltRuns.{built-are-checked, built-keep-bounds}
 use Rattle.sloth_commands.proofs.ToolComplete.{knows-image, tells-tool, tells-tool-done}
 use Rattle.sloth_commands.specs.ToolFiles.{IsToolAnswer}
@@ -44,6 +45,9 @@ returns-clause-tool_done g c = tells-tool-done _ _ _ _ c.answer.ensures.answers
 
 pub returns-clause-bounds : goal.returns-clause-bounds
 returns-clause-bounds g c = built-keep-bounds
+
+pub returns-clause-responses : goal.returns-clause-responses
+returns-clause-responses g c = built-keep-responses
 
 pub returns-clause-checked : goal.returns-clause-checked
 returns-clause-checked g c = built-are-checked

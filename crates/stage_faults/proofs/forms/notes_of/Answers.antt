@@ -3,7 +3,7 @@ use Rattle.sloth_base.specs.declared.refusal.Part.TheVariants.{Src}
 use Rattle.least_fault.specs.Search.{Somewhere}
 use Rattle.asm_lines.specs.declared.source_line.SourceLine.{SourceLine}
 use Rattle.asm_lines.specs.Faults.{source_lines}
-use Rattle.asm_lines.specs.Lines.{lines}
+use Rattle.text_pieces.specs.Lines.{lines}
 use Rattle.asm_lines.proofs.Counts.{lines_few}
 use Rattle.stage_faults.specs.Told.{Adds}
 use Rattle.stage_faults.specs.ToldLines.{ToldFault}

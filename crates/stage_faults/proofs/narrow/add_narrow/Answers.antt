@@ -4,7 +4,7 @@ use Rattle.std.proofs.lemmas.Result.{on_ok_weaker}
 use Rattle.sloth_base.specs.declared.refusal.Part.TheVariants.{Src}
 use Rattle.least_fault.specs.Search.{Somewhere}
 use Rattle.text_pieces.specs.Names.{referent}
-use Rattle.asm_lines.specs.Lines.{lines}
+use Rattle.text_pieces.specs.Lines.{lines}
 use Rattle.asm_lines.specs.SourceLines.{source_line}
 use Rattle.asm_lines.proofs.Counts.{lines_few}
 use Rattle.stage_faults.specs.Told.{Adds}

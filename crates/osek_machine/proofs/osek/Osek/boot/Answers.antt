@@ -1,6 +1,4 @@
 use Rattle.std.proofs.Common.{subst, sym}
-use Rattle.sloth_base.specs.declared.config.Config.{Config}
-use Rattle.sloth_base.specs.declared.app.App.{App}
 use Rattle.osek_scheduler.specs.State.{System, opening}
 use Rattle.osek_scheduler.proofs.Steps.{opening_valid}
 use Rattle.osek_scheduler.proofs.Apart.{opening_apart}
@@ -17,6 +15,4 @@ invariant_of-result c =
       apart = opening_apart config app;
       distinct = tt;
     } in
-    let first = subst (λ (x : Config). IsSound x app (opening config app)) (sym c.in_ok-copy.ensures) is in
-    let second = subst (λ (x : App). IsSound c.in_ok-copy.field-0 x (opening config app)) (sym c.in_ok-copy-2.ensures) first in
-    subst (λ (x : System). IsSound c.in_ok-copy.field-0 c.in_ok-copy-2.field-0 x) (sym c.in_ok-opening.ensures) second
+    subst (λ (x : System). IsSound config app x) (sym c.in_ok-store.ensures) is

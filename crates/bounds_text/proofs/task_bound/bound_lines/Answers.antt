@@ -1,0 +1,38 @@
+use Rattle.std.proofs.Common.{◌<◌, get_or, length, sym, subst, arith}
+use Rattle.std.proofs.lemmas.List.{get_or_default}
+use Rattle.sloth_base.specs.declared.config.Config.{Config}
+use Rattle.sloth_base.specs.declared.app.App.{App}
+use Rattle.bound_rules.specs.declared.bound.Bound.{Bound}
+use Rattle.bound_rules.specs.declared.bound.Bound.TheVariants as bound
+use Rattle.bounds_text.specs.Bounds.{AreToldBounds}
+use Rattle.bounds_text.specs.TaskBound.{IsShown, HasBoundLines}
+use Rattle.bounds_text.proofs.task_bound.bound_lines.Goals as goal
+
+pub lines_with-requires-clause-bounds : goal.lines_with-requires-clause-bounds
+lines_with-requires-clause-bounds c =
+    let bounds = c.args.bounds.now in
+    subst (λ (a : App). AreToldBounds c.config-config.result.now a bounds) (sym c.app-app.ensures.is)
+    (subst (λ (g : Config). AreToldBounds g c.args.walks.now.app bounds) (sym c.config-config.ensures.is) c.requires.bounds)
+
+pub lines_with-requires-clause-there : goal.lines_with-requires-clause-there
+lines_with-requires-clause-there c = subst (λ (g : Config). c.args.task < length g.tasks) (sym c.config-config.ensures.is) c.requires.there
+
+pub lines_with-requires-clause-way : goal.lines_with-requires-clause-way
+lines_with-requires-clause-way c =
+    let w = c.args.walks.now in
+    let task = c.args.task in
+    let bounds = c.args.bounds.now in
+    let told = get_or bounds task bound.Endless in
+    let way = c.in_ok-way.way in
+    let there = c.requires.there in
+    let count = c.requires.bounds.count in
+    let shown = subst (λ (b : Bound). IsShown w.config w.app task b way) (get_or_default bounds task (bound.Items 0) bound.Endless (omega (arith, there, count))) c.in_ok-way.ensures in
+    subst (λ (a : App). IsShown c.config-config.result.now a task told way) (sym c.app-app.ensures.is)
+    (subst (λ (g : Config). IsShown g c.args.walks.now.app task told way) (sym c.config-config.ensures.is) shown)
+
+pub returns : goal.returns
+returns c =
+    let task = c.args.task in
+    let text = c.in_ok-text.text in
+    subst (λ (g : Config). HasBoundLines g c.args.walks.now.app task text) c.config-config.ensures.is
+    (subst (λ (a : App). HasBoundLines c.config-config.result.now a task text) c.app-app.ensures.is c.in_ok-text.ensures)

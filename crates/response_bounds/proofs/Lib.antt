@@ -1,5 +1,0 @@
-pub mod Monotone
-pub mod Settling
-pub mod Greatest
-pub mod OneResponse
-pub mod Parts

@@ -1,8 +1,0 @@
-use Rattle.response_bounds.specs.Settling.{AreBelow, HasGrown}
-use Rattle.response_bounds.proofs.settle.pass.Given as goal
-
-abbrev pub invariant-loop-j : goal.invariant-loop-j
-invariant-loop-j l = record {
-  below : AreBelow l.costs l.window l.numbers l.counts;
-  grown : HasGrown l.costs l.window l.initial.numbers l.numbers l.counts l.j l.grown;
-}

@@ -1,8 +1,0 @@
-use Rattle.std.proofs.Common.{[], length}
-use Rattle.response_bounds.specs.Costs.{no_section_makings}
-use Rattle.response_costs.specs.CostsOf.{IsSectionMaking}
-use Rattle.response_costs.specs.CostsOf.{AreEach}
-use Rattle.response_costs.proofs.levels.makings_for.Given as goal
-
-abbrev pub invariant-loop-named : goal.invariant-loop-named
-invariant-loop-named l = AreEach l.named ([]) (λ j. AreEach (length l.config.tasks) no_section_makings (IsSectionMaking l.config l.app l.load l.tasks l.above j)) l.table.items

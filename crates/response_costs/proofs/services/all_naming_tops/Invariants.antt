@@ -1,6 +1,0 @@
-use Rattle.response_costs.specs.Services.{no_tops, AreNamingTops}
-use Rattle.response_costs.specs.CostsOf.{AreEach}
-use Rattle.response_costs.proofs.services.all_naming_tops.Given as goal
-
-abbrev pub invariant-loop-named : goal.invariant-loop-named
-invariant-loop-named l = AreEach l.named (no_tops) (λ j tops. AreNamingTops l.config l.app j tops) l.all.items

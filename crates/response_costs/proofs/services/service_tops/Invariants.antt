@@ -1,7 +1,0 @@
-use Rattle.std.proofs.Common.{[]}
-use Rattle.response_costs.specs.Services.{AreServiceTops}
-use Rattle.response_costs.specs.CostsOf.{AreEach}
-use Rattle.response_costs.proofs.services.service_tops.Given as goal
-
-abbrev pub invariant-loop-code : goal.invariant-loop-code
-invariant-loop-code l = AreEach l.code ([]) (AreServiceTops l.config l.app) l.all.items

@@ -1,7 +1,0 @@
-use Rattle.response_bounds.specs.Costs.{no_task}
-use Rattle.response_costs.specs.CostsOf.{AreTaskCosts}
-use Rattle.response_costs.specs.CostsOf.{AreEach}
-use Rattle.response_costs.proofs.tasks.tasks_by.Given as goal
-
-abbrev pub invariant-loop-task : goal.invariant-loop-task
-invariant-loop-task l = AreEach l.task (no_task) (AreTaskCosts l.config l.app l.load l.weights) l.list.items

@@ -1,9 +1,0 @@
-pub mod PathWeights
-pub mod Tops
-pub mod Tables
-pub mod Rounds
-pub mod Sections
-pub mod CostsOf
-pub mod Services
-pub mod Makings
-pub mod SectionSums

@@ -1,0 +1,233 @@
+-- Tasks that do not come are Suspended all along, in a run whose arrivals keep a load.
+use Rattle.std.proofs.Common.{◌≡◌, ◌+◌, ℕ, zero, suc, ◌⊎◌, ◌==◌, ◌&&◌, ◌||◌, List, [], ◌∷◌, Bool, true, false, cond, map, get_or, Option, Some, None, refl, sym, ap, ◌∙◌, subst, arith, inl, inr}
+use Rattle.std.specs.List.{AllByRecursion}
+use Rattle.std.proofs.lemmas.Bool.{true≢false, eqb-true}
+use Rattle.std.proofs.lemmas.List.Sums.{sum_by-cons}
+use Rattle.sloth_base.specs.Options.{is_number}
+use Rattle.sloth_base.specs.declared.config.Config.{Config}
+use Rattle.sloth_base.specs.declared.config.CounterDecl.{CounterDecl}
+use Rattle.sloth_base.specs.declared.app.App.{App}
+use Rattle.sloth_base.specs.declared.event.Arrival.{Arrival}
+use Rattle.sloth_base.specs.declared.event.Event.{Event}
+use Rattle.sloth_base.specs.declared.event.Stamped.{Stamped}
+use Rattle.sloth_base.specs.declared.service.Service.{Service}
+use Rattle.sloth_base.specs.declared.service.Service.TheVariants as service
+use Rattle.sloth_base.specs.Events.{admitted_line}
+use Rattle.sloth_base.specs.Named.{declaration, counter_declaration, operation}
+use Rattle.sloth_base.specs.Owners.{counter_line}
+use Rattle.sloth_base.specs.ServiceCodes.{is_service}
+use Rattle.load_text.specs.declared.entry.Entry.{Entry}
+use Rattle.load_text.specs.Loads.{distance, KeepDistances}
+use Rattle.osek_scheduler.specs.State.{Frame, System, no_counter, task, counter, opening}
+use Rattle.osek_scheduler.specs.InTime.{admits_at, arrivals_at}
+use Rattle.osek_scheduler.specs.Services.{counted_on_state, ServiceOutcome}
+use Rattle.osek_scheduler.specs.Steps.{OsekStep, IsServiceStep}
+use Rattle.osek_scheduler.proofs.Facts.{Facts, facts}
+use Rattle.osek_scheduler.proofs.Leading.{follows_leads}
+use Rattle.osek_scheduler.proofs.ServiceStates.{IsAfter}
+use Rattle.osek_scheduler.proofs.Steps.{opening_valid, asleep_at}
+use Rattle.osek_blocking.proofs.Ordering.{opening_ordered}
+use Rattle.raised_sections.specs.Sections.{operation_at}
+use Rattle.raised_sections.proofs.FrameEffects.{frame_effect}
+use Rattle.raised_sections.proofs.Placed.{Placed, step_placed, opening_placed}
+use Rattle.raised_sections.proofs.Reached.{IsReached}
+use Rattle.walk_sums.specs.Rounds.{Reaches}
+use Rattle.run_counts.specs.Stages.{Stage, stage, stages, state_behind, end_of, run_stages}
+use Rattle.run_counts.proofs.States.{not_suspended}
+use Rattle.run_counts.proofs.StepCases.{record_behind}
+use Rattle.response_laws.specs.Made.{is_making}
+use Rattle.response_laws.specs.Ticks.{activates, has_alarm}
+use Rattle.response_laws.specs.Walked.{standing}
+use Rattle.response_laws.specs.Never.{Arrives, AreClosed, NoneComes, OthersNeverCome}
+use Rattle.response_laws.proofs.Arriving.{few_at}
+use Rattle.response_laws.proofs.Linked.{Known, Linked, stages_linked, stages_known}
+use Rattle.response_laws.proofs.Steps.{balance}
+use Rattle.response_laws.proofs.Suspended.{IsSuspended, awake, not_started, served_asleep, acted_asleep, active_other}
+use Rattle.response_laws.proofs.Ticks.{alarms_kept}
+use Rattle.response_laws.proofs.Uncounted.{itself}
+
+some_none : (d : ℕ) → (Some d ≡ None) → ⊥
+some_none d e = cc
+
+no_frames : (frame : Frame) (outer : List Frame) → ([] ≡ frame ∷ outer) → ⊥
+no_frames frame outer e = cc
+
+-- a counter is so as the system starts
+undue_at : (ds : List CounterDecl) (c : ℕ) → (get_or (map (λ _. no_counter) ds) c no_counter).due ≡ false
+undue_at [] c = refl
+undue_at (d ∷ ds) zero = refl
+undue_at (d ∷ ds) (suc c) = undue_at ds c
+
+-- what is not true is false
+off : (b : Bool) → (b ≡ true → ⊥) → b ≡ false
+off true refuted = absurd (refuted refl)
+off false refuted = refl
+
+module _ (config : Config) (app : App) (load : List Entry) (comes : ℕ → Bool) (closed : AreClosed config app load comes) where
+  -- the event admits no line that does not arrive
+  abbrev IsOfLoad : Event → Type 0
+  IsOfLoad e = (line : ℕ) → distance load line ≡ None → is_number line (admitted_line e) ≡ false
+
+  -- ---- one task
+
+  module _ (t : ℕ) (never : comes t ≡ false) where
+    other : comes t ≡ true → ⊥
+    other is = true≢false (sym is ∙ never)
+
+    unstarted : (declaration config t).autostart ≡ false
+    unstarted = off (declaration config t).autostart (λ is. other (closed.starts t is))
+
+    no_alarm : (c : ℕ) → Arrives load (counter_line c) → has_alarm c (activates t) config.alarms ≡ false
+    no_alarm c arrives = off (has_alarm c (activates t) config.alarms) (λ is. other (closed.expires c t arrives is))
+
+    no_distance : distance load t ≡ None
+    no_distance = by (distance load t) refl
+      where
+        by : (o : Option ℕ) → distance load t ≡ o → distance load t ≡ None
+        by None is = is
+        by (Some d) is = absurd (other (closed.arrives t (λ none. some_none d (sym is ∙ none))))
+
+    module _ (s : System) (none : NoneComes load comes s) (placed : Placed app s) where
+      -- a task that calls a service comes, so it names none that does not
+      called : (u : ℕ) (served : Service) (answer : ServiceOutcome) → IsServiceStep config app u served s answer → IsAfter (λ x. IsSuspended (task x t)) answer
+      called u served answer h =
+          subst (IsAfter (λ x. IsSuspended (task x t))) h.is
+          (served_asleep config t u (active_other config t u s h.at.active (none.asleep t never)) s (none.asleep t never) served h.call.object h.call.mask unnamed)
+        where
+          caller : comes u ≡ true
+          caller = by (comes u) refl
+            where
+              by : (b : Bool) → comes u ≡ b → comes u ≡ true
+              by true is = is
+              by false is = absurd (not_suspended (task s u).state h.at.active (none.asleep u is))
+
+          reached : Reaches app u (standing (task s u).frames)
+          reached = by (placed u)
+            where
+              by : ((task s u).frames ≡ []) ⊎ IsReached app u (standing (task s u).frames) → Reaches app u (standing (task s u).frames)
+              by (inl empty) = absurd (no_frames h.at.frame h.at.outer (sym empty ∙ h.at.frames))
+              by (inr r) = (r.before, r.walk)
+
+          making : is_making t (operation app h.at.frame.func h.at.frame.item) ≡ false
+          making =
+              off (is_making t (operation app h.at.frame.func h.at.frame.item))
+              (λ is. other (closed.named u t (standing (task s u).frames) caller reached (ap (λ fs. is_making t (operation_at app (standing fs))) h.at.frames ∙ is)))
+
+          unnamed : ((is_service served service.ActivateTask || is_service served service.ChainTask) && (h.call.object == t)) ≡ false
+          unnamed =
+              ap (λ v. (is_service v service.ActivateTask || is_service v service.ChainTask) && (h.call.object == t)) (sym h.same)
+              ∙ sym (ap (is_making t) h.at.next) ∙ making
+
+      stays : (e : Event) (next : System) → OsekStep config app e s next → IsOfLoad e → IsSuspended (task next t)
+      stays e next step of_load =
+          record_behind config app t IsOfLoad IsSuspended s
+          (record {
+            same = none.asleep t never;
+            boots = λ _ _. not_started config.tasks s.tasks t unstarted (none.asleep t never);
+            activates = λ _ admits. absurd (true≢false (sym (itself t) ∙ admits t no_distance));
+            enters = λ ready. absurd (awake (task s t).state ready (none.asleep t never));
+            works = λ new same _. same ∙ none.asleep t never;
+            serves = λ u served answer h _. called u served answer h;
+            ticks = λ c due.
+                alarms_kept t IsSuspended (activates t) (acted_asleep config t) c 0 config.alarms (counted_on_state c (counter_declaration config c).max s)
+                (no_alarm c (λ said. true≢false (sym due.due ∙ none.undue c said))) (none.asleep t never);
+          })
+          e next step of_load
+
+  -- ---- one event
+
+  undue_stays : (c : ℕ) → distance load (counter_line c) ≡ None → (e : Event) (s next : System) → OsekStep config app e s next → NoneComes load comes s → IsOfLoad e
+      → (counter next c).due ≡ false
+  undue_stays c said e s next step none of_load = by (counter next c).due refl
+    where
+      by : (b : Bool) → (counter next c).due ≡ b → (counter next c).due ≡ false
+      by false is = is
+      by true is =
+          let most = (balance config app c e s next step).1 in
+          let was = ap {B = ℕ} (λ b. cond b 1 0) (none.undue c said) in
+          let line = ap {B = ℕ} (λ b. cond b 1 0) (of_load (counter_line c) said) in
+          let now = ap {B = ℕ} (λ b. cond b 1 0) is in
+          absurd (omega (arith, most, was, line, now))
+
+  step_none : (e : Event) (s next : System) → OsekStep config app e s next → Placed app s → IsOfLoad e → NoneComes load comes s → NoneComes load comes next
+  step_none e s next step placed of_load none = record {
+    asleep = λ t never. stays t never s none placed e next step of_load;
+    undue = λ c said. undue_stays c said e s next step none of_load;
+  }
+
+  opening_none : NoneComes load comes (opening config app)
+  opening_none = record {
+    asleep = λ t _. ap (λ k. k.state) (asleep_at config.tasks t);
+    undue = λ c _. undue_at config.counters c;
+  }
+
+  -- ---- a run
+
+  along : Facts config app → (at : ℕ) (s : System) (xs : List Stage) → Linked at s xs → AllByRecursion (Known config app) xs → Placed app s → NoneComes load comes s
+      → AllByRecursion (λ x. IsOfLoad x.stamped.event) xs → AllByRecursion (λ x. NoneComes load comes x.found × NoneComes load comes x.next) xs
+  along w at s [] l k placed none of_load = tt
+  along w at s (x ∷ xs) l k placed none of_load =
+      let here : Placed app x.found = subst (Placed app) (sym l.1) placed in
+      let found : NoneComes load comes x.found = subst (NoneComes load comes) (sym l.1) none in
+      let next = step_none x.stamped.event x.found x.next k.0.step here of_load.0 found in
+      let on = step_placed config app x.found x.next x.stamped.event (frame_effect config app w x.found x.next k.0.valid x.stamped.event k.0.step) here in
+      ((found, next), along w (end_of x) x.next xs l.2 k.1 on next of_load.1)
+
+  -- the stages of events of which something is known
+  of_events : (P : Event → Type 0) (at : ℕ) (s : System) (events : List Stamped) → AllByRecursion (λ (e : Stamped). P e.event) events
+      → AllByRecursion (λ x. P x.stamped.event) (stages config app at s events)
+  of_events P at s [] all = tt
+  of_events P at s (e ∷ events) all = (all.0, of_events P (end_of (stage config app at s e)) (state_behind config app e.event s) events all.1)
+
+-- ---- what is admitted
+
+-- nothing arrives that the load leaves out
+none_arrives : (load : List Entry) (k line : ℕ) → distance load line ≡ None → (arrivals : List Arrival) → KeepDistances load arrivals → arrivals_at k line arrivals ≡ 0
+none_arrives load k line said [] keep = refl
+none_arrives load k line said (a ∷ arrivals) keep = by (a.line == line) refl (none_arrives load k line said arrivals keep.2)
+  where
+    by : (b : Bool) → (a.line == line) ≡ b → arrivals_at k line arrivals ≡ 0 → arrivals_at k line (a ∷ arrivals) ≡ 0
+    by true is rest = absurd (keep.0 (subst (λ l. distance load l ≡ None) (sym (eqb-true a.line line is)) said))
+    by false is rest =
+        let more = sum_by-cons (λ (x : Arrival). cond ((x.line == line) && (x.at == k)) 1 0) a arrivals in
+        let here = ap {B = ℕ} (λ b. cond (b && (a.at == k)) 1 0) is in
+        omega (arith, more, rest, here)
+
+-- an event admits a line only at a moment that has an admission of it
+none_admitted : (line : ℕ) (events : List Stamped) → ((k : ℕ) → admits_at k line events ≡ 0) → AllByRecursion (λ (e : Stamped). is_number line (admitted_line e.event) ≡ false) events
+none_admitted line [] none = tt
+none_admitted line (e ∷ events) none = (
+  off (is_number line (admitted_line e.event))
+  (λ is.
+  let all = more e.stamp.at in
+  let zero = none e.stamp.at in
+  let one = ap {B = ℕ} (λ b. cond (b && (e.stamp.at == e.stamp.at)) 1 0) is in
+  let here = ap {B = ℕ} (λ b. cond b 1 0) (itself e.stamp.at) in
+  omega (arith, all, zero, one, here)),
+  none_admitted line events (λ k. let all = more k in let zero = none k in omega (arith, all, zero)),
+)
+  where
+    more : (k : ℕ) → admits_at k line (e ∷ events) ≡ cond (is_number line (admitted_line e.event) && (e.stamp.at == k)) 1 0 + admits_at k line events
+    more k = sum_by-cons (λ (x : Stamped). cond (is_number line (admitted_line x.event) && (x.stamp.at == k)) 1 0) e events
+
+-- by lines instead of by events
+by_lines : (load : List Entry) (events : List Stamped)
+    → ((line : ℕ) → distance load line ≡ None → AllByRecursion (λ (e : Stamped). is_number line (admitted_line e.event) ≡ false) events)
+    → AllByRecursion (λ (e : Stamped). (line : ℕ) → distance load line ≡ None → is_number line (admitted_line e.event) ≡ false) events
+by_lines load [] each = tt
+by_lines load (e ∷ events) each = ((λ line said. (each line said).0), by_lines load events (λ line said. (each line said).1))
+
+pub others_never_come : OthersNeverCome
+others_never_come config app load comes n arrivals events wf osek in_time keep closed =
+    along config app load comes closed w 0 (opening config app) (run_stages config app events) (stages_linked config app 0 (opening config app) events)
+    (stages_known config app w 0 (opening config app) osek.0 events (opening_ordered config app) (opening_valid config app)
+    (follows_leads config app [] (opening config app) events osek.0 osek.1))
+    (opening_placed config app) (opening_none config app load comes closed)
+    (of_events config app load comes closed (IsOfLoad config app load comes closed) 0 (opening config app) events
+    (by_lines load events
+    (λ line said.
+    none_admitted line events
+    (λ k. let few = few_at config n arrivals events in_time k line in let none = none_arrives load k line said arrivals keep in omega (arith, few, none)))))
+  where
+    w : Facts config app
+    w = facts config app wf

@@ -1,0 +1,13 @@
+use Rattle.std.proofs.Common.{true, false, sym, subst}
+use Rattle.response_text.specs.ResponseText.{IsTaskResponse}
+use Rattle.response_text.proofs.Numbered.{told_number}
+use Rattle.response_text.proofs.text.response.Goals as goal
+
+pub returns : goal.returns
+returns c =
+    let costs = c.args.costs.now in
+    subst (IsTaskResponse c.args.longest c.args.late costs c.args.task) (sym c.response_of.ensures)
+    (record {
+      anywhere = told_number c.args.longest c.args.late costs c.args.task true c.in_ok-anywhere.anywhere (c.in_ok-anywhere.ensures c.requires.there);
+      behind = told_number c.args.longest c.args.late costs c.args.task false c.in_ok-behind.behind (c.in_ok-behind.ensures c.requires.there);
+    })

@@ -1,0 +1,7 @@
+use Rattle.std.proofs.Common.{[]}
+use Rattle.run_costs.specs.Services.{AreServiceTops}
+use Rattle.run_costs.specs.CostsOf.{AreEach}
+use Rattle.run_costs.proofs.services.service_tops.Given as goal
+
+abbrev pub invariant-loop-code : goal.invariant-loop-code
+invariant-loop-code l = AreEach l.code ([]) (AreServiceTops l.config l.app) l.all.items

@@ -1,0 +1,24 @@
+-- How the makings of rounds are put together.
+use Rattle.std.specs.Prelude.{ℕ, false, Bool, List, length, get_or}
+use Rattle.sloth_base.specs.declared.config.Config.{Config}
+use Rattle.sloth_base.specs.declared.app.App.{App}
+use Rattle.sloth_base.specs.Named.{declaration}
+use Rattle.walk_sums.specs.declared.counted.Counted.{Counted}
+use Rattle.walk_sums.specs.declared.counted.Counted.TheVariants as counts
+use Rattle.walk_sums.specs.declared.tasks.RoundSums.{RoundSums}
+use Rattle.walk_sums.specs.Counted.{counted_weights}
+use Rattle.run_costs.specs.declared.makings.MakingSums.{MakingSums}
+use Rattle.run_costs.specs.Rounds.{AreRounds}
+use Rattle.run_costs.specs.Tables.{no_sums}
+use Rattle.run_costs.specs.CostsOf.{AreEach}
+
+-- how often the rounds of each task do what counts
+abbrev pub AreCountedSums : Config → App → (clean : List Bool) → Counted → List RoundSums → Type 0
+AreCountedSums config app clean c sums =
+    AreEach (length config.tasks) no_sums (λ t. AreRounds app (get_or clean t false) (declaration config t).extended t (counted_weights c app)) sums
+
+-- of what makes task j Ready
+pub record AreMakingSums (config : Config) (app : App) (clean : List Bool) (j : ℕ) (sums : MakingSums) : Type 0 where
+  pub activations : AreCountedSums config app clean (counts.Activations j) sums.activations
+  pub chains : AreCountedSums config app clean (counts.Chains j) sums.chains
+  pub settings : AreCountedSums config app clean (counts.Settings j) sums.settings

@@ -1,0 +1,65 @@
+//! Bounds of windows.
+ghost use Rattle.std.specs.Prelude.{◌≡◌, ◌≤◌, length, IfOk};
+ghost use Rattle.run_windows.specs.Windows.{numbers_of, is_made, is_target_made, IsBound};
+ghost use Rattle.run_windows.specs.Settling.{TakeCounts};
+
+use crate::rounds::number_of;
+use crate::settle::settle;
+use crate::window::Window;
+use crate::{Costs, Made};
+use sloth_base::NoMemory;
+use std::alloc::Global;
+use text_pieces::push;
+
+fn is_made(made: Made) -> bool
+    ensures { result ≡ is_made made }
+{
+    !(made.activations == 0 && made.settings == 0)
+}
+
+fn is_target_made(target: Option<usize>, numbers: &[Made]) -> bool
+    ensures { result ≡ is_target_made target (numbers_of numbers.now) }
+{
+    match target {
+        Some(h) => is_made(number_of(numbers, h)),
+        None => true,
+    }
+}
+
+/// The bound of a window up to a limit: the counts of its least solution, or 0 where its target is not made in it.
+pub fn bound(costs: &Costs, window: &Window, limit: u32, numbers: &mut [Made]) -> Option<u32>
+    requires costs { TakeCounts costs.now }
+    requires limit { limit ≤ 4000000 }
+    requires count { length numbers.old ≡ length costs.now.tasks }
+    ensures bound { IsBound limit costs.now window.now result }
+    ensures count { length numbers.new ≡ length costs.now.tasks }
+{
+    match settle(costs, window, limit, numbers) {
+        Some(counts) => {
+            let told = if is_target_made(window.target, numbers) {
+                counts
+            } else {
+                0
+            };
+            Some(told)
+        }
+        None => None,
+    }
+}
+
+/// Numbers of so many tasks.
+pub fn room(alloc: Global, count: usize) -> Result<Vec<Made>, NoMemory>
+    ensures { IfOk result (λ numbers. length numbers.items ≡ count) }
+{
+    let mut numbers = Vec::new(alloc);
+    for i in 0..count {
+        push(
+            &mut numbers,
+            Made {
+                activations: 0,
+                settings: 0,
+            },
+        )?;
+    }
+    Ok(numbers)
+}

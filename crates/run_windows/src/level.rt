@@ -1,0 +1,201 @@
+//! Which makings of a task count in a window, and what a start makes.
+ghost use Rattle.std.specs.Prelude.{◌≡◌};
+ghost use Rattle.run_windows.specs.Costs.{reckoned, task, making, makers, section_makers, section_making};
+ghost use Rattle.run_windows.specs.Windows.{is_lower, level_rule, target_rule, rule_of, counted, section_made, activated_once, set_once, begun_by, begun, is_boot, span_of};
+
+use crate::numbers::reckoned;
+use crate::window::{Rule, Window};
+use crate::{Costs, Made, Makings, SectionMakings, Start, TaskCosts};
+
+/// A task; nothing behind the last one.
+pub fn task(costs: &Costs, t: usize) -> TaskCosts
+    ensures { result ≡ task costs.now t }
+{
+    match costs.tasks.items().get(t) {
+        Some(task) => *task,
+        None => TaskCosts {
+            priority: 0,
+            is_entered_once: false,
+            is_autostarted: false,
+            is_cut: false,
+            distance: None,
+            first: Some(0),
+            next: Some(0),
+            raising: 0,
+            service: 0,
+        },
+    }
+}
+
+/// The makings of a task, by the task that makes it.
+pub fn makers(costs: &Costs, j: usize) -> &[Makings]
+    ensures { result.now ≡ makers costs.now j }
+{
+    match costs.makings.items().get(j) {
+        Some(makers) => makers.items(),
+        None => &[],
+    }
+}
+
+/// The makings of task j by task k.
+pub fn making(costs: &Costs, k: usize, j: usize) -> Makings
+    ensures { result ≡ making costs.now k j }
+{
+    match makers(costs, j).get(k) {
+        Some(making) => *making,
+        None => Makings {
+            first_activations: Some(0),
+            first_settings: Some(0),
+            next_activations: Some(0),
+            next_settings: Some(0),
+        },
+    }
+}
+
+fn section_makers(costs: &Costs, h: usize, j: usize) -> &[SectionMakings]
+    ensures { result.now ≡ section_makers costs.now h j }
+{
+    match costs.levels.items().get(h) {
+        Some(level) => match level.makings.items().get(j) {
+            Some(makers) => makers.items(),
+            None => &[],
+        },
+        None => &[],
+    }
+}
+
+/// How often the sections of task k for task h make task j.
+pub fn section_making(costs: &Costs, h: usize, k: usize, j: usize) -> SectionMakings
+    ensures { result ≡ section_making costs.now h k j }
+{
+    match section_makers(costs, h, j).get(k) {
+        Some(making) => *making,
+        None => SectionMakings {
+            activations: Some(0),
+            settings: Some(0),
+        },
+    }
+}
+
+/// Whether k is lower than h.
+pub fn is_lower(costs: &Costs, h: usize, k: usize) -> bool
+    ensures { result ≡ is_lower costs.now h k }
+{
+    task(costs, k).priority < task(costs, h).priority
+}
+
+fn level_rule(costs: &Costs, h: usize, j: usize) -> Rule
+    ensures { result ≡ level_rule costs.now h j }
+{
+    if is_lower(costs, h, j) {
+        return Rule::Lower;
+    }
+    if j == h && task(costs, h).is_entered_once {
+        Rule::Once
+    } else {
+        Rule::Each
+    }
+}
+
+fn target_rule(costs: &Costs, target: Option<usize>, j: usize) -> Rule
+    ensures { result ≡ target_rule costs.now target j }
+{
+    match target {
+        Some(h) => level_rule(costs, h, j),
+        None => Rule::Each,
+    }
+}
+
+/// Which makings of a task count in a window.
+pub fn rule_of(costs: &Costs, window: &Window, j: usize) -> Rule
+    ensures { result ≡ rule_of costs.now window.now j }
+{
+    target_rule(costs, window.target, j)
+}
+
+/// Of so many activations and settings those that count.
+pub fn counted(rule: Rule, activations: u32, settings: u32) -> Made
+    ensures { result ≡ counted rule activations settings }
+{
+    match rule {
+        Rule::Lower => Made {
+            activations: 0,
+            settings: 0,
+        },
+        Rule::Each => Made {
+            activations,
+            settings,
+        },
+        Rule::Once => Made {
+            activations: if activations == 0 && settings == 0 {
+                0
+            } else {
+                1
+            },
+            settings: 0,
+        },
+    }
+}
+
+fn section_made(made: SectionMakings) -> Made
+    ensures { result ≡ section_made made }
+{
+    Made {
+        activations: reckoned(made.activations),
+        settings: reckoned(made.settings),
+    }
+}
+
+fn activated(test: bool) -> Made
+    ensures { result ≡ activated_once test }
+{
+    Made {
+        activations: if test { 1 } else { 0 },
+        settings: 0,
+    }
+}
+
+fn signalled(test: bool) -> Made
+    ensures { result ≡ set_once test }
+{
+    Made {
+        activations: 0,
+        settings: if test { 1 } else { 0 },
+    }
+}
+
+fn begun_by(costs: &Costs, h: usize, start: Start, j: usize) -> Made
+    ensures { result ≡ begun_by costs.now h start j }
+{
+    match start {
+        Start::Free => activated(false),
+        Start::Boot => activated(task(costs, j).is_autostarted),
+        Start::Activation(t) => activated(t == j),
+        Start::Setting(t) => signalled(t == j),
+        Start::Section(k) => section_made(section_making(costs, h, k, j)),
+    }
+}
+
+/// What the start of a window makes of a task.
+pub fn begun(costs: &Costs, window: &Window, j: usize) -> Made
+    ensures { result ≡ begun costs.now window.now j }
+{
+    begun_by(costs, window.target.unwrap_or(0), window.start, j)
+}
+
+/// Whether a window begins with the system.
+pub fn is_boot(start: Start) -> bool
+    ensures { result ≡ is_boot start }
+{
+    match start {
+        Start::Boot => true,
+        Start::Free | Start::Activation(_) | Start::Setting(_) | Start::Section(_) => false,
+    }
+}
+
+/// The counts within which a window of so many counts counts arrivals.
+pub fn span_of(window: &Window, counts: u32) -> u32
+    ensures { result ≡ span_of window.now counts }
+{
+    window.span.unwrap_or(counts)
+}

@@ -1,0 +1,46 @@
+//! The demand of a load.
+ghost use Rattle.std.specs.Prelude.{◌≡◌, length, IfOk};
+ghost use Rattle.run_windows.specs.Settling.{TakeCounts};
+ghost use Rattle.run_windows.specs.Demand.{hundredths, IsDemand};
+
+use crate::bounds::{bound, room};
+use crate::window::Window;
+use crate::{Costs, Made, Start};
+use sloth_base::{COUNT_LIMIT, NoMemory};
+use std::alloc::Global;
+
+/// The counts above which a demand is not told.
+const DEMAND_LIMIT: u32 = 4_000_000;
+
+fn hundredths(counts: u32) -> u32
+    ensures { result ≡ hundredths counts }
+{
+    ((u64::from(counts) + 9_999) / 10_000) as u32
+}
+
+fn told_demand(costs: &Costs, numbers: &mut [Made]) -> Option<u32>
+    requires costs { TakeCounts costs.now }
+    requires count { length numbers.old ≡ length costs.now.tasks }
+    ensures { IsDemand costs.now result }
+{
+    let window = Window {
+        target: None,
+        start: Start::Free,
+        front: 0,
+        span: Some(COUNT_LIMIT),
+    };
+    match bound(costs, &window, DEMAND_LIMIT, numbers) {
+        Some(counts) => Some(hundredths(counts)),
+        None => None,
+    }
+}
+
+/// How many hundredths of the processor's counts the arrivals within 1,000,000 counts ask for, rounded up; none where it is
+/// above 400, or where what it is computed from is 1,000,000 or more, or has no limit.
+pub fn demand(alloc: Global, costs: &Costs) -> Result<Option<u32>, NoMemory>
+    requires { TakeCounts costs.now }
+    ensures { IfOk result (λ p. IsDemand costs.now p) }
+{
+    let mut numbers = room(alloc, costs.tasks.items().len())?;
+    Ok(told_demand(costs, &mut numbers))
+}

@@ -1,0 +1,80 @@
+//! The least numbers and counts of a window: from zeros up, each made what is needed with those so far, until nothing grows.
+ghost use Rattle.std.specs.Prelude.{◌≡◌, ◌≤◌, ◌<◌, true, false, length};
+ghost use Rattle.run_windows.specs.Settling.{AreBelow, slack, IsMet, HasGrown, TakeCounts, IsFound};
+
+use crate::rounds::{made_within, window_counts};
+use crate::window::Window;
+use crate::{Costs, Made};
+
+/// Makes the numbers of a task what comes of it, where that is more: whether one has grown.
+fn grow(costs: &Costs, window: &Window, numbers: &mut [Made], counts: u32, j: usize) -> bool
+    requires below { AreBelow costs.now window.now numbers.old counts }
+    requires inside { j < length costs.now.tasks }
+    ensures below { AreBelow costs.now window.now numbers.new counts }
+    ensures grown { result ≡ true → slack numbers.new < slack numbers.old }
+    ensures same { result ≡ false → (numbers.new ≡ numbers.old) × IsMet costs.now window.now numbers.old counts j }
+{
+    let made = made_within(costs, window, numbers, counts, j);
+    let old = numbers[j];
+    if made.activations <= old.activations && made.settings <= old.settings {
+        return false;
+    }
+    numbers[j] = Made {
+        activations: old.activations.max(made.activations),
+        settings: old.settings.max(made.settings),
+    };
+    true
+}
+
+/// A pass over all tasks: whether a number has grown.
+fn pass(costs: &Costs, window: &Window, numbers: &mut [Made], counts: u32) -> bool
+    requires below { AreBelow costs.now window.now numbers.old counts }
+    ensures below { AreBelow costs.now window.now numbers.new counts }
+    ensures grown { HasGrown costs.now window.now numbers.old numbers.new counts (length costs.now.tasks) result }
+{
+    let mut grown = false;
+    for j in 0..costs.tasks.items().len() {
+        if grow(costs, window, numbers, counts, j) {
+            grown = true;
+        }
+    }
+    grown
+}
+
+// From numbers that are below all solutions up: to those of the least one, if its counts are within the limit.
+fn rise(costs: &Costs, window: &Window, limit: u32, numbers: &mut [Made]) -> Option<u32>
+    requires costs { TakeCounts costs.now }
+    requires limit { limit ≤ 4000000 }
+    requires below { AreBelow costs.now window.now numbers.old 0 }
+    ensures { IsFound limit costs.now window.now numbers.new result }
+{
+    let mut counts = 0;
+    loop {
+        let grown = pass(costs, window, numbers, counts);
+        let filled = window_counts(costs, window, numbers, counts);
+        if limit < filled {
+            return None;
+        }
+        if !grown && filled <= counts {
+            return Some(counts);
+        }
+        counts = counts.max(filled);
+    }
+}
+
+/// The counts of the least solution of a window, where they are within the limit, and its numbers.
+pub fn settle(costs: &Costs, window: &Window, limit: u32, numbers: &mut [Made]) -> Option<u32>
+    requires costs { TakeCounts costs.now }
+    requires limit { limit ≤ 4000000 }
+    requires count { length numbers.old ≡ length costs.now.tasks }
+    ensures found { IsFound limit costs.now window.now numbers.new result }
+    ensures count { length numbers.new ≡ length costs.now.tasks }
+{
+    for made in numbers.iter_mut() {
+        *made = Made {
+            activations: 0,
+            settings: 0,
+        };
+    }
+    rise(costs, window, limit, numbers)
+}

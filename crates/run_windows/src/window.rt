@@ -1,0 +1,47 @@
+//! Windows: the counts from a start on in which a task's response is looked for.
+
+/// How a window begins.
+#[derive(Clone, Copy)]
+pub enum Start {
+    /// Something of a lower task, or a tick, is under way.
+    Free,
+    /// The system starts.
+    Boot,
+    /// A lower task, or the task itself as it leaves, activates this task.
+    Activation(usize),
+    /// A lower task, or the task itself, sets events of this task.
+    Setting(usize),
+    /// This lower task is raised.
+    Section(usize),
+}
+
+/// A window.
+#[derive(Clone, Copy)]
+pub struct Window {
+    /// The task whose response is looked for, with all of at least its priority; none: all tasks are counted.
+    pub target: Option<usize>,
+    pub start: Start,
+    /// The counts in front, which no task of the level has.
+    pub front: u32,
+    /// Within how many counts arrivals are counted; none: within those of the window.
+    pub span: Option<u32>,
+}
+
+/// How often a task is made Ready.
+#[derive(Clone, Copy)]
+pub struct Made {
+    pub activations: u32,
+    /// By setting its events.
+    pub settings: u32,
+}
+
+/// Which makings of a task count.
+#[derive(Clone, Copy)]
+pub enum Rule {
+    /// None: it is lower.
+    Lower,
+    /// Each.
+    Each,
+    /// One.
+    Once,
+}

@@ -1,0 +1,99 @@
+//! Text, put piece by piece.
+ghost use Rattle.std.specs.Prelude.{◌≡◌, ◌++◌, IfOk, OnOk, decimal};
+ghost use Rattle.text_pieces.specs.Pieces.{written, all_written, each_written};
+
+use itoa::Buffer;
+use sloth_base::NoMemory;
+use std::alloc::Global;
+
+/// What a text is made of.
+#[derive(Clone, Copy)]
+pub enum Piece<'a> {
+    /// These bytes.
+    Word(&'a [u8]),
+    /// A number, in decimal digits.
+    Number(u32),
+    /// How many there are of something, in decimal digits.
+    Count(usize),
+    /// A sum of many numbers, in decimal digits.
+    Sum(u128),
+}
+
+/// Puts the pieces, one after another.
+#[macro_export]
+macro_rules! line {
+    ($text:expr; $($piece:expr),*) => {
+        $crate::pieces::put($text, &[$($piece),*])
+    };
+}
+
+/// The text of the pieces.
+#[macro_export]
+macro_rules! text {
+    ($alloc:expr; $($piece:expr),*) => {
+        $crate::pieces::text($alloc, &[$($piece),*])
+    };
+}
+
+fn put_number(text: &mut Vec<u8>, number: u32) -> Result<(), NoMemory>
+    ensures { OnOk result (text.new.items ≡ text.old.items ++ decimal number) }
+{
+    let mut buffer = Buffer::new();
+    text.extend_from_slice(buffer.format(number).as_bytes())?;
+    Ok(())
+}
+
+fn put_count(text: &mut Vec<u8>, count: usize) -> Result<(), NoMemory>
+    ensures { OnOk result (text.new.items ≡ text.old.items ++ decimal count) }
+{
+    let mut buffer = Buffer::new();
+    text.extend_from_slice(buffer.format(count).as_bytes())?;
+    Ok(())
+}
+
+fn put_sum(text: &mut Vec<u8>, sum: u128) -> Result<(), NoMemory>
+    ensures { OnOk result (text.new.items ≡ text.old.items ++ decimal sum) }
+{
+    let mut buffer = Buffer::new();
+    text.extend_from_slice(buffer.format(sum).as_bytes())?;
+    Ok(())
+}
+
+fn put_piece(text: &mut Vec<u8>, piece: &Piece) -> Result<(), NoMemory>
+    ensures { OnOk result (text.new.items ≡ text.old.items ++ written piece.now) }
+{
+    match *piece {
+        Piece::Word(word) => {
+            text.extend_from_slice(word)?;
+            Ok(())
+        },
+        Piece::Number(number) => put_number(text, number),
+        Piece::Count(count) => put_count(text, count),
+        Piece::Sum(sum) => put_sum(text, sum),
+    }
+}
+
+fn put_each(text: &mut Vec<u8>, pieces: &[Piece]) -> Result<(), NoMemory>
+    ensures { OnOk result (text.new.items ≡ text.old.items ++ each_written pieces.now) }
+{
+    for piece in pieces {
+        put_piece(text, piece)?;
+    }
+    Ok(())
+}
+
+/// Puts the pieces, one after another.
+pub fn put(text: &mut Vec<u8>, pieces: &[Piece]) -> Result<(), NoMemory>
+    ensures { OnOk result (text.new.items ≡ text.old.items ++ all_written pieces.now) }
+{
+    put_each(text, pieces)
+}
+
+/// The text of the pieces.
+pub fn text(alloc: Global, pieces: &[Piece]) -> Result<Vec<u8>, NoMemory>
+    ensures { IfOk result (λ text. text.items ≡ all_written pieces.now) }
+{
+    let mut text = Vec::new(alloc);
+    put(&mut text, pieces)?;
+    Ok(text)
+}

@@ -1,6 +1,0 @@
-use Rattle.std.proofs.Common.{length}
-use Rattle.walk_sums.specs.Clears.{AreClearing}
-use Rattle.walk_sums.proofs.clean.clean_tasks.Given as goal
-
-abbrev pub invariant-loop-bit : goal.invariant-loop-bit
-invariant-loop-bit l = AreClearing l.app (length l.config.tasks) l.bit l.clean.items

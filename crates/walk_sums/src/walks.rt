@@ -1,0 +1,150 @@
+//! Task code that is walked, as one value.
+ghost use Rattle.std.specs.Prelude.{◌≡◌, IfOk};
+ghost use Rattle.code_rules.specs.WellFormed.{WellFormed};
+ghost use Rattle.call_graph.specs.Ranks.{RanksOf};
+ghost use Rattle.walk_sums.specs.CallOrder.{IsCallOrder};
+ghost use Rattle.walk_sums.specs.KnownBodies.{AreKnownBodies};
+ghost use Rattle.walk_sums.specs.WalkedCode.{IsWalked, IsKnownCode, walked_code};
+
+use crate::bodies::bodies;
+use crate::callees_first;
+use bound_rules::Body;
+use call_graph::Ranks;
+use sloth_base::{App, Config, List, NoMemory};
+use std::alloc::Global;
+use std::marker::Model;
+
+/// The functions of task code, each behind those that it calls, and what is known of each body.
+#[derive(Drop)]
+pub struct KnownCode {
+    pub order: List<usize>,
+    pub bodies: List<Body>,
+}
+
+/// The functions of well-formed task code in such an order, and what is known of their bodies.
+pub fn known_code(
+    alloc: Global,
+    config: &Config,
+    app: &App,
+    ranks: &Ranks,
+) -> Result<KnownCode, NoMemory>
+    requires well_formed { WellFormed config.now app.now }
+    requires belong { RanksOf app.now ranks.now }
+    ensures { IfOk result (IsKnownCode config.now app.now) }
+{
+    let order = callees_first(alloc, app, ranks)?;
+    let bodies = bodies(alloc, config, app, &order)?;
+    Ok(KnownCode {
+        order: List::from_vec(order),
+        bodies: List::from_vec(bodies),
+    })
+}
+
+/// Well-formed task code, its functions in an order in which each stands behind those that it calls (`callees_first`),
+/// and what is known of each body (`bodies`).
+pub struct Walks<'a> {
+    alloc: Global,
+    config: &'a Config,
+    app: &'a App,
+    order: &'a [usize],
+    bodies: &'a [Body],
+}
+
+// Written out: what is derived is proved anew wherever a value is let go.
+impl Drop for Walks<'_> {
+    fn drop(self) {
+        let Walks {
+            alloc: _,
+            config: _,
+            app: _,
+            order: _,
+            bodies: _,
+        } = self;
+    }
+}
+
+impl<'a> Model for Walks<'a> {
+    ghost use Rattle.walk_sums.specs.WalkedCode.{WalkedCode, IsWalked};
+
+    ghost Value = { WalkedCode };
+
+    ghost view = { λ w. record { config = w.config.now; app = w.app.now; order = w.order.now; bodies = w.bodies.now } };
+
+    ghost invariant = { λ w.
+        IsWalked (record { config = w.config.now; app = w.app.now; order = w.order.now; bodies = w.bodies.now }) };
+}
+
+impl<'a> Walks<'a> {
+    /// These parts.
+    pub fn new(
+        alloc: Global,
+        config: &'a Config,
+        app: &'a App,
+        order: &'a [usize],
+        bodies: &'a [Body],
+    ) -> Walks<'a>
+        requires well_formed { WellFormed config.now app.now }
+        requires order { IsCallOrder app.now order.now }
+        requires bodies { AreKnownBodies config.now app.now bodies.now }
+        ensures { result ≡ record { config = config.now; app = app.now; order = order.now; bodies = bodies.now } }
+    {
+        Walks {
+            alloc,
+            config,
+            app,
+            order,
+            bodies,
+        }
+    }
+
+    /// Of what is known of task code.
+    pub fn of(alloc: Global, config: &'a Config, app: &'a App, known: &'a KnownCode) -> Walks<'a>
+        requires { IsKnownCode config.now app.now known.now }
+        ensures { result ≡ walked_code config.now app.now known.now }
+    {
+        Walks {
+            alloc,
+            config,
+            app,
+            order: known.order.items(),
+            bodies: known.bodies.items(),
+        }
+    }
+
+    /// Where memory is taken from.
+    pub fn alloc(&self) -> Global {
+        self.alloc
+    }
+
+    /// The configuration.
+    pub fn config(&self) -> &'a Config
+        ensures is { result.now ≡ self.now.config }
+        ensures well_formed { WellFormed self.now.config self.now.app }
+    {
+        self.config
+    }
+
+    /// The task code.
+    pub fn app(&self) -> &'a App
+        ensures is { result.now ≡ self.now.app }
+        ensures well_formed { WellFormed self.now.config self.now.app }
+    {
+        self.app
+    }
+
+    /// Its functions, each behind those that it calls.
+    pub fn order(&self) -> &'a [usize]
+        ensures is { result.now ≡ self.now.order }
+        ensures walked { IsWalked self.now }
+    {
+        self.order
+    }
+
+    /// What is known of each body.
+    pub fn bodies(&self) -> &'a [Body]
+        ensures is { result.now ≡ self.now.bodies }
+        ensures walked { IsWalked self.now }
+    {
+        self.bodies
+    }
+}
