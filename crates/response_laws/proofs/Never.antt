@@ -198,12 +198,12 @@ none_admitted : (line : ℕ) (events : List Stamped) → ((k : ℕ) → admits_a
 none_admitted line [] none = tt
 none_admitted line (e ∷ events) none = (
   off (is_number line (admitted_line e.event))
-  (λ is.
-  let all = more e.stamp.at in
-  let zero = none e.stamp.at in
-  let one = ap {B = ℕ} (λ b. cond (b && (e.stamp.at == e.stamp.at)) 1 0) is in
-  let here = ap {B = ℕ} (λ b. cond b 1 0) (itself e.stamp.at) in
-  omega (arith, all, zero, one, here)),
+      (λ is.
+      let all = more e.stamp.at in
+      let zero = none e.stamp.at in
+      let one = ap {B = ℕ} (λ b. cond (b && (e.stamp.at == e.stamp.at)) 1 0) is in
+      let here = ap {B = ℕ} (λ b. cond b 1 0) (itself e.stamp.at) in
+      omega (arith, all, zero, one, here)),
   none_admitted line events (λ k. let all = more k in let zero = none k in omega (arith, all, zero)),
 )
   where
