@@ -61,7 +61,10 @@ static void read_all(void)
     first++;
     ReleaseResource(Box);
     kinds[kind]++;
-    weight += heavy;
+    if (heavy > 1000)
+      late++;
+    else
+      weight += heavy;
     if (heavy > 800 && ActivateTask(Clerk) == E_OS_LIMIT)
       refused++;
   }
