@@ -141,7 +141,7 @@ def translate(path, out_path, oil, inline):
         sys.stderr.write(f'{fault if isinstance(fault, Refusal) else Refusal(translation.spot, reason)}\n')
         return 2
     for name, lines in ((out_path, written.lines), (out_path + '.map', written.table)):
-        with open(name + '.new', 'w', encoding='ascii', errors='replace') as out:
+        with open(name + '.new', 'w', encoding='latin-1', errors='replace') as out:
             out.write('\n'.join(lines) + '\n')
         os.replace(name + '.new', name)
     print(''.join(line + '\n' for line in work_lines(functions)), end='')

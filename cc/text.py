@@ -104,7 +104,7 @@ class Text:
     def put_body(self, f):
         start = f.node.decl.coord
         self.line('')
-        self.put_source(start, '')
+        self.put_source(start)
         self.line(f'{"task" if f.is_task else "func"} {f.name}' + (f', {f.frame}' if f.frame else ''), start)
         hold(f.steps)
         last = (start.file, start.line)
@@ -116,12 +116,12 @@ class Text:
                 continue
             if s.spot is not None and (s.spot.file, s.spot.line) != last:
                 last = (s.spot.file, s.spot.line)
-                self.put_source(s.spot, '  ')
+                self.put_source(s.spot)
             self.line('  ' + item_text(s), s.spot)
         self.line('end')
 
-    def put_source(self, spot, margin):
+    def put_source(self, spot):
+        """The line of C as a comment that `symbols` reads: what follows comes from there."""
         lines = file_lines(spot.file)
-        text = lines[spot.line - 1] if spot.line <= len(lines) else ''
-        text = ''.join(c if ' ' <= c <= '~' else ' ' for c in text).strip()
-        self.line(f'{margin}# {os.path.basename(spot.file)}:{spot.line}: {text}')
+        text = f'#line {spot.line} "{spot.file}"  {lines[spot.line - 1].strip() if spot.line <= len(lines) else ""}'
+        self.line(''.join(c if c >= ' ' else ' ' for c in text).rstrip())

@@ -1,21 +1,31 @@
-# Puts after each event of an item the line of the source where the item stands. `run` names its item; of a service the item is the one after the task's
-# last, which registers tell where that branched: `run` tells what each item leaves in its register.
+# Puts after each event of an item the line of the source where the item stands, or that of the file that a comment `#line N "FILE"` above it states.
+# `run` names its item; of a service the item is the one after the task's last, which registers tell where that branched: `run` tells what each item
+# leaves in its register.
 
 function is_item(word) { return word !~ /^(data|task|func|label|end)$/ }
 
+# The file, the line, and the text behind them, of a comment that states them.
+function place(text,    parts, name) {
+    split(text, parts, "\"")
+    name = parts[2]; sub(/.*\//, "", name)
+    return name ":" substr(parts[1], 7) + 0 ": " substr(text, length(parts[1] parts[2]) + 5)
+}
+
 # Reads items and labels of each body, items numbered from 0.
-function read_source(    text, at, body, items, i, n, word, parts) {
+function read_source(    text, at, stated, body, items, i, n, word, parts) {
     while ((getline text < ENVIRON["SRC"]) > 0) {
         at++
+        if (text ~ /^#line [0-9]+ "[^"]+"/) stated = place(text)
         sub(/\r$/, "", text); sub(/#.*/, "", text); gsub(/^[ \t]+|[ \t]+$/, "", text)
         word = text; sub(/[^A-Za-z0-9_].*/, "", word)
         if (word == "") continue
+        if (word == "end") stated = ""
         n = split(substr(text, length(word) + 1), parts, ",")
         for (i = 1; i <= n; i++) gsub(/^[ \t]+|[ \t]+$/, "", parts[i])
         if (word == "task" || word == "func") { body = parts[1]; items = 0 }
         else if (word == "label") target[body, parts[1]] = items
         else if (is_item(word)) {
-            line_of[body, items] = at; text_of[body, items] = text; word_of[body, items] = word
+            line_of[body, items] = at; text_of[body, items] = text; stated_of[body, items] = stated; word_of[body, items] = word
             for (i = 1; i <= 3; i++) operand_of[body, items, i] = i <= n ? parts[i] : ""
             items++
         }
@@ -67,7 +77,10 @@ function pass(task, body, item, result,    word, d, way) {
     } else if (word !~ /^(nop|sw|sb|sh)$/) value[task, register_number(operand_of[body, item, 1])] = result
 }
 
-function show(body, item) { return (body, item) in line_of ? "  # line " line_of[body, item] ": " text_of[body, item] : "" }
+function show(body, item) {
+    if (!((body, item) in line_of)) return ""
+    return "  # " (stated_of[body, item] == "" ? "line " line_of[body, item] ": " text_of[body, item] : stated_of[body, item])
+}
 
 # The item of a service, which stands where the task is.
 function service(task, name, status,    d, body, item, text) {

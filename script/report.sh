@@ -158,6 +158,7 @@ ask() {
     lost=$status
     [ "$lost" != 2 ] || tell 2>"$made/said" <"$made/losses"
     keep drawn picture "$made/image" "$arr" "$from" "$to" "$made/picture"
+    [ "$status" != 0 ] || add_texts "$made/image" "$made/picture"
     return 0
 }
 

@@ -145,6 +145,7 @@ name_file() {
     IMG:*) word=$base.img ;;
     OUT:infer) word=$base.filled ;;
     OUT:symbols) word=$base.elf ;;
+    OUT:orti) word=$base.orti ;;
     OUT:wave) word=$base.vcd ;;
     OUT:picture) word=$base.svg ;;
     *) return 1 ;;

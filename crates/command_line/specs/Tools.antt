@@ -45,6 +45,7 @@ tool_row tool.Why = row (codes "why") 2 None None false
 tool_row tool.TaskBound = row (codes "why") 3 None None false
 tool_row tool.TaskResponse = row (codes "response") 4 None None false
 tool_row tool.Symbols = row (codes "symbols") 2 None None true
+tool_row tool.Orti = row (codes "orti") 2 None None true
 tool_row tool.Labels = row (codes "why") 2 (Some (codes "labels")) None false
 tool_row tool.TraceReason = row (codes "why") 4 None (Some (limit.One count_limit)) false
 tool_row tool.Unused = row (codes "unused") 2 None None false
@@ -54,7 +55,7 @@ abbrev pub tools : List Tool
 tools =
     tool.Elf ∷ tool.Unelf ∷ tool.Infer ∷ tool.At ∷ tool.AtAll ∷ tool.Losses ∷ tool.Wave ∷ tool.Picture ∷ tool.Check
     ∷ tool.Bounds ∷ tool.Latency ∷ tool.LowerCounts ∷ tool.Map ∷ tool.Shares ∷ tool.Response ∷ tool.Why
-    ∷ tool.TaskBound ∷ tool.TaskResponse ∷ tool.Symbols ∷ tool.Labels ∷ tool.TraceReason
+    ∷ tool.TaskBound ∷ tool.TaskResponse ∷ tool.Symbols ∷ tool.Orti ∷ tool.Labels ∷ tool.TraceReason
     ∷ tool.Unused ∷ []
 
 -- its first word

@@ -52,6 +52,8 @@ pub enum Tool {
     TaskResponse,
     /// `symbols OIL SRC OUT`: the file of the image that debuggers read.
     Symbols,
+    /// `orti OIL SRC OUT`: the file by which OSEK debuggers find the objects of the kernel.
+    Orti,
     /// `why OIL SRC labels`: whether lists of labels keep the rules, or where none do.
     Labels,
     /// `why OIL SRC ARR TRACE N`: whether a text of events is that of a run, or where it fails to be, and what could stand there.
@@ -61,7 +63,7 @@ pub enum Tool {
 }
 
 // In the order of their words.
-const TOOLS: [Tool; 22] = [
+const TOOLS: [Tool; 23] = [
     Tool::Elf,
     Tool::Unelf,
     Tool::Infer,
@@ -81,6 +83,7 @@ const TOOLS: [Tool; 22] = [
     Tool::TaskBound,
     Tool::TaskResponse,
     Tool::Symbols,
+    Tool::Orti,
     Tool::Labels,
     Tool::TraceReason,
     Tool::Unused,
@@ -156,6 +159,7 @@ impl Tool {
             Tool::TaskBound => Row::new("why", 4, 3, None, None, false),
             Tool::TaskResponse => Row::new("response", 5, 4, None, None, false),
             Tool::Symbols => Row::new("symbols", 4, 2, None, None, true),
+            Tool::Orti => Row::new("orti", 4, 2, None, None, true),
             Tool::Labels => Row::new("why", 4, 2, Some("labels"), None, false),
             Tool::TraceReason => Row::new("why", 6, 4, None, LENGTH, false),
             Tool::Unused => Row::new("unused", 3, 2, None, None, false),

@@ -5,7 +5,7 @@ use Rattle.sloth_io.specs.Sink.{Output, output_with, FailsToPassOn}
 use Rattle.sloth_io.proofs.Gains.{gains-nil, part-whole, part-behind}
 use Rattle.debug_session.specs.Input.{Coming}
 use Rattle.debug_ways.specs.Runs.{Run}
-use Rattle.debug_session.specs.Serving.{session_text, IsWhole, BrokeOff, IsAnswered, IsAnsweredInPart}
+use Rattle.debug_session.specs.Serving.{session_text, BrokeOff, IsAnsweredInPart, HasEnded}
 use Rattle.debug_session.specs.declared.serving.SessionFault.{SessionFault}
 use Rattle.debug_session.specs.declared.serving.SessionFault.TheVariants as faults
 use Rattle.tool_answers.specs.declared.status.Status.{Status}
@@ -25,13 +25,11 @@ closed_line wanted answer before mid now line took (inr failed) = inr (failed.0,
 
 -- a session's end, by its status
 pub session_ended : {T : Type 0} (run : Run) (names : List (List ℕ)) (bytes : Heard) (before now : Output) (end : Result T SessionFault)
-    → OnOk end (IsWhole run names bytes.coming before now) → IfErr end (λ fault. BrokeOff run names bytes.coming before now fault)
-    → OnOk end (IsAnswered run names bytes.before bytes.behind before now) → IfErr end (λ fault. IsAnsweredInPart run names bytes.before bytes.behind before now fault)
-    → IsSessionEnd run names bytes before now (end_status end)
-session_ended run names bytes before now (Ok t) whole broke answered partly = record { whole = whole; answered = answered }
-session_ended run names bytes before now (Err faults.Read) whole broke answered partly = record { broke = broke; partly = partly }
-session_ended run names bytes before now (Err faults.Write) whole broke answered partly = record { broke = broke; partly = partly }
-session_ended run names bytes before now (Err faults.NoMemory) whole broke answered partly = record { broke = broke; partly = partly }
+    → HasEnded run names bytes.coming bytes.before bytes.behind before now end → IsSessionEnd run names bytes before now (end_status end)
+session_ended run names bytes before now (Ok t) ended = ended
+session_ended run names bytes before now (Err faults.Read) ended = ended
+session_ended run names bytes before now (Err faults.Write) ended = ended
+session_ended run names bytes before now (Err faults.NoMemory) ended = ended
 
 pub passed_when_done : {T : Type 0} (end : Result T SessionFault) (P : Type 0) → OnOk end P → end_status end ≡ status.Done → P
 passed_when_done (Ok t) P passed is = passed

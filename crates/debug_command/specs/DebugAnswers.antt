@@ -8,7 +8,7 @@ use Rattle.command_line.specs.LastLine.{refusal_line, no_image_line}
 use Rattle.debug_session.specs.Input.{Coming}
 use Rattle.debug_ways.specs.Runs.{Run}
 use Rattle.debug_view.specs.ShownRun.{run_of}
-use Rattle.debug_session.specs.Serving.{IsWhole, BrokeOff, IsAnswered, IsAnsweredInPart}
+use Rattle.debug_session.specs.Serving.{IsBrokenOff, IsAllAnswered}
 use Rattle.debug_session.specs.declared.serving.SessionFault.{SessionFault}
 use Rattle.debug_session.specs.declared.serving.SessionFault.TheVariants as faults
 use Rattle.tool_answers.specs.declared.status.Status.{Status}
@@ -57,16 +57,6 @@ pub record IsUnserved (why : Cause) (bytes : Heard) (before now : Output) (passe
 
 -- ---- a session
 
--- a session over a run broke off so, told by what comes and by the bytes that were given
-pub record IsBrokenOff (run : Run) (names : List (List ℕ)) (bytes : Heard) (before now : Output) (fault : SessionFault) : Type 0 where
-  pub broke : BrokeOff run names bytes.coming before now fault
-  pub partly : IsAnsweredInPart run names bytes.before bytes.behind before now fault
-
--- it did not: all was answered
-pub record IsAllAnswered (run : Run) (names : List (List ℕ)) (bytes : Heard) (before now : Output) : Type 0 where
-  pub whole : IsWhole run names bytes.coming before now
-  pub answered : IsAnswered run names bytes.before bytes.behind before now
-
 -- the status of a session's end
 abbrev pub end_status : {T : Type 0} → Result T SessionFault → Status
 end_status (Ok _) = status.Done
@@ -77,10 +67,10 @@ end_status (Err faults.NoMemory) = status.NoMemory
 -- A session over a run ended so: all was answered that came; a read failed behind it; a write failed, and a first part of what is due was written; or
 -- memory was wanting behind a first part.
 abbrev pub IsSessionEnd : Run → List (List ℕ) → Heard → (before now : Output) → Status → Type 0
-IsSessionEnd run names bytes before now status.Done = IsAllAnswered run names bytes before now
-IsSessionEnd run names bytes before now status.ReadFault = IsBrokenOff run names bytes before now faults.Read
-IsSessionEnd run names bytes before now status.WriteFault = IsBrokenOff run names bytes before now faults.Write
-IsSessionEnd run names bytes before now status.NoMemory = IsBrokenOff run names bytes before now faults.NoMemory
+IsSessionEnd run names bytes before now status.Done = IsAllAnswered run names bytes.coming bytes.before bytes.behind before now
+IsSessionEnd run names bytes before now status.ReadFault = IsBrokenOff run names bytes.coming bytes.before bytes.behind before now faults.Read
+IsSessionEnd run names bytes before now status.WriteFault = IsBrokenOff run names bytes.coming bytes.before bytes.behind before now faults.Write
+IsSessionEnd run names bytes before now status.NoMemory = IsBrokenOff run names bytes.coming bytes.before bytes.behind before now faults.NoMemory
 IsSessionEnd run names bytes before now _ = ⊥
 
 -- a session over the run of the image and the arrivals that two texts mean was served, and what was written handed on

@@ -1,12 +1,12 @@
 //! The command, over a store of files, an input and a sink.
-ghost use Rattle.std.specs.Prelude.{◌≡◌, ◌≢◌, ◌≤◌, OnOk, IfErr, length};
+ghost use Rattle.std.specs.Prelude.{◌≡◌, ◌≢◌, ◌≤◌, OnOk, length};
 ghost use Rattle.sloth_base.specs.Arrivals.{AreArrivals};
 ghost use Rattle.sloth_base.specs.ImageRange.{InFormat};
 ghost use Rattle.sloth_base.specs.Limits.{file_limit, task_limit, count_limit};
 ghost use Rattle.sloth_base.specs.Owners.{owners_named};
 ghost use Rattle.sloth_io.specs.Store.{KeepsFiles};
 ghost use Rattle.debug_view.specs.ShownRun.{run_of};
-ghost use Rattle.debug_session.specs.Serving.{IsWhole, BrokeOff, IsAnswered, IsAnsweredInPart};
+ghost use Rattle.debug_session.specs.Serving.{HasEnded};
 ghost use Rattle.debug_command.specs.DebugAnswers.{IsCloseAnswer, IsLineAnswer, IsSaid, IsSessionEnd, IsTextsAnswer, IsDebugAnswer, end_status, heard};
 ghost use Rattle.debug_command.specs.Words.{debugging_of};
 
@@ -68,10 +68,7 @@ fn serve_machine<I: Input, S: Sink, M: Machine>(
     requires start { M.count machine ≡ 0 }
     requires short { (M.run machine).end ≤ count_limit }
     requires few { length names.now ≤ task_limit }
-    ensures whole { OnOk result (IsWhole (M.run machine) names.now (I.coming input.old) (S.seen out.old) (S.seen out.new)) }
-    ensures broke { IfErr result (λ fault. BrokeOff (M.run machine) names.now (I.coming input.old) (S.seen out.old) (S.seen out.new) fault) }
-    ensures answered { OnOk result (IsAnswered (M.run machine) names.now (I.given input.old) (I.given input.new) (S.seen out.old) (S.seen out.new)) }
-    ensures partly { IfErr result (λ fault. IsAnsweredInPart (M.run machine) names.now (I.given input.old) (I.given input.new) (S.seen out.old) (S.seen out.new) fault) }
+    ensures ended { HasEnded (M.run machine) names.now (I.coming input.old) (I.given input.old) (I.given input.new) (S.seen out.old) (S.seen out.new) result }
     ensures passed { OnOk result (S.passed_on out.old → S.passed_on out.new) }
 {
     match Cursor::new(alloc, machine) {
@@ -93,11 +90,7 @@ fn session<I: Input, S: Sink>(
 ) -> Result<(), SessionFault>
     requires format { InFormat image.now }
     requires arrivals { AreArrivals (owners_named image.now) arrivals.now }
-    ensures whole { OnOk result (IsWhole (run_of image.now arrivals.now) image.now.tasks (I.coming input.old) (S.seen out.old) (S.seen out.new)) }
-    ensures broke { IfErr result (λ fault. BrokeOff (run_of image.now arrivals.now) image.now.tasks (I.coming input.old) (S.seen out.old) (S.seen out.new) fault) }
-    ensures answered { OnOk result (IsAnswered (run_of image.now arrivals.now) image.now.tasks (I.given input.old) (I.given input.new) (S.seen out.old) (S.seen out.new)) }
-    ensures partly { IfErr result (λ fault.
-        IsAnsweredInPart (run_of image.now arrivals.now) image.now.tasks (I.given input.old) (I.given input.new) (S.seen out.old) (S.seen out.new) fault) }
+    ensures ended { HasEnded (run_of image.now arrivals.now) image.now.tasks (I.coming input.old) (I.given input.old) (I.given input.new) (S.seen out.old) (S.seen out.new) result }
     ensures passed { OnOk result (S.passed_on out.old → S.passed_on out.new) }
 {
     match Place::new(alloc, image, arrivals) {
@@ -116,11 +109,7 @@ fn flushed_session<I: Input, S: Sink>(
 ) -> Result<(), SessionFault>
     requires format { InFormat image.now }
     requires arrivals { AreArrivals (owners_named image.now) arrivals.now }
-    ensures whole { OnOk result (IsWhole (run_of image.now arrivals.now) image.now.tasks (I.coming input.old) (S.seen out.old) (S.seen out.new)) }
-    ensures broke { IfErr result (λ fault. BrokeOff (run_of image.now arrivals.now) image.now.tasks (I.coming input.old) (S.seen out.old) (S.seen out.new) fault) }
-    ensures answered { OnOk result (IsAnswered (run_of image.now arrivals.now) image.now.tasks (I.given input.old) (I.given input.new) (S.seen out.old) (S.seen out.new)) }
-    ensures partly { IfErr result (λ fault.
-        IsAnsweredInPart (run_of image.now arrivals.now) image.now.tasks (I.given input.old) (I.given input.new) (S.seen out.old) (S.seen out.new) fault) }
+    ensures ended { HasEnded (run_of image.now arrivals.now) image.now.tasks (I.coming input.old) (I.given input.old) (I.given input.new) (S.seen out.old) (S.seen out.new) result }
     ensures passed { OnOk result (S.passed_on out.new) }
 {
     match out.flush() {

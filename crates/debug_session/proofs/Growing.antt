@@ -11,3 +11,7 @@ one_more text k old out new before put =
 -- none yet
 pub none_yet : (text : ℕ → List ℕ) (old : List ℕ) → old ≡ old ++ up_to text 0
 none_yet text old = sym (append-nil old)
+
+-- five texts behind another, put in three steps
+pub regrouped : (old a b c d e : List ℕ) → old ++ a ++ b ++ (c ++ d ++ e) ≡ old ++ (a ++ b ++ c ++ d ++ e)
+regrouped old a b c d e = simp append_assoc

@@ -1,10 +1,8 @@
 pub mod Answered
 pub mod Answering
-pub mod Continuing
 pub mod Exchanging
 pub mod Growing
 pub mod MemoryBytes
-pub mod Sides
 pub mod Digits
 pub mod Escaping
 pub mod Parting
@@ -12,3 +10,4 @@ pub mod RoundTrip
 pub mod PacketStanding
 pub mod Giving
 mod NoGivenFields
+pub mod OneReply

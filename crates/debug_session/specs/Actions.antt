@@ -1,13 +1,10 @@
 -- `vCont`: actions of threads.
-use Rattle.std.specs.Prelude.{ℕ, ◌==◌, ◌&&◌, List, [], ◌∷◌, length, Option, None, Some, Bool, true, false, is_some, not, if◌then◌else◌}
-use Rattle.std.specs.Option.{option_or}
+use Rattle.std.specs.Prelude.{ℕ, ◌==◌, ◌&&◌, List, [], ◌∷◌, length, Option, None, Some, Result, Ok, Err, Bool, ◌||◌, true, false, is_some, not, if◌then◌else◌}
 use Rattle.debug_session.specs.Hex.{number_of}
-use Rattle.debug_session.specs.declared.request.Step.{Step}
+use Rattle.debug_ways.specs.declared.standing.Step.{Step}
 use Rattle.debug_session.specs.declared.request.Request.{Request}
 use Rattle.debug_session.specs.declared.request.Request.TheVariants as asks
 use Rattle.debug_session.specs.declared.request.Window.{Window}
-use Rattle.debug_session.specs.declared.words.Selected.{Selected}
-use Rattle.debug_session.specs.declared.words.Selected.TheVariants as threads
 use Rattle.debug_session.specs.declared.actions.Action.{Action}
 use Rattle.debug_session.specs.declared.actions.Action.TheVariants as actions
 use Rattle.debug_session.specs.Words.{front, has, behind, window_of, thread_in}
@@ -17,23 +14,16 @@ abbrev pub range_action : Option Window → Action
 range_action None = actions.NoAction
 range_action (Some window) = actions.Stepped window.from window.length
 
--- two digits are behind `C` or `S`
-abbrev pub signal_action : List ℕ → Action → Action
-signal_action digits action = if length digits == 2 && is_some (number_of digits) then action else actions.NoAction
+-- the two digits of a signal
+abbrev pub is_signal : List ℕ → Bool
+is_signal digits = length digits == 2 && is_some (number_of digits)
 
--- nothing is behind `c` or `s`
-abbrev pub bare_action : List ℕ → Action → Action
-bare_action [] action = action
-bare_action (byte ∷ rest) asked = actions.NoAction
-
--- an action: `c`, `s`, `r` and a range, `C` or `S` and a signal
+-- an action: `r` and a range, `c` or `s` with nothing behind it, `C` or `S` and a signal
 abbrev pub action_by : (first : ℕ) → List ℕ → Action
 action_by first rest =
-    if first == 99 then bare_action rest actions.Continued
-    else if first == 115 then bare_action rest (actions.Stepped 0 0)
-    else if first == 114 then range_action (window_of rest)
-    else if first == 67 then signal_action rest actions.Continued
-    else if first == 83 then signal_action rest (actions.Stepped 0 0)
+    if first == 114 then range_action (window_of rest)
+    else if (first == 99 && length rest == 0) || (first == 67 && is_signal rest) then actions.Continued
+    else if (first == 115 && length rest == 0) || (first == 83 && is_signal rest) then actions.Stepped 0 0
     else actions.NoAction
 
 abbrev pub action_of : List ℕ → Action
@@ -41,37 +31,35 @@ action_of [] = actions.NoAction
 action_of (first ∷ rest) = action_by first rest
 
 -- the thread behind a colon; without one any
-abbrev pub thread_behind : (tasks : ℕ) → Option (List ℕ) → Selected
-thread_behind tasks None = threads.Thread 0
+abbrev pub thread_behind : (tasks : ℕ) → Option (List ℕ) → Result ℕ ℕ
+thread_behind tasks None = Ok 0
 thread_behind tasks (Some text) = thread_in tasks text
 
--- a step of a thread, or none
-abbrev pub step_by : Action → ℕ → Option Step
-step_by actions.Continued thread = None
-step_by (actions.Stepped from to) thread = Some (record { thread = thread; alone = false; backwards = false; from = from; to = to })
-step_by actions.NoAction thread = None
+-- the first step of those in front of a part and of the part's action, or the number of its fault
+abbrev pub with_action : Result ℕ ℕ → Action → Option Step → Result (Option Step) ℕ
+with_action (Err fault) _ chosen = Err fault
+with_action (Ok thread) actions.NoAction chosen = Err 1
+with_action (Ok thread) actions.Continued chosen = Ok chosen
+with_action (Ok thread) (actions.Stepped from to) None = Ok (Some (record { thread = thread; alone = false; backwards = false; from = from; to = to }))
+with_action (Ok thread) (actions.Stepped from to) (Some step) = Ok (Some step)
 
-abbrev pub is_action : Action → Bool
-is_action actions.NoAction = false
-is_action actions.Continued = true
-is_action (actions.Stepped from to) = true
+abbrev pub step_with : (tasks : ℕ) → (part : List ℕ) → Option Step → Result (Option Step) ℕ
+step_with tasks part chosen = with_action (thread_behind tasks (behind 58 part)) (action_of (front 58 part)) chosen
 
 -- what is asked where all parts are read: the first step, alone where it is the only action, or else a continue
 abbrev pub chosen_request : (only : Bool) → Option Step → Request
 chosen_request only None = asks.Continue false
 chosen_request only (Some step) = asks.Step (record step { alone = only })
 
--- on with a part that has an action and a thread, or the fault of the part
-abbrev pub on_part : Selected → Action → Option Step → (Option Step → Request) → Request
-on_part threads.NoForm asked chosen next = asks.Fault 1
-on_part threads.NoThread asked chosen next = asks.Fault 2
-on_part (threads.Thread thread) action chosen next = if is_action action then next (option_or chosen (step_by action thread)) else asks.Fault 1
+-- on with the step, or the fault
+abbrev pub on_step : Result (Option Step) ℕ → (Option Step → Request) → Request
+on_step (Err fault) next = asks.Fault fault
+on_step (Ok step) next = next step
 
 -- what parts ask, behind others of which this is the first step
 abbrev pub parts_request : (tasks : ℕ) → (only : Bool) → List (List ℕ) → Option Step → Request
 parts_request tasks only [] chosen = chosen_request only chosen
-parts_request tasks only (part ∷ parts) chosen =
-    on_part (thread_behind tasks (behind 58 part)) (action_of (front 58 part)) chosen (λ next. parts_request tasks only parts next)
+parts_request tasks only (part ∷ parts) chosen = on_step (step_with tasks part chosen) (λ next. parts_request tasks only parts next)
 
 -- a byte in front of the first part
 abbrev pub with_byte : ℕ → List (List ℕ) → List (List ℕ)

@@ -1,17 +1,12 @@
 pub mod ByteReader
 pub mod Input
 pub mod MemInput
-pub mod Causes
 pub mod Description
 pub mod Exchanges
-pub mod Points
 pub mod Replies
 pub mod Serving
 pub mod Sessions
-pub mod Standing
 pub mod Texts
-pub mod Wishes
-pub mod Around
 pub mod Acknowledging
 pub mod Actions
 pub mod Escapes

@@ -1,43 +1,38 @@
 -- The reply to a request, where a session stands behind it.
-use Rattle.std.specs.Prelude.{ℕ, zero, suc, ◌+◌, ◌-◌, ◌/◌, ◌%◌, ◌==◌, ◌&&◌, nat_lt, not, List, [], ◌∷◌, ◌++◌, length, get_or, Option, None, Some, Bool, true, false, if◌then◌else◌, codes, decimal}
-use Rattle.std.specs.Option.{unwrap_or}
+use Rattle.std.specs.Prelude.{ℕ, zero, suc, ◌+◌, ◌-◌, ◌/◌, ◌%◌, ◌==◌, ◌&&◌, nat_lt, not, List, [], ◌∷◌, ◌++◌, length, get_or, Option, None, Some, Bool, true, false, is_none, if◌then◌else◌, codes, decimal}
 use Rattle.osek_scheduler.specs.declared.state.TaskState.{TaskState}
 use Rattle.osek_scheduler.specs.declared.state.TaskState.TheVariants as mode
 use Rattle.rv32_instr.specs.declared.stop.Stop.{Stop}
 use Rattle.rv32_instr.specs.declared.stop.Stop.TheVariants as stops
 use Rattle.trace_text.specs.StopLine.{stopped_line}
 use Rattle.debug_session.specs.Hex.{hex_of}
-use Rattle.sloth_base.specs.Limits.{count_limit}
-use Rattle.debug_session.specs.Around.{around}
+use Rattle.debug_ways.specs.Around.{events_text}
+use Rattle.debug_ways.specs.Shown.{seen_of, view_of, shown_thread, least_of}
 use Rattle.debug_ways.specs.Runs.{Run}
-use Rattle.debug_session.specs.Causes.{thread_of}
+use Rattle.debug_ways.specs.Causes.{thread_of}
 use Rattle.debug_session.specs.Description.{description}
-use Rattle.debug_session.specs.Points.{is_among}
-use Rattle.debug_session.specs.Texts.{up_to, hex_number, register_digits, window_text, least_of, state_text, thread_state_text}
-use Rattle.debug_session.specs.declared.request.Point.{Point}
+use Rattle.debug_ways.specs.Points.{is_among}
+use Rattle.debug_session.specs.Texts.{up_to, hex_number, register_digits, window_text, state_text}
+use Rattle.debug_ways.specs.declared.points.Point.{Point}
 use Rattle.debug_session.specs.declared.request.Request.{Request}
 use Rattle.debug_session.specs.declared.request.Request.TheVariants as asks
 use Rattle.debug_session.specs.declared.request.Window.{Window}
-use Rattle.debug_session.specs.declared.threads.Seen.{Seen}
-use Rattle.debug_session.specs.declared.threads.View.{View}
-use Rattle.debug_session.specs.declared.standing.Standing.{Standing}
-use Rattle.debug_session.specs.declared.wanted.Cause.{Cause}
-use Rattle.debug_session.specs.declared.wanted.Cause.TheVariants as causes
+use Rattle.debug_ways.specs.declared.shown.Seen.{Seen}
+use Rattle.debug_ways.specs.declared.shown.View.{View}
+use Rattle.debug_ways.specs.declared.standing.Standing.{Standing}
+use Rattle.debug_ways.specs.declared.wanted.Cause.{Cause}
+use Rattle.debug_ways.specs.declared.wanted.Cause.TheVariants as causes
 
 -- ---- stops
 
--- the signal of a stop, and the reason where it is the end of the run
-abbrev pub stop_signal : Option Stop → List ℕ
-stop_signal None = codes "05"
-stop_signal (Some (stops.Illegal word)) = codes "04"
-stop_signal (Some (stops.Fetch pc)) = codes "0b"
-stop_signal (Some (stops.Access address)) = codes "0b"
-stop_signal (Some (stops.Misaligned address)) = codes "0a"
-stop_signal (Some stops.Environment) = codes "05"
-
-abbrev pub stop_reason : Option Stop → List ℕ
-stop_reason None = codes "replaylog:end;"
-stop_reason (Some stop) = []
+-- the signal of the end of a run
+abbrev pub end_signal : Option Stop → List ℕ
+end_signal None = codes "05"
+end_signal (Some (stops.Illegal word)) = codes "04"
+end_signal (Some (stops.Fetch pc)) = codes "0b"
+end_signal (Some (stops.Access address)) = codes "0b"
+end_signal (Some (stops.Misaligned address)) = codes "0a"
+end_signal (Some stops.Environment) = codes "05"
 
 -- the signal of a cause
 abbrev pub cause_signal : Option Stop → (other : Bool) → Cause → List ℕ
@@ -46,23 +41,20 @@ cause_signal stop other causes.Step = if other then codes "00" else codes "05"
 cause_signal stop other (causes.Break kind) = codes "05"
 cause_signal stop other (causes.Watch kind address) = codes "05"
 cause_signal stop other causes.Begin = codes "05"
-cause_signal stop other causes.End = stop_signal stop
+cause_signal stop other causes.End = end_signal stop
 
 -- the word of a watchpoint's kind
 abbrev pub watch_word : ℕ → List ℕ
 watch_word kind = if kind == 2 then codes "watch:" else if kind == 3 then codes "rwatch:" else codes "awatch:"
 
-abbrev pub break_reason : ℕ → List ℕ
-break_reason kind = if kind == 0 then codes "swbreak:;" else codes "hwbreak:;"
-
 -- the reason of a cause
 abbrev pub cause_reason : Option Stop → Cause → List ℕ
 cause_reason stop causes.Interrupt = []
 cause_reason stop causes.Step = []
-cause_reason stop (causes.Break kind) = break_reason kind
+cause_reason stop (causes.Break kind) = if kind == 0 then codes "swbreak:;" else codes "hwbreak:;"
 cause_reason stop (causes.Watch kind address) = watch_word kind ++ hex_number address ++ codes ";"
 cause_reason stop causes.Begin = codes "replaylog:begin;"
-cause_reason stop causes.End = stop_reason stop
+cause_reason stop causes.End = if is_none stop then codes "replaylog:end;" else []
 
 -- what is told of a stop, where the run ends so
 abbrev pub told_text : Option Stop → Standing → List ℕ
@@ -75,10 +67,6 @@ abbrev pub stop_text : Run → Standing → List ℕ
 stop_text run standing = told_text run.stop standing
 
 -- ---- registers and memory
-
--- the thread whose registers are shown
-abbrev pub shown_thread : Run → Standing → ℕ
-shown_thread run standing = if standing.general == 0 then thread_of (run.look standing.count) else standing.general
 
 abbrev pub register_text : Run → Standing → ℕ → List ℕ
 register_text run standing number = register_digits (run.register standing.count (shown_thread run standing) number)
@@ -115,24 +103,6 @@ memory_text run standing window =
 
 -- ---- threads
 
--- what the last count of the run shows of tasks that finds interrupts open
-abbrev pub seen_at : Run → Option ℕ → Option Seen
-seen_at run None = None
-seen_at run (Some count) =
-    if nat_lt run.end count then None else Some (record { count = count; running = (run.look count).running; states = run.states count })
-
-abbrev pub seen_of : Run → ℕ → Option Seen
-seen_of run count = seen_at run (run.look count).open_count
-
--- what a count shows of threads: of the machine its level and mstatus
-abbrev pub view_of : Run → ℕ → View
-view_of run count = record {
-  count = count;
-  level = unwrap_or (run.register count 1 36) 0;
-  mstatus = unwrap_or (run.register count 1 33) 0;
-  seen = seen_of run count;
-}
-
 -- what the machine is: its count, its level, and whether interrupts are masked
 unfoldable pub machine_text : View → List ℕ
 machine_text view =
@@ -142,7 +112,7 @@ machine_text view =
 -- what a task is
 unfoldable pub task_text : Option Seen → ℕ → List ℕ
 task_text None task = codes "booting"
-task_text (Some seen) task = thread_state_text (seen.running == task + 1) (get_or seen.states task mode.Suspended)
+task_text (Some seen) task = state_text (if seen.running == task + 1 then codes "running" else codes "preempted") (get_or seen.states task mode.Suspended)
 
 -- what a thread is; its number is at least 1
 abbrev pub thread_text : View → ℕ → List ℕ
@@ -156,24 +126,10 @@ thread_name names thread = if thread == 1 then codes "machine" else get_or names
 abbrev pub words_text : View → List (List ℕ) → ℕ → List ℕ
 words_text view names thread = thread_name names thread ++ codes " " ++ thread_text view thread
 
--- what stands in front of the number and of the name in an element of the list of threads
-unfoldable pub number_front : List ℕ
-number_front = codes "<thread id=\""
-
-unfoldable pub name_front : List ℕ
-name_front = codes "\" name=\""
-
--- an element of the list of threads up to the name
-abbrev pub element_number : ℕ → List ℕ
-element_number thread = number_front ++ hex_number thread ++ name_front
-
--- an element of the list of threads in front of its state
-abbrev pub element_head : List (List ℕ) → ℕ → List ℕ
-element_head names thread = element_number thread ++ thread_name names thread ++ codes "\">"
-
 -- an element of the list of threads
 unfoldable pub thread_element : View → List (List ℕ) → ℕ → List ℕ
-thread_element view names thread = element_head names thread ++ thread_text view thread ++ codes "</thread>\n"
+thread_element view names thread =
+    codes "<thread id=\"" ++ hex_number thread ++ codes "\" name=\"" ++ thread_name names thread ++ codes "\">" ++ thread_text view thread ++ codes "</thread>\n"
 
 -- what stands in front of the list of threads
 unfoldable pub threads_head : List ℕ
@@ -197,28 +153,21 @@ abbrev pub met_text : (pc : ℕ) → Option Stop → List ℕ
 met_text pc None = codes "\n"
 met_text pc (Some stop) = codes ", " ++ stopped_line pc stop
 
-abbrev pub meeting_text : Run → Standing → List ℕ
-meeting_text run standing = if standing.met then met_text (run.look standing.count).pc run.stop else codes "\n"
+-- where a session stands, where this is the address of its count and the run ends so
+abbrev pub place_text : Standing → (pc : ℕ) → Option Stop → List ℕ
+place_text standing pc stop = codes "count " ++ decimal standing.count ++ (if standing.met then met_text pc stop else codes "\n")
 
 abbrev pub count_text : Run → Standing → List ℕ
-count_text run standing = codes "count " ++ decimal standing.count ++ meeting_text run standing
+count_text run standing = place_text standing (run.look standing.count).pc run.stop
 
 -- the line of a task's state
 unfoldable pub task_line : List (List ℕ) → List TaskState → ℕ → List ℕ
-task_line names states task = get_or names task [] ++ codes " " ++ state_text (get_or states task mode.Suspended) ++ codes "\n"
+task_line names states task = get_or names task [] ++ codes " " ++ state_text (codes "active") (get_or states task mode.Suspended) ++ codes "\n"
 
 -- the states of all tasks
 abbrev pub states_text : List (List ℕ) → Option Seen → List ℕ
 states_text names None = codes "booting\n"
 states_text names (Some seen) = codes "count " ++ decimal seen.count ++ codes "\n" ++ up_to (task_line names seen.states) (length names)
-
--- of so many counts behind the own one the events are looked at
-abbrev pub trace_counts : ℕ
-trace_counts = 1000
-
--- the lines of the events around a count
-abbrev pub events_text : Run → ℕ → List ℕ
-events_text run count = around (run.trace (least_of count_limit (count + trace_counts))) count
 
 unfoldable pub help_text : List ℕ
 help_text = codes "count      the number of instructions executed\ngoto K     to count K, from 0 to 1000000; then: maintenance flush register-cache\nstates     what each task is, as `at` prints it\nevents     the events around, as `run` prints them\n"
@@ -231,22 +180,14 @@ no_goto_text = codes "goto K: K is a count from 0 to 1000000\n"
 unfoldable pub features_text : List ℕ
 features_text = codes "PacketSize=4000;QStartNoAckMode+;swbreak+;hwbreak+;vContSupported+;ReverseStep+;ReverseContinue+;qXfer:features:read+;qXfer:threads:read+"
 
--- the text of a fault's number
-abbrev pub fault_text : ℕ → List ℕ
-fault_text fault = if fault == 1 then codes "E01" else if fault == 2 then codes "E02" else codes "E04"
-
--- what was set is among the points, or there are too many
-abbrev pub set_text : List Point → Point → List ℕ
-set_text points point = if is_among point points then codes "OK" else codes "E05"
-
 -- the text of a reply in which the run has no part
 abbrev pub fixed_text : List Point → Request → List ℕ
-fixed_text points (asks.Fault fault) = fault_text fault
+fixed_text points (asks.Fault fault) = if fault == 1 then codes "E01" else if fault == 2 then codes "E02" else codes "E04"
 fixed_text points asks.Supported = features_text
 fixed_text points asks.NoAnnex = codes "E00"
 fixed_text points asks.ThreadListEnd = codes "l"
 fixed_text points asks.Attached = codes "1"
-fixed_text points (asks.SetPoint point) = set_text points point
+fixed_text points (asks.SetPoint point) = if is_among point points then codes "OK" else codes "E05"
 fixed_text points asks.Actions = codes "vCont;c;C;s;S;r"
 fixed_text points asks.Confirmed = codes "OK"
 fixed_text points asks.NoAcks = codes "OK"
@@ -256,23 +197,16 @@ fixed_text points (asks.TakePoint point) = codes "OK"
 fixed_text points asks.Detach = codes "OK"
 fixed_text points _ = []
 
--- what is told of threads
-abbrev pub threads_reply : Run → List (List ℕ) → ℕ → Request → List ℕ
-threads_reply run names count (asks.Threads window) = window_text (threads_text (view_of run count) names) window
-threads_reply run names count asks.ThreadList = thread_list (length names)
-threads_reply run names count (asks.ThreadInfo thread) = hex_of (words_text (view_of run count) names thread)
-threads_reply run names count asks.CurrentThread = codes "QC" ++ hex_number (thread_of (run.look count))
-threads_reply run names count _ = []
-
--- the digits of what a command of the monitor shows
-abbrev pub monitor_reply : Run → List (List ℕ) → Standing → Request → List ℕ
-monitor_reply run names standing asks.Count = hex_of (count_text run standing)
-monitor_reply run names standing (asks.Goto count) = hex_of (count_text run standing)
-monitor_reply run names standing asks.NoGoto = hex_of no_goto_text
-monitor_reply run names standing asks.States = hex_of (states_text names (seen_of run standing.count))
-monitor_reply run names standing asks.Events = hex_of (events_text run standing.count)
-monitor_reply run names standing asks.Help = hex_of help_text
-monitor_reply run names standing _ = []
+-- the text that a reply tells in digits
+abbrev pub plain_text : Run → List (List ℕ) → Standing → Request → List ℕ
+plain_text run names standing (asks.ThreadInfo thread) = words_text (view_of run standing.count) names thread
+plain_text run names standing asks.Count = count_text run standing
+plain_text run names standing (asks.Goto count) = count_text run standing
+plain_text run names standing asks.NoGoto = no_goto_text
+plain_text run names standing asks.States = states_text names (seen_of run standing.count)
+plain_text run names standing asks.Events = events_text run standing.count
+plain_text run names standing asks.Help = help_text
+plain_text run names standing _ = []
 
 -- the text of the reply to a request, where a session stands so behind it with these points
 abbrev pub reply_text : Run → List (List ℕ) → List Point → Standing → Request → List ℕ
@@ -281,19 +215,19 @@ reply_text run names points standing (asks.Continue backwards) = stop_text run s
 reply_text run names points standing (asks.Step step) = stop_text run standing
 reply_text run names points standing (asks.PlainStep backwards) = stop_text run standing
 reply_text run names points standing (asks.Description window) = window_text description window
-reply_text run names points standing (asks.Threads window) = threads_reply run names standing.count (asks.Threads window)
-reply_text run names points standing asks.ThreadList = threads_reply run names standing.count asks.ThreadList
-reply_text run names points standing (asks.ThreadInfo thread) = threads_reply run names standing.count (asks.ThreadInfo thread)
-reply_text run names points standing asks.CurrentThread = threads_reply run names standing.count asks.CurrentThread
+reply_text run names points standing (asks.Threads window) = window_text (threads_text (view_of run standing.count) names) window
+reply_text run names points standing asks.ThreadList = thread_list (length names)
+reply_text run names points standing asks.CurrentThread = codes "QC" ++ hex_number (thread_of (run.look standing.count))
 reply_text run names points standing asks.Registers = registers_text run standing
 reply_text run names points standing (asks.Register number) = register_text run standing number
 reply_text run names points standing (asks.Memory window) = memory_text run standing window
-reply_text run names points standing asks.Count = monitor_reply run names standing asks.Count
-reply_text run names points standing (asks.Goto count) = monitor_reply run names standing (asks.Goto count)
-reply_text run names points standing asks.NoGoto = monitor_reply run names standing asks.NoGoto
-reply_text run names points standing asks.States = monitor_reply run names standing asks.States
-reply_text run names points standing asks.Events = monitor_reply run names standing asks.Events
-reply_text run names points standing asks.Help = monitor_reply run names standing asks.Help
+reply_text run names points standing (asks.ThreadInfo thread) = hex_of (plain_text run names standing (asks.ThreadInfo thread))
+reply_text run names points standing asks.Count = hex_of (plain_text run names standing asks.Count)
+reply_text run names points standing (asks.Goto count) = hex_of (plain_text run names standing (asks.Goto count))
+reply_text run names points standing asks.NoGoto = hex_of (plain_text run names standing asks.NoGoto)
+reply_text run names points standing asks.States = hex_of (plain_text run names standing asks.States)
+reply_text run names points standing asks.Events = hex_of (plain_text run names standing asks.Events)
+reply_text run names points standing asks.Help = hex_of (plain_text run names standing asks.Help)
 reply_text run names points standing request = fixed_text points request
 
 -- `k` has no reply

@@ -1,84 +1,50 @@
 -- What the data of a packet asks.
-use Rattle.std.specs.Prelude.{ℕ, ◌-◌, ◌==◌, ◌&&◌, ◌||◌, nat_le, nat_lt, not, List, [], ◌∷◌, length, take, drop, Option, None, Some, Bool, true, false, is_none, if◌then◌else◌, codes, is_some}
+use Rattle.std.specs.Prelude.{ℕ, ◌-◌, ◌==◌, ◌&&◌, ◌||◌, nat_le, nat_lt, not, List, [], ◌∷◌, length, take, drop, Option, None, Some, Result, Ok, Err, Bool, true, false, is_none, if◌then◌else◌, codes}
 use Rattle.std.specs.Str.{bytes_eq, is_utf8}
-use Rattle.std.specs.Option.{option_or, unwrap_or}
 use Rattle.debug_session.specs.Hex.{number_of, bytes_of_hex}
-use Rattle.debug_session.specs.declared.request.Point.{Point}
+use Rattle.debug_ways.specs.declared.points.Point.{Point}
 use Rattle.debug_session.specs.declared.request.Request.{Request}
 use Rattle.debug_session.specs.declared.request.Request.TheVariants as asks
 use Rattle.debug_session.specs.declared.request.Window.{Window}
-use Rattle.debug_session.specs.declared.words.Selected.{Selected}
-use Rattle.debug_session.specs.declared.words.Selected.TheVariants as threads
-use Rattle.debug_session.specs.Actions.{actions_request}
-use Rattle.debug_session.specs.Words.{front, behind, rest_of, window_of, thread_in, first_word, further_words, count_in}
-
--- a request where nothing follows, or else another
-abbrev pub alone : List ℕ → Request → Request → Request
-alone [] request other = request
-alone (byte ∷ rest) request other = other
+use Rattle.debug_session.specs.declared.forms.Form.{Form}
+use Rattle.debug_session.specs.declared.forms.Form.TheVariants as forms
+use Rattle.debug_session.specs.declared.forms.Row.{Row}
+use Rattle.debug_session.specs.Actions.{is_signal, actions_request}
+use Rattle.debug_session.specs.Words.{front, behind, window_of, thread_in, first_word, further_words, count_in}
 
 -- ---- threads, registers, memory
 
-abbrev pub shown_by : Selected → Request
-shown_by (threads.Thread thread) = asks.SelectShown thread
-shown_by threads.NoForm = asks.Fault 1
-shown_by threads.NoThread = asks.Fault 2
+-- what is asked of a thread, or the fault of the text that tells it
+abbrev pub thread_request : Form → Result ℕ ℕ → Request
+thread_request form (Err fault) = asks.Fault fault
+thread_request forms.Shown (Ok thread) = asks.SelectShown thread
+thread_request forms.Stepped (Ok thread) = asks.SelectStepped thread
+thread_request forms.Alive (Ok thread) = if thread == 0 then asks.Fault 1 else asks.Confirmed
+thread_request forms.Info (Ok thread) = if thread == 0 then asks.Fault 1 else asks.ThreadInfo thread
+thread_request _ (Ok thread) = asks.Fault 1
 
-abbrev pub stepped_by : Selected → Request
-stepped_by (threads.Thread thread) = asks.SelectStepped thread
-stepped_by threads.NoForm = asks.Fault 1
-stepped_by threads.NoThread = asks.Fault 2
+-- what is asked of a part of a text or of memory
+abbrev pub window_request : Form → Option Window → Request
+window_request form None = asks.Fault 1
+window_request forms.Memory (Some window) = asks.Memory window
+window_request forms.Description (Some window) = asks.Description window
+window_request forms.Threads (Some window) = asks.Threads window
+window_request _ (Some window) = asks.Fault 1
 
--- `Hg` and `Hc`
-abbrev pub select_request : (tasks : ℕ) → List ℕ → Request
-select_request tasks [] = asks.Fault 1
-select_request tasks (what ∷ rest) =
-    if what == 103 then shown_by (thread_in tasks rest)
-    else if what == 99 then stepped_by (thread_in tasks rest)
-    else asks.Fault 1
-
--- `T`
-abbrev pub alive_by : Selected → Request
-alive_by (threads.Thread thread) = if thread == 0 then asks.Fault 1 else asks.Confirmed
-alive_by threads.NoForm = asks.Fault 1
-alive_by threads.NoThread = asks.Fault 2
-
--- `qThreadExtraInfo`
-abbrev pub info_by : Selected → Request
-info_by (threads.Thread thread) = if thread == 0 then asks.Fault 1 else asks.ThreadInfo thread
-info_by threads.NoForm = asks.Fault 1
-info_by threads.NoThread = asks.Fault 2
-
--- `p`
-abbrev pub register_by : Option ℕ → Request
-register_by None = asks.Fault 1
-register_by (Some number) = if nat_lt number 38 then asks.Register number else asks.Fault 1
-
--- `m`
-abbrev pub memory_by : Option Window → Request
-memory_by None = asks.Fault 1
-memory_by (Some window) = asks.Memory window
-
-abbrev pub description_by : Option Window → Request
-description_by None = asks.Fault 1
-description_by (Some window) = asks.Description window
-
-abbrev pub threads_by : Option Window → Request
-threads_by None = asks.Fault 1
-threads_by (Some window) = asks.Threads window
+-- what is asked of a register
+abbrev pub register_request : Option ℕ → Request
+register_request None = asks.Fault 1
+register_request (Some number) = if nat_lt number 38 then asks.Register number else asks.Fault 1
 
 -- ---- points
 
-abbrev pub point_request : (sets : Bool) → Point → Request
-point_request sets point = if sets then asks.SetPoint point else asks.TakePoint point
-
 -- a breakpoint is at four bytes, whatever it says
-abbrev pub point_of : (kind address size : ℕ) → Point
-point_of kind address size = record { kind = kind; address = address; length = if nat_lt kind 2 then 4 else size }
+abbrev pub point_of : (kind : ℕ) → Window → Point
+point_of kind window = record { kind = kind; address = window.from; length = if nat_lt kind 2 then 4 else window.length }
 
 abbrev pub point_by : (sets : Bool) → (kind : ℕ) → Option Window → Request
 point_by sets kind None = asks.Fault 1
-point_by sets kind (Some window) = point_request sets (point_of kind window.from window.length)
+point_by sets kind (Some window) = if sets then asks.SetPoint (point_of kind window) else asks.TakePoint (point_of kind window)
 
 -- the kind that a text is, which is one digit of 0 to 4, or else 5
 abbrev pub kind_of : List ℕ → ℕ
@@ -86,15 +52,16 @@ kind_of [] = 5
 kind_of (digit ∷ []) = if nat_le 48 digit && nat_le digit 52 then digit - 48 else 5
 kind_of (digit ∷ more ∷ rest) = 5
 
--- two parts with a comma between
-abbrev pub is_two : List ℕ → Bool
-is_two text = is_some (behind 44 text) && is_none (behind 44 (rest_of (behind 44 text)))
+-- a text stands behind a comma, and there is no other comma in it
+abbrev pub has_one : Option (List ℕ) → Bool
+has_one None = false
+has_one (Some rest) = is_none (behind 44 rest)
 
--- a point, of the kind in front of the first comma and what stands behind it; what is of no known kind asks nothing
+-- a point, of the kind in front of the first comma and the two parts behind it; what is of no known kind asks nothing
 abbrev pub point_behind : (sets : Bool) → (kind : ℕ) → Option (List ℕ) → Request
 point_behind sets kind None = asks.Fault 1
 point_behind sets kind (Some rest) =
-    if not (is_two rest) then asks.Fault 1
+    if not (has_one (behind 44 rest)) then asks.Fault 1
     else if kind == 5 then asks.Nothing
     else point_by sets kind (window_of rest)
 
@@ -139,134 +106,84 @@ abbrev pub command_by : Option (List ℕ) → Request
 command_by None = asks.Fault 1
 command_by (Some text) = command_of text
 
--- ---- by the first byte
+-- ---- by a word in front
 
--- what stands behind a text that begins the content
-abbrev pub behind_text : (text content : List ℕ) → Option (List ℕ)
-behind_text text content = if bytes_eq text (take (length text) content) then Some (drop (length text) content) else None
+-- what is asked where this stands behind a word
+unfoldable pub followed : (tasks : ℕ) → Form → (rest : List ℕ) → Request
+followed tasks (forms.Bare request) rest = if length rest == 0 then request else asks.Nothing
+followed tasks (forms.Alone request) rest = if length rest == 0 then request else asks.Fault 1
+followed tasks (forms.Any request) rest = request
+followed tasks (forms.Signal request) rest = if is_signal rest then request else asks.Fault 1
+followed tasks forms.Shown rest = thread_request forms.Shown (thread_in tasks rest)
+followed tasks forms.Stepped rest = thread_request forms.Stepped (thread_in tasks rest)
+followed tasks forms.Alive rest = thread_request forms.Alive (thread_in tasks rest)
+followed tasks forms.Info rest = thread_request forms.Info (thread_in tasks rest)
+followed tasks forms.Register rest = register_request (number_of rest)
+followed tasks forms.Memory rest = window_request forms.Memory (window_of rest)
+followed tasks forms.Description rest = window_request forms.Description (window_of rest)
+followed tasks forms.Threads rest = window_request forms.Threads (window_of rest)
+followed tasks (forms.Points sets) rest = points_request sets rest
+followed tasks forms.Actions rest = actions_request tasks rest
+followed tasks forms.Command rest = command_by (bytes_of_hex rest)
 
--- what is asked with it
-abbrev pub asked_behind : Option (List ℕ) → (List ℕ → Request) → Option Request
-asked_behind None request = None
-asked_behind (Some rest) request = Some (request rest)
+-- a text begins the content
+abbrev pub begins : (text content : List ℕ) → Bool
+begins text content = bytes_eq text (take (length text) content)
 
--- a whole text asks it
-abbrev pub exactly : (text content : List ℕ) → Request → Option Request
-exactly text content request = if bytes_eq content text then Some request else None
+-- what the first word asks that begins the content
+abbrev pub asked_by : (tasks : ℕ) → List (List ℕ × Form) → List ℕ → Request
+asked_by tasks [] content = asks.Nothing
+asked_by tasks (row ∷ rows) content =
+    if begins row.0 content then followed tasks row.1 (drop (length row.0) content) else asked_by tasks rows content
 
--- `qSupported`, alone or with a colon behind it
-unfoldable pub supported_query : List ℕ → Option Request
-supported_query content =
-    option_or (exactly (codes "Supported") content asks.Supported) (asked_behind (behind_text (codes "Supported:") content) (λ rest. asks.Supported))
+abbrev pub row_of : Row → List ℕ × Form
+row_of row = (row.0.now, row.1)
 
--- `qXfer`
-unfoldable pub transfer_query : List ℕ → Option Request
-transfer_query content =
-    option_or (asked_behind (behind_text (codes "Xfer:features:read:target.xml:") content) (λ rest. description_by (window_of rest)))
-    (option_or (asked_behind (behind_text (codes "Xfer:features:read:") content) (λ rest. asks.NoAnnex))
-    (asked_behind (behind_text (codes "Xfer:threads:read::") content) (λ rest. threads_by (window_of rest))))
-
--- the queries of one word
-unfoldable pub word_query : List ℕ → Option Request
-word_query content =
-    option_or (exactly (codes "C") content asks.CurrentThread)
-    (option_or (exactly (codes "Attached") content asks.Attached)
-    (option_or (exactly (codes "fThreadInfo") content asks.ThreadList)
-    (exactly (codes "sThreadInfo") content asks.ThreadListEnd)))
-
--- those with an argument
-unfoldable pub argument_query : (tasks : ℕ) → List ℕ → Option Request
-argument_query tasks content =
-    option_or (asked_behind (behind_text (codes "ThreadExtraInfo,") content) (λ rest. info_by (thread_in tasks rest)))
-    (asked_behind (behind_text (codes "Rcmd,") content) (λ rest. command_by (bytes_of_hex rest)))
-
--- `q`
-abbrev pub query : (tasks : ℕ) → List ℕ → Request
-query tasks content =
-    unwrap_or (option_or (supported_query content) (option_or (transfer_query content) (option_or (word_query content) (argument_query tasks content))))
-    asks.Nothing
-
--- `v`
-unfoldable pub multi_request : (tasks : ℕ) → List ℕ → Request
-multi_request tasks content =
-    unwrap_or (option_or (exactly (codes "Cont?") content asks.Actions) (asked_behind (behind_text (codes "Cont;") content) (actions_request tasks))) asks.Nothing
-
--- `b`: back
-abbrev pub backward_request : List ℕ → Request
-backward_request content =
-    unwrap_or (option_or (exactly (codes "c") content (asks.Continue true)) (exactly (codes "s") content (asks.PlainStep true))) asks.Nothing
-
--- two digits are behind `C` or `S`
-abbrev pub behind_signal : List ℕ → Request → Request
-behind_signal content request = if length content == 2 && is_some (number_of content) then request else asks.Fault 1
-
--- packets whose first byte says what is gone, forward or back
-unfoldable pub going_request : (first : ℕ) → List ℕ → Option Request
-going_request first content =
-    if first == 99 then Some (alone content (asks.Continue false) (asks.Fault 1))
-    else if first == 115 then Some (alone content (asks.PlainStep false) (asks.Fault 1))
-    else if first == 67 then Some (behind_signal content (asks.Continue false))
-    else if first == 83 then Some (behind_signal content (asks.PlainStep false))
-    else if first == 98 then Some (backward_request content)
-    else None
-
--- those that ask what is shown
-unfoldable pub showing_request : (tasks first : ℕ) → List ℕ → Option Request
-showing_request tasks first content =
-    if first == 63 then Some (alone content asks.LastStop asks.Nothing)
-    else if first == 103 then Some (alone content asks.Registers asks.Nothing)
-    else if first == 112 then Some (register_by (number_of content))
-    else if first == 109 then Some (memory_by (window_of content))
-    else if first == 72 then Some (select_request tasks content)
-    else if first == 84 then Some (alive_by (thread_in tasks content))
-    else None
-
--- those that would write: `G`, `P`, `M`, `X`
-abbrev pub is_writing : ℕ → Bool
-is_writing first = first == 71 || (first == 80 || (first == 77 || first == 88))
-
--- those that write, those of points, and the ends
-unfoldable pub setting_request : (first : ℕ) → List ℕ → Option Request
-setting_request first content =
-    if is_writing first then Some (asks.Fault 4)
-    else if first == 90 then Some (points_request true content)
-    else if first == 122 then Some (points_request false content)
-    else if first == 68 then Some (alone content asks.Detach asks.Nothing)
-    else if first == 107 then Some (alone content asks.Kill asks.Nothing)
-    else None
-
--- `Q`
-abbrev pub mode_request : List ℕ → Request
-mode_request content = if bytes_eq content (codes "StartNoAckMode") then asks.NoAcks else asks.Nothing
-
--- `v`, `q`, `Q`, and all that is not known
-unfoldable pub other_request : (tasks first : ℕ) → List ℕ → Request
-other_request tasks first content =
-    if first == 118 then multi_request tasks content
-    else if first == 113 then query tasks content
-    else if first == 81 then mode_request content
-    else asks.Nothing
-
--- what data asks by its first byte
-abbrev pub request_by : (tasks first : ℕ) → List ℕ → Request
-request_by tasks first content =
-    unwrap_or (option_or (going_request first content) (option_or (showing_request tasks first content) (setting_request first content)))
-    (other_request tasks first content)
-
--- what data asks that is a text
-abbrev pub text_request : (tasks : ℕ) → List ℕ → Request
-text_request tasks [] = asks.Nothing
-text_request tasks (first ∷ content) = request_by tasks first content
-
--- `X` begins it
-abbrev pub is_binary : List ℕ → Bool
-is_binary [] = false
-is_binary (first ∷ content) = first == 88
+-- The words, and what may follow each. What steps and continues; what shows; what writes, which is refused; points, and ends; the others.
+unfoldable pub words : List (List ℕ × Form)
+words =
+    (codes "c", forms.Alone (asks.Continue false))
+    ∷ (codes "s", forms.Alone (asks.PlainStep false))
+    ∷ (codes "C", forms.Signal (asks.Continue false))
+    ∷ (codes "S", forms.Signal (asks.PlainStep false))
+    ∷ (codes "bc", forms.Bare (asks.Continue true))
+    ∷ (codes "bs", forms.Bare (asks.PlainStep true))
+    ∷ (codes "?", forms.Bare asks.LastStop)
+    ∷ (codes "g", forms.Bare asks.Registers)
+    ∷ (codes "p", forms.Register)
+    ∷ (codes "m", forms.Memory)
+    ∷ (codes "Hg", forms.Shown)
+    ∷ (codes "Hc", forms.Stepped)
+    ∷ (codes "H", forms.Any (asks.Fault 1))
+    ∷ (codes "T", forms.Alive)
+    ∷ (codes "G", forms.Any (asks.Fault 4))
+    ∷ (codes "P", forms.Any (asks.Fault 4))
+    ∷ (codes "M", forms.Any (asks.Fault 4))
+    ∷ (codes "X", forms.Any (asks.Fault 4))
+    ∷ (codes "Z", forms.Points true)
+    ∷ (codes "z", forms.Points false)
+    ∷ (codes "D", forms.Bare asks.Detach)
+    ∷ (codes "k", forms.Bare asks.Kill)
+    ∷ (codes "vCont?", forms.Bare asks.Actions)
+    ∷ (codes "vCont;", forms.Actions)
+    ∷ (codes "qSupported:", forms.Any asks.Supported)
+    ∷ (codes "qSupported", forms.Bare asks.Supported)
+    ∷ (codes "qXfer:features:read:target.xml:", forms.Description)
+    ∷ (codes "qXfer:features:read:", forms.Any asks.NoAnnex)
+    ∷ (codes "qXfer:threads:read::", forms.Threads)
+    ∷ (codes "qC", forms.Bare asks.CurrentThread)
+    ∷ (codes "qAttached", forms.Bare asks.Attached)
+    ∷ (codes "qfThreadInfo", forms.Bare asks.ThreadList)
+    ∷ (codes "qsThreadInfo", forms.Bare asks.ThreadListEnd)
+    ∷ (codes "qThreadExtraInfo,", forms.Info)
+    ∷ (codes "qRcmd,", forms.Command)
+    ∷ (codes "QStartNoAckMode", forms.Bare asks.NoAcks)
+    ∷ []
 
 -- what the data of a packet asks; beyond 16,384 bytes, and where it is no text, it is at fault
 abbrev pub request_of : (tasks : ℕ) → List ℕ → Request
 request_of tasks content =
     if nat_lt 16384 (length content) then asks.Fault 1
-    else if is_utf8 content then text_request tasks content
-    else if is_binary content then asks.Fault 4
+    else if is_utf8 content then asked_by tasks words content
+    else if begins (codes "X") content then asks.Fault 4
     else asks.Fault 1

@@ -1,5 +1,5 @@
 -- A session over bytes that come.
-use Rattle.std.specs.Prelude.{◌≡◌, ◌≤◌, ◌+◌, ◌⊎◌, ℕ, List, [], ◌++◌, length, Option, None, Some, true}
+use Rattle.std.specs.Prelude.{◌≡◌, ◌≤◌, ◌+◌, ◌⊎◌, ℕ, List, [], ◌++◌, length, Option, None, Some, Result, Ok, Err, true}
 use Rattle.sloth_io.specs.Sink.{Output, output_with, GainsPart}
 use Rattle.debug_session.specs.Input.{Coming}
 use Rattle.debug_session.specs.Messages.{Packet, Wrong, Again, Interrupt, messages}
@@ -78,6 +78,23 @@ IsAnsweredInPart run names old new before now faults.Write =
     (read : List ℕ) × (new ≡ old ++ read) × GainsPart before now (session_text run names read)
 IsAnsweredInPart run names old new before now faults.NoMemory =
     (read part rest : List ℕ) × (new ≡ old ++ read) × (session_text run names read ≡ part ++ rest) × (now ≡ output_with before part)
+
+-- ---- how it ended
+
+-- a session over a run broke off so, by what comes and by the bytes that an input gave
+pub record IsBrokenOff (run : Run) (names : List (List ℕ)) (coming : Option Coming) (old new : List ℕ) (before now : Output) (fault : SessionFault) : Type 0 where
+  pub broke : BrokeOff run names coming before now fault
+  pub partly : IsAnsweredInPart run names old new before now fault
+
+-- it did not: all was answered
+pub record IsAllAnswered (run : Run) (names : List (List ℕ)) (coming : Option Coming) (old new : List ℕ) (before now : Output) : Type 0 where
+  pub whole : IsWhole run names coming before now
+  pub answered : IsAnswered run names old new before now
+
+-- one of both
+abbrev pub HasEnded : {T : Type 0} → Run → List (List ℕ) → Option Coming → (old new : List ℕ) → (before now : Output) → Result T SessionFault → Type 0
+HasEnded run names coming old new before now (Ok _) = IsAllAnswered run names coming old new before now
+HasEnded run names coming old new before now (Err fault) = IsBrokenOff run names coming old new before now fault
 
 -- ---- on the way
 

@@ -4,14 +4,14 @@ use Rattle.debug_session.specs.Acknowledging.{Sending, first_sending, sent, with
 use Rattle.debug_session.specs.Framing.{framed}
 use Rattle.debug_session.specs.Messages.{Message, Packet, Wrong, Again, Interrupt}
 use Rattle.debug_ways.specs.Runs.{Run}
-use Rattle.debug_session.specs.Points.{with_point, without_point}
+use Rattle.debug_ways.specs.Points.{with_point, without_point}
 use Rattle.debug_session.specs.Replies.{reply}
 use Rattle.debug_session.specs.Requests.{request_of}
-use Rattle.debug_session.specs.Standing.{begun, selected, stepped, continued, moved, shown, stepping, with_interrupt, ended, plain_step}
-use Rattle.debug_session.specs.declared.request.Point.{Point}
+use Rattle.debug_ways.specs.Standing.{begun, selected_in, stepped, continued, moved, shown, stepping, with_interrupt, ended, plain_step}
+use Rattle.debug_ways.specs.declared.points.Point.{Point}
 use Rattle.debug_session.specs.declared.request.Request.{Request}
 use Rattle.debug_session.specs.declared.request.Request.TheVariants as asks
-use Rattle.debug_session.specs.declared.standing.Standing.{Standing}
+use Rattle.debug_ways.specs.declared.standing.Standing.{Standing}
 
 -- where a session stands: the count and what is selected, its points, and what was sent
 pub record Session : Type 0 where
@@ -24,10 +24,6 @@ abbrev pub first_session : Session
 first_session = record { standing = begun; points = []; sending = first_sending }
 
 -- ---- a request
-
--- at its count the thread that is told is selected
-abbrev pub selected_in : Run → Standing → Standing
-selected_in run standing = selected standing (run.look standing.count)
 
 -- where a session stands behind a request
 abbrev pub standing_behind : Run → List Point → Standing → Request → Standing

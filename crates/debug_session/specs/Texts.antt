@@ -2,6 +2,7 @@
 use Rattle.std.specs.Prelude.{ℕ, zero, suc, ◌+◌, ◌/◌, ◌%◌, ◌==◌, ◌||◌, nat_le, nat_lt, List, [], ◌∷◌, ◌++◌, length, take, drop, Option, None, Some, Bool, if◌then◌else◌, codes, decimal}
 use Rattle.osek_scheduler.specs.declared.state.TaskState.{TaskState}
 use Rattle.osek_scheduler.specs.declared.state.TaskState.TheVariants as mode
+use Rattle.debug_ways.specs.Shown.{least_of}
 use Rattle.debug_session.specs.Hex.{hex_digit, hex_of}
 use Rattle.debug_session.specs.declared.request.Window.{Window}
 
@@ -37,9 +38,6 @@ register_digits (Some word) = word_digits word
 abbrev pub part_limit : ℕ
 part_limit = 16368
 
-abbrev pub least_of : ℕ → ℕ → ℕ
-least_of one other = if nat_lt other one then other else one
-
 -- the bytes of a text from a place on, so many at most, with `l` in front where they are the last ones, or else `m`
 unfoldable pub part_text : List ℕ → (from size : ℕ) → List ℕ
 part_text text from size =
@@ -52,20 +50,9 @@ window_text text window = part_text text window.from (least_of part_limit window
 
 -- ---- states
 
--- the word of a state, and the events that a task waits for
-unfoldable pub state_text : TaskState → List ℕ
-state_text mode.Suspended = codes "suspended"
-state_text mode.Ready = codes "ready"
-state_text mode.Active = codes "active"
-state_text (mode.Waiting mask) = codes "waiting " ++ decimal mask
-
--- an Active task runs or does not
-abbrev pub active_text : Bool → List ℕ
-active_text runs = if runs then codes "running" else codes "preempted"
-
--- the same, where an Active task runs or does not
-unfoldable pub thread_state_text : (runs : Bool) → TaskState → List ℕ
-thread_state_text runs mode.Suspended = codes "suspended"
-thread_state_text runs mode.Ready = codes "ready"
-thread_state_text runs mode.Active = active_text runs
-thread_state_text runs (mode.Waiting mask) = codes "waiting " ++ decimal mask
+-- the word of a state, where this is that of an Active task, and the events that a task waits for
+unfoldable pub state_text : (active : List ℕ) → TaskState → List ℕ
+state_text active mode.Suspended = codes "suspended"
+state_text active mode.Ready = codes "ready"
+state_text active mode.Active = active
+state_text active (mode.Waiting mask) = codes "waiting " ++ decimal mask

@@ -1,11 +1,9 @@
 -- Parts of the data of packets.
-use Rattle.std.specs.Prelude.{ℕ, ◌+◌, ◌-◌, ◌*◌, ◌==◌, ◌&&◌, nat_le, nat_lt, List, [], ◌∷◌, length, drop, Option, None, Some, Bool, if◌then◌else◌, codes}
+use Rattle.std.specs.Prelude.{ℕ, ◌+◌, ◌-◌, ◌*◌, ◌==◌, ◌&&◌, nat_le, nat_lt, List, [], ◌∷◌, length, drop, Option, None, Some, Result, Ok, Err, Bool, if◌then◌else◌, codes}
 use Rattle.std.specs.List.{take_while, before_first, after_first, position_or_len}
 use Rattle.std.specs.Str.{bytes_eq}
 use Rattle.debug_session.specs.Hex.{number_of}
 use Rattle.debug_session.specs.declared.request.Window.{Window}
-use Rattle.debug_session.specs.declared.words.Selected.{Selected}
-use Rattle.debug_session.specs.declared.words.Selected.TheVariants as threads
 
 -- what stands in front of the first such byte, or all of it
 abbrev pub front : ℕ → List ℕ → List ℕ
@@ -32,30 +30,25 @@ window_behind from (Some rest) = window_by from (number_of rest)
 abbrev pub window_of : List ℕ → Option Window
 window_of text = window_behind (number_of (front 44 text)) (behind 44 text)
 
--- a thread of so many tasks: 1 is the machine, the tasks follow
-abbrev pub thread_by : (tasks : ℕ) → Option ℕ → Selected
-thread_by tasks None = threads.NoForm
-thread_by tasks (Some number) = if nat_le number (tasks + 1) then threads.Thread number else threads.NoThread
+-- a thread of so many tasks: 1 is the machine, the tasks follow; fault 1 is that of no number, and 2 that of no thread
+abbrev pub thread_by : (tasks : ℕ) → Option ℕ → Result ℕ ℕ
+thread_by tasks None = Err 1
+thread_by tasks (Some number) = if nat_le number (tasks + 1) then Ok number else Err 2
 
 -- the thread that a text tells; 0 and -1 are any
-abbrev pub thread_in : (tasks : ℕ) → List ℕ → Selected
-thread_in tasks text = if bytes_eq text (codes "-1") then threads.Thread 0 else thread_by tasks (number_of text)
+abbrev pub thread_in : (tasks : ℕ) → List ℕ → Result ℕ ℕ
+thread_in tasks text = if bytes_eq text (codes "-1") then Ok 0 else thread_by tasks (number_of text)
 
 -- the bytes without the spaces in front
 abbrev pub trimmed : List ℕ → List ℕ
 trimmed text = drop (length (take_while (λ byte. byte == 32) text)) text
-
--- what is left where nothing is behind
-abbrev pub rest_of : Option (List ℕ) → List ℕ
-rest_of None = []
-rest_of (Some text) = text
 
 -- the first word, and what stands behind it
 abbrev pub first_word : List ℕ → List ℕ
 first_word text = front 32 (trimmed text)
 
 abbrev pub further_words : List ℕ → List ℕ
-further_words text = trimmed (rest_of (behind 32 (trimmed text)))
+further_words text = trimmed (after_first (λ byte. byte == 32) (trimmed text))
 
 -- a number with a decimal digit behind it; beyond 1,000,000 it stays
 abbrev pub counted : (value byte : ℕ) → ℕ

@@ -2,22 +2,14 @@
 ghost use Rattle.std.specs.Prelude.{◌≡◌, IfOk};
 ghost use Rattle.std.specs.Str.{is_utf8};
 ghost use Rattle.debug_session.specs.Hex.{bytes_of_hex};
-ghost use Rattle.debug_session.specs.Requests.{goto_by, single_command, double_command, command_request, command_of, command_by};
+ghost use Rattle.debug_session.specs.Requests.{single_command, double_command, command_request, command_by};
 
 use crate::hex::bytes_of_hex;
 use crate::request::Request;
-use crate::words::{count_in, first_word, further_words, same};
+use crate::words::{count_in, first_word, further_words};
 use sloth_base::NoMemory;
 use std::alloc::Global;
-
-fn goto_by(count: Option<u32>) -> Request
-    ensures { result ≡ goto_by count }
-{
-    match count {
-        Some(count) => Request::Goto(count),
-        None => Request::NoGoto,
-    }
-}
+use text_pieces::same;
 
 // A command of one word.
 #[tactic(auto, unfolding(crate::specs::Requests::single_command))]
@@ -40,10 +32,12 @@ fn single_command(word: &[u8]) -> Request
 fn double_command(word: &[u8], argument: &[u8], further: &[u8]) -> Request
     ensures { result ≡ double_command word.now argument.now further.now }
 {
-    if same(word, b"goto") && further.is_empty() {
-        goto_by(count_in(argument))
-    } else {
-        Request::Help
+    if !same(word, b"goto") || !further.is_empty() {
+        return Request::Help;
+    }
+    match count_in(argument) {
+        Some(count) => Request::Goto(count),
+        None => Request::NoGoto,
     }
 }
 
@@ -73,22 +67,18 @@ pub fn is_text(bytes: &[u8]) -> bool
     }
 }
 
-fn command_of(text: &[u8]) -> Request
-    ensures { result ≡ command_of text.now }
-{
-    if is_text(text) {
-        command_request(text)
-    } else {
-        Request::Fault(1)
-    }
-}
-
 /// `qRcmd`.
 pub fn command_by(alloc: Global, digits: &[u8]) -> Result<Request, NoMemory>
     ensures { IfOk result (λ request. request ≡ command_by (bytes_of_hex digits.now)) }
 {
     match bytes_of_hex(alloc, digits)? {
-        Some(text) => Ok(command_of(text.as_slice())),
+        Some(text) => {
+            if is_text(text.as_slice()) {
+                Ok(command_request(text.as_slice()))
+            } else {
+                Ok(Request::Fault(1))
+            }
+        }
         None => Ok(Request::Fault(1)),
     }
 }

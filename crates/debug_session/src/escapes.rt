@@ -1,6 +1,6 @@
 //! Bytes that cannot stand in a packet for themselves.
 ghost use Rattle.std.specs.Prelude.{◌≡◌, ◌++◌, OnOk, IfOk};
-ghost use Rattle.debug_session.specs.Escapes.{is_reserved, turned, escape_of, escaped, unescaped};
+ghost use Rattle.debug_session.specs.Escapes.{is_reserved, turned, escaped, unescaped};
 
 use sloth_base::NoMemory;
 use std::alloc::Global;
@@ -23,24 +23,16 @@ fn turned(byte: u8) -> u8
     }
 }
 
-// Puts what stands for a byte.
-fn push_byte(out: &mut Vec<u8>, byte: u8) -> Result<(), NoMemory>
-    ensures { OnOk result (out.new.items ≡ out.old.items ++ escape_of byte) }
-{
-    if is_reserved(byte) {
-        out.extend_from_slice(&[b'}', turned(byte)])?;
-    } else {
-        out.extend_from_slice(&[byte])?;
-    }
-    Ok(())
-}
-
 /// Puts what stands for bytes.
 pub fn push_escaped(out: &mut Vec<u8>, bytes: &[u8]) -> Result<(), NoMemory>
     ensures { OnOk result (out.new.items ≡ out.old.items ++ escaped bytes.now) }
 {
     for byte in bytes {
-        push_byte(out, *byte)?;
+        if is_reserved(*byte) {
+            out.extend_from_slice(&[b'}', turned(*byte)])?;
+        } else {
+            out.extend_from_slice(&[*byte])?;
+        }
     }
     Ok(())
 }

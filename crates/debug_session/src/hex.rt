@@ -42,13 +42,6 @@ pub fn number(text: &[u8]) -> Option<u32>
     if text.is_empty() || text.len() > 8 {
         return None;
     }
-    digits(text)
-}
-
-// The number that digits tell.
-fn digits(text: &[u8]) -> Option<u32>
-    ensures { result ≡ number_from 0 text.now }
-{
     let mut value = 0u32;
     for byte in text {
         let digit = value_of(*byte);

@@ -1,17 +1,9 @@
 //! A session of GDB's remote serial protocol over a run: what is written for the bytes that come.
 //!
-//! Breakpoints and watchpoints (`specs/Points`); where a way through the run ends and why (`passage`, `specs/Causes`); what steps and continues make of a
-//! session, alone, of a thread, forward and back (`specs/Standing`); the reply to each request, from what is shown at the count (`push_text`,
-//! `specs/Replies`, `specs/Texts`); a message and all of them (`specs/Sessions`). `serve`: exactly the answers to the messages
-//! among the bytes that the input gave are written, so of an input that tells its bytes those to these, and where the session breaks off a first part of
-//! them, with the cause (`specs/Serving`). Nothing that is sent changes
-//! the run: the clauses `run`. In words: continues and other ways end at the least hit behind, those back at the greatest below, and a packet has one
-//! reply, which is read back (`laws`). What packets ask, and how they are framed: below.
-//!
-//! The events around a count: lines of a run's text, as `exec` prints it.
-//!
-//! Of the lines, none of an idle directly behind an idle, the last ones of events that end before the count, the count, and the first ones of the others
-//! (`push_around`, `specs/Around`).
+//! The reply to each request: what the run shows is looked at once (`push_text`), and all else tells of what was seen (`specs/Replies`, `specs/Texts`). A message
+//! and all of them (`specs/Sessions`). `serve`: exactly the answers to the messages among the bytes that the input gave are written, so of an input that
+//! tells its bytes those to these, and where the session breaks off a first part of them, with the cause (`specs/Serving`). Nothing that is sent changes
+//! the run: the clauses `run`. In words: a packet has one reply, which is read back (`laws`). Where steps and continues lead: `debug_ways`.
 //!
 //! Packets of GDB's remote serial protocol (the GDB manual, appendix E, "Remote Protocol"), as bytes and back.
 //!
@@ -21,7 +13,8 @@
 //! (`digit_of`, `value_of`, `push_hex`, `number`, `bytes_of_hex`, `specs/Hex`). What is written as packets is read back as these packets, whatever
 //! bytes they are of, and each packet that is read stands so among the bytes (`laws`).
 //!
-//! What the data of a packet asks, of any data (`request_of`, `specs/Requests`; the actions of `vCont`: `specs/Actions`; parts of data: `specs/Words`).
+//! What the data of a packet asks, of any data: a table of words with what may follow each (`request_of`, `specs/Requests`; the actions of `vCont`:
+//! `specs/Actions`; parts of data: `specs/Words`).
 //!
 //! Bytes of a session, one by one as they come: a trait, in memory and at the system.
 //!
@@ -32,22 +25,19 @@
 #![tactic(auto)]
 
 mod actions;
-pub mod around;
 pub mod byte_reader;
 mod commands;
 mod description;
 pub mod escapes;
-mod events;
+pub mod forms;
 pub mod given;
 pub mod hex;
 pub mod input;
 pub mod laws;
 pub mod link;
+mod looks;
 pub mod mem_input;
-mod merging;
 pub mod packet_laws;
-mod passages;
-pub mod points;
 pub mod reading;
 mod replies;
 pub mod request;
@@ -55,13 +45,9 @@ pub mod requests;
 mod selecting;
 pub mod serving;
 pub mod session;
-pub mod standing;
-mod stepping;
 mod stops;
 mod texts;
 pub mod threads;
-mod views;
-pub mod wanted;
 mod words;
 pub mod writing;
 

@@ -1,8 +1,10 @@
 //! What is sent at each message beside the answer to it.
 ghost use Rattle.std.specs.Prelude.{◌≡◌, ◌++◌, OnOk};
 ghost use Rattle.debug_session.specs.Framing.{framed};
-ghost use Rattle.debug_session.specs.Acknowledging.{first_sending, sent, without_acks, acknowledged, refused, repeated};
+ghost use Rattle.debug_session.specs.Acknowledging.{first_sending, sent, acknowledged, refused, repeated};
+ghost use Rattle.debug_session.specs.Sessions.{sending_behind};
 
+use crate::request::Request;
 use crate::writing::push_packet;
 use sloth_base::NoMemory;
 use std::alloc::Global;
@@ -34,11 +36,14 @@ impl Link {
         }
     }
 
-    /// Packets are no longer acknowledged.
-    pub fn stop_acks(&mut self)
-        ensures { self.new ≡ without_acks self.old }
+    /// Whether packets are acknowledged behind a request.
+    pub fn follow(&mut self, request: &Request)
+        ensures { self.new ≡ sending_behind self.old request.now }
     {
-        self.acks = false;
+        match request {
+            Request::NoAcks => self.acks = false,
+            _ => {}
+        }
     }
 
     /// Puts what tells that a packet came whole.
@@ -72,20 +77,13 @@ impl Link {
         Ok(())
     }
 
-    // Keeps data as the packet that was sent last.
-    fn keep(&mut self, alloc: Global, content: &[u8]) -> Result<(), NoMemory>
-        ensures { OnOk result (self.new ≡ sent self.old content.now) }
-    {
-        self.last.clear();
-        push_packet(alloc, &mut self.last, content)
-    }
-
     /// Puts data as a packet, which is then the last one.
     pub fn send(&mut self, alloc: Global, out: &mut Vec<u8>, content: &[u8]) -> Result<(), NoMemory>
         ensures bytes { OnOk result (out.new.items ≡ out.old.items ++ framed content.now) }
         ensures last { OnOk result (self.new ≡ sent self.old content.now) }
     {
-        self.keep(alloc, content)?;
+        self.last.clear();
+        push_packet(alloc, &mut self.last, content)?;
         out.extend_from_slice(self.last.as_slice())?;
         Ok(())
     }

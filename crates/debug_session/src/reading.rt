@@ -1,6 +1,6 @@
 //! The packets among bytes.
 ghost use Rattle.std.specs.Prelude.{◌≡◌, IfOk};
-ghost use Rattle.debug_session.specs.Reading.{fresh, opened, event_after, event_at, reading_after, after_outside, after_inside, is_told};
+ghost use Rattle.debug_session.specs.Reading.{fresh, opened, event_after, reading_after};
 
 use crate::hex::value_of;
 use sloth_base::NoMemory;
@@ -48,13 +48,6 @@ impl Model for PacketReader {
     ghost invariant = { λ reader. (length reader.content.items ≤ 16385) × (16385 ≤ vec_capacity reader.content) };
 }
 
-// Whether two digits tell this sum.
-fn is_told(first: u8, second: u8, sum: u8) -> bool
-    ensures { result ≡ is_told first second sum }
-{
-    u32::from(value_of(first)) * 16 + u32::from(value_of(second)) == u32::from(sum)
-}
-
 impl PacketReader {
     /// A reader that has read nothing.
     pub fn new(alloc: Global) -> Result<PacketReader, NoMemory>
@@ -80,9 +73,26 @@ impl PacketReader {
         ensures reading { self.new ≡ reading_after self.old byte }
     {
         match self.place {
-            Place::Outside => self.take_outside(byte),
+            Place::Outside => match byte {
+                b'$' => {
+                    self.begin();
+                    Event::Nothing
+                }
+                3 => Event::Interrupt,
+                b'-' => Event::Again,
+                _ => Event::Nothing,
+            },
             Place::Inside => {
-                self.take_inside(byte);
+                match byte {
+                    b'$' => self.begin(),
+                    b'#' => self.place = Place::Behind,
+                    _ => {
+                        if self.content.len() <= LONGEST {
+                            self.content.push_reserved(byte);
+                        }
+                        self.sum = self.sum.wrapping_add(byte);
+                    }
+                }
                 Event::Nothing
             }
             Place::Behind => {
@@ -91,7 +101,8 @@ impl PacketReader {
             }
             Place::Half(first) => {
                 self.place = Place::Outside;
-                if is_told(first, byte, self.sum) {
+                let told = u32::from(value_of(first)) * 16 + u32::from(value_of(byte));
+                if told == u32::from(self.sum) {
                     Event::Packet
                 } else {
                     Event::Wrong
@@ -107,38 +118,5 @@ impl PacketReader {
         self.place = Place::Inside;
         self.content.clear();
         self.sum = 0;
-    }
-
-    // Takes a byte outside packets.
-    fn take_outside(&mut self, byte: u8) -> Event
-        ensures event { result ≡ event_at Place.Outside self.old byte }
-        ensures reading { self.new ≡ after_outside self.old byte }
-    {
-        match byte {
-            b'$' => {
-                self.begin();
-                Event::Nothing
-            }
-            3 => Event::Interrupt,
-            b'-' => Event::Again,
-            _ => Event::Nothing,
-        }
-    }
-
-    // Takes a byte in the data.
-    fn take_inside(&mut self, byte: u8)
-        requires { self.old.place ≡ Place.Inside }
-        ensures { self.new ≡ after_inside self.old byte }
-    {
-        match byte {
-            b'$' => self.begin(),
-            b'#' => self.place = Place::Behind,
-            _ => {
-                if self.content.len() <= LONGEST {
-                    self.content.push_reserved(byte);
-                }
-                self.sum = self.sum.wrapping_add(byte);
-            }
-        }
     }
 }

@@ -1,47 +1,29 @@
-//! Replies to requests.
-ghost use Rattle.std.specs.Prelude.{◌≡◌, ◌≤◌, ◌++◌, OnOk, length, codes};
+//! Replies to requests: what a run shows is looked at here, and told by what is looked at.
+ghost use Rattle.std.specs.Prelude.{◌≡◌, ◌≤◌, ◌++◌, OnOk, length};
 ghost use Rattle.sloth_base.specs.Limits.{task_limit};
 ghost use Rattle.debug_session.specs.Hex.{hex_of};
-ghost use Rattle.debug_session.specs.Causes.{thread_of};
-ghost use Rattle.debug_session.specs.Texts.{hex_number, window_text};
+ghost use Rattle.debug_session.specs.Texts.{window_text};
 ghost use Rattle.debug_ways.specs.Cursor.{cursor_run};
-ghost use Rattle.debug_session.specs.Replies.{reply_text, has_reply, fault_text, set_text, fixed_text, threads_reply, monitor_reply, features_text, help_text, no_goto_text, view_of, words_text, threads_text, count_text, states_text, seen_of, events_text};
+ghost use Rattle.debug_session.specs.Replies.{reply_text, has_reply, fixed_text, plain_text, place_text, features_text, help_text, no_goto_text, threads_text};
 
 use crate::description::description;
-use crate::events::push_events;
 use crate::hex::push_hex;
-use crate::points::is_among;
-use crate::request::{Point, Request, Window};
-use crate::standing::{Standing, thread_of};
+use crate::looks::{push_memory, push_registers};
+use crate::request::{Request, Window};
 use crate::stops::push_stop;
-use crate::texts::{push, push_number, push_window};
-use crate::threads::{push_thread_list, push_threads, push_words, seen_of, view_of};
-use crate::views::{push_count, push_memory, push_registers, push_shown_register, push_states};
-use debug_ways::{Cursor, Machine};
+use crate::texts::{push, push_number, push_register, push_window};
+use crate::threads::{push_states, push_thread_list, push_threads, push_words};
+use debug_ways::events::push_events;
+use debug_ways::points::is_among;
+use debug_ways::shown::{View, seen_of, shown_thread, view_of};
+use debug_ways::standing::thread_of;
+use debug_ways::{Cursor, Machine, Point, Standing};
+use rv32_instr::Stop;
 use sloth_base::{Name, NoMemory};
 use std::alloc::Global;
-
-// The text of a fault's number.
-fn fault_text(fault: u8) -> &'static [u8]
-    ensures { result.now ≡ fault_text fault }
-{
-    match fault {
-        1 => b"E01",
-        2 => b"E02",
-        _ => b"E04",
-    }
-}
-
-// Whether a point was set.
-fn set_text(points: &[Point], point: &Point) -> &'static [u8]
-    ensures { result.now ≡ set_text points.now point.now }
-{
-    if is_among(point, points) {
-        b"OK"
-    } else {
-        b"E05"
-    }
-}
+use text_pieces::line;
+use text_pieces::pieces::Piece::{Number, Word};
+use trace_text::stopped_line;
 
 #[tactic(auto, unfolding(crate::specs::Replies::features_text))]
 fn features_text() -> &'static [u8]
@@ -64,122 +46,25 @@ fn no_goto_text() -> &'static [u8]
     b"goto K: K is a count from 0 to 1000000\n"
 }
 
-// Puts a part of the list of threads.
-fn push_threads_window<M: Machine>(
-    alloc: Global,
-    out: &mut Vec<u8>,
-    cursor: &mut Cursor<M>,
-    names: &[Name],
-    count: u32,
-    window: &Window,
-) -> Result<(), NoMemory>
-    requires there { count ≤ (cursor_run M.run cursor.old).end }
-    requires few { length names.now ≤ task_limit }
-    ensures text { OnOk result (out.new.items ≡ out.old.items
-        ++ window_text (threads_text (view_of (cursor_run M.run cursor.old) count) names.now) window.now) }
-    ensures run { cursor_run M.run cursor.new ≡ cursor_run M.run cursor.old }
-{
-    let view = view_of(cursor, count);
-    let mut text = Vec::new(alloc);
-    push_threads(&mut text, &view, names)?;
-    push_window(out, text.as_slice(), window)
-}
-
-// Puts the digits of a thread's name and of what it is.
-fn push_info<M: Machine>(
-    alloc: Global,
-    out: &mut Vec<u8>,
-    cursor: &mut Cursor<M>,
-    names: &[Name],
-    count: u32,
-    thread: u32,
-) -> Result<(), NoMemory>
-    requires { count ≤ (cursor_run M.run cursor.old).end }
-    ensures text { OnOk result (out.new.items ≡ out.old.items
-        ++ hex_of (words_text (view_of (cursor_run M.run cursor.old) count) names.now thread)) }
-    ensures run { cursor_run M.run cursor.new ≡ cursor_run M.run cursor.old }
-{
-    let view = view_of(cursor, count);
-    let mut text = Vec::new(alloc);
-    push_words(&mut text, &view, names, thread)?;
-    push_hex(out, text.as_slice())
-}
-
-// Puts the thread that runs.
-fn push_current<M: Machine>(
-    out: &mut Vec<u8>,
-    cursor: &mut Cursor<M>,
-    count: u32,
-) -> Result<(), NoMemory>
-    requires { count ≤ (cursor_run M.run cursor.old).end }
-    ensures text { OnOk result (out.new.items ≡ out.old.items ++ (codes "QC" ++ hex_number (thread_of ((cursor_run M.run cursor.old).look count)))) }
-    ensures run { cursor_run M.run cursor.new ≡ cursor_run M.run cursor.old }
-{
-    let look = cursor.look(count);
-    push(out, b"QC")?;
-    push_number(out, thread_of(&look))
-}
-
-// Puts the digits of where a session stands.
-fn push_count_digits<M: Machine>(
-    alloc: Global,
-    out: &mut Vec<u8>,
-    cursor: &mut Cursor<M>,
-    standing: &Standing,
-) -> Result<(), NoMemory>
-    requires { standing.now.count ≤ (cursor_run M.run cursor.old).end }
-    ensures text { OnOk result (out.new.items ≡ out.old.items ++ hex_of (count_text (cursor_run M.run cursor.old) standing.now)) }
-    ensures run { cursor_run M.run cursor.new ≡ cursor_run M.run cursor.old }
-{
-    let mut text = Vec::new(alloc);
-    push_count(&mut text, cursor, standing)?;
-    push_hex(out, text.as_slice())
-}
-
-// Puts the digits of the states of tasks.
-fn push_states_digits<M: Machine>(
-    alloc: Global,
-    out: &mut Vec<u8>,
-    cursor: &mut Cursor<M>,
-    names: &[Name],
-    count: u32,
-) -> Result<(), NoMemory>
-    requires there { count ≤ (cursor_run M.run cursor.old).end }
-    requires few { length names.now ≤ task_limit }
-    ensures text { OnOk result (out.new.items ≡ out.old.items ++ hex_of (states_text names.now (seen_of (cursor_run M.run cursor.old) count))) }
-    ensures run { cursor_run M.run cursor.new ≡ cursor_run M.run cursor.old }
-{
-    let seen = seen_of(cursor, count);
-    let mut text = Vec::new(alloc);
-    push_states(&mut text, names, &seen)?;
-    push_hex(out, text.as_slice())
-}
-
-// Puts the digits of the events around a count.
-fn push_events_digits<M: Machine>(
-    alloc: Global,
-    out: &mut Vec<u8>,
-    cursor: &Cursor<M>,
-    count: u32,
-) -> Result<(), NoMemory>
-    ensures { OnOk result (out.new.items ≡ out.old.items ++ hex_of (events_text (cursor_run M.run cursor.now) count)) }
-{
-    let mut text = Vec::new(alloc);
-    push_events(alloc, &mut text, cursor, count)?;
-    push_hex(out, text.as_slice())
-}
-
 // The text of a reply in which the run has no part.
 fn fixed_text(points: &[Point], request: &Request) -> &'static [u8]
     ensures { result.now ≡ fixed_text points.now request.now }
 {
     match request {
-        Request::Fault(fault) => fault_text(*fault),
+        Request::Fault(fault) => match *fault {
+            1 => b"E01",
+            2 => b"E02",
+            _ => b"E04",
+        },
         Request::Supported => features_text(),
         Request::NoAnnex => b"E00",
         Request::ThreadListEnd => b"l",
         Request::Attached => b"1",
-        Request::SetPoint(point) => set_text(points, point),
+        Request::SetPoint(point) => if is_among(point, points) {
+            b"OK"
+        } else {
+            b"E05"
+        },
         Request::Actions => b"vCont;c;C;s;S;r",
         Request::Confirmed
         | Request::NoAcks
@@ -191,33 +76,43 @@ fn fixed_text(points: &[Point], request: &Request) -> &'static [u8]
     }
 }
 
-// Puts what is told of threads.
-fn push_threads_text<M: Machine>(
+// Puts a part of the list of threads.
+fn push_threads_part(
     alloc: Global,
     out: &mut Vec<u8>,
-    cursor: &mut Cursor<M>,
+    view: &View,
     names: &[Name],
-    count: u32,
-    request: &Request,
+    window: &Window,
 ) -> Result<(), NoMemory>
-    requires there { count ≤ (cursor_run M.run cursor.old).end }
-    requires few { length names.now ≤ task_limit }
-    ensures text { OnOk result (out.new.items ≡ out.old.items ++ threads_reply (cursor_run M.run cursor.old) names.now count request.now) }
-    ensures run { cursor_run M.run cursor.new ≡ cursor_run M.run cursor.old }
+    requires { length names.now ≤ task_limit }
+    ensures { OnOk result (out.new.items ≡ out.old.items ++ window_text (threads_text view.now names.now) window.now) }
 {
-    match request {
-        Request::Threads(window) => {
-            push_threads_window(alloc, out, cursor, names, count, window)
-        }
-        Request::ThreadList => push_thread_list(out, names.len() as u32),
-        Request::ThreadInfo(thread) => push_info(alloc, out, cursor, names, count, *thread),
-        Request::CurrentThread => push_current(out, cursor, count),
-        _ => Ok(()),
+    let mut text = Vec::new(alloc);
+    push_threads(&mut text, view, names)?;
+    push_window(out, text.as_slice(), window)
+}
+
+// Puts where a session stands, where this is the address of its count and the run ends so.
+fn push_place(
+    out: &mut Vec<u8>,
+    standing: &Standing,
+    pc: u32,
+    stop: &Option<Stop>,
+) -> Result<(), NoMemory>
+    ensures { OnOk result (out.new.items ≡ out.old.items ++ place_text standing.now pc stop.now) }
+{
+    line!(out; Word(b"count "), Number(standing.count))?;
+    if !standing.met {
+        return push(out, b"\n");
+    }
+    match stop {
+        Some(stop) => line!(out; Word(b", "), Word(stopped_line(pc, *stop).bytes())),
+        None => push(out, b"\n"),
     }
 }
 
-// Puts the digits of what a command of the monitor shows.
-fn push_monitor_text<M: Machine>(
+// Puts the text that a reply tells in digits.
+fn push_plain<M: Machine>(
     alloc: Global,
     out: &mut Vec<u8>,
     cursor: &mut Cursor<M>,
@@ -227,17 +122,46 @@ fn push_monitor_text<M: Machine>(
 ) -> Result<(), NoMemory>
     requires there { standing.now.count ≤ (cursor_run M.run cursor.old).end }
     requires few { length names.now ≤ task_limit }
-    ensures text { OnOk result (out.new.items ≡ out.old.items ++ monitor_reply (cursor_run M.run cursor.old) names.now standing.now request.now) }
+    ensures text { OnOk result (out.new.items ≡ out.old.items ++ plain_text (cursor_run M.run cursor.old) names.now standing.now request.now) }
     ensures run { cursor_run M.run cursor.new ≡ cursor_run M.run cursor.old }
 {
     match request {
-        Request::Count | Request::Goto(_) => push_count_digits(alloc, out, cursor, standing),
-        Request::NoGoto => push_hex(out, no_goto_text()),
-        Request::States => push_states_digits(alloc, out, cursor, names, standing.count),
-        Request::Events => push_events_digits(alloc, out, cursor, standing.count),
-        Request::Help => push_hex(out, help_text()),
+        Request::ThreadInfo(thread) => {
+            let view = view_of(cursor, standing.count);
+            push_words(out, &view, names, *thread)
+        }
+        Request::Count | Request::Goto(_) => {
+            let stop = cursor.stop();
+            push_place(out, standing, cursor.look(standing.count).pc, &stop)
+        }
+        Request::NoGoto => push(out, no_goto_text()),
+        Request::States => {
+            let seen = seen_of(cursor, standing.count);
+            push_states(out, names, &seen)
+        }
+        Request::Events => push_events(alloc, out, cursor, standing.count),
+        Request::Help => push(out, help_text()),
         _ => Ok(()),
     }
+}
+
+// Puts it in digits.
+fn push_plain_digits<M: Machine>(
+    alloc: Global,
+    out: &mut Vec<u8>,
+    cursor: &mut Cursor<M>,
+    names: &[Name],
+    standing: &Standing,
+    request: &Request,
+) -> Result<(), NoMemory>
+    requires there { standing.now.count ≤ (cursor_run M.run cursor.old).end }
+    requires few { length names.now ≤ task_limit }
+    ensures text { OnOk result (out.new.items ≡ out.old.items ++ hex_of (plain_text (cursor_run M.run cursor.old) names.now standing.now request.now)) }
+    ensures run { cursor_run M.run cursor.new ≡ cursor_run M.run cursor.old }
+{
+    let mut text = Vec::new(alloc);
+    push_plain(alloc, &mut text, cursor, names, standing, request)?;
+    push_hex(out, text.as_slice())
 }
 
 /// Whether a request has a reply.
@@ -269,24 +193,32 @@ pub fn push_text<M: Machine>(
     match request {
         Request::Nothing | Request::Kill => Ok(()),
         Request::LastStop | Request::Continue(_) | Request::Step(_) | Request::PlainStep(_) => {
-            push_stop(out, cursor, standing)
+            push_stop(out, &cursor.stop(), standing)
         }
         Request::Description(window) => push_window(out, description(), window),
-        Request::Threads(_)
-        | Request::ThreadList
-        | Request::ThreadInfo(_)
-        | Request::CurrentThread => {
-            push_threads_text(alloc, out, cursor, names, standing.count, request)
+        Request::Threads(window) => {
+            let view = view_of(cursor, standing.count);
+            push_threads_part(alloc, out, &view, names, window)
+        }
+        Request::ThreadList => push_thread_list(out, names.len() as u32),
+        Request::CurrentThread => {
+            let look = cursor.look(standing.count);
+            push(out, b"QC")?;
+            push_number(out, thread_of(&look))
         }
         Request::Registers => push_registers(out, cursor, standing),
-        Request::Register(number) => push_shown_register(out, cursor, standing, *number),
+        Request::Register(number) => {
+            let thread = shown_thread(cursor, standing);
+            push_register(out, cursor.register(standing.count, thread, *number))
+        }
         Request::Memory(window) => push_memory(alloc, out, cursor, standing, window),
-        Request::Count
+        Request::ThreadInfo(_)
+        | Request::Count
         | Request::Goto(_)
         | Request::NoGoto
         | Request::States
         | Request::Events
-        | Request::Help => push_monitor_text(alloc, out, cursor, names, standing, request),
+        | Request::Help => push_plain_digits(alloc, out, cursor, names, standing, request),
         Request::Fault(_)
         | Request::Supported
         | Request::NoAnnex

@@ -1,28 +1,11 @@
 //! What a packet asks.
+use debug_ways::{Point, Step};
 
 /// A part of a text: from a place on, so many bytes at most.
 #[derive(Clone, Copy)]
 pub struct Window {
     pub from: u32,
     pub length: u32,
-}
-
-/// A point: of kinds 0 and 1 a breakpoint at an address; of kinds 2, 3 and 4 a watchpoint for stores, loads or both at so many addresses from one on.
-#[derive(Clone, Copy)]
-pub struct Point {
-    pub kind: u8,
-    pub address: u32,
-    pub length: u32,
-}
-
-/// A step of a thread, or of any where it is 0: alone or not, back or forward, through the addresses from one to below another.
-#[derive(Clone, Copy)]
-pub struct Step {
-    pub thread: u32,
-    pub alone: bool,
-    pub backwards: bool,
-    pub from: u32,
-    pub to: u32,
 }
 
 /// What a packet asks. A form that is at fault, and one that is not known, ask too.

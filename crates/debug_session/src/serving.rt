@@ -4,7 +4,7 @@ ghost use Rattle.sloth_base.specs.Limits.{task_limit};
 ghost use Rattle.sloth_io.specs.Sink.{output_with};
 ghost use Rattle.debug_session.specs.Reading.{fresh};
 ghost use Rattle.debug_ways.specs.Cursor.{cursor_run};
-ghost use Rattle.debug_session.specs.Serving.{behind_event, event_answer, IsWhole, BrokeOff, IsAnswered, IsAnsweredInPart, HasNoAnswer};
+ghost use Rattle.debug_session.specs.Serving.{behind_event, event_answer, HasEnded, HasNoAnswer};
 
 use crate::Input;
 use crate::reading::{Event, PacketReader};
@@ -43,35 +43,6 @@ fn hand_on<S: Sink>(out: &mut S, due: &[u8]) -> Result<(), SessionFault>
     }
 }
 
-// Puts what is written for what a byte completes.
-fn take<M: Machine>(
-    alloc: Global,
-    session: &mut Session,
-    out: &mut Vec<u8>,
-    cursor: &mut Cursor<M>,
-    names: &[Name],
-    event: Event,
-    content: &[u8],
-) -> Result<(), NoMemory>
-    requires there { session.old.standing.count ≤ (cursor_run M.run cursor.old).end }
-    requires few { length names.now ≤ task_limit }
-    ensures session { OnOk result (session.new ≡ behind_event (cursor_run M.run cursor.old) names.now session.old event content.now) }
-    ensures text { OnOk result (out.new.items ≡ out.old.items ++ event_answer (cursor_run M.run cursor.old) names.now session.old event content.now) }
-    ensures within { OnOk result (session.new.standing.count ≤ (cursor_run M.run cursor.old).end) }
-    ensures run { cursor_run M.run cursor.new ≡ cursor_run M.run cursor.old }
-{
-    match event {
-        Event::Nothing => Ok(()),
-        Event::Interrupt => {
-            session.take_interrupt();
-            Ok(())
-        }
-        Event::Again => session.repeat(out),
-        Event::Wrong => session.refuse(alloc, out),
-        Event::Packet => session.take_packet(alloc, out, cursor, names, content),
-    }
-}
-
 // Answers what a byte completes.
 fn answer<S: Sink, M: Machine>(
     alloc: Global,
@@ -94,7 +65,7 @@ fn answer<S: Sink, M: Machine>(
     ensures run { cursor_run M.run cursor.new ≡ cursor_run M.run cursor.old }
 {
     let mut due = Vec::new(alloc);
-    match take(alloc, session, &mut due, cursor, names, event, content) {
+    match session.take(alloc, &mut due, cursor, names, event, content) {
         Ok(()) => hand_on(out, due.as_slice()),
         Err(NoMemory) => Err(SessionFault::NoMemory),
     }
@@ -111,11 +82,7 @@ fn serve_on<I: Input, S: Sink, M: Machine>(
 ) -> Result<(), SessionFault>
     requires fresh { reader.old ≡ fresh }
     requires few { length names.now ≤ task_limit }
-    ensures whole { OnOk result (IsWhole (cursor_run M.run cursor.old) names.now (I.coming input.old) (S.seen out.old) (S.seen out.new)) }
-    ensures broke { IfErr result (λ fault. BrokeOff (cursor_run M.run cursor.old) names.now (I.coming input.old) (S.seen out.old) (S.seen out.new) fault) }
-    ensures answered { OnOk result (IsAnswered (cursor_run M.run cursor.old) names.now (I.given input.old) (I.given input.new) (S.seen out.old) (S.seen out.new)) }
-    ensures partly { IfErr result (λ fault.
-        IsAnsweredInPart (cursor_run M.run cursor.old) names.now (I.given input.old) (I.given input.new) (S.seen out.old) (S.seen out.new) fault) }
+    ensures ended { HasEnded (cursor_run M.run cursor.old) names.now (I.coming input.old) (I.given input.old) (I.given input.new) (S.seen out.old) (S.seen out.new) result }
     ensures passed { OnOk result (S.passed_on out.old → S.passed_on out.new) }
     ensures run { cursor_run M.run cursor.new ≡ cursor_run M.run cursor.old }
 {
@@ -155,11 +122,7 @@ pub fn serve<I: Input, S: Sink, M: Machine>(
     names: &[Name],
 ) -> Result<(), SessionFault>
     requires few { length names.now ≤ task_limit }
-    ensures whole { OnOk result (IsWhole (cursor_run M.run cursor.old) names.now (I.coming input.old) (S.seen out.old) (S.seen out.new)) }
-    ensures broke { IfErr result (λ fault. BrokeOff (cursor_run M.run cursor.old) names.now (I.coming input.old) (S.seen out.old) (S.seen out.new) fault) }
-    ensures answered { OnOk result (IsAnswered (cursor_run M.run cursor.old) names.now (I.given input.old) (I.given input.new) (S.seen out.old) (S.seen out.new)) }
-    ensures partly { IfErr result (λ fault.
-        IsAnsweredInPart (cursor_run M.run cursor.old) names.now (I.given input.old) (I.given input.new) (S.seen out.old) (S.seen out.new) fault) }
+    ensures ended { HasEnded (cursor_run M.run cursor.old) names.now (I.coming input.old) (I.given input.old) (I.given input.new) (S.seen out.old) (S.seen out.new) result }
     ensures passed { OnOk result (S.passed_on out.old → S.passed_on out.new) }
     ensures run { cursor_run M.run cursor.new ≡ cursor_run M.run cursor.old }
 {

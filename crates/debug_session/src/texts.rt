@@ -1,9 +1,10 @@
 //! Parts of replies.
-ghost use Rattle.std.specs.Prelude.{◌≡◌, ◌<◌, ◌+◌, ◌++◌, OnOk};
-ghost use Rattle.debug_session.specs.Texts.{digit_at, hex_number, register_digits, least_of, part_text, window_text, state_text, active_text, thread_state_text};
+ghost use Rattle.std.specs.Prelude.{◌≡◌, ◌<◌, ◌++◌, OnOk};
+ghost use Rattle.debug_session.specs.Texts.{digit_at, hex_number, register_digits, window_text, state_text};
 
 use crate::hex::{digit_of, push_hex};
 use crate::request::Window;
+use debug_ways::shown::least_of;
 use osek_scheduler::TaskState;
 use sloth_base::NoMemory;
 use text_pieces::line;
@@ -57,69 +58,33 @@ pub fn push_register(out: &mut Vec<u8>, register: Option<u32>) -> Result<(), NoM
     }
 }
 
-/// The lesser one.
-pub fn least_of(one: u32, other: u32) -> u32
-    ensures { result ≡ least_of one other }
-{
-    if other < one { other } else { one }
-}
-
-// Puts the bytes of a text from a place on, so many at most.
+/// Puts a part of a text.
 #[tactic(auto, unfolding(crate::specs::Texts::part_text))]
-fn push_part(out: &mut Vec<u8>, text: &[u8], from: usize, length: usize) -> Result<(), NoMemory>
-    requires { from + length < 18446744073709551616 }
-    ensures { OnOk result (out.new.items ≡ out.old.items ++ part_text text.now from length) }
+pub fn push_window(out: &mut Vec<u8>, text: &[u8], window: &Window) -> Result<(), NoMemory>
+    ensures { OnOk result (out.new.items ≡ out.old.items ++ window_text text.now window.now) }
 {
+    let from = window.from as usize;
+    let end = from + least_of(PART_LIMIT, window.length) as usize;
     if text.len() <= from {
         return push(out, b"l");
     }
-    if text.len() <= from + length {
+    if text.len() <= end {
         push(out, b"l")?;
         return push(out, &text[from..]);
     }
     push(out, b"m")?;
-    push(out, &text[from..from + length])
+    push(out, &text[from..end])
 }
 
-/// Puts a part of a text.
-pub fn push_window(out: &mut Vec<u8>, text: &[u8], window: &Window) -> Result<(), NoMemory>
-    ensures { OnOk result (out.new.items ≡ out.old.items ++ window_text text.now window.now) }
-{
-    let length = least_of(PART_LIMIT, window.length);
-    push_part(out, text, window.from as usize, length as usize)
-}
-
-/// Puts the word of a state, and the events that a task waits for.
+/// Puts the word of a state, where this is that of an Active task, and the events that a task waits for.
 #[tactic(auto, unfolding(crate::specs::Texts::state_text))]
-pub fn push_state(out: &mut Vec<u8>, state: TaskState) -> Result<(), NoMemory>
-    ensures { OnOk result (out.new.items ≡ out.old.items ++ state_text state) }
+pub fn push_state(out: &mut Vec<u8>, active: &[u8], state: TaskState) -> Result<(), NoMemory>
+    ensures { OnOk result (out.new.items ≡ out.old.items ++ state_text active.now state) }
 {
     match state {
         TaskState::Suspended => push(out, b"suspended"),
         TaskState::Ready => push(out, b"ready"),
-        TaskState::Active => push(out, b"active"),
+        TaskState::Active => push(out, active),
         TaskState::Waiting(mask) => line!(out; Word(b"waiting "), Number(mask)),
-    }
-}
-
-// Puts whether an Active task runs.
-fn push_active(out: &mut Vec<u8>, runs: bool) -> Result<(), NoMemory>
-    ensures { OnOk result (out.new.items ≡ out.old.items ++ active_text runs) }
-{
-    if runs {
-        push(out, b"running")
-    } else {
-        push(out, b"preempted")
-    }
-}
-
-/// The same, where an Active task runs or does not.
-#[tactic(auto, unfolding(crate::specs::Texts::state_text, crate::specs::Texts::thread_state_text))]
-pub fn push_thread_state(out: &mut Vec<u8>, runs: bool, state: TaskState) -> Result<(), NoMemory>
-    ensures { OnOk result (out.new.items ≡ out.old.items ++ thread_state_text runs state) }
-{
-    match state {
-        TaskState::Active => push_active(out, runs),
-        TaskState::Suspended | TaskState::Ready | TaskState::Waiting(_) => push_state(out, state),
     }
 }

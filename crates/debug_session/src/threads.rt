@@ -1,81 +1,16 @@
-//! What is shown of threads.
-ghost use Rattle.std.specs.Prelude.{◌≡◌, ◌≤◌, ◌<◌, ◌+◌, ◌++◌, [], OnOk, Some, length, get_or};
+//! What is told of threads, and of tasks' states.
+ghost use Rattle.std.specs.Prelude.{◌≡◌, ◌≤◌, ◌<◌, ◌+◌, ◌++◌, OnOk, codes, length, get_or};
 ghost use Rattle.osek_scheduler.specs.declared.state.TaskState.TheVariants as mode;
 ghost use Rattle.sloth_base.specs.Limits.{task_limit};
-ghost use Rattle.debug_ways.specs.Cursor.{cursor_run};
-ghost use Rattle.debug_session.specs.Texts.{up_to};
-ghost use Rattle.debug_session.specs.Replies.{seen_at, seen_of, view_of, machine_text, task_text, thread_text, thread_name, words_text, number_front, name_front, element_number, element_head, thread_element, threads_head, threads_text, number_text, thread_list};
+ghost use Rattle.debug_session.specs.Texts.{up_to, hex_number};
+ghost use Rattle.debug_session.specs.Replies.{machine_text, task_text, thread_text, thread_name, words_text, thread_element, threads_head, threads_text, number_text, thread_list, task_line, states_text};
 
-use crate::texts::{push, push_number, push_thread_state};
-use debug_ways::{Cursor, Machine};
+use crate::texts::{push, push_number, push_state};
+use debug_ways::shown::{Seen, View};
 use osek_scheduler::TaskState;
 use sloth_base::{Name, NoMemory, TASK_LIMIT};
 use text_pieces::line;
 use text_pieces::pieces::Piece::{Number, Word};
-
-/// What a count shows of tasks.
-#[derive(Clone, Copy)]
-pub struct Seen {
-    pub count: u32,
-    /// The number of the running task and 1 more, or 0 where none runs.
-    pub running: u8,
-    pub states: [TaskState; TASK_LIMIT],
-}
-
-/// What a count shows of threads: of the machine its level and mstatus, of tasks what the last count showed that found interrupts open.
-#[derive(Clone, Copy)]
-pub struct View {
-    pub count: u32,
-    pub level: u32,
-    pub mstatus: u32,
-    pub seen: Option<Seen>,
-}
-
-// What a count of the run shows of tasks.
-fn seen_at<M: Machine>(cursor: &mut Cursor<M>, count: u32) -> Option<Seen>
-    ensures seen { result ≡ seen_at (cursor_run M.run cursor.old) (Some count) }
-    ensures run { cursor_run M.run cursor.new ≡ cursor_run M.run cursor.old }
-{
-    if count > cursor.end() {
-        return None;
-    }
-    let running = cursor.look(count).running;
-    let states = cursor.states(count);
-    Some(Seen {
-        count,
-        running,
-        states,
-    })
-}
-
-/// What the last count shows of tasks that finds interrupts open, if one does.
-pub fn seen_of<M: Machine>(cursor: &mut Cursor<M>, count: u32) -> Option<Seen>
-    requires { count ≤ (cursor_run M.run cursor.old).end }
-    ensures seen { result ≡ seen_of (cursor_run M.run cursor.old) count }
-    ensures run { cursor_run M.run cursor.new ≡ cursor_run M.run cursor.old }
-{
-    match cursor.look(count).open_count {
-        Some(open_count) => seen_at(cursor, open_count),
-        None => None,
-    }
-}
-
-/// What a count shows of threads.
-pub fn view_of<M: Machine>(cursor: &mut Cursor<M>, count: u32) -> View
-    requires { count ≤ (cursor_run M.run cursor.old).end }
-    ensures view { result ≡ view_of (cursor_run M.run cursor.old) count }
-    ensures run { cursor_run M.run cursor.new ≡ cursor_run M.run cursor.old }
-{
-    let level = cursor.register(count, 1, 36).unwrap_or(0);
-    let mstatus = cursor.register(count, 1, 33).unwrap_or(0);
-    let seen = seen_of(cursor, count);
-    View {
-        count,
-        level,
-        mstatus,
-        seen,
-    }
-}
 
 // Puts what the machine is.
 #[tactic(auto, unfolding(crate::specs::Replies::machine_text))]
@@ -107,8 +42,12 @@ fn push_task(out: &mut Vec<u8>, seen: &Option<Seen>, task: u32) -> Result<(), No
 {
     match seen {
         Some(seen) => {
-            let runs = u64::from(seen.running) == u64::from(task) + 1;
-            push_thread_state(out, runs, state_at(&seen.states, task as usize))
+            let state = state_at(&seen.states, task as usize);
+            if u64::from(seen.running) == u64::from(task) + 1 {
+                push_state(out, b"running", state)
+            } else {
+                push_state(out, b"preempted", state)
+            }
         }
         None => push(out, b"booting"),
     }
@@ -125,25 +64,17 @@ fn push_thread(out: &mut Vec<u8>, view: &View, thread: u32) -> Result<(), NoMemo
     }
 }
 
-// Puts the name of a task, if there is such.
-fn push_task_name(out: &mut Vec<u8>, names: &[Name], task: usize) -> Result<(), NoMemory>
-    ensures { OnOk result (out.new.items ≡ out.old.items ++ get_or names.now task []) }
+// The name of a thread.
+fn thread_name<'a>(names: &'a [Name], thread: u32) -> &'a [u8]
+    ensures { result.now ≡ thread_name names.now thread }
 {
-    if task < names.len() {
-        push(out, names[task].bytes())
-    } else {
-        Ok(())
-    }
-}
-
-// Puts the name of a thread.
-fn push_name(out: &mut Vec<u8>, names: &[Name], thread: u32) -> Result<(), NoMemory>
-    ensures { OnOk result (out.new.items ≡ out.old.items ++ thread_name names.now thread) }
-{
+    let task = thread.saturating_sub(2) as usize;
     if thread == 1 {
-        push(out, b"machine")
+        b"machine"
+    } else if task < names.len() {
+        names[task].bytes()
     } else {
-        push_task_name(out, names, thread.saturating_sub(2) as usize)
+        b""
     }
 }
 
@@ -156,43 +87,19 @@ pub fn push_words(
 ) -> Result<(), NoMemory>
     ensures { OnOk result (out.new.items ≡ out.old.items ++ words_text view.now names.now thread) }
 {
-    push_name(out, names, thread)?;
-    push(out, b" ")?;
+    line!(out; Word(thread_name(names, thread)), Word(b" "))?;
     push_thread(out, view, thread)
-}
-
-// What stands in front of the number of a thread.
-#[tactic(auto, unfolding(crate::specs::Replies::number_front))]
-fn number_front() -> &'static [u8]
-    ensures { result.now ≡ number_front }
-{
-    b"<thread id=\""
-}
-
-// What stands in front of the name of a thread.
-#[tactic(auto, unfolding(crate::specs::Replies::name_front))]
-fn name_front() -> &'static [u8]
-    ensures { result.now ≡ name_front }
-{
-    b"\" name=\""
-}
-
-// Puts an element of the list of threads up to the name.
-fn push_element_number(out: &mut Vec<u8>, thread: u32) -> Result<(), NoMemory>
-    ensures { OnOk result (out.new.items ≡ out.old.items ++ element_number thread) }
-{
-    push(out, number_front())?;
-    push_number(out, thread)?;
-    push(out, name_front())
 }
 
 // Puts an element of the list of threads in front of its state.
 fn push_head(out: &mut Vec<u8>, names: &[Name], thread: u32) -> Result<(), NoMemory>
-    ensures { OnOk result (out.new.items ≡ out.old.items ++ element_head names.now thread) }
+    ensures { OnOk result (out.new.items
+        ≡ out.old.items ++ (codes "<thread id=\"" ++ hex_number thread ++ codes "\" name=\"" ++ thread_name names.now thread ++ codes "\">")) }
 {
-    push_element_number(out, thread)?;
-    push_name(out, names, thread)?;
-    push(out, b"\">")
+    push(out, b"<thread id=\"")?;
+    push_number(out, thread)?;
+    line!(out; Word(b"\" name=\""), Word(thread_name(names, thread)), Word(b"\">"))?;
+    Ok(())
 }
 
 // Puts an element of the list of threads.
@@ -238,22 +145,14 @@ pub fn push_threads(out: &mut Vec<u8>, view: &View, names: &[Name]) -> Result<()
     push(out, b"</threads>\n")
 }
 
-// Puts the number of a task's thread, with a comma in front.
-fn push_comma_number(out: &mut Vec<u8>, task: u32) -> Result<(), NoMemory>
-    requires { task < task_limit }
-    ensures { OnOk result (out.new.items ≡ out.old.items ++ number_text task) }
-{
-    push(out, b",")?;
-    push_number(out, task + 2)
-}
-
 // Puts the numbers of so many threads behind the first, with commas in front.
 fn push_numbers(out: &mut Vec<u8>, tasks: u32) -> Result<(), NoMemory>
     requires { tasks ≤ task_limit }
     ensures { OnOk result (out.new.items ≡ out.old.items ++ up_to number_text tasks) }
 {
     for task in 0..tasks {
-        push_comma_number(out, task)?;
+        push(out, b",")?;
+        push_number(out, task + 2)?;
     }
     Ok(())
 }
@@ -265,4 +164,50 @@ pub fn push_thread_list(out: &mut Vec<u8>, tasks: u32) -> Result<(), NoMemory>
 {
     push(out, b"m1")?;
     push_numbers(out, tasks)
+}
+
+// Puts the line of a task's state.
+#[tactic(auto, unfolding(crate::specs::Replies::task_line))]
+fn push_task_line(
+    out: &mut Vec<u8>,
+    names: &[Name],
+    states: &[TaskState; TASK_LIMIT],
+    task: usize,
+) -> Result<(), NoMemory>
+    requires named { task < length names.now }
+    requires there { task < task_limit }
+    ensures { OnOk result (out.new.items ≡ out.old.items ++ task_line names.now states.now task) }
+{
+    line!(out; Word(names[task].bytes()), Word(b" "))?;
+    push_state(out, b"active", states[task])?;
+    push(out, b"\n")
+}
+
+// Puts the lines of all tasks' states.
+fn push_task_lines(
+    out: &mut Vec<u8>,
+    names: &[Name],
+    states: &[TaskState; TASK_LIMIT],
+) -> Result<(), NoMemory>
+    requires { length names.now ≤ task_limit }
+    ensures { OnOk result (out.new.items ≡ out.old.items ++ up_to (task_line names.now states.now) (length names.now)) }
+{
+    for task in 0..names.len() {
+        push_task_line(out, names, states, task)?;
+    }
+    Ok(())
+}
+
+/// Puts the states of all tasks, if they were seen.
+pub fn push_states(out: &mut Vec<u8>, names: &[Name], seen: &Option<Seen>) -> Result<(), NoMemory>
+    requires { length names.now ≤ task_limit }
+    ensures { OnOk result (out.new.items ≡ out.old.items ++ states_text names.now seen.now) }
+{
+    match seen {
+        Some(seen) => {
+            line!(out; Word(b"count "), Number(seen.count), Word(b"\n"))?;
+            push_task_lines(out, names, &seen.states)
+        }
+        None => push(out, b"booting\n"),
+    }
 }

@@ -1,6 +1,5 @@
 //! Packets as they are written.
-ghost use Rattle.std.specs.Prelude.{◌≡◌, ◌++◌, OnOk, IfOk};
-ghost use Rattle.debug_session.specs.Escapes.{escaped};
+ghost use Rattle.std.specs.Prelude.{◌≡◌, ◌++◌, OnOk};
 ghost use Rattle.debug_session.specs.Framing.{checksum, packet_of, framed};
 
 use crate::escapes::push_escaped;
@@ -30,19 +29,11 @@ fn push_between(out: &mut Vec<u8>, bytes: &[u8]) -> Result<(), NoMemory>
     Ok(())
 }
 
-// What stands for bytes.
-fn escaped(alloc: Global, bytes: &[u8]) -> Result<Vec<u8>, NoMemory>
-    ensures { IfOk result (λ list. list.items ≡ escaped bytes.now) }
-{
-    let mut list = Vec::new(alloc);
-    push_escaped(&mut list, bytes)?;
-    Ok(list)
-}
-
 /// Puts data as a packet.
 pub fn push_packet(alloc: Global, out: &mut Vec<u8>, content: &[u8]) -> Result<(), NoMemory>
     ensures { OnOk result (out.new.items ≡ out.old.items ++ framed content.now) }
 {
-    let bytes = escaped(alloc, content)?;
+    let mut bytes = Vec::new(alloc);
+    push_escaped(&mut bytes, content)?;
     push_between(out, bytes.as_slice())
 }

@@ -1,2 +1,4 @@
 pub mod Keeping
 pub mod Searching
+pub mod Continuing
+pub mod Sides

@@ -2,3 +2,9 @@ pub mod Cursor
 pub mod Marks
 pub mod Runs
 pub mod Ways
+pub mod Causes
+pub mod Points
+pub mod Wishes
+pub mod Standing
+pub mod Around
+pub mod Shown

@@ -1,6 +1,11 @@
 //! Where ways end, in words.
-ghost use Rattle.std.specs.Prelude.{◌≡◌, ◌≤◌, ◌<◌, ◌-◌, ℕ, Bool, true};
-ghost use Rattle.debug_ways.specs.Ways.{least_behind, greatest_below, IsLeast, IsGreatest};
+ghost use Rattle.std.specs.Prelude.{◌≡◌, ◌≤◌, ◌<◌, ◌-◌, ℕ, List, Bool, true, false};
+ghost use Rattle.debug_ways.specs.Causes.{Wish, is_guard, tests_of, passage};
+ghost use Rattle.debug_ways.specs.Runs.{Run};
+ghost use Rattle.debug_ways.specs.Standing.{continued, wish_of_points};
+ghost use Rattle.debug_ways.specs.Ways.{least_behind, greatest_below, ends_ahead, ends_back, guards_before, IsLeast, IsGreatest};
+ghost use Rattle.debug_ways.specs.declared.points.Point.{Point};
+ghost use Rattle.debug_ways.specs.declared.standing.Standing.{Standing};
 
 /// A way forward ends at the least count behind its own that ends one, or at the last count where there is none.
 #[tactic(auto, using(crate::proofs::Searching::found_least))]
@@ -19,4 +24,36 @@ pub fn ways_back_end_at_the_greatest()
 pub fn ways_mirror()
     ensures { (hit : ℕ → Bool) (from end : ℕ) → from < end → hit from ≡ true
         → greatest_below hit (least_behind hit (end - from) from) ≡ from }
+{}
+
+/// A way forward whose first access no watchpoint is for ends at the least count behind at which a breakpoint stands, the target is reached or an access
+/// meets a watchpoint, or at the last count where there is none.
+#[tactic(auto, using(crate::proofs::Continuing::passage_to_the_least))]
+pub fn ways_end_at_the_least_hit()
+    ensures { (wish : Wish) (run : Run) (from : ℕ) → from ≤ run.end → is_guard wish (run.look from) ≡ false
+        → IsLeast (ends_ahead run (tests_of wish)) from run.end (passage false wish run from).count }
+{}
+
+/// A way back ends at the greatest such count below, or at 0 where there is none.
+#[tactic(auto, using(crate::proofs::Continuing::passage_to_the_greatest))]
+pub fn ways_back_end_at_the_greatest_hit()
+    ensures { (wish : Wish) (run : Run) (from : ℕ) → guards_before run (tests_of wish) from ≡ false
+        → IsGreatest (ends_back run (tests_of wish)) from (passage true wish run from).count }
+{}
+
+/// A continue that no interrupt stops, and whose first access no watchpoint is for, ends at the least count behind at which a breakpoint stands or whose
+/// access meets a watchpoint, or at the last count where there is none.
+#[tactic(auto, using(crate::proofs::Continuing::ahead_to_the_least))]
+pub fn continues_end_at_the_least_hit()
+    ensures { (run : Run) (points : List Point) (standing : Standing) → standing.interrupted ≡ false → standing.count ≤ run.end
+        → is_guard (wish_of_points points) (run.look standing.count) ≡ false
+        → IsLeast (ends_ahead run (tests_of (wish_of_points points))) standing.count run.end (continued run points false standing).count }
+{}
+
+/// A continue back ends at the greatest count below at which a breakpoint stands or behind whose access a watchpoint is met, or at 0 where there is none.
+#[tactic(auto, using(crate::proofs::Continuing::back_to_the_greatest))]
+pub fn reverse_continues_end_at_the_greatest_hit()
+    ensures { (run : Run) (points : List Point) (standing : Standing) → standing.interrupted ≡ false
+        → guards_before run (tests_of (wish_of_points points)) standing.count ≡ false
+        → IsGreatest (ends_back run (tests_of (wish_of_points points))) standing.count (continued run points true standing).count }
 {}

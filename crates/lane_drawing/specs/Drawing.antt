@@ -79,8 +79,8 @@ left_margin longest = 24 + 8 * longest
 -- the first line, with the size in pixels: so many rows behind the axis, and the legend
 unfoldable pub head_line : Scale → (rows : ℕ) → List ℕ
 head_line scale rows =
-    codes "<svg xmlns=\"http://www.w3.org/2000/svg\" width=\"" ++ decimal (scale.left + 1052) ++ codes "\" height=\"" ++ decimal (94 + 40 * rows)
-    ++ codes "\" viewBox=\"0 0 " ++ decimal (scale.left + 1052) ++ codes " " ++ decimal (94 + 40 * rows)
+    codes "<svg xmlns=\"http://www.w3.org/2000/svg\" width=\"" ++ decimal (scale.left + 1052) ++ codes "\" height=\"" ++ decimal (122 + 40 * rows)
+    ++ codes "\" viewBox=\"0 0 " ++ decimal (scale.left + 1052) ++ codes " " ++ decimal (122 + 40 * rows)
     ++ codes "\" font-family=\"system-ui, sans-serif\" font-size=\"13\">\n"
 
 -- lines, one behind the other
@@ -100,7 +100,8 @@ style_lines = all_lines (
     ∷ codes ".ready{fill:none;stroke:#2266aa;stroke-width:1.4;stroke-dasharray:4 3}\n"
     ∷ codes ".wait{fill:#8a94a3}\n"
     ∷ codes ".l{fill:none;stroke:#c2241a}\n"
-    ∷ codes ".t{fill:#1a2433;stroke:#1a2433}\n"
+    ∷ codes ".t,.m{fill:#1a2433;stroke:#1a2433}\n"
+    ∷ codes ".m{stroke-width:.7}\n"
     ∷ codes ".k{fill:#c2571a}\n"
     ∷ codes "@media screen and (prefers-color-scheme:dark){\n"
     ∷ codes "text,.a{fill:#e6ebf2}\n"
@@ -111,7 +112,7 @@ style_lines = all_lines (
     ∷ codes ".ready{stroke:#5aa2e6}\n"
     ∷ codes ".wait{fill:#7b8796}\n"
     ∷ codes ".l{stroke:#ff8a7a}\n"
-    ∷ codes ".t{fill:#e6ebf2;stroke:#e6ebf2}\n"
+    ∷ codes ".t,.m{fill:#e6ebf2;stroke:#e6ebf2}\n"
     ∷ codes ".k{fill:#e08a4d}\n"
     ∷ codes "}\n"
     ∷ codes "@media print{svg{width:100%;height:auto}}\n"
@@ -120,6 +121,15 @@ style_lines = all_lines (
     ∷ codes "<text x=\"100%\" y=\"16\" dx=\"-32\" text-anchor=\"end\" font-size=\"11\">instructions</text>\n"
     ∷ []
     )
+
+-- which counts are shown, above the axis
+unfoldable pub title_line : Scale → List ℕ
+title_line scale =
+    codes "<text x=\"" ++ decimal scale.left ++ codes "\" y=\"16\">counts " ++ decimal scale.from ++ codes " to " ++ decimal scale.to ++ codes "</text>\n"
+
+-- all that stands before the axis
+abbrev pub head_lines : Scale → (rows : ℕ) → List ℕ
+head_lines scale rows = head_line scale rows ++ style_lines ++ title_line scale
 
 -- a count on the axis, with a line down through so many rows
 unfoldable pub count_line : Scale → (rows count : ℕ) → List ℕ
@@ -149,11 +159,11 @@ legend_lines scale rows = legend_line scale rows ++ all_lines (
     ∷ codes "<rect class=\"ready\" x=\"390\" y=\"6\" width=\"28\" height=\"12\"/><text x=\"426\" y=\"16\">ready</text>\n"
     ∷ codes "<rect class=\"wait\" x=\"488\" y=\"11\" width=\"28\" height=\"2\"/><text x=\"524\" y=\"16\">waiting</text>\n"
     ∷ codes "<rect class=\"k\" x=\"596\" y=\"6\" width=\"28\" height=\"12\"/><text x=\"632\" y=\"16\">kernel code</text>\n"
-    ∷ codes "<path class=\"a\" d=\"M734 16l-4 -6h8z\"/><text x=\"746\" y=\"16\">arrival</text>\n"
-    ∷ codes "<path class=\"l\" d=\"M812 16l-4 -6h8z\"/><text x=\"824\" y=\"16\">lost</text>\n"
-    ∷ codes "<rect class=\"t\" x=\"876\" y=\"4\" width=\"1\" height=\"16\"/><text x=\"888\" y=\"16\">tick</text>\n"
-    ∷ codes "<path class=\"a\" d=\"M934 8l4 4l-4 4l-4 -4z\"/><text x=\"946\" y=\"16\">expiry</text>\n"
-    ∷ codes "<path class=\"t\" stroke-width=\".7\" d=\"M1000 2v20\"/><text x=\"1008\" y=\"16\">wakes</text>\n"
+    ∷ codes "<path class=\"a\" d=\"M8 44l-4 -6h8z\"/><text x=\"20\" y=\"44\">arrival</text>\n"
+    ∷ codes "<path class=\"l\" d=\"M100 44l-4 -6h8z\"/><text x=\"112\" y=\"44\">lost arrival</text>\n"
+    ∷ codes "<rect class=\"t\" x=\"226\" y=\"32\" width=\"1\" height=\"16\"/><text x=\"236\" y=\"44\">tick</text>\n"
+    ∷ codes "<path class=\"a\" d=\"M304 36l4 4l-4 4l-4 -4z\"/><text x=\"316\" y=\"44\">alarm expires</text>\n"
+    ∷ codes "<path class=\"m\" d=\"M440 30v20m-3 -6l3 6l3 -6z\"/><text x=\"452\" y=\"44\">activates, wakes</text>\n"
     ∷ codes "</g>\n"
     ∷ []
     )

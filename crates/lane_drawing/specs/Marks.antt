@@ -1,13 +1,17 @@
 -- The lines of marks in a picture: SVG 1.1.
-use Rattle.std.specs.Prelude.{ℕ, ◌+◌, List, ◌++◌, codes, decimal}
+use Rattle.std.specs.Prelude.{ℕ, ◌+◌, ltb, Bool, cond, List, ◌++◌, codes, decimal}
 use Rattle.lane_drawing.specs.declared.scale.Scale.{Scale}
 use Rattle.lane_drawing.specs.Scale.{place, pixels}
 
--- A thin line at a count, from the middle of the lane of who wakes a task to that of the task.
-unfoldable pub wake_line : Scale → (at : ℕ) → (by : List ℕ) (from : ℕ) → (task : List ℕ) (to : ℕ) → List ℕ
-wake_line scale at by from task to =
-    codes "<path class=\"t\" stroke-width=\".7\" d=\"M" ++ pixels (place scale at) ++ codes " " ++ decimal from ++ codes "V" ++ decimal to
-    ++ codes "\"><title>" ++ by ++ codes " wakes " ++ task ++ codes " at " ++ decimal at ++ codes "</title></path>\n"
+-- the head of a line that goes down, or up: its point is the line's end
+abbrev pub arrow_head : (down : Bool) → List ℕ
+arrow_head down = cond down (codes "m-3 -6l3 6l3 -6z") (codes "m-3 6l3 -6l3 6z")
+
+-- A thin line at a count, from one height to another, with a head there: it says who does what to a task.
+unfoldable pub arrow_line : Scale → (at : ℕ) → (by : List ℕ) (from : ℕ) → (does : List ℕ) → (task : List ℕ) (to : ℕ) → List ℕ
+arrow_line scale at by from does task to =
+    codes "<path class=\"m\" d=\"M" ++ pixels (place scale at) ++ codes " " ++ decimal from ++ codes "V" ++ decimal to ++ arrow_head (ltb from to)
+    ++ codes "\"><title>" ++ by ++ does ++ task ++ codes " at " ++ decimal at ++ codes "</title></path>\n"
 
 -- A rhomb at the tick that an alarm expires at: between the lane's bars and its lower edge.
 unfoldable pub expiry_line : Scale → (at alarm middle : ℕ) → List ℕ

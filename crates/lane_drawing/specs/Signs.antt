@@ -15,6 +15,16 @@ is_ready mode.Ready = true
 is_ready mode.Active = false
 is_ready (mode.Waiting mask) = false
 
+abbrev pub is_suspended : TaskState → Bool
+is_suspended mode.Suspended = true
+is_suspended mode.Ready = false
+is_suspended mode.Active = false
+is_suspended (mode.Waiting mask) = false
+
+-- a task that is Suspended is Ready then: it is activated, by its arrival or otherwise
+abbrev pub is_activated : (before now : TaskState) → Bool
+is_activated before now = is_suspended before && is_ready now
+
 -- a task that waits is Ready then: it is woken
 abbrev pub is_woken : (before now : TaskState) → Bool
 is_woken before now = is_waiting before && is_ready now

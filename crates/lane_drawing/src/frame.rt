@@ -1,11 +1,13 @@
 //! What stands round the lanes: the size, the looks, the axis and the legend.
 ghost use Rattle.std.specs.Prelude.{◌≡◌, ◌≤◌, ◌++◌, OnOk, map};
 ghost use Rattle.lane_drawing.specs.Scale.{IsScale, first_multiple, last_multiple};
-ghost use Rattle.lane_drawing.specs.Drawing.{all_lines, head_line, style_lines, count_line, axis_line, axis_lines, legend_line, legend_lines};
+ghost use Rattle.lane_drawing.specs.Drawing.{all_lines, head_line, style_lines, title_line, head_lines, count_line, axis_line, axis_lines, legend_line, legend_lines};
 
 use crate::Scale;
 use crate::scale::push_pixels;
 use sloth_base::NoMemory;
+use text_pieces::line;
+use text_pieces::pieces::Piece::{Number, Word};
 use trace_text::LineText;
 
 // The first line, with the size in pixels: so many rows behind the axis, and the legend.
@@ -15,7 +17,7 @@ fn head_line(scale: Scale, rows: u32) -> LineText
     requires rows { rows ≤ 33 }
     ensures { result ≡ head_line scale rows }
 {
-    let (width, height) = (scale.left + 1052, 94 + 40 * rows);
+    let (width, height) = (scale.left + 1052, 122 + 40 * rows);
     let mut line = LineText::new();
     line.push(b"<svg xmlns=\"http://www.w3.org/2000/svg\" width=\"");
     line.push_number(width);
@@ -30,7 +32,7 @@ fn head_line(scale: Scale, rows: u32) -> LineText
 }
 
 // How each class looks, on light and on dark screens, that paper has the whole width, what is behind all, and the unit of the axis, above its end.
-const STYLE: [&[u8]; 28] = [
+const STYLE: [&[u8]; 29] = [
     b"<style>\n",
     b"text,.a{fill:#1a2433}\n",
     b".n{font-family:ui-monospace,monospace}\n",
@@ -41,7 +43,8 @@ const STYLE: [&[u8]; 28] = [
     b".ready{fill:none;stroke:#2266aa;stroke-width:1.4;stroke-dasharray:4 3}\n",
     b".wait{fill:#8a94a3}\n",
     b".l{fill:none;stroke:#c2241a}\n",
-    b".t{fill:#1a2433;stroke:#1a2433}\n",
+    b".t,.m{fill:#1a2433;stroke:#1a2433}\n",
+    b".m{stroke-width:.7}\n",
     b".k{fill:#c2571a}\n",
     b"@media screen and (prefers-color-scheme:dark){\n",
     b"text,.a{fill:#e6ebf2}\n",
@@ -52,7 +55,7 @@ const STYLE: [&[u8]; 28] = [
     b".ready{stroke:#5aa2e6}\n",
     b".wait{fill:#7b8796}\n",
     b".l{stroke:#ff8a7a}\n",
-    b".t{fill:#e6ebf2;stroke:#e6ebf2}\n",
+    b".t,.m{fill:#e6ebf2;stroke:#e6ebf2}\n",
     b".k{fill:#e08a4d}\n",
     b"}\n",
     b"@media print{svg{width:100%;height:auto}}\n",
@@ -71,14 +74,34 @@ fn push_lines(text: &mut Vec<u8>, lines: &[&[u8]]) -> Result<(), NoMemory>
     Ok(())
 }
 
-/// Appends the first line, how each class looks, on light and on dark screens, and the unit of the axis.
-pub fn push_head(text: &mut Vec<u8>, scale: Scale, rows: u32) -> Result<(), NoMemory>
+// Appends the first line, how each class looks, on light and on dark screens, and the unit of the axis.
+fn push_style(text: &mut Vec<u8>, scale: Scale, rows: u32) -> Result<(), NoMemory>
     requires scale { IsScale scale }
     requires rows { rows ≤ 33 }
     ensures { OnOk result (text.new.items ≡ text.old.items ++ (head_line scale rows ++ style_lines)) }
 {
     text.extend_from_slice(head_line(scale, rows).bytes())?;
     push_lines(text, &STYLE)
+}
+
+// Appends which counts are shown, above the axis.
+#[tactic(auto, unfolding(crate::specs::Drawing::title_line))]
+fn push_title(text: &mut Vec<u8>, scale: Scale) -> Result<(), NoMemory>
+    ensures { OnOk result (text.new.items ≡ text.old.items ++ title_line scale) }
+{
+    line!(text;
+        Word(b"<text x=\""), Number(scale.left), Word(b"\" y=\"16\">counts "), Number(scale.from),
+        Word(b" to "), Number(scale.to), Word(b"</text>\n"))
+}
+
+/// Appends the first line, how each class looks, the unit of the axis, and which counts are shown.
+pub fn push_head(text: &mut Vec<u8>, scale: Scale, rows: u32) -> Result<(), NoMemory>
+    requires scale { IsScale scale }
+    requires rows { rows ≤ 33 }
+    ensures { OnOk result (text.new.items ≡ text.old.items ++ head_lines scale rows) }
+{
+    push_style(text, scale, rows)?;
+    push_title(text, scale)
 }
 
 // A count on the axis, with a line down through so many rows.
@@ -151,11 +174,11 @@ const LEGEND: [&[u8]; 12] = [
     b"<rect class=\"ready\" x=\"390\" y=\"6\" width=\"28\" height=\"12\"/><text x=\"426\" y=\"16\">ready</text>\n",
     b"<rect class=\"wait\" x=\"488\" y=\"11\" width=\"28\" height=\"2\"/><text x=\"524\" y=\"16\">waiting</text>\n",
     b"<rect class=\"k\" x=\"596\" y=\"6\" width=\"28\" height=\"12\"/><text x=\"632\" y=\"16\">kernel code</text>\n",
-    b"<path class=\"a\" d=\"M734 16l-4 -6h8z\"/><text x=\"746\" y=\"16\">arrival</text>\n",
-    b"<path class=\"l\" d=\"M812 16l-4 -6h8z\"/><text x=\"824\" y=\"16\">lost</text>\n",
-    b"<rect class=\"t\" x=\"876\" y=\"4\" width=\"1\" height=\"16\"/><text x=\"888\" y=\"16\">tick</text>\n",
-    b"<path class=\"a\" d=\"M934 8l4 4l-4 4l-4 -4z\"/><text x=\"946\" y=\"16\">expiry</text>\n",
-    b"<path class=\"t\" stroke-width=\".7\" d=\"M1000 2v20\"/><text x=\"1008\" y=\"16\">wakes</text>\n",
+    b"<path class=\"a\" d=\"M8 44l-4 -6h8z\"/><text x=\"20\" y=\"44\">arrival</text>\n",
+    b"<path class=\"l\" d=\"M100 44l-4 -6h8z\"/><text x=\"112\" y=\"44\">lost arrival</text>\n",
+    b"<rect class=\"t\" x=\"226\" y=\"32\" width=\"1\" height=\"16\"/><text x=\"236\" y=\"44\">tick</text>\n",
+    b"<path class=\"a\" d=\"M304 36l4 4l-4 4l-4 -4z\"/><text x=\"316\" y=\"44\">alarm expires</text>\n",
+    b"<path class=\"m\" d=\"M440 30v20m-3 -6l3 6l3 -6z\"/><text x=\"452\" y=\"44\">activates, wakes</text>\n",
     b"</g>\n",
 ];
 

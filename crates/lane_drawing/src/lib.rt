@@ -2,9 +2,9 @@
 //!
 //! Each line of the drawing is as defined (`push_lane`, `push_name`, `push_bar`, `push_axis`, `push_head`, `push_legend`; `specs/Drawing`). The bars of a
 //! lane are its longest stretches of counts that show the same, and no others, as its counts come; places in hundredths of a pixel, the axis' step
-//! and multiples, and the lines of arrivals, wakings and expiries are as defined (`Strip`, `Scale`, `push_pixels`, `arrival_line`, `wake_line`, `expiry_line`; `specs/Bars`, `specs/Strips`,
+//! and multiples, and the lines of arrivals, wakings and expiries are as defined (`Strip`, `Scale`, `push_pixels`, `arrival_line`, `arrow_line`, `expiry_line`; `specs/Bars`, `specs/Strips`,
 //! `specs/Scale`, `specs/Arrivals`, `specs/Marks`); and so is what a bar shows of a task's state (`task_look`; `specs/TaskLooks`),
-//! and whether a task is woken or an alarm's ticks are over (`is_woken`, `is_over`; `specs/Signs`). A line in its buffer: `trace_text`.
+//! and whether a task is woken or activated, or an alarm's ticks are over (`is_woken`, `is_activated`, `is_over`; `specs/Signs`). A line in its buffer: `trace_text`.
 #![tactic(auto)]
 
 pub mod arrivals;
@@ -21,8 +21,8 @@ pub use arrivals::arrival_line;
 pub use bars::{Bar, Look};
 pub use drawing::{push_bar, push_lane, push_name};
 pub use frame::{push_axis, push_head, push_legend};
-pub use marks::{expiry_line, wake_line};
+pub use marks::{arrow_line, expiry_line};
 pub use scale::Scale;
-pub use signs::{is_over, is_woken};
+pub use signs::{is_activated, is_over, is_woken};
 pub use strip::Strip;
 pub use task_looks::task_look;

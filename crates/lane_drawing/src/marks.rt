@@ -2,33 +2,54 @@
 ghost use Rattle.std.specs.Prelude.{◌≡◌, ◌≤◌, length};
 ghost use Rattle.sloth_base.specs.Limits.{name_limit};
 ghost use Rattle.lane_drawing.specs.Scale.{IsScale};
-ghost use Rattle.lane_drawing.specs.Marks.{wake_line, expiry_line};
+ghost use Rattle.lane_drawing.specs.Marks.{arrow_head, arrow_line, expiry_line};
 
 use crate::Scale;
 use crate::scale::push_pixels;
 use trace_text::LineText;
 
-/// A thin line at a count, from the middle of the lane of who wakes a task to that of the task.
-#[tactic(auto, unfolding(crate::specs::Marks::wake_line))]
-pub fn wake_line(scale: Scale, at: u32, by: &[u8], from: u32, task: &[u8], to: u32) -> LineText
+fn arrow_head(down: bool) -> &'static [u8]
+    ensures is { result.now ≡ arrow_head down }
+    ensures short { length result.now ≤ 16 }
+{
+    if down {
+        b"m-3 -6l3 6l3 -6z"
+    } else {
+        b"m-3 6l3 -6l3 6z"
+    }
+}
+
+/// A thin line at a count, from one height to another, with a head there: it says who does what to a task, as ` wakes `.
+#[tactic(auto, unfolding(crate::specs::Marks::arrow_line))]
+pub fn arrow_line(
+    scale: Scale,
+    at: u32,
+    by: &[u8],
+    from: u32,
+    does: &[u8],
+    task: &[u8],
+    to: u32,
+) -> LineText
     requires scale { IsScale scale }
     requires by { length by.now ≤ name_limit }
+    requires does { length does.now ≤ 11 }
     requires task { length task.now ≤ name_limit }
     requires behind { scale.from ≤ at }
     requires within { at ≤ scale.to }
-    ensures { result ≡ wake_line scale at by.now from task.now to }
+    ensures { result ≡ arrow_line scale at by.now from does.now task.now to }
 {
     let left = scale.place(at);
     let mut line = LineText::new();
-    line.push(b"<path class=\"t\" stroke-width=\".7\" d=\"M");
+    line.push(b"<path class=\"m\" d=\"M");
     push_pixels(&mut line, left);
     line.push(b" ");
     line.push_number(from);
     line.push(b"V");
     line.push_number(to);
+    line.push(arrow_head(from < to));
     line.push(b"\"><title>");
     line.push(by);
-    line.push(b" wakes ");
+    line.push(does);
     line.push(task);
     line.push(b" at ");
     line.push_number(at);

@@ -1,6 +1,6 @@
 //! What is marked between two counts.
 ghost use Rattle.std.specs.Prelude.{◌≡◌};
-ghost use Rattle.lane_drawing.specs.Signs.{is_waiting, is_ready, is_woken, is_over};
+ghost use Rattle.lane_drawing.specs.Signs.{is_waiting, is_ready, is_suspended, is_woken, is_activated, is_over};
 
 use osek_scheduler::TaskState;
 
@@ -24,6 +24,24 @@ fn is_ready(state: TaskState) -> bool
         TaskState::Active => false,
         TaskState::Waiting(_) => false,
     }
+}
+
+fn is_suspended(state: TaskState) -> bool
+    ensures { result ≡ is_suspended state }
+{
+    match state {
+        TaskState::Suspended => true,
+        TaskState::Ready => false,
+        TaskState::Active => false,
+        TaskState::Waiting(_) => false,
+    }
+}
+
+/// Whether a task that is Suspended is Ready then: it is activated, by its arrival or otherwise.
+pub fn is_activated(before: TaskState, now: TaskState) -> bool
+    ensures { result ≡ is_activated before now }
+{
+    is_suspended(before) && is_ready(now)
 }
 
 /// Whether a task that waits is Ready then: it is woken.

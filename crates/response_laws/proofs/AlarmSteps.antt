@@ -91,7 +91,7 @@ module _ (a : ℕ) where
           (λ none. absurd (false≢true (sym (ap (λ (k : Alarm). k.left == 1) none) ∙ is)))
       by false is = written_own s (record (alarm s a) { left = (alarm s a).left - 1 }) (λ none. ap (λ (k : Alarm). record { left = k.left - 1; cycle = k.cycle }) none)
 
-  one_other : (c b : ℕ) (d : AlarmDecl) (s : System) → (b ≡ a → ⊥) → alarm (cond (d.counter == c) (alarm_ticked_state d.action b s) s) a ≡ alarm s a
+  pub one_other : (c b : ℕ) (d : AlarmDecl) (s : System) → (b ≡ a → ⊥) → alarm (cond (d.counter == c) (alarm_ticked_state d.action b s) s) a ≡ alarm s a
   one_other c b d s n =
       cond_both (d.counter == c) (alarm_ticked_state d.action b s) s (λ (x : System). alarm x a ≡ alarm s a) (λ _. ticked_other d.action b s n) (λ _. refl)
 
@@ -120,7 +120,7 @@ module _ (a : ℕ) where
 
 -- ---- a service
 
-module _ (config : Config) (app : App) (a : ℕ) (inside : a < length config.alarms) (unset : (f i : ℕ) → sets_alarm a (operation app f i) ≡ false) where
+module _ (config : Config) (app : App) (a : ℕ) (inside : a < length config.alarms) where
   -- nothing but this sets another alarm
   abbrev leaves_alone : Other → Bool
   leaves_alone (other.SetAlarm b left cycle) = not (b == a)
@@ -176,13 +176,18 @@ module _ (config : Config) (app : App) (a : ℕ) (inside : a < length config.ala
         by (inr n) = tested service.CancelAlarm object mask (ap (λ b. not b && true) (ne_eqb object a n))
     served_calm served object mask off = tested served object mask refl
 
-  called_calm : (t : ℕ) (served : Service) (s : System) (answer : ServiceOutcome) → IsServiceStep config app t served s answer → IsAfter (Calm s) answer
-  called_calm t served s answer h = subst (IsAfter (Calm s)) h.is (served_calm t s served h.call.object h.call.mask off)
+  -- the item of a call does not set the alarm
+  abbrev pub SetsNot : System → Type 0
+  SetsNot s = (t : ℕ) (served : Service) (answer : ServiceOutcome) (h : IsServiceStep config app t served s answer)
+      → sets_alarm a (operation app h.at.frame.func h.at.frame.item) ≡ false
+
+  called_calm : (t : ℕ) (served : Service) (s : System) (answer : ServiceOutcome) → SetsNot s → IsServiceStep config app t served s answer → IsAfter (Calm s) answer
+  called_calm t served s answer unset h = subst (IsAfter (Calm s)) h.is (served_calm t s served h.call.object h.call.mask off)
     where
       off : ((is_service served service.SetRelAlarm || is_service served service.SetAbsAlarm) && (h.call.object == a)) ≡ false
       off =
           ap (λ v. (is_service v service.SetRelAlarm || is_service v service.SetAbsAlarm) && (h.call.object == a)) (sym h.same)
-          ∙ sym (ap (sets_alarm a) h.at.next) ∙ unset h.at.frame.func h.at.frame.item
+          ∙ sym (ap (sets_alarm a) h.at.next) ∙ unset t served answer h
 
   -- ---- events
 
@@ -203,14 +208,14 @@ module _ (config : Config) (app : App) (a : ℕ) (inside : a < length config.ala
       ∙ ap (λ b. alarm_behind b (alarm s a)) (eq-eqb (alarm_declaration config a).counter d (sym (eqb-true d (alarm_declaration config a).counter is)))
   counts_tick e s next h is = absurd (false≢true is)
 
-  pub leaves_alarm : (e : Event) (s next : System) → OsekStep config app e s next → Leaves_it e s next
-  leaves_alarm e s next step = (
+  pub leaves_alarm : (e : Event) (s next : System) → SetsNot s → OsekStep config app e s next → Leaves_it e s next
+  leaves_alarm e s next unset step = (
     counts_tick e s next step,
     clock_behind config app (λ what. is_number (alarm_declaration config a).counter (ticking_counter what) ≡ false) (Calm s) s
         (record {
           apart = λ x tasks symbols fresh calm. calm;
           same = λ started _. inl refl;
-          serves = λ t served answer h _. called_calm t served s answer h;
+          serves = λ t served answer h _. called_calm t served s answer unset h;
           dues = λ c _ _. inl refl;
           ticks = λ d off _.
               inl (ticked_alarm d s

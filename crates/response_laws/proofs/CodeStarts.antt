@@ -1,5 +1,5 @@
 -- What lower tasks bring into busy periods is within the starts that the task code fits.
-use Rattle.std.proofs.Common.{◌≡◌, ℕ, ◌+◌, ◌<◌, ◌≤◌, List, [], ◌∷◌, Bool, true, false, cond, refl, sym, subst, arith, is_some}
+use Rattle.std.proofs.Common.{◌≡◌, ℕ, ◌+◌, ◌<◌, ◌≤◌, List, [], ◌∷◌, Bool, true, false, cond, refl, sym, ap, subst, arith, is_some}
 use Rattle.std.specs.List.{AllByRecursion}
 use Rattle.sloth_base.specs.Events.{is_boot, served_task}
 use Rattle.osek_scheduler.specs.declared.state.TaskState.TheVariants as mode
@@ -7,7 +7,7 @@ use Rattle.osek_scheduler.specs.State.{System, opening, task}
 use Rattle.raised_sections.specs.Sections.{IsLower}
 use Rattle.osek_scheduler.proofs.Facts.{Facts, facts}
 use Rattle.osek_scheduler.proofs.Leading.{follows_leads}
-use Rattle.osek_scheduler.proofs.Steps.{opening_valid}
+use Rattle.osek_scheduler.proofs.Steps.{opening_valid, asleep_at}
 use Rattle.osek_blocking.proofs.Ordering.{opening_ordered}
 use Rattle.raised_sections.proofs.FrameEffects.{frame_effect}
 use Rattle.raised_sections.proofs.Placed.{Placed, step_placed, opening_placed}
@@ -15,6 +15,7 @@ use Rattle.walk_sums.specs.Weights.{going_at, ending_at}
 use Rattle.run_counts.specs.Stages.{Stage, charged, end_of, run_stages}
 use Rattle.run_counts.specs.Laws.{IsWithinWeights}
 use Rattle.run_counts.specs.Rounds.{is_left}
+use Rattle.run_counts.proofs.States.{not_suspended}
 use Rattle.response_laws.specs.Turns.{is_other, activated, was_set}
 use Rattle.response_laws.specs.Walked.{FitsItem}
 use Rattle.response_laws.specs.Makers.{activation_weights, setting_weights}
@@ -34,17 +35,17 @@ use Rattle.response_laws.proofs.SectionStarts.{sections_within}
 -- ---- a run
 
 pub code_fits_starts : CodeFitsStarts
-code_fits_starts config app size longest late n weights comes arrivals events h once starts start wf osek timed most spends within weighs ends sleeps fits = record {
+code_fits_starts config app size longest late n weights load cuts comes arrivals events h once starts start wf osek timed most spends within weighs ends sleeps works fits = record {
   some = fits.some;
   opens = each_so Awaken
       (λ x. is_other config h x ≡ true → (i : ℕ) × (i < starts) × ((start i).is_boot ≡ true → is_boot x.stamped.event ≡ true) × IsWithinStart config h (begun_item longest (start i)) late (start i) x)
-      (λ x s. within_one config app w size longest weights weighs ends h late once starts start comes fits x s.0 s.1) (run_stages config app events) awaken;
+      (λ x s. within_one config app w size longest weights weighs ends h late once starts start load cuts comes fits x s.0 s.1) (run_stages config app events) awaken;
   serves = each_so Awaken
       (λ x. is_other config h x ≡ true → is_some (served_task x.stamped.event) ≡ true → SomeIsWithin config h starts start (charged x + longest) 0 x)
-      (λ x s. within_served config app w size longest weights weighs ends h late once starts start comes fits x s.0 s.1) (run_stages config app events) awaken;
+      (λ x s. within_served config app w size longest weights weighs ends h late once starts start load cuts comes fits x s.0 s.1) (run_stages config app events) awaken;
   leaves = λ on. each_so Awaken
       (λ x. is_left h x.stamped.event ≡ true → SomeIsWithin config h starts start longest late x × SomeIsWithin config h starts start (charged x + longest) 0 x)
-      (λ x s. within_leaving config app w size longest weights weighs ends h late once starts start comes fits x s.0 s.1 on) (run_stages config app events) awaken;
+      (λ x s. within_leaving config app w size longest weights weighs ends h late once starts start load cuts comes fits x s.0 s.1 on) (run_stages config app events) awaken;
   section = λ b lower raised. section_of b lower raised (comes b) refl;
 }
   where
@@ -96,7 +97,7 @@ code_fits_starts config app size longest late n weights comes arrivals events h 
           s.3,
           sections_within config app w size longest weights weighs ends h b lower run (opening config app)
               (stages_linked config app 0 (opening config app) events) seen (λ before xs behind is. spent_in config app size longest n b arrivals events wf osek timed (spends b lower.0) before xs behind is)
-              few raised (start s.0) s.4,
+              few load cuts works (λ active. not_suspended (task (opening config app) b).state active (ap (λ k. k.state) (asleep_at config.tasks b))) raised (start s.0) s.4,
         )
     section_of b lower raised false is =
         let s = fits.some in (

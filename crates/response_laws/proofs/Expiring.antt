@@ -70,7 +70,7 @@ calm_fits k next m e (inl same) (inr (q, some, ahead, fits, few)) =
     inr (q, (omega (arith, some)), there.0, there.1, there.2)
 calm_fits k next m e (inr (zero_left, cycle)) (inr (q, some, ahead, fits, few)) = absurd (omega (arith, zero_left, ahead))
 
-opened_at : (ds : List AlarmDecl) (i : ℕ) → i < length ds
+pub opened_at : (ds : List AlarmDecl) (i : ℕ) → i < length ds
     → get_or (map (λ (d : AlarmDecl). record { left = d.time; cycle = d.cycle }) ds) i no_alarm
     ≡ record { left = (get_or ds i undeclared_alarm).time; cycle = (get_or ds i undeclared_alarm).cycle }
 opened_at [] i lt = absurd (omega (arith, lt))
@@ -104,10 +104,10 @@ module _ (config : Config) (app : App) (a : ℕ) (inside : a < length config.ala
             (cond b (cond ((alarm x.found a).left == 1) 1 0) 0 + total (expired decl.counter a) xs)
         by true is rest =
             tick_fits (alarm x.found a) (alarm x.next a) (count (at_tick decl.counter) xs) (total (expired decl.counter a) xs)
-            ((leaves_alarm config app a inside unset x.stamped.event x.found x.next k.0.step).0 is) rest
+            ((leaves_alarm config app a inside x.stamped.event x.found x.next (λ _ _ _ h. unset h.at.frame.func h.at.frame.item) k.0.step).0 is) rest
         by false off rest =
             calm_fits (alarm x.found a) (alarm x.next a) (count (at_tick decl.counter) xs) (total (expired decl.counter a) xs)
-            ((leaves_alarm config app a inside unset x.stamped.event x.found x.next k.0.step).1 off) rest
+            ((leaves_alarm config app a inside x.stamped.event x.found x.next (λ _ _ _ h. unset h.at.frame.func h.at.frame.item) k.0.step).1 off) rest
 
     -- it keeps its cycle; where it does not start with the system, it is not in use
     record Stands (s : System) : Type 0 where
@@ -133,8 +133,8 @@ module _ (config : Config) (app : App) (a : ℕ) (inside : a < length config.ala
         calm (inr (zero_left, cycle)) = record { cycle = cycle ∙ h.cycle; unused = λ none. zero_left }
 
         by : (is_number decl.counter (ticking_counter e) ≡ true) ⊎ (is_number decl.counter (ticking_counter e) ≡ false) → Stands next
-        by (inl is) = ticked ((leaves_alarm config app a inside unset e s next step).0 is)
-        by (inr off) = calm ((leaves_alarm config app a inside unset e s next step).1 off)
+        by (inl is) = ticked ((leaves_alarm config app a inside e s next (λ _ _ _ h. unset h.at.frame.func h.at.frame.item) step).0 is)
+        by (inr off) = calm ((leaves_alarm config app a inside e s next (λ _ _ _ h. unset h.at.frame.func h.at.frame.item) step).1 off)
 
     stands_behind : (at : ℕ) (s : System) (xs : List Stage) → Linked at s xs → AllByRecursion (Known config app) xs → Stands s → Stands (last_state s xs)
     stands_behind at s [] l k h = h

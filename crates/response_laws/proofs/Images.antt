@@ -88,7 +88,7 @@ module _ (config : Config) (app : App) (image : Image) (weights : List BodyWeigh
   -- tasks that do not come sleep all along
   sleeps : KeepDistances load arrivals → AreClosed config app load comes → AllByRecursion (λ x. OthersSleep comes x.found) (run_stages config app events)
   sleeps keeps closed =
-      each_so (λ x. NoneComes load comes x.found × NoneComes load comes x.next) (λ x. OthersSleep comes x.found) (λ x none. none.0.asleep) (run_stages config app events)
+      each_so (λ x. NoneComes config app load comes x.found × NoneComes config app load comes x.next) (λ x. OthersSleep comes x.found) (λ x none. none.0.asleep) (run_stages config app events)
       (others_never_come config app load comes n arrivals events wf run.osek run.in_time keeps closed)
 
   responds : NoStretchIsAbove config app late → HasDistances load → KeepDistances load arrivals → AreClosed config app load comes → KeepsWork config load cuts (run_stages config app events)
@@ -108,9 +108,9 @@ module _ (config : Config) (app : App) (image : Image) (weights : List BodyWeigh
       (sleeps keeps closed) rounds)
       have fit
 
-  have_starts : KeepDistances load arrivals → AreClosed config app load comes → FitsStarts config app longest late weights comes h once starts start → HaveStarts config h longest late once starts start (run_stages config app events)
-  have_starts keeps closed fits =
-      code_fits_starts config app size longest late n weights comes arrivals events h once starts start wf run.osek run.in_time most spends within weighs ends (sleeps keeps closed) fits
+  have_starts : KeepDistances load arrivals → AreClosed config app load comes → KeepsWork config load cuts (run_stages config app events) → FitsStarts config app longest late weights load cuts comes h once starts start → HaveStarts config h longest late once starts start (run_stages config app events)
+  have_starts keeps closed works fits =
+      code_fits_starts config app size longest late n weights load cuts comes arrivals events h once starts start wf run.osek run.in_time most spends within weighs ends (sleeps keeps closed) works fits
 
   alarms : (is_set : ℕ → Bool) (s : Start) → MarksAlarms app is_set → HasExpiries config is_set s → HasAlarms (run_stages config app events) s
   alarms is_set s marks has = ticks_make_as_alarms_expire config app events is_set s wf run.osek marks has
@@ -126,7 +126,7 @@ images_respond_by_code config app image weights load comes arrivals n late longe
     let most = is_longest.none_longer counts.0 counts.1 in
     responds config app image weights load comes arrivals n late longest h r cuts costs once boot starts start enters wf sound weighed pace counts is_longest.some most code are
     above positive keeps closed works rounds
-    (have_starts config app image weights load comes arrivals n late longest h r cuts costs once boot starts start enters wf sound weighed pace counts is_longest.some most code are keeps closed fits)
+    (have_starts config app image weights load comes arrivals n late longest h r cuts costs once boot starts start enters wf sound weighed pace counts is_longest.some most code are keeps closed works fits)
     (λ i lt. record {
       arrivals = (each i lt).arrivals;
       alarms = alarms config app image weights load comes arrivals n late longest h r cuts costs once boot starts start enters wf sound weighed pace counts is_longest.some most code are

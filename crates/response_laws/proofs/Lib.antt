@@ -42,6 +42,7 @@ pub mod SectionWalks
 pub mod SectionEnds
 pub mod SectionOnce
 pub mod SectionShares
+pub mod SectionWorks
 pub mod Uncounted
 pub mod Seen
 pub mod SingleStarts
@@ -52,9 +53,9 @@ pub mod Suspended
 pub mod Unmade
 pub mod Awake
 pub mod Absent
-pub mod Never
 pub mod AlarmSteps
 pub mod Expiring
+pub mod Never
 pub mod Masks
 pub mod Settings
 pub mod Spanned

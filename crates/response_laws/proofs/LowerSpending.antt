@@ -128,7 +128,7 @@ module _ (config : Config) (app : App) (h : ℕ) where
   no_entry (event.Enter u) t lower other = off_of u t (apart u t lower other)
   no_entry e t lower other = refl
 
-  no_left : (e : Event) (t : ℕ) → Lower t → is_other_event config h e ≡ false → is_left t e ≡ false
+  pub no_left : (e : Event) (t : ℕ) → Lower t → is_other_event config h e ≡ false → is_left t e ≡ false
   no_left (event.Left u served) t lower other = off_of u t (apart u t lower other)
   no_left e t lower other = refl
 

@@ -1,49 +1,60 @@
 -- Tasks that do not come are Suspended all along, in a run whose arrivals keep a load.
-use Rattle.std.proofs.Common.{◌≡◌, ◌+◌, ℕ, zero, suc, ◌⊎◌, ◌==◌, ◌&&◌, ◌||◌, List, [], ◌∷◌, Bool, true, false, cond, map, get_or, Option, Some, None, refl, sym, ap, ◌∙◌, subst, arith, inl, inr}
+use Rattle.std.proofs.Common.{◌≡◌, ◌+◌, ◌-◌, ◌<◌, ◌≤◌, ℕ, zero, suc, ◌⊎◌, length, ◌==◌, ◌&&◌, ◌||◌, List, [], ◌∷◌, Bool, true, false, cond, map, get_or, Option, Some, None, refl, sym, ap, ◌∙◌, subst, arith, inl, inr}
 use Rattle.std.specs.List.{AllByRecursion}
-use Rattle.std.proofs.lemmas.Bool.{true≢false, eqb-true}
+use Rattle.std.proofs.lemmas.Bool.{true≢false, eqb-true, cases_Bool, cases_eq, cases_lt, cond_both}
+use Rattle.std.proofs.lemmas.List.{get_or_past}
 use Rattle.std.proofs.lemmas.List.Sums.{sum_by-cons}
 use Rattle.sloth_base.specs.Options.{is_number}
 use Rattle.sloth_base.specs.declared.config.Config.{Config}
+use Rattle.sloth_base.specs.declared.config.AlarmDecl.{AlarmDecl}
 use Rattle.sloth_base.specs.declared.config.CounterDecl.{CounterDecl}
 use Rattle.sloth_base.specs.declared.app.App.{App}
+use Rattle.sloth_base.specs.declared.app.Op.{Op}
 use Rattle.sloth_base.specs.declared.event.Arrival.{Arrival}
 use Rattle.sloth_base.specs.declared.event.Event.{Event}
 use Rattle.sloth_base.specs.declared.event.Stamped.{Stamped}
 use Rattle.sloth_base.specs.declared.service.Service.{Service}
 use Rattle.sloth_base.specs.declared.service.Service.TheVariants as service
 use Rattle.sloth_base.specs.Events.{admitted_line}
-use Rattle.sloth_base.specs.Named.{declaration, counter_declaration, operation}
+use Rattle.sloth_base.specs.Named.{declaration, counter_declaration, undeclared_alarm, alarm_declaration, operation}
 use Rattle.sloth_base.specs.Owners.{counter_line}
 use Rattle.sloth_base.specs.ServiceCodes.{is_service}
 use Rattle.load_text.specs.declared.entry.Entry.{Entry}
 use Rattle.load_text.specs.Loads.{distance, KeepDistances}
-use Rattle.osek_scheduler.specs.State.{Frame, System, no_counter, task, counter, opening}
+use Rattle.osek_scheduler.specs.declared.state.Alarm.{Alarm}
+use Rattle.osek_scheduler.specs.State.{Frame, Task, System, no_counter, sleeping_task, task, counter, alarm, opening}
+use Rattle.osek_scheduler.specs.Priority.{IsNextTick}
 use Rattle.osek_scheduler.specs.InTime.{admits_at, arrivals_at}
-use Rattle.osek_scheduler.specs.Services.{counted_on_state, ServiceOutcome}
+use Rattle.osek_scheduler.specs.Services.{with_left, acted_state, alarm_ticked_state, alarms_ticked_state, counted_on_state, ServiceOutcome}
 use Rattle.osek_scheduler.specs.Steps.{OsekStep, IsServiceStep}
+use Rattle.osek_scheduler.specs.Valid.{IsValid}
 use Rattle.osek_scheduler.proofs.Facts.{Facts, facts}
 use Rattle.osek_scheduler.proofs.Leading.{follows_leads}
 use Rattle.osek_scheduler.proofs.ServiceStates.{IsAfter}
-use Rattle.osek_scheduler.proofs.Steps.{opening_valid, asleep_at}
+use Rattle.osek_scheduler.proofs.Steps.{opening_valid, asleep_at, step_valid}
 use Rattle.osek_blocking.proofs.Ordering.{opening_ordered}
+use Rattle.raised_sections.specs.Walks.{Position}
 use Rattle.raised_sections.specs.Sections.{operation_at}
 use Rattle.raised_sections.proofs.FrameEffects.{frame_effect}
 use Rattle.raised_sections.proofs.Placed.{Placed, step_placed, opening_placed}
 use Rattle.raised_sections.proofs.Reached.{IsReached}
 use Rattle.walk_sums.specs.Rounds.{Reaches}
 use Rattle.run_counts.specs.Stages.{Stage, stage, stages, state_behind, end_of, run_stages}
-use Rattle.run_counts.proofs.States.{not_suspended}
 use Rattle.run_counts.proofs.StepCases.{record_behind}
+use Rattle.response_laws.specs.Expiries.{sets_alarm}
 use Rattle.response_laws.specs.Made.{is_making}
-use Rattle.response_laws.specs.Ticks.{activates, has_alarm}
+use Rattle.response_laws.specs.Ticks.{activates}
+use Rattle.response_laws.specs.Turns.{ticking_counter}
 use Rattle.response_laws.specs.Walked.{standing}
-use Rattle.response_laws.specs.Never.{Arrives, AreClosed, NoneComes, OthersNeverCome}
+use Rattle.response_laws.specs.Never.{Arrives, IsComing, IsUsed, AreClosed, NoneComes, OthersNeverCome}
+use Rattle.response_laws.proofs.AlarmSteps.{one_other, Calm, Leaves_it, leaves_alarm}
 use Rattle.response_laws.proofs.Arriving.{few_at}
+use Rattle.response_laws.proofs.Awake.{active_comes}
+use Rattle.response_laws.proofs.Expiring.{opened_at}
 use Rattle.response_laws.proofs.Linked.{Known, Linked, stages_linked, stages_known}
-use Rattle.response_laws.proofs.Steps.{balance}
+use Rattle.response_laws.proofs.Steps.{active_declared, balance}
 use Rattle.response_laws.proofs.Suspended.{IsSuspended, awake, not_started, served_asleep, acted_asleep, active_other}
-use Rattle.response_laws.proofs.Ticks.{alarms_kept}
+use Rattle.response_laws.proofs.Ticks.{alarm_kept}
 use Rattle.response_laws.proofs.Uncounted.{itself}
 
 some_none : (d : ℕ) → (Some d ≡ None) → ⊥
@@ -63,80 +74,137 @@ off : (b : Bool) → (b ≡ true → ⊥) → b ≡ false
 off true refuted = absurd (refuted refl)
 off false refuted = refl
 
+-- ---- the alarms of a tick
+
+-- a Suspended task stays so where no alarm of the counter that activates it is running
+module _ (config : Config) (t c : ℕ) where
+  abbrev Idle : (first : ℕ) → List AlarmDecl → System → Type 0
+  Idle first ds x =
+      (i : ℕ) → i < length ds → ((get_or ds i undeclared_alarm).counter == c) ≡ true → activates t (get_or ds i undeclared_alarm).action ≡ true → (alarm x (first + i)).left ≡ 0
+
+  unexpired : (first : ℕ) (ds : List AlarmDecl) (x : System) → Idle first ds x → IsSuspended (task x t) → IsSuspended (task (alarms_ticked_state c first ds x) t)
+  unexpired first [] x idle asleep = asleep
+  unexpired first (d ∷ ds) x idle asleep = unexpired (first + 1) ds ticked further (cond_both (d.counter == c) (alarm_ticked_state d.action first x) x Asleep here (λ _. asleep))
+    where
+      Asleep : System → Type 0
+      Asleep y = IsSuspended (task y t)
+
+      ticked : System
+      ticked = cond (d.counter == c) (alarm_ticked_state d.action first x) x
+
+      further : Idle (first + 1) ds ticked
+      further i lt mine makes =
+          let at : first + suc i ≡ first + 1 + i = omega arith in
+          let same = one_other (first + 1 + i) c first d x (λ e. omega (arith, e)) in
+          ap (λ (k : Alarm). k.left) same ∙ subst (λ n. (alarm x n).left ≡ 0) at (idle (suc i) (omega (arith, lt)) mine makes)
+
+      here : (d.counter == c) ≡ true → Asleep (alarm_ticked_state d.action first x)
+      here mine = by (activates t d.action) refl
+        where
+          by : (b : Bool) → activates t d.action ≡ b → Asleep (alarm_ticked_state d.action first x)
+          by false out = alarm_kept t IsSuspended (activates t) (acted_asleep config t) d.action first x out asleep
+          by true makes =
+              let zero : first + 0 ≡ first = omega arith in
+              let left : (alarm x first).left ≡ 0 = subst (λ n. (alarm x n).left ≡ 0) zero (idle 0 (omega arith) mine makes) in
+              subst (λ b. Asleep (cond b (acted_state d.action (with_left first (alarm x first).cycle x)) (with_left first ((alarm x first).left - 1) x))) (sym (ap (λ n. n == 1) left)) asleep
+
 module _ (config : Config) (app : App) (load : List Entry) (comes : ℕ → Bool) (closed : AreClosed config app load comes) where
   -- the event admits no line that does not arrive
   abbrev IsOfLoad : Event → Type 0
   IsOfLoad e = (line : ℕ) → distance load line ≡ None → is_number line (admitted_line e) ≡ false
 
-  -- ---- one task
+  module _ (s : System) (none : NoneComes config app load comes s) (v : IsValid config app s) (placed : Placed app s) where
+    -- a task that calls a service comes, and reaches the item
+    module _ (u : ℕ) (served : Service) (answer : ServiceOutcome) (h : IsServiceStep config app u served s answer) where
+      caller : IsComing config comes u
+      caller = (active_declared config s u v.count h.at.active, active_comes comes s none.asleep u h.at.active)
 
-  module _ (t : ℕ) (never : comes t ≡ false) where
-    other : comes t ≡ true → ⊥
-    other is = true≢false (sym is ∙ never)
+      reached : Reaches app u (standing (task s u).frames)
+      reached = by (placed u)
+        where
+          by : ((task s u).frames ≡ []) ⊎ IsReached app u (standing (task s u).frames) → Reaches app u (standing (task s u).frames)
+          by (inl empty) = absurd (no_frames h.at.frame h.at.outer (sym empty ∙ h.at.frames))
+          by (inr r) = (r.before, r.walk)
 
-    unstarted : (declaration config t).autostart ≡ false
-    unstarted = off (declaration config t).autostart (λ is. other (closed.starts t is))
+      -- so what is true of its operation is true of an item that a task which comes reaches
+      called : (test : Op → Bool) → ((at : Position) → Reaches app u at → test (operation_at app at) ≡ true → ⊥) → test (operation app h.at.frame.func h.at.frame.item) ≡ false
+      called test refuted =
+          off (test (operation app h.at.frame.func h.at.frame.item))
+          (λ is. refuted (standing (task s u).frames) reached (ap (λ fs. test (operation_at app (standing fs))) h.at.frames ∙ is))
 
-    no_alarm : (c : ℕ) → Arrives load (counter_line c) → has_alarm c (activates t) config.alarms ≡ false
-    no_alarm c arrives = off (has_alarm c (activates t) config.alarms) (λ is. other (closed.expires c t arrives is))
+    -- ---- one task
 
-    no_distance : distance load t ≡ None
-    no_distance = by (distance load t) refl
-      where
-        by : (o : Option ℕ) → distance load t ≡ o → distance load t ≡ None
-        by None is = is
-        by (Some d) is = absurd (other (closed.arrives t (λ none. some_none d (sym is ∙ none))))
+    module _ (t : ℕ) (declared : t < length config.tasks) (never : comes t ≡ false) where
+      other : comes t ≡ true → ⊥
+      other is = true≢false (sym is ∙ never)
 
-    module _ (s : System) (none : NoneComes load comes s) (placed : Placed app s) where
-      -- a task that calls a service comes, so it names none that does not
-      called : (u : ℕ) (served : Service) (answer : ServiceOutcome) → IsServiceStep config app u served s answer → IsAfter (λ x. IsSuspended (task x t)) answer
-      called u served answer h =
+      no_distance : distance load t ≡ None
+      no_distance = by (distance load t) refl
+        where
+          by : (o : Option ℕ) → distance load t ≡ o → distance load t ≡ None
+          by None is = is
+          by (Some d) is = absurd (other (closed.arrives t declared (λ none. some_none d (sym is ∙ none))))
+
+      serves : (u : ℕ) (served : Service) (answer : ServiceOutcome) → IsServiceStep config app u served s answer → IsAfter (λ x. IsSuspended (task x t)) answer
+      serves u served answer h =
           subst (IsAfter (λ x. IsSuspended (task x t))) h.is
           (served_asleep config t u (active_other config t u s h.at.active (none.asleep t never)) s (none.asleep t never) served h.call.object h.call.mask unnamed)
         where
-          caller : comes u ≡ true
-          caller = by (comes u) refl
-            where
-              by : (b : Bool) → comes u ≡ b → comes u ≡ true
-              by true is = is
-              by false is = absurd (not_suspended (task s u).state h.at.active (none.asleep u is))
-
-          reached : Reaches app u (standing (task s u).frames)
-          reached = by (placed u)
-            where
-              by : ((task s u).frames ≡ []) ⊎ IsReached app u (standing (task s u).frames) → Reaches app u (standing (task s u).frames)
-              by (inl empty) = absurd (no_frames h.at.frame h.at.outer (sym empty ∙ h.at.frames))
-              by (inr r) = (r.before, r.walk)
-
-          making : is_making t (operation app h.at.frame.func h.at.frame.item) ≡ false
-          making =
-              off (is_making t (operation app h.at.frame.func h.at.frame.item))
-              (λ is. other (closed.named u t (standing (task s u).frames) caller reached (ap (λ fs. is_making t (operation_at app (standing fs))) h.at.frames ∙ is)))
-
           unnamed : ((is_service served service.ActivateTask || is_service served service.ChainTask) && (h.call.object == t)) ≡ false
           unnamed =
               ap (λ v. (is_service v service.ActivateTask || is_service v service.ChainTask) && (h.call.object == t)) (sym h.same)
-              ∙ sym (ap (is_making t) h.at.next) ∙ making
+              ∙ sym (ap (is_making t) h.at.next)
+              ∙ called u served answer h (is_making t) (λ at reach is. other (closed.named u t at declared (caller u served answer h) reach is))
+
+      idle : (c : ℕ) → IsNextTick config s c → Idle config t c 0 config.alarms (counted_on_state c (counter_declaration config c).max s)
+      idle c due i lt mine makes =
+          let at : i ≡ 0 + i = omega arith in
+          subst (λ n. (alarm s n).left ≡ 0) at (none.unused i lt (λ used. other (closed.expires i t lt declared arrives makes used)))
+        where
+          arrives : Arrives load (counter_line (alarm_declaration config i).counter)
+          arrives said =
+              let same = eqb-true (alarm_declaration config i).counter c mine in
+              true≢false (sym due.due ∙ none.undue c (subst (λ n. distance load (counter_line n) ≡ None) same said))
 
       stays : (e : Event) (next : System) → OsekStep config app e s next → IsOfLoad e → IsSuspended (task next t)
       stays e next step of_load =
           record_behind config app t IsOfLoad IsSuspended s
           (record {
             same = none.asleep t never;
-            boots = λ _ _. not_started config.tasks s.tasks t unstarted (none.asleep t never);
+            boots = λ _ _. not_started config.tasks s.tasks t (off (declaration config t).autostart (λ is. other (closed.starts t declared is))) (none.asleep t never);
             activates = λ _ admits. absurd (true≢false (sym (itself t) ∙ admits t no_distance));
             enters = λ ready. absurd (awake (task s t).state ready (none.asleep t never));
             works = λ new same _. same ∙ none.asleep t never;
-            serves = λ u served answer h _. called u served answer h;
-            ticks = λ c due.
-                alarms_kept t IsSuspended (activates t) (acted_asleep config t) c 0 config.alarms (counted_on_state c (counter_declaration config c).max s)
-                (no_alarm c (λ said. true≢false (sym due.due ∙ none.undue c said))) (none.asleep t never);
+            serves = λ u served answer h _. serves u served answer h;
+            ticks = λ c due. unexpired config t c 0 config.alarms (counted_on_state c (counter_declaration config c).max s) (idle c due) (none.asleep t never);
           })
           e next step of_load
 
+    -- ---- one alarm
+
+    alarm_stays : (a : ℕ) → a < length config.alarms → ¬ (IsUsed config app comes a) → (e : Event) (next : System) → OsekStep config app e s next → (alarm next a).left ≡ 0
+    alarm_stays a inside unused e next step = by (cases_Bool (is_number (alarm_declaration config a).counter (ticking_counter e)))
+      where
+        was : (alarm s a).left ≡ 0
+        was = none.unused a inside unused
+
+        leaves : Leaves_it config app a inside e s next
+        leaves =
+            leaves_alarm config app a inside e s next
+            (λ u served answer h. called u served answer h (sets_alarm a) (λ at reach is. unused (inr (u, at, caller u served answer h, reach, is)))) step
+
+        by : (is_number (alarm_declaration config a).counter (ticking_counter e) ≡ true) ⊎ (is_number (alarm_declaration config a).counter (ticking_counter e) ≡ false)
+            → (alarm next a).left ≡ 0
+        by (inl is) = ap (λ (k : Alarm). k.left) (leaves.0 is) ∙ ap (λ n. cond (n == 1) (alarm s a).cycle (n - 1)) was
+        by (inr apart) = calm (leaves.1 apart)
+          where
+            calm : Calm config app a inside s next → (alarm next a).left ≡ 0
+            calm (inl same) = ap (λ (k : Alarm). k.left) same ∙ was
+            calm (inr cancelled) = cancelled.0
+
   -- ---- one event
 
-  undue_stays : (c : ℕ) → distance load (counter_line c) ≡ None → (e : Event) (s next : System) → OsekStep config app e s next → NoneComes load comes s → IsOfLoad e
+  undue_stays : (c : ℕ) → distance load (counter_line c) ≡ None → (e : Event) (s next : System) → OsekStep config app e s next → NoneComes config app load comes s → IsOfLoad e
       → (counter next c).due ≡ false
   undue_stays c said e s next step none of_load = by (counter next c).due refl
     where
@@ -149,27 +217,39 @@ module _ (config : Config) (app : App) (load : List Entry) (comes : ℕ → Bool
           let now = ap {B = ℕ} (λ b. cond b 1 0) is in
           absurd (omega (arith, most, was, line, now))
 
-  step_none : (e : Event) (s next : System) → OsekStep config app e s next → Placed app s → IsOfLoad e → NoneComes load comes s → NoneComes load comes next
-  step_none e s next step placed of_load none = record {
-    asleep = λ t never. stays t never s none placed e next step of_load;
+  step_none : Facts config app → (e : Event) (s next : System) → OsekStep config app e s next → IsValid config app s → Placed app s → IsOfLoad e → NoneComes config app load comes s
+      → NoneComes config app load comes next
+  step_none w e s next step v placed of_load none = record {
+    asleep = λ t never. by t never (cases_lt t (length config.tasks));
     undue = λ c said. undue_stays c said e s next step none of_load;
+    unused = λ a inside unused. alarm_stays s none v placed a inside unused e next step;
   }
+    where
+      by : (t : ℕ) → comes t ≡ false → (t < length config.tasks) ⊎ (length config.tasks ≤ t) → IsSuspended (task next t)
+      by t never (inl lt) = stays s none v placed t lt never e next step of_load
+      by t never (inr past) =
+          ap (λ (k : Task). k.state) (get_or_past next.tasks t sleeping_task (let same = (step_valid config app e s next w step v).count in omega (arith, past, same)))
 
-  opening_none : NoneComes load comes (opening config app)
+  opening_none : NoneComes config app load comes (opening config app)
   opening_none = record {
     asleep = λ t _. ap (λ k. k.state) (asleep_at config.tasks t);
     undue = λ c _. undue_at config.counters c;
+    unused = λ a inside unused. ap (λ (k : Alarm). k.left) (opened_at config.alarms a inside) ∙ time a unused (cases_eq (alarm_declaration config a).time 0);
   }
+    where
+      time : (a : ℕ) → ¬ (IsUsed config app comes a) → ((alarm_declaration config a).time ≡ 0) ⊎ ((alarm_declaration config a).time ≡ 0 → ⊥) → (alarm_declaration config a).time ≡ 0
+      time a unused (inl none) = none
+      time a unused (inr some) = absurd (unused (inl some))
 
   -- ---- a run
 
-  along : Facts config app → (at : ℕ) (s : System) (xs : List Stage) → Linked at s xs → AllByRecursion (Known config app) xs → Placed app s → NoneComes load comes s
-      → AllByRecursion (λ x. IsOfLoad x.stamped.event) xs → AllByRecursion (λ x. NoneComes load comes x.found × NoneComes load comes x.next) xs
+  along : Facts config app → (at : ℕ) (s : System) (xs : List Stage) → Linked at s xs → AllByRecursion (Known config app) xs → Placed app s → NoneComes config app load comes s
+      → AllByRecursion (λ x. IsOfLoad x.stamped.event) xs → AllByRecursion (λ x. NoneComes config app load comes x.found × NoneComes config app load comes x.next) xs
   along w at s [] l k placed none of_load = tt
   along w at s (x ∷ xs) l k placed none of_load =
       let here : Placed app x.found = subst (Placed app) (sym l.1) placed in
-      let found : NoneComes load comes x.found = subst (NoneComes load comes) (sym l.1) none in
-      let next = step_none x.stamped.event x.found x.next k.0.step here of_load.0 found in
+      let found : NoneComes config app load comes x.found = subst (NoneComes config app load comes) (sym l.1) none in
+      let next = step_none w x.stamped.event x.found x.next k.0.step k.0.valid here of_load.0 found in
       let on = step_placed config app x.found x.next x.stamped.event (frame_effect config app w x.found x.next k.0.valid x.stamped.event k.0.step) here in
       ((found, next), along w (end_of x) x.next xs l.2 k.1 on next of_load.1)
 

@@ -14,6 +14,7 @@ use Rattle.osek_scheduler.specs.State.{System, task}
 use Rattle.osek_scheduler.specs.InTime.{is_admit}
 use Rattle.osek_scheduler.specs.Steps.{OsekStep}
 use Rattle.osek_scheduler.proofs.Facts.{Facts}
+use Rattle.load_text.specs.declared.entry.Entry.{Entry}
 use Rattle.osek_scheduler.specs.Apart.{static_priority, IsActive}
 use Rattle.osek_blocking.specs.Blocking.{IsRaisedTo}
 use Rattle.osek_blocking.proofs.Effects.{Effect}
@@ -41,7 +42,8 @@ use Rattle.response_laws.specs.Walked.{standing, is_executed, is_back, FitsItem,
 use Rattle.response_laws.specs.Once.{IsShutOut}
 use Rattle.response_laws.specs.Makers.{activation_weights, setting_weights}
 use Rattle.response_laws.specs.Starts.{IsRaisedTurn, InSection, may_raise, OpensSection, AreOfSection, HasSectionBehind, IsSectionWithin}
-use Rattle.response_laws.specs.CodeStarts.{HasSections}
+use Rattle.response_laws.specs.Works.{KeepsWork}
+use Rattle.response_laws.specs.CodeStarts.{SectionsTake, HasSections}
 use Rattle.response_laws.proofs.Counting.{counted_lighter}
 use Rattle.response_laws.proofs.Starting.{IsBusy}
 use Rattle.response_laws.proofs.Highest.{declared_above, over_all}
@@ -52,6 +54,7 @@ use Rattle.response_laws.proofs.SectionWalks.{FitsRaised, section_within}
 use Rattle.response_laws.proofs.LowerSpending.{admit_counts}
 use Rattle.response_laws.proofs.SectionOnce.{section_once}
 use Rattle.response_laws.proofs.SectionShares.{executed_fits, section_shares}
+use Rattle.response_laws.proofs.SectionWorks.{section_works}
 use Rattle.response_laws.proofs.Uncounted.{activation_making, no_take}
 use Rattle.response_laws.proofs.Seen.{position, Seen, stands_reached, entry_acts, entry_sets}
 
@@ -201,8 +204,8 @@ module _ (config : Config) (app : App) (w : Facts config app) (size : ItemSizes)
     -- a start that has the sections of the task has them in each part of the run
     module _ (run : List Stage) (first_found : System) (linked : Linked 0 first_found run) (seen : AllByRecursion (Seen config app size longest) run)
         (spent : (before xs behind : List Stage) → run ≡ before ++ (xs ++ behind)
-        → (at : ℕ) × ((spent : ℕ) × AreSpent config app size longest b at spent (last_state first_found before) xs)) (few : LowerSpendWithin config h longest run) (raised : Bool) (s : Start)
-        (has : HasSections config app longest weights h b raised s) where
+        → (at : ℕ) × ((spent : ℕ) × AreSpent config app size longest b at spent (last_state first_found before) xs)) (few : LowerSpendWithin config h longest run) (load : List Entry) (cuts : ℕ → Bool)
+        (works : KeepsWork config load cuts run) (asleep : ¬ (IsActive first_found b)) (raised : Bool) (s : Start) (has : HasSections config app longest weights load cuts h b raised s) where
       part_links : (before xs behind : List Stage) → run ≡ before ++ (xs ++ behind) → Linked (last_end 0 before) (last_state first_found before) xs
       part_links before xs behind is =
           linked_front (last_end 0 before) (last_state first_found before) xs behind
@@ -217,9 +220,19 @@ module _ (config : Config) (app : App) (w : Facts config app) (size : ItemSizes)
           let links = part_links before (x ∷ xs) behind is in
           let each = part_seen before (x ∷ xs) behind is in
           let so_far = spent before (x ∷ xs) behind is in
-          section_shares config app w size longest weights weighs ends h b lower run few has.counts has.sum before behind (last_end 0 before) so_far.0 so_far.1.0
-          (last_state first_found before) (x ∷ xs) is links (each_so (Seen config app size longest) (Known config app) (λ y s. s.known) (x ∷ xs) each) so_far.1.1
-          (subst (Placed app) links.1 each.0.placed) section
+          let known = all_known (x ∷ xs) each in
+          let placed = subst (Placed app) links.1 each.0.placed in
+          by so_far.0 so_far.1.0 so_far.1.1 links known placed has.sum
+        where
+          by : (at done : ℕ) → AreSpent config app size longest b at done (last_state first_found before) (x ∷ xs) → Linked (last_end 0 before) (last_state first_found before) (x ∷ xs)
+              → AllByRecursion (Known config app) (x ∷ xs) → Placed app (last_state first_found before) → SectionsTake config app weights load cuts h b has.counts
+              → total (lower_counts config h) (x ∷ xs) ≤ has.counts + longest
+          by at done so_far links known placed (inl sums) =
+              section_shares config app w size longest weights weighs ends h b lower run few has.counts sums before behind (last_end 0 before) at done
+              (last_state first_found before) (x ∷ xs) is links known so_far placed section
+          by at done so_far links known placed (inr (within, waits)) =
+              section_works config app w size longest h b lower run few (cuts b) waits load cuts refl works has.counts within first_found asleep linked (all_known run seen)
+              before behind (last_end 0 before) at done (x ∷ xs) is links known so_far placed section
 
       of_shares : raised ≡ false → (before xs behind : List Stage) → run ≡ before ++ (xs ++ behind) → AreOfSection config h b xs → AllByRecursion (IsBusy config h) xs
           → total (lower_counts config h) xs ≤ has.raising + has.counts + longest

@@ -20,6 +20,7 @@ use Rattle.raised_sections.proofs.Placed.{FrameEffect, Placed, step_placed}
 use Rattle.raised_sections.proofs.Raised.{at_position, owing}
 use Rattle.raised_sections.proofs.Reached.{IsReached, walk_on}
 use Rattle.raised_sections.proofs.Stepping.{StepsOn}
+use Rattle.walk_sums.specs.Rounds.{Reaches}
 use Rattle.run_counts.specs.Stages.{Stage, end_of, is_turn, is_entry}
 use Rattle.run_counts.specs.Rounds.{is_left}
 use Rattle.run_counts.proofs.TaskCases.{frames_kept}
@@ -75,6 +76,23 @@ module _ (config : Config) (app : App) (w : Facts config app) (h b : ℕ) (lower
           let static = owing config app x.found b k.valid lower.0 active owed in
           let less = lower.1 in
           absurd (omega (arith, static, up, less))
+
+  -- where it stands there is a position that a walk reaches, and raised
+  pub raised_position : (x : Stage) → Known config app x → Placed app x.found → IsActive x.found b → IsUp x.found
+      → Reaches app b (standing (task x.found b).frames) × (static_priority config h ≤ priority_at config app b (standing (task x.found b).frames))
+  raised_position x k placed active up = (
+    by (placed b),
+    subst (λ p. static_priority config h ≤ p) (at_position config app x.found b k.valid lower.0 active (free x k active up)) up,
+  )
+    where
+      stands : (task x.found b).frames ≢ []
+      stands =
+          (subst (InState config b (task x.found b)) active
+          (k.valid.each b (active_declared config x.found b k.valid.count active)).in_state).0
+
+      by : ((task x.found b).frames ≡ []) ⊎ IsReached app b (standing (task x.found b).frames) → Reaches app b (standing (task x.found b).frames)
+      by (inl none) = absurd (stands none)
+      by (inr r) = (r.before, r.walk)
 
   -- ---- what its items weigh
 

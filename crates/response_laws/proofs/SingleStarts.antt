@@ -8,6 +8,7 @@ use Rattle.sloth_base.specs.declared.event.Event.{Event}
 use Rattle.sloth_base.specs.declared.event.Event.TheVariants as event
 use Rattle.sloth_base.specs.declared.service.Service.{Service}
 use Rattle.sloth_base.specs.Events.{is_boot, served_task}
+use Rattle.load_text.specs.declared.entry.Entry.{Entry}
 use Rattle.osek_scheduler.specs.declared.state.TaskState.TheVariants as mode
 use Rattle.osek_scheduler.specs.State.{Task, System, sleeping_task, task}
 use Rattle.osek_scheduler.specs.Services.{ServiceOutcome, GoesOn, Leaves}
@@ -99,7 +100,7 @@ module _ (config : Config) (app : App) (w : Facts config app) (size : ItemSizes)
           call = at_call t served (Leaves step.1.0) step.1.1;
         }
 
-  module _ (late : ℕ) (once : Bool) (starts : ℕ) (start : ℕ → Start) (comes : ℕ → Bool) (fits : FitsStarts config app longest late weights comes h once starts start)
+  module _ (late : ℕ) (once : Bool) (starts : ℕ) (start : ℕ → Start) (load : List Entry) (cuts comes : ℕ → Bool) (fits : FitsStarts config app longest late weights load cuts comes h once starts start)
       (x : Stage) (s : Seen config app size longest x) (sleeps : OthersSleep comes x.found) where
     abbrev Opens : Type 0
     Opens = (i : ℕ) × (i < starts) × ((start i).is_boot ≡ true → is_boot x.stamped.event ≡ true) × IsWithinStart config h (begun_item longest (start i)) late (start i) x

@@ -65,7 +65,7 @@ module _ (j : ℕ) (P : Task → Type 0) where
               (record (task (with_events x t (bit_or (task x t).events mask)) t) { state = mode.Ready }) P set (λ e. absurd (n (sym e)))
 
   module _ (test : Action → Bool) (safe : (does : Action) (x : System) → test does ≡ false → Kept x → Kept (acted_state does x)) where
-    alarm_kept : (does : Action) (a : ℕ) (x : System) → test does ≡ false → Kept x → Kept (alarm_ticked_state does a x)
+    pub alarm_kept : (does : Action) (a : ℕ) (x : System) → test does ≡ false → Kept x → Kept (alarm_ticked_state does a x)
     alarm_kept does a x is h =
         cond_both ((alarm x a).left == 1) (acted_state does (with_left a (alarm x a).cycle x)) (with_left a ((alarm x a).left - 1) x) Kept
         (λ _. safe does (with_left a (alarm x a).cycle x) is h) (λ _. h)

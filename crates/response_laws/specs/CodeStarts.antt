@@ -10,6 +10,7 @@ use Rattle.sloth_base.specs.declared.event.Stamped.{Stamped}
 use Rattle.sloth_base.specs.declared.service.Service.TheVariants as service
 use Rattle.sloth_base.specs.Named.{declaration}
 use Rattle.code_rules.specs.WellFormed.{WellFormed}
+use Rattle.load_text.specs.declared.entry.Entry.{Entry}
 use Rattle.osek_scheduler.specs.InTime.{InTime}
 use Rattle.osek_scheduler.specs.Runs.{OsekRun}
 use Rattle.raised_sections.specs.Walks.{Position}
@@ -29,6 +30,7 @@ use Rattle.response_laws.specs.Demand.{Start}
 use Rattle.response_laws.specs.Walked.{SectionsSum}
 use Rattle.response_laws.specs.Once.{IsShutOut}
 use Rattle.response_laws.specs.Never.{OthersSleep}
+use Rattle.response_laws.specs.Works.{KeepsWork, WorksWithin, WaitsNowhere}
 use Rattle.response_laws.specs.Makers.{activation_weights, setting_weights}
 use Rattle.response_laws.specs.Starts.{begun_item, HaveStarts}
 
@@ -61,12 +63,17 @@ autostarted config j = cond (declaration config j).autostart 1 0
 
 -- ---- sections
 
+-- no section of task b sums up to more; or the load says so of its rounds, in one of which each section lies
+abbrev pub SectionsTake : Config → App → (weights : List BodyWeights) → (load : List Entry) → (cuts : ℕ → Bool) → (h b most : ℕ) → Type 0
+SectionsTake config app weights load cuts h b most =
+    SectionsSum config app h b weights most ⊎ (WorksWithin load b most × WaitsNowhere config app h b (cuts b))
+
 -- A start has the sections of the lower task b, an item that it or another one has begun behind them, and the GetResource that raises it, if it is preemptable and not raised yet. One that is not is
 -- raised in front of the period, or with its first event.
-pub record HasSections (config : Config) (app : App) (longest : ℕ) (weights : List BodyWeights) (h b : ℕ) (raised : Bool) (s : Start) : Type 0 where
+pub record HasSections (config : Config) (app : App) (longest : ℕ) (weights : List BodyWeights) (load : List Entry) (cuts : ℕ → Bool) (h b : ℕ) (raised : Bool) (s : Start) : Type 0 where
   pub counts : ℕ
   pub raising : ℕ
-  pub sum : SectionsSum config app h b weights counts
+  pub sum : SectionsTake config app weights load cuts h b counts
   pub takes : raised ≡ false → (declaration config b).non ≡ false → (at : Position) → Reaches app b at → calls service.GetResource (operation_at app at) ≡ true → going_at weights at ≤ raising
   pub front : raising + counts + longest ≤ s.inflow.front
   -- what they make, by walks; or once, where the task cannot be entered meanwhile
@@ -82,23 +89,24 @@ is_call _ = false
 
 -- For each way in which a lower task that comes, by its code, may come into a busy period of h there is a start. But for services and sections they come with its
 -- first event, in front of all its counts.
-pub record FitsStarts (config : Config) (app : App) (longest late : ℕ) (weights : List BodyWeights) (comes : ℕ → Bool) (h : ℕ) (once : Bool) (starts : ℕ) (start : ℕ → Start) : Type 0 where
+pub record FitsStarts (config : Config) (app : App) (longest late : ℕ) (weights : List BodyWeights) (load : List Entry) (cuts comes : ℕ → Bool) (h : ℕ) (once : Bool) (starts : ℕ) (start : ℕ → Start) : Type 0 where
   pub some : (i : ℕ) × (i < starts) × ((start i).is_boot ≡ false) × (longest ≤ (start i).inflow.front) × (late ≤ (start i).lead)
   pub boots : SomeHasRoom config h longest starts start true 0 late (autostarted config) none
   -- a service, with which the task may leave
   pub serves : (t : ℕ) → IsLower config h t → comes t ≡ true → (at : Position) → Reaches app t at → is_call (operation_at app at) ≡ true
       → HaveServiceRoom config h longest late starts start (ending_at weights at) (λ j. ending_at (activation_weights app t j) at) (λ j. ending_at (setting_weights app j) at)
   pub sections : (b : ℕ) → IsLower config h b → comes b ≡ true → (raised : Bool)
-      → (i : ℕ) × (i < starts) × ((start i).is_boot ≡ false) × (cond raised late 0 ≤ (start i).lead) × HasSections config app longest weights h b raised (start i)
+      → (i : ℕ) × (i < starts) × ((start i).is_boot ≡ false) × (cond raised late 0 ≤ (start i).lead) × HasSections config app longest weights load cuts h b raised (start i)
   -- where h is entered once: a service with which it may leave
   pub leaves : once ≡ true → (at : Position) → Reaches app h at → is_call (operation_at app at) ≡ true
       → HaveServiceRoom config h longest late starts start (ending_at weights at) (λ j. ending_at (activation_weights app h j) at) (λ j. ending_at (setting_weights app j) at)
 
 -- In every run of well-formed task code that keeps the pace, and in which no task spends more on an item than that has, what lower tasks bring into busy
--- periods is within starts that the task code fits.
+-- periods is within starts that the task code fits, where its rounds keep the `work` lines of a load.
 abbrev pub CodeFitsStarts : Type 0
-CodeFitsStarts = (config : Config) (app : App) (size : ItemSizes) (longest late n : ℕ) (weights : List BodyWeights) (comes : ℕ → Bool) (arrivals : List Arrival) (events : List Stamped) (h : ℕ) (once : Bool) (starts : ℕ) (start : ℕ → Start)
+CodeFitsStarts = (config : Config) (app : App) (size : ItemSizes) (longest late n : ℕ) (weights : List BodyWeights) (load : List Entry) (cuts comes : ℕ → Bool) (arrivals : List Arrival) (events : List Stamped) (h : ℕ) (once : Bool) (starts : ℕ) (start : ℕ → Start)
     → WellFormed config app → OsekRun config app events → InTime config n arrivals events → AreAtMost size longest
     → ((t : ℕ) → t < length config.tasks → SpendsOnItems config app size longest t events) → AllByRecursion (IsWithinWeights config app size longest) (run_stages config app events)
-    → WeighsItems app size weights → WeighsEndings app size weights → AllByRecursion (λ x. OthersSleep comes x.found) (run_stages config app events) → FitsStarts config app longest late weights comes h once starts start
+    → WeighsItems app size weights → WeighsEndings app size weights → AllByRecursion (λ x. OthersSleep comes x.found) (run_stages config app events) → KeepsWork config load cuts (run_stages config app events)
+    → FitsStarts config app longest late weights load cuts comes h once starts start
     → HaveStarts config h longest late once starts start (run_stages config app events)

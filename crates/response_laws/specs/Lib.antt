@@ -11,6 +11,7 @@ pub mod Loaded
 pub mod Walked
 pub mod Makers
 pub mod Once
+pub mod Works
 pub mod CodeStarts
 pub mod Ticks
 pub mod Made

@@ -30,6 +30,7 @@ use Rattle.response_laws.specs.Once.{StaysOut}
 use Rattle.response_laws.specs.Never.{AreClosed}
 use Rattle.response_laws.specs.Arrivals.{HasDistances}
 use Rattle.response_laws.specs.Starts.{HaveStarts}
+pub use Rattle.response_laws.specs.Works.{KeepsWork, WorksWithin}
 use Rattle.response_laws.specs.CodeStarts.{FitsStarts}
 use Rattle.response_laws.specs.Expiries.{MarksAlarms, HasExpiries}
 use Rattle.response_laws.specs.Loaded.{HasArrivals, IsStartFor}
@@ -45,17 +46,6 @@ pub record NoStretchIsAbove (config : Config) (app : App) (late : ℕ) : Type 0 
   pub boots : boot_path config ≤ late
 
 -- ---- rounds
-
--- The run keeps the `work` lines of a load: no round of a task has more counts of its own, finished or not.
-abbrev pub KeepsWork : Config → (load : List Entry) → (cuts : ℕ → Bool) → List Stage → Type 0
-KeepsWork config load cuts run =
-    (t : ℕ) → IfSome (work load t)
-    (λ counts. (before behind : List Stage) (opens : Stage) → run ≡ before ++ opens ∷ behind → opens_round (cuts t) t opens.stamped.event ≡ true
-    → total (own config t) (round_of (cuts t) t behind) ≤ counts)
-
--- the load says that a round of task t takes no more counts of its own
-abbrev pub WorksWithin : (load : List Entry) → (t most : ℕ) → Type 0
-WorksWithin load t most = (counts : ℕ) × (work load t ≡ Some counts) × (counts ≤ most)
 
 -- What the costs say of the code of tasks that come. The pieces of items in front of entries and ticks are their tasks' own counts.
 pub record FitsRounds (config : Config) (app : App) (weights : List BodyWeights) (load : List Entry) (comes : ℕ → Bool) (h : ℕ) (cuts : ℕ → Bool) (costs : Costs)
@@ -121,6 +111,6 @@ ImagesRespondByCode = (config : Config) (app : App) (image : Image) (weights : L
     → (once ≡ true → EntersOnce config h cuts) → WellFormed config app → IsTaskCode app → Sound config app image → Weighed config app image → InPace config app image → AreCounts app weights
     → MarksAlarms app is_set → IsLongestItem app longest → AreComing (owners_in config) arrivals → NoStretchIsAbove config app late
     → HasDistances load → KeepDistances load arrivals → AreClosed config app load comes → KeepsWork config load cuts (run_stages config app (events_of image arrivals n))
-    → FitsRounds config app weights load comes h cuts costs → FitsStarts config app longest late weights comes h once starts start
+    → FitsRounds config app weights load comes h cuts costs → FitsStarts config app longest late weights load cuts comes h once starts start
     → ((i : ℕ) → i < starts → IsCodeStart config is_set load late (longest + late) h r once boot costs (start i))
     → RespondsWithin config app n (longest + late) h r boot (events_of image arrivals n)

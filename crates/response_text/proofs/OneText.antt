@@ -1,5 +1,5 @@
 -- Texts have one answer at most.
-use Rattle.std.proofs.Common.{◌≡◌, ◌∙◌, ℕ, ◌<◌, true, false, List, ◌++◌, length, Option, sym, ap, subst}
+use Rattle.std.proofs.Common.{◌≡◌, ◌∙◌, ℕ, ◌<◌, Bool, true, false, List, ◌++◌, length, Option, sym, ap, subst}
 use Rattle.sloth_base.specs.declared.config.Config.{Config}
 use Rattle.sloth_base.specs.declared.app.App.{App}
 use Rattle.sloth_source.proofs.Unique.{one_meaning}
@@ -22,9 +22,10 @@ one_response : (longest late : ℕ) (costs : Costs) (t : ℕ) (one other : Respo
 one_response longest late costs t one other a b =
     let anywhere = one_least (IsRunBound longest late costs t true) one.anywhere other.anywhere a.anywhere b.anywhere in
     let behind = one_least (IsRunBound longest late costs t false) one.behind other.behind a.behind b.behind in
-    let F : Option ℕ → Response = λ x. record { anywhere = x; behind = one.behind } in
-    let G : Option ℕ → Response = λ x. record { anywhere = other.anywhere; behind = x } in
-    ap F anywhere ∙ ap G behind
+    let E : Bool → Response = λ x. record { comes = x; anywhere = one.anywhere; behind = one.behind } in
+    let F : Option ℕ → Response = λ x. record { comes = other.comes; anywhere = x; behind = one.behind } in
+    let G : Option ℕ → Response = λ x. record { comes = other.comes; anywhere = other.anywhere; behind = x } in
+    ap E (a.comes ∙ sym b.comes) ∙ (ap F anywhere ∙ ap G behind)
 
 module _ (config : Config) (app : App) (load : List Entry) where
   -- the same is told of the same responses and demand

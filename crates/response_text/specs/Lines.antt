@@ -15,7 +15,7 @@ abbrev pub number_words : Option ℕ → List ℕ
 number_words (Some n) = codes " " ++ decimal n
 number_words None = codes " none"
 
--- nothing makes the task Ready
+-- nothing does
 abbrev pub is_never : Option ℕ → Bool
 is_never (Some n) = n == 0
 is_never None = false
@@ -23,9 +23,9 @@ is_never None = false
 abbrev pub made_words : Option ℕ → List ℕ
 made_words n = cond (is_never n) (codes " never") (number_words n)
 
--- Of a task that is made Ready, within how many counts it leaves behind that, and where that is behind boot.
+-- Of a task that comes, within how many counts it leaves behind what makes it Ready, and where that is behind boot.
 abbrev pub response_words : Response → List ℕ
-response_words r = cond (is_never r.anywhere) (codes " never") (number_words r.anywhere ++ (codes " behind" ++ made_words r.behind))
+response_words r = cond r.comes (number_words r.anywhere ++ (codes " behind" ++ made_words r.behind)) (codes " never")
 
 -- the number is at most so great
 abbrev pub is_within : (number : Option ℕ) → (limit : ℕ) → Bool
@@ -39,12 +39,12 @@ is_within_limit n None = false
 
 -- ---- deadlines
 
--- the task is made, and it is met wherever that is; or behind boot
+-- the task comes, and it is met wherever it is made; or behind boot
 abbrev pub is_met : Response → (limit : ℕ) → Bool
-is_met r limit = not (is_never r.anywhere) && is_within r.anywhere limit
+is_met r limit = r.comes && is_within r.anywhere limit
 
 abbrev pub is_met_behind : Response → (limit : ℕ) → Bool
-is_met_behind r limit = not (is_never r.anywhere) && is_within r.behind limit
+is_met_behind r limit = r.comes && is_within r.behind limit
 
 abbrev pub verdict_word : (met behind : Bool) → List ℕ
 verdict_word met behind = cond met (codes " met ") (cond behind (codes " boot ") (codes " open "))
@@ -75,7 +75,7 @@ task_words config app load t r =
 
 -- what stands in the place of a task that is not there
 abbrev pub no_response : Response
-no_response = record { anywhere = None; behind = None }
+no_response = record { comes = false; anywhere = None; behind = None }
 
 -- the response of a task among those of all
 abbrev pub response_at : List Response → (t : ℕ) → Response

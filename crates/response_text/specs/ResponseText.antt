@@ -13,6 +13,7 @@ use Rattle.sim_induction.specs.Sound.{AreComing, Sound, events_of}
 use Rattle.sim_induction.specs.Weighed.{Weighed}
 use Rattle.run_counts.specs.Stages.{run_stages}
 use Rattle.run_windows.specs.declared.costs.Costs.{Costs}
+use Rattle.run_windows.specs.Costs.{comes}
 use Rattle.run_windows.specs.RunWindows.{IsRunResponse}
 use Rattle.run_windows.specs.Demand.{IsDemand}
 use Rattle.response_laws.specs.SoundRuns.{KeepsWork}
@@ -28,8 +29,9 @@ use Rattle.response_text.specs.Lines.{keeps_arrivals, response_at, response_line
 
 -- ---- numbers
 
--- the least number within which the windows of task t are, and all but boot's; none where there is none
+-- whether task t comes, and the least number within which its windows are, and all but boot's; none where there is none
 pub record IsTaskResponse (longest late : ℕ) (costs : Costs) (t : ℕ) (r : Response) : Type 0 where
+  pub comes : r.comes ≡ comes costs t
   pub anywhere : IsRunResponse longest late costs t true r.anywhere
   pub behind : IsRunResponse longest late costs t false r.behind
 

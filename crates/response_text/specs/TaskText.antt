@@ -7,6 +7,7 @@ use Rattle.sloth_source.specs.TaskNames.{task_named}
 use Rattle.load_text.specs.declared.entry.Entry.{Entry}
 use Rattle.load_text.specs.Loads.{deadline}
 use Rattle.run_windows.specs.declared.longest.Longest.{Longest}
+use Rattle.run_windows.specs.Costs.{comes}
 use Rattle.run_windows.specs.Longest.{number_of, IsLongest}
 use Rattle.run_costs.specs.declared.record.RunCosts.{RunCosts}
 use Rattle.run_costs.specs.RunRecord.{IsRunRecord}
@@ -16,9 +17,9 @@ use Rattle.response_text.specs.Inputs.{IsLoadOf}
 use Rattle.response_text.specs.Lines.{is_open, response_line}
 use Rattle.response_text.specs.Parts.{has_parts, IsPartText}
 
--- the response that these windows tell
-abbrev pub response_of : (anywhere behind : Option Longest) → Response
-response_of anywhere behind = record { anywhere = number_of anywhere; behind = number_of behind }
+-- the response that these windows tell, of a task that comes or never does
+abbrev pub response_of : (comes : Bool) → (anywhere behind : Option Longest) → Response
+response_of comes anywhere behind = record { comes = comes; anywhere = number_of anywhere; behind = number_of behind }
 
 abbrev pub same_number : Option ℕ → Option ℕ → Bool
 same_number (Some n) (Some m) = n == m
@@ -51,7 +52,7 @@ pub record HasParts (config : Config) (app : App) (load : List Entry) (t : ℕ) 
   pub is_behind : IsLongest costs.longest costs.late costs.costs t false behind
   pub parts : List ℕ
   pub are_parts : AreBothParts config costs t anywhere behind parts
-  pub is : told ≡ task_lines config app load t (response_of anywhere behind) parts
+  pub is : told ≡ task_lines config app load t (response_of (comes costs.costs t) anywhere behind) parts
 
 -- it is told of the task, if there is one
 abbrev pub HasPartsOf : Config → App → List Entry → (task : Option ℕ) → Option Told → Type 0

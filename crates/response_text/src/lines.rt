@@ -68,11 +68,11 @@ fn push_behind(text: &mut Vec<u8>, number: Option<u32>) -> Result<(), NoMemory>
 fn push_response(text: &mut Vec<u8>, response: Response) -> Result<(), NoMemory>
     ensures { OnOk result (text.new.items ≡ text.old.items ++ response_words response) }
 {
-    if is_never(response.anywhere) {
-        text.extend_from_slice(b" never")?;
-    } else {
+    if response.comes {
         push_number(text, response.anywhere)?;
         push_behind(text, response.behind)?;
+    } else {
+        text.extend_from_slice(b" never")?;
     }
     Ok(())
 }
@@ -100,13 +100,13 @@ fn is_within_limit(number: Option<u32>, limit: Option<u32>) -> bool
 fn is_met(response: Response, limit: u32) -> bool
     ensures { result ≡ is_met response limit }
 {
-    !is_never(response.anywhere) && is_within(response.anywhere, limit)
+    response.comes && is_within(response.anywhere, limit)
 }
 
 fn is_met_behind(response: Response, limit: u32) -> bool
     ensures { result ≡ is_met_behind response limit }
 {
-    !is_never(response.anywhere) && is_within(response.behind, limit)
+    response.comes && is_within(response.behind, limit)
 }
 
 /// Whether there is a deadline that is not met, wherever the task is made or behind boot.
@@ -202,6 +202,7 @@ pub fn response_at(responses: &[Response], task: u32) -> Response
     match responses.get(task as usize) {
         Some(response) => *response,
         None => Response {
+            comes: false,
             anywhere: None,
             behind: None,
         },

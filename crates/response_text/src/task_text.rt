@@ -21,6 +21,7 @@ use crate::told::Response;
 use call_graph::Ranks;
 use load_text::{Entry, deadline_of};
 use run_costs::{RunCosts, run_costs};
+use run_windows::level::comes;
 use run_windows::longest::number_of;
 use run_windows::{Longest, longest_window};
 use sloth_base::{App, BuildError, Config, List, NoMemory};
@@ -109,7 +110,8 @@ fn told_by(
     let anywhere = longest_window(alloc, longest, late, &found.costs, number, true)?;
     let behind = longest_window(alloc, longest, late, &found.costs, number, false)?;
     let parts = both_parts(alloc, config, found, number, anywhere, behind)?;
-    let response = response_of(anywhere, behind);
+    let is_made = comes(&found.costs, number);
+    let response = response_of(is_made, anywhere, behind);
     task_lines(alloc, config, app, load, task, response, &parts)
 }
 

@@ -21,6 +21,7 @@ use crate::told::Response;
 use call_graph::Ranks;
 use load_text::Entry;
 use run_costs::{RunCosts, run_costs};
+use run_windows::level::comes;
 use run_windows::longest::number_of;
 use run_windows::{Costs, Longest, demand, longest_window};
 use sloth_base::{App, BuildError, Config, List, NoMemory};
@@ -30,10 +31,11 @@ use task_verify::Verified;
 use text_pieces::push;
 
 /// The response that these windows tell.
-pub fn response_of(anywhere: Option<Longest>, behind: Option<Longest>) -> Response
-    ensures { result ≡ response_of anywhere behind }
+pub fn response_of(comes: bool, anywhere: Option<Longest>, behind: Option<Longest>) -> Response
+    ensures { result ≡ response_of comes anywhere behind }
 {
     Response {
+        comes,
         anywhere: number_of(anywhere),
         behind: number_of(behind),
     }
@@ -53,7 +55,8 @@ fn response(
 {
     let anywhere = longest_window(alloc, longest, late, costs, task, true)?;
     let behind = longest_window(alloc, longest, late, costs, task, false)?;
-    Ok(response_of(anywhere, behind))
+    let is_made = comes(costs, task);
+    Ok(response_of(is_made, anywhere, behind))
 }
 
 // Those of all tasks.

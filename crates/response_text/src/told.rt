@@ -12,6 +12,8 @@ pub struct Told {
 /// Within how many counts a task leaves the processor behind what makes it Ready: 0 where nothing does, none where there is no such number.
 #[derive(Clone, Copy)]
 pub struct Response {
+    /// Something may make it Ready.
+    pub comes: bool,
     pub anywhere: Option<u32>,
     /// The same, where what makes it is behind boot.
     pub behind: Option<u32>,

@@ -12,6 +12,7 @@ mod Greatest
 mod Sectioning
 pub mod Taking
 mod Naming
+mod Closing
 mod CleanRounds
 mod OneSums
 mod SameCosts

@@ -1,5 +1,5 @@
 -- A load has one record of costs that runs keep.
-use Rattle.std.proofs.Common.{◌≡◌, ◌∙◌, ◌⊎◌, inl, inr, ℕ, ◌<◌, ◌≤◌, ◌==◌, ◌&&◌, ◌||◌, List, [], length, get_or, Bool, true, false, Option, Some, sym, ap, subst, arith}
+use Rattle.std.proofs.Common.{◌≡◌, ◌∙◌, ◌⊎◌, inl, inr, ℕ, ◌<◌, ◌≤◌, ◌==◌, ◌&&◌, ◌||◌, List, [], length, get_or, Bool, true, false, Option, Some, refl, sym, ap, subst, arith}
 use Rattle.std.proofs.lemmas.List.{ext_get_or}
 use Rattle.std.proofs.lemmas.Bool.{cases_lt}
 use Rattle.std.proofs.lemmas.Bool.Decides.{same_from_decides}
@@ -26,6 +26,7 @@ use Rattle.run_windows.specs.declared.costs.SectionMakings.{SectionMakings}
 use Rattle.run_windows.specs.declared.costs.Level.{Level}
 use Rattle.run_windows.specs.declared.costs.Costs.{Costs}
 use Rattle.run_windows.specs.Costs.{no_task, no_makings, no_services, no_level, no_section, no_section_makings}
+use Rattle.run_costs.specs.Coming.{marked, AreComing}
 use Rattle.run_costs.specs.Rounds.{AreRounds, round_cost, activations_of, made, many}
 use Rattle.run_costs.specs.CostsOf.{AreEach, ReachesService, IsGreatest, AreServices, AreMade, IsSectionCosts, IsTaskSection, IsSectionMade, no_counter, no_alarm, IsAlarm}
 use Rattle.walk_sums.proofs.OneTold.{one_told}
@@ -34,7 +35,7 @@ use Rattle.run_costs.proofs.SameCosts.{same_task, same_alarm, same_makings, same
 use Rattle.bounds_text.proofs.OneLatency.{same-lengths}
 use Rattle.bounds_text.proofs.OneLowerCounts.{same-weights}
 use Rattle.run_windows.specs.RunWindows.{call_path}
-use Rattle.run_costs.specs.RunCosts.{round_entry, counts_once, AreRunTaskCosts, AreRunMakings, AreRunSectionMakings, IsRunSectionMaking, IsRunLevel, IsRunCounter, AreRunCosts}
+use Rattle.run_costs.specs.RunCosts.{round_entry, counts_once, section_work, AreRunTaskCosts, AreRunMakings, AreRunSectionMakings, IsRunSectionMaking, IsRunLevel, IsRunCounter, AreRunCosts}
 use Rattle.run_costs.specs.declared.record.RunCosts.{RunCosts}
 use Rattle.run_costs.specs.RunRecord.{longest_of, late_of, IsRunRecord}
 use Rattle.walk_sums.specs.declared.counted.Counted.TheVariants as counts
@@ -139,7 +140,9 @@ module _ (config : Config) (app : App) (load : List Entry) where
       (a.is_cut ∙ (ap (λ v. v && extended) clean ∙ sym b.is_cut)) (a.distance ∙ sym b.distance)
       (a.first ∙ (ap (λ v. C false v a.told.first) clean ∙ (ap (λ (s : RoundSums). C false b.clean s.first) told ∙ sym b.first)))
       (a.next ∙ (ap (λ v. C true v a.told.later) clean ∙ (ap (λ (s : RoundSums). C true b.clean s.later) told ∙ sym b.next)))
-      (a.raising ∙ sym b.raising) (one_greatest t call_path x.service y.service a.service b.service)
+      (a.raising ∙ sym b.raising)
+      (a.section_work ∙ (ap (λ v. section_work config load v a.waits t) clean ∙ (ap (λ v. section_work config load b.clean v t) (same_from_decides a.waits b.waits a.is_waiting b.is_waiting) ∙ sym b.section_work)))
+      (one_greatest t call_path x.service y.service a.service b.service)
 
   -- ---- makings
 
@@ -186,6 +189,22 @@ module _ (config : Config) (app : App) (load : List Entry) where
       (λ j s t lt p q. same_each n no_section_makings (IsRunSectionMaking config app h j) (λ k u v below f g. one_section_making h j k u v below lt f g) s t p q)
       x.makings y.makings a.makings b.makings)
 
+  -- ---- the tasks that come
+
+  -- what is true where another is, and the other way round
+  same_where : (x y : Bool) → (x ≡ true → y ≡ true) → (y ≡ true → x ≡ true) → x ≡ y
+  same_where true y on back = sym (on refl)
+  same_where false true on back = back refl
+  same_where false false on back = refl
+
+  one_coming : (one other : List Bool) → AreComing config app load one → AreComing config app load other → one ≡ other
+  one_coming one other a b =
+      ext_get_or false one other (a.count ∙ sym b.count)
+      (λ i h.
+      let count = a.count in
+      let inside : i < length config.tasks = omega (arith, h, count) in
+      same_where (get_or one i false) (get_or other i false) (a.least.each (marked other) b.closed i inside) (b.least.each (marked one) a.closed i inside))
+
   -- ---- all
 
   one_costs : (one other : Costs) → AreRunCosts config app load one → AreRunCosts config app load other → one ≡ other
@@ -195,6 +214,7 @@ module _ (config : Config) (app : App) (load : List Entry) where
       same_costs one other
       (same_each n no_task (AreRunTaskCosts config app load a.weights) (λ t x y lt p q. one_task a.weights t x y p q) one.tasks other.tasks a.tasks
       (subst (λ w. AreEach n no_task (AreRunTaskCosts config app load w) other.tasks) weights b.tasks))
+      (one_coming one.comes other.comes a.comes b.comes)
       (same_each (length config.counters) no_counter (IsRunCounter config load) (λ c x y lt p q. p ∙ sym q) one.counters other.counters a.counters b.counters)
       (same_each (length config.alarms) no_alarm (IsAlarm config app) (λ i x y lt p q. one_alarm i x y p q) one.alarms other.alarms a.alarms b.alarms)
       (same_each n [] (λ j. AreEach n no_makings (AreRunMakings config app j))

@@ -10,18 +10,19 @@ use Rattle.run_windows.specs.declared.costs.SectionMakings.{SectionMakings}
 use Rattle.run_windows.specs.declared.costs.Level.{Level}
 use Rattle.run_windows.specs.declared.costs.Costs.{Costs}
 
-pub same_task : (a b : TaskCosts) → a.priority ≡ b.priority → a.is_entered_once ≡ b.is_entered_once → a.is_autostarted ≡ b.is_autostarted → a.is_cut ≡ b.is_cut → a.distance ≡ b.distance → a.first ≡ b.first → a.next ≡ b.next → a.raising ≡ b.raising → a.service ≡ b.service → a ≡ b
-same_task a b e0 e1 e2 e3 e4 e5 e6 e7 e8 =
-    let F0 : ℕ → TaskCosts = λ x. record { priority = x; is_entered_once = a.is_entered_once; is_autostarted = a.is_autostarted; is_cut = a.is_cut; distance = a.distance; first = a.first; next = a.next; raising = a.raising; service = a.service } in
-    let F1 : Bool → TaskCosts = λ x. record { priority = b.priority; is_entered_once = x; is_autostarted = a.is_autostarted; is_cut = a.is_cut; distance = a.distance; first = a.first; next = a.next; raising = a.raising; service = a.service } in
-    let F2 : Bool → TaskCosts = λ x. record { priority = b.priority; is_entered_once = b.is_entered_once; is_autostarted = x; is_cut = a.is_cut; distance = a.distance; first = a.first; next = a.next; raising = a.raising; service = a.service } in
-    let F3 : Bool → TaskCosts = λ x. record { priority = b.priority; is_entered_once = b.is_entered_once; is_autostarted = b.is_autostarted; is_cut = x; distance = a.distance; first = a.first; next = a.next; raising = a.raising; service = a.service } in
-    let F4 : Option ℕ → TaskCosts = λ x. record { priority = b.priority; is_entered_once = b.is_entered_once; is_autostarted = b.is_autostarted; is_cut = b.is_cut; distance = x; first = a.first; next = a.next; raising = a.raising; service = a.service } in
-    let F5 : Option ℕ → TaskCosts = λ x. record { priority = b.priority; is_entered_once = b.is_entered_once; is_autostarted = b.is_autostarted; is_cut = b.is_cut; distance = b.distance; first = x; next = a.next; raising = a.raising; service = a.service } in
-    let F6 : Option ℕ → TaskCosts = λ x. record { priority = b.priority; is_entered_once = b.is_entered_once; is_autostarted = b.is_autostarted; is_cut = b.is_cut; distance = b.distance; first = b.first; next = x; raising = a.raising; service = a.service } in
-    let F7 : ℕ → TaskCosts = λ x. record { priority = b.priority; is_entered_once = b.is_entered_once; is_autostarted = b.is_autostarted; is_cut = b.is_cut; distance = b.distance; first = b.first; next = b.next; raising = x; service = a.service } in
-    let F8 : ℕ → TaskCosts = λ x. record { priority = b.priority; is_entered_once = b.is_entered_once; is_autostarted = b.is_autostarted; is_cut = b.is_cut; distance = b.distance; first = b.first; next = b.next; raising = b.raising; service = x } in
-    ap F0 e0 ∙ (ap F1 e1 ∙ (ap F2 e2 ∙ (ap F3 e3 ∙ (ap F4 e4 ∙ (ap F5 e5 ∙ (ap F6 e6 ∙ (ap F7 e7 ∙ ap F8 e8)))))))
+pub same_task : (a b : TaskCosts) → a.priority ≡ b.priority → a.is_entered_once ≡ b.is_entered_once → a.is_autostarted ≡ b.is_autostarted → a.is_cut ≡ b.is_cut → a.distance ≡ b.distance → a.first ≡ b.first → a.next ≡ b.next → a.raising ≡ b.raising → a.section_work ≡ b.section_work → a.service ≡ b.service → a ≡ b
+same_task a b e0 e1 e2 e3 e4 e5 e6 e7 e8 e9 =
+    let F0 : ℕ → TaskCosts = λ x. record { priority = x; is_entered_once = a.is_entered_once; is_autostarted = a.is_autostarted; is_cut = a.is_cut; distance = a.distance; first = a.first; next = a.next; raising = a.raising; section_work = a.section_work; service = a.service } in
+    let F1 : Bool → TaskCosts = λ x. record { priority = b.priority; is_entered_once = x; is_autostarted = a.is_autostarted; is_cut = a.is_cut; distance = a.distance; first = a.first; next = a.next; raising = a.raising; section_work = a.section_work; service = a.service } in
+    let F2 : Bool → TaskCosts = λ x. record { priority = b.priority; is_entered_once = b.is_entered_once; is_autostarted = x; is_cut = a.is_cut; distance = a.distance; first = a.first; next = a.next; raising = a.raising; section_work = a.section_work; service = a.service } in
+    let F3 : Bool → TaskCosts = λ x. record { priority = b.priority; is_entered_once = b.is_entered_once; is_autostarted = b.is_autostarted; is_cut = x; distance = a.distance; first = a.first; next = a.next; raising = a.raising; section_work = a.section_work; service = a.service } in
+    let F4 : Option ℕ → TaskCosts = λ x. record { priority = b.priority; is_entered_once = b.is_entered_once; is_autostarted = b.is_autostarted; is_cut = b.is_cut; distance = x; first = a.first; next = a.next; raising = a.raising; section_work = a.section_work; service = a.service } in
+    let F5 : Option ℕ → TaskCosts = λ x. record { priority = b.priority; is_entered_once = b.is_entered_once; is_autostarted = b.is_autostarted; is_cut = b.is_cut; distance = b.distance; first = x; next = a.next; raising = a.raising; section_work = a.section_work; service = a.service } in
+    let F6 : Option ℕ → TaskCosts = λ x. record { priority = b.priority; is_entered_once = b.is_entered_once; is_autostarted = b.is_autostarted; is_cut = b.is_cut; distance = b.distance; first = b.first; next = x; raising = a.raising; section_work = a.section_work; service = a.service } in
+    let F7 : ℕ → TaskCosts = λ x. record { priority = b.priority; is_entered_once = b.is_entered_once; is_autostarted = b.is_autostarted; is_cut = b.is_cut; distance = b.distance; first = b.first; next = b.next; raising = x; section_work = a.section_work; service = a.service } in
+    let F8 : Option ℕ → TaskCosts = λ x. record { priority = b.priority; is_entered_once = b.is_entered_once; is_autostarted = b.is_autostarted; is_cut = b.is_cut; distance = b.distance; first = b.first; next = b.next; raising = b.raising; section_work = x; service = a.service } in
+    let F9 : ℕ → TaskCosts = λ x. record { priority = b.priority; is_entered_once = b.is_entered_once; is_autostarted = b.is_autostarted; is_cut = b.is_cut; distance = b.distance; first = b.first; next = b.next; raising = b.raising; section_work = b.section_work; service = x } in
+    ap F0 e0 ∙ (ap F1 e1 ∙ (ap F2 e2 ∙ (ap F3 e3 ∙ (ap F4 e4 ∙ (ap F5 e5 ∙ (ap F6 e6 ∙ (ap F7 e7 ∙ (ap F8 e8 ∙ (ap F9 e9)))))))))
 
 pub same_alarm : (a b : AlarmCosts) → a.counter ≡ b.counter → a.task ≡ b.task → a.sets_events ≡ b.sets_events → a.time ≡ b.time → a.cycle ≡ b.cycle → a.is_set ≡ b.is_set → a ≡ b
 same_alarm a b e0 e1 e2 e3 e4 e5 =
@@ -66,12 +67,13 @@ same_level a b e0 e1 =
     let F1 : List (List SectionMakings) → Level = λ x. record { sections = b.sections; makings = x } in
     ap F0 e0 ∙ ap F1 e1
 
-pub same_costs : (a b : Costs) → a.tasks ≡ b.tasks → a.counters ≡ b.counters → a.alarms ≡ b.alarms → a.makings ≡ b.makings → a.services ≡ b.services → a.levels ≡ b.levels → a ≡ b
-same_costs a b e0 e1 e2 e3 e4 e5 =
-    let F0 : List TaskCosts → Costs = λ x. record { tasks = x; counters = a.counters; alarms = a.alarms; makings = a.makings; services = a.services; levels = a.levels } in
-    let F1 : List CounterCosts → Costs = λ x. record { tasks = b.tasks; counters = x; alarms = a.alarms; makings = a.makings; services = a.services; levels = a.levels } in
-    let F2 : List AlarmCosts → Costs = λ x. record { tasks = b.tasks; counters = b.counters; alarms = x; makings = a.makings; services = a.services; levels = a.levels } in
-    let F3 : List (List Makings) → Costs = λ x. record { tasks = b.tasks; counters = b.counters; alarms = b.alarms; makings = x; services = a.services; levels = a.levels } in
-    let F4 : List (List Services) → Costs = λ x. record { tasks = b.tasks; counters = b.counters; alarms = b.alarms; makings = b.makings; services = x; levels = a.levels } in
-    let F5 : List Level → Costs = λ x. record { tasks = b.tasks; counters = b.counters; alarms = b.alarms; makings = b.makings; services = b.services; levels = x } in
-    ap F0 e0 ∙ (ap F1 e1 ∙ (ap F2 e2 ∙ (ap F3 e3 ∙ (ap F4 e4 ∙ ap F5 e5))))
+pub same_costs : (a b : Costs) → a.tasks ≡ b.tasks → a.comes ≡ b.comes → a.counters ≡ b.counters → a.alarms ≡ b.alarms → a.makings ≡ b.makings → a.services ≡ b.services → a.levels ≡ b.levels → a ≡ b
+same_costs a b e0 e1 e2 e3 e4 e5 e6 =
+    let F0 : List TaskCosts → Costs = λ x. record { tasks = x; comes = a.comes; counters = a.counters; alarms = a.alarms; makings = a.makings; services = a.services; levels = a.levels } in
+    let F1 : List Bool → Costs = λ x. record { tasks = b.tasks; comes = x; counters = a.counters; alarms = a.alarms; makings = a.makings; services = a.services; levels = a.levels } in
+    let F2 : List CounterCosts → Costs = λ x. record { tasks = b.tasks; comes = b.comes; counters = x; alarms = a.alarms; makings = a.makings; services = a.services; levels = a.levels } in
+    let F3 : List AlarmCosts → Costs = λ x. record { tasks = b.tasks; comes = b.comes; counters = b.counters; alarms = x; makings = a.makings; services = a.services; levels = a.levels } in
+    let F4 : List (List Makings) → Costs = λ x. record { tasks = b.tasks; comes = b.comes; counters = b.counters; alarms = b.alarms; makings = x; services = a.services; levels = a.levels } in
+    let F5 : List (List Services) → Costs = λ x. record { tasks = b.tasks; comes = b.comes; counters = b.counters; alarms = b.alarms; makings = b.makings; services = x; levels = a.levels } in
+    let F6 : List Level → Costs = λ x. record { tasks = b.tasks; comes = b.comes; counters = b.counters; alarms = b.alarms; makings = b.makings; services = b.services; levels = x } in
+    ap F0 e0 ∙ (ap F1 e1 ∙ (ap F2 e2 ∙ (ap F3 e3 ∙ (ap F4 e4 ∙ (ap F5 e5 ∙ ap F6 e6)))))

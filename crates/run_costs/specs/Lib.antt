@@ -5,6 +5,7 @@ pub mod Rounds
 pub mod Makings
 pub mod Sections
 pub mod CostsOf
+pub mod Coming
 pub mod SectionSums
 pub mod RunCosts
 pub mod RunRecord

@@ -1,6 +1,6 @@
 -- Costs that runs keep: of entries and ticks their own counts; of rounds and sections those of items, with what is begun of them in front of entries and ticks
 -- that preempt them; of makings by walks alone.
-use Rattle.std.specs.Prelude.{ℕ, ◌≤◌, ◌≡◌, ◌⊎◌, ◌&&◌, ◌||◌, ◌==◌, not, cond, Bool, true, false, List, [], length, Decides}
+use Rattle.std.specs.Prelude.{ℕ, ◌≤◌, ◌≡◌, ◌⊎◌, ◌&&◌, ◌||◌, ◌==◌, not, cond, Bool, true, false, List, [], length, Option, None, Decides}
 use Rattle.sloth_base.specs.declared.config.Config.{Config}
 use Rattle.sloth_base.specs.declared.app.App.{App}
 use Rattle.sloth_base.specs.declared.service.Service.TheVariants as service
@@ -25,8 +25,9 @@ use Rattle.run_windows.specs.declared.costs.Level.{Level}
 use Rattle.run_windows.specs.declared.costs.Costs.{Costs}
 use Rattle.run_windows.specs.Costs.{no_task, no_makings, no_services, no_level, no_section, no_section_makings}
 use Rattle.run_windows.specs.RunWindows.{call_path}
+use Rattle.run_costs.specs.Coming.{AreComing}
 use Rattle.run_costs.specs.Rounds.{AreRounds, round_cost, activations_of}
-use Rattle.run_costs.specs.CostsOf.{AreEach, IsGreatest, AreMade, AreServices, IsTaskSection, IsSectionMade, no_counter, no_alarm, IsAlarm}
+use Rattle.run_costs.specs.CostsOf.{AreEach, ReachesService, IsGreatest, AreMade, AreServices, IsTaskSection, IsSectionMade, no_counter, no_alarm, IsAlarm}
 
 -- ---- tasks
 
@@ -42,6 +43,10 @@ raising_counts config t = cond (declaration config t).non 0 (call_path service.G
 abbrev pub counts_once : Config → (clean : Bool) → (t : ℕ) → Bool
 counts_once config clean t = not (declaration config t).non && not (clean && (declaration config t).extended)
 
+-- What the load says of the work of task t bounds its sections too: but where it is not preemptable, and clean, and waits, since they may have several rounds then.
+abbrev pub section_work : Config → (load : List Entry) → (clean waits : Bool) → (t : ℕ) → Option ℕ
+section_work config load clean waits t = cond ((declaration config t).non && (clean && waits)) None (work load t)
+
 -- what task t costs
 pub record AreRunTaskCosts (config : Config) (app : App) (load : List Entry) (weights : List BodyWeights) (t : ℕ) (c : TaskCosts) : Type 0 where
   pub priority : c.priority ≡ static_priority config t
@@ -56,6 +61,9 @@ pub record AreRunTaskCosts (config : Config) (app : App) (load : List Entry) (we
   pub first : c.first ≡ round_cost (round_entry config app clean false t) (work load t) told.first
   pub next : c.next ≡ round_cost (round_entry config app clean true t) (work load t) told.later
   pub raising : c.raising ≡ raising_counts config t
+  pub waits : Bool
+  pub is_waiting : Decides waits (ReachesService app t service.WaitEvent)
+  pub section_work : c.section_work ≡ section_work config load clean waits t
   pub service : IsGreatest app t call_path c.service
 
 -- ---- makings
@@ -97,6 +105,7 @@ pub record AreRunCosts (config : Config) (app : App) (load : List Entry) (costs 
   pub weights : List BodyWeights
   pub are_counts : AreCounts app weights
   pub tasks : AreEach (length config.tasks) no_task (AreRunTaskCosts config app load weights) costs.tasks
+  pub comes : AreComing config app load costs.comes
   pub counters : AreEach (length config.counters) no_counter (IsRunCounter config load) costs.counters
   pub alarms : AreEach (length config.alarms) no_alarm (IsAlarm config app) costs.alarms
   pub makings : AreEach (length config.tasks) [] (λ j. AreEach (length config.tasks) no_makings (AreRunMakings config app j)) costs.makings

@@ -16,8 +16,6 @@ use std::alloc::Global;
 use text_pieces::push;
 use walk_sums::function_at;
 
-// ---- alarms
-
 // Whether an item of a body calls the service for the alarm.
 fn body_names(service: Service, alarm: u32, func: &Func) -> bool
     ensures some { result ≡ true → (i : ℕ) × (calls_for alarm service (item_of func.now i).op ≡ true) }
@@ -48,7 +46,8 @@ fn is_set(app: &App, alarm: u32) -> bool
     is_named(app, Service::SetRelAlarm, alarm) || is_named(app, Service::SetAbsAlarm, alarm)
 }
 
-fn task_of(action: &Action) -> u32
+/// The task of an action.
+pub fn task_of(action: &Action) -> u32
     ensures { result ≡ task_of action.now }
 {
     match *action {
@@ -57,7 +56,8 @@ fn task_of(action: &Action) -> u32
     }
 }
 
-fn sets_events(action: &Action) -> bool
+/// Whether it sets events of that.
+pub fn sets_events(action: &Action) -> bool
     ensures { result ≡ sets_events action.now }
 {
     match *action {
@@ -122,5 +122,3 @@ pub fn counters(
     }
     Ok(list)
 }
-
-// ---- alarms

@@ -14,6 +14,7 @@ ghost use Rattle.run_costs.specs.Services.{AreAllNamingTops};
 ghost use Rattle.run_costs.specs.RunCosts.{AreRunTaskCosts, AreRunCosts};
 ghost use Rattle.run_costs.specs.RunRecord.{IsRunRecord};
 
+use crate::closure::coming;
 use crate::levels::levels;
 use crate::limits::{late_of, longest_of};
 use crate::makings::makings;
@@ -76,10 +77,12 @@ fn record_by(
     let makings = makings(alloc, config, app, bodies, order, clean, &steady, naming)?;
     let levels = levels(alloc, config, app, weights, bodies, order, naming)?;
     let services = services(alloc, config, app, naming)?;
+    let comes = coming(alloc, config, app, load, bodies, order, naming)?;
     let counters = counters(alloc, config, load)?;
     let alarms = alarms(alloc, config, app)?;
     Ok(Costs {
         tasks,
+        comes: List::from_vec(comes),
         counters: List::from_vec(counters),
         alarms: List::from_vec(alarms),
         makings: List::from_vec(makings),

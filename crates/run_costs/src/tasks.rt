@@ -13,12 +13,13 @@ ghost use Rattle.walk_sums.specs.Weights.{AreWeights};
 ghost use Rattle.run_windows.specs.Costs.{no_task};
 ghost use Rattle.run_costs.specs.CostsOf.{AreEach, IsGreatest};
 ghost use Rattle.run_costs.specs.Rounds.{with_entry, round_cost};
-ghost use Rattle.run_costs.specs.Services.{AreServiceTops, reached_path};
+ghost use Rattle.run_costs.specs.Services.{AreServiceTops, reaches, reached_path};
 ghost use Rattle.run_costs.specs.Tables.{AreRoundTables};
 ghost use Rattle.sloth_base.specs.ServiceCodes.{service_of};
+ghost use Rattle.sloth_base.specs.declared.service.Service.TheVariants as service;
 ghost use Rattle.event_weights.specs.Events.{enter_counts};
 ghost use Rattle.run_windows.specs.RunWindows.{call_path};
-ghost use Rattle.run_costs.specs.RunCosts.{round_entry, raising_counts, counts_once, AreRunTaskCosts};
+ghost use Rattle.run_costs.specs.RunCosts.{round_entry, raising_counts, section_work, counts_once, AreRunTaskCosts};
 
 use crate::rounds::{RoundTables, round_tables, sums_of};
 use crate::sections::priority_of;
@@ -45,8 +46,8 @@ fn entry(config: &Config, app: &App, resumed: bool, task: usize) -> u32
     entry_path(config.tasks.items()[task].extended, resumed, words)
 }
 
-// Whether the task is activated as the system starts.
-fn is_autostarted(config: &Config, task: usize) -> bool
+/// Whether the task is activated as the system starts.
+pub fn is_autostarted(config: &Config, task: usize) -> bool
     requires { task < length config.now.tasks }
     ensures { result ≡ (declaration config.now task).autostart }
 {
@@ -143,6 +144,25 @@ fn raising_counts(config: &Config, task: usize) -> u32
     }
 }
 
+// The work that bounds the sections of a task.
+fn section_work(
+    config: &Config,
+    load: &[Entry],
+    clean: bool,
+    services: &[List<u64>],
+    task: usize,
+) -> Option<u32>
+    requires few { length config.now.tasks ≤ task_limit }
+    requires inside { task < length config.now.tasks }
+    ensures { result ≡ section_work config.now load.now clean (reaches services.now service.WaitEvent task) task }
+{
+    if config.tasks.items()[task].non && (clean && reaches(services, Service::WaitEvent, task)) {
+        None
+    } else {
+        work_of(load, task as u8)
+    }
+}
+
 // Whether a task counts once in its own windows.
 fn counts_once(config: &Config, clean: bool, task: usize) -> bool
     requires { task < length config.now.tasks }
@@ -220,6 +240,7 @@ fn task_costs(
         first,
         next,
         raising: raising_counts(config, task),
+        section_work: section_work(config, load, is_clean, services, task),
         service: longest_service(config, app, services, task),
     }
 }

@@ -21,6 +21,7 @@ use Rattle.run_costs.specs.CostsOf.{AreEach, Names, task_of, no_alarm, IsAlarm}
 use Rattle.run_costs.specs.CostsOf as costs_of
 use Rattle.response_laws.specs.Ticks.{activates, sets_events}
 use Rattle.response_laws.specs.Expiries.{sets_alarm, MarksAlarms, expiries, expiring}
+use Rattle.run_responses.proofs.Coming.{calls_it}
 
 -- ---- one alarm
 
@@ -107,15 +108,6 @@ module _ (config : Config) (app : App) (alarms : List AlarmCosts) (are : AreEach
 
   set_inside : (a : ℕ) → a < length config.alarms → is_set a ≡ (get_or alarms a no_alarm).is_set
   set_inside a lt = ap (λ b. cond b (get_or alarms a no_alarm).is_set true) (lt-ltb a (length config.alarms) lt)
-
-  calls_it : (a : ℕ) (o : Op) → sets_alarm a o ≡ true → (calls_for a service.SetRelAlarm o ≡ true) ⊎ (calls_for a service.SetAbsAlarm o ≡ true)
-  calls_it a (op.Serve call) e = by (is_service call.service service.SetRelAlarm) (is_service call.service service.SetAbsAlarm) (call.object == a) e
-    where
-      by : (r s o : Bool) → ((r || s) && o) ≡ true → ((r && o) ≡ true) ⊎ ((s && o) ≡ true)
-      by true s o e = inl e
-      by false s o e = inr e
-  calls_it a op.Return e = absurd (false≢true e)
-  calls_it a o e = absurd (false≢true e)
 
   pub marks : MarksAlarms app is_set
   marks a none f i = by (sets_alarm a (operation app f i)) refl

@@ -1,5 +1,5 @@
 -- What lower tasks bring in by their code has a start of the record.
-use Rattle.std.proofs.Common.{if◌then◌else◌, ◌≡◌, ℕ, ◌+◌, ◌<◌, ◌≤◌, ◌⊎◌, ◌==◌, ◌&&◌, ◌||◌, Bool, true, false, cond, max, List, [], ◌∷◌, ◌++◌, length, get_or, refl, sym, ap, ◌∙◌, subst, arith, inl, inr, Option, append_assoc, ◌-◌, ltb}
+use Rattle.std.proofs.Common.{if◌then◌else◌, ◌≡◌, ℕ, ◌+◌, ◌<◌, ◌≤◌, ◌⊎◌, ◌==◌, ◌&&◌, ◌||◌, Bool, true, false, cond, max, List, [], ◌∷◌, ◌++◌, length, get_or, refl, sym, ap, ◌∙◌, subst, arith, inl, inr, Option, Some, None, min, append_assoc, ◌-◌, ltb}
 use Rattle.std.specs.List.{AllByRecursion}
 use Rattle.std.proofs.lemmas.Bool.{false≢true, true≢false, leb-true, lt-ltb, cases_lt, eqb-true, eq-eqb, le-ltb}
 use Rattle.std.proofs.lemmas.Bool.Decides.{not_from_Decides}
@@ -21,6 +21,7 @@ use Rattle.rv32_expand.specs.Long.{size}
 use Rattle.rv32_expand.specs.Expansion.{number_in, mask_of}
 use Rattle.rv32_expand.proofs.Counts.{size_serve}
 use Rattle.load_text.specs.declared.entry.Entry.{Entry}
+use Rattle.load_text.specs.Loads.{work}
 use Rattle.code_lengths.specs.LongestPaths.{leaving_path, served_path}
 use Rattle.osek_scheduler.specs.Apart.{static_priority}
 use Rattle.osek_scheduler.proofs.Facts.{Facts}
@@ -35,14 +36,14 @@ use Rattle.walk_sums.specs.declared.counted.Counted.{Counted}
 use Rattle.walk_sums.specs.declared.counted.Counted.TheVariants as counts
 use Rattle.walk_sums.specs.declared.sum.Sum.{Sum}
 use Rattle.walk_sums.specs.declared.sum.Sum.TheVariants as sum
-use Rattle.walk_sums.specs.Rounds.{Reaches}
+use Rattle.walk_sums.specs.Rounds.{Reaches, is_wait}
 use Rattle.walk_sums.specs.Counted.{one_if, calls, calls_for, is_ending_counted, counted_weights}
 use Rattle.walk_sums.specs.Told.{IsToldSum}
 use Rattle.run_windows.specs.declared.costs.Costs.{Costs}
 use Rattle.run_windows.specs.declared.window.Start.{Start}
 use Rattle.run_windows.specs.declared.window.Start.TheVariants as start
-use Rattle.run_windows.specs.Costs.{reckoned, task, section, section_making}
-use Rattle.run_windows.specs.Windows.{Numbers, is_lower, is_boot, begun_by}
+use Rattle.run_windows.specs.Costs.{reckoned, task, comes, section, lesser, section_counts, section_making}
+use Rattle.run_windows.specs.Windows.{Numbers, is_lower, is_below, is_boot, begun_by}
 use Rattle.run_costs.specs.Sections.{IsRaised, DoesRaised}
 use Rattle.run_costs.specs.Rounds.{many}
 use Rattle.run_costs.specs.CostsOf.{IsSectionCosts, IsSectionMade}
@@ -52,16 +53,17 @@ use Rattle.response_laws.specs.Bounded.{IsOfLevel}
 use Rattle.response_laws.specs.Walked.{SectionsSum}
 use Rattle.response_laws.specs.Once.{IsShutOut}
 use Rattle.response_laws.specs.Makers.{activation_weights, setting_weights}
-use Rattle.run_responses.proofs.Coming.{all_come}
-use Rattle.response_laws.specs.CodeStarts.{HasRoom, SomeHasRoom, none, autostarted, HasSections, is_call, FitsStarts, HaveServiceRoom}
+use Rattle.response_laws.specs.Works.{WaitsNowhere}
+use Rattle.response_laws.specs.CodeStarts.{HasRoom, SomeHasRoom, none, autostarted, SectionsTake, HasSections, is_call, FitsStarts, HaveServiceRoom}
 use Rattle.response_laws.proofs.Counting.{counted_ending, counted_lighter}
-use Rattle.run_costs.specs.RunCosts.{AreRunCosts, AreRunSectionMakings}
+use Rattle.run_responses.specs.Meeting.{AreCutTasks}
+use Rattle.run_costs.specs.RunCosts.{AreRunTaskCosts, AreRunCosts, AreRunSectionMakings}
 use Rattle.run_windows.specs.declared.fronts.Way.TheVariants as way
 use Rattle.run_windows.specs.RunWindows.{call_words, call_path, may_serve, services_front, is_made_in_front, activation_front, setting_front, front_of, lead_of, run_starts, start_at, services_of, IsTold, AreTold}
 use Rattle.run_responses.proofs.Numbers.{told_number, none_told}
 use Rattle.run_responses.proofs.StartLists.{Has, has_free, has_boot, has_activation, has_setting, has_section, made_here, service_here}
 use Rattle.run_responses.proofs.Rounds.{walk_front, many_told, level_upper, counted_task, counts_lighter}
-use Rattle.run_responses.proofs.Reaching.{object_is}
+use Rattle.run_responses.proofs.Reaching.{object_is, waits_unraised}
 use Rattle.run_responses.proofs.Windows.{start_by}
 
 -- ---- services
@@ -136,7 +138,7 @@ one_of_one true false = omega arith
 one_of_one false b = omega arith
 
 module _ (config : Config) (app : App) (w : Facts config app) (load : List Entry) (longest late : ℕ) (costs : Costs) (are : AreRunCosts config app load costs) (h : ℕ)
-    (there : h < length config.tasks) (told : AreTold costs h)
+    (there : h < length config.tasks) (here : comes costs h ≡ true) (told : AreTold costs h) (cuts : ℕ → Bool) (cut : AreCutTasks config app cuts)
     (numbers : (opens : Bool) → ℕ → Numbers) (lasting : (opens : Bool) → ℕ → ℕ) where
   abbrev all_starts : List Start
   all_starts = run_starts costs h true
@@ -273,11 +275,20 @@ module _ (config : Config) (app : App) (w : Facts config app) (load : List Entry
     pub declared : t < length config.tasks
     pub may : may_serve costs h t ≡ true
 
-  lower_serves : (t : ℕ) → IsLower config h t → Serves t
-  lower_serves t low = record { declared = low.0; may = ap (λ b. b || ((t == h) && (task costs h).is_entered_once)) (lower_is t low) }
+  comes_and : (t : ℕ) (b : Bool) → comes costs t ≡ true → b ≡ true → (comes costs t && b) ≡ true
+  comes_and t b come is = ap (λ c. c && b) come ∙ is
+
+  lower_serves : (t : ℕ) → IsLower config h t → comes costs t ≡ true → Serves t
+  lower_serves t low come = record {
+    declared = low.0;
+    may = comes_and t (is_lower costs h t || ((t == h) && (task costs h).is_entered_once)) come (ap (λ b. b || ((t == h) && (task costs h).is_entered_once)) (lower_is t low));
+  }
 
   own_serves : (task costs h).is_entered_once ≡ true → Serves h
-  own_serves once = record { declared = there; may = by (is_lower costs h h) (h == h) (task costs h).is_entered_once (eq-eqb h h refl) once }
+  own_serves once = record {
+    declared = there;
+    may = comes_and h (is_lower costs h h || ((h == h) && (task costs h).is_entered_once)) here (by (is_lower costs h h) (h == h) (task costs h).is_entered_once (eq-eqb h h refl) once);
+  }
     where
       by : (a b c : Bool) → b ≡ true → c ≡ true → (a || (b && c)) ≡ true
       by true b c e f = refl
@@ -466,7 +477,10 @@ module _ (config : Config) (app : App) (w : Facts config app) (load : List Entry
 
   -- ---- sections
 
-  module _ (b : ℕ) (low : IsLower config h b) where
+  module _ (b : ℕ) (low : IsLower config h b) (come : comes costs b ≡ true) where
+    below_is : is_below costs h b ≡ true
+    below_is = ap (λ l. l && comes costs b) (lower_is b low) ∙ come
+
     takes_few : (at : Position) → Reaches app b at → calls service.GetResource (operation_at app at) ≡ true
         → (going_at weights at ≤ call_path service.GetResource) × (going_at weights at ≤ services_front costs h 0 costs.tasks)
     takes_few at reach takes = by (operation_at app at) refl takes
@@ -478,7 +492,7 @@ module _ (config : Config) (app : App) (w : Facts config app) (load : List Entry
             let ten : call_words call.service + served_counts call.service ≤ call_path service.GetResource =
             subst (λ s. call_words s + served_counts s ≤ call_path service.GetResource) (sym (same_service call.service service.GetResource e)) (omega arith) in
             let lighter = counts_lighter app weights are.are_counts at in
-            let front = front_free b (lower_serves b low) at reach call is in
+            let front = front_free b (lower_serves b low come) at reach call is in
             (omega (arith, few, ten), omega (arith, lighter, front))
         by op.Return is e = absurd (false≢true e)
         by o is e = absurd (false≢true e)
@@ -489,16 +503,76 @@ module _ (config : Config) (app : App) (w : Facts config app) (load : List Entry
     makings_of_section : (j : ℕ) → IsOfLevel config h j → AreRunSectionMakings config app h j b (section_making costs h b j)
     makings_of_section j over = (((are.levels.each h there).makings.each j over.0).each b low.0).0 low (not_lower j over.1)
 
-    -- the sum of a section that is told
-    sum_told : (s : Sum) → IsToldSum (IsSection config app h b) weights s → (section costs h b).counts ≡ many s
-        → (n : ℕ) × (reckoned (section costs h b).counts ≡ n) × SectionsSum config app h b weights n
-    sum_told (sum.Counts n) are_told is =
-        (n, told_number n (section costs h b).counts is number, are_told.0.none_above)
+    own : AreRunTaskCosts config app load weights b (task costs b)
+    own = are.tasks.each b low.0
+
+    -- where the load bounds sections, each lies in one round
+    waits_nowhere : (n : ℕ) → (task costs b).section_work ≡ Some n → WaitsNowhere config app h b (cuts b)
+    waits_nowhere n is at reach raised waits cuts_it =
+        let unraised = waits_unraised config app w b low.0 preemptable at reach waits in
+        let less = low.1 in
+        omega (arith, raised, unraised, less)
       where
-        number : IsTold (section costs h b).counts
-        number = told.sections b (counted_task config app w load costs are h there b low.0) (lower_is b low)
-    sum_told sum.Huge are_told is = absurd (none_told _ is (told.sections b (counted_task config app w load costs are h there b low.0) (lower_is b low)))
-    sum_told sum.Endless are_told is = absurd (none_told _ is (told.sections b (counted_task config app w load costs are h there b low.0) (lower_is b low)))
+        clean : own.clean ≡ true
+        clean = own.clears.1 ((cut b low.0).0 cuts_it).0
+
+        reaches : own.waits ≡ true
+        reaches = own.is_waiting.1 (at, reach, wait_calls (operation_at app at) waits)
+          where
+            wait_calls : (o : Op) → is_wait o ≡ true → calls service.WaitEvent o ≡ true
+            wait_calls (op.Serve call) e = e
+            wait_calls op.Return e = absurd (false≢true e)
+            wait_calls o e = absurd (false≢true e)
+
+        preemptable : (declaration config b).non ≡ false
+        preemptable = by (declaration config b).non own.clean own.waits clean reaches (sym own.section_work ∙ is)
+          where
+            by : (non c v : Bool) → c ≡ true → v ≡ true → (cond (non && (c && v)) None (work load b)) ≡ Some n → non ≡ false
+            by false c v e f g = refl
+            by true true true e f g = cc
+            by true true false e f g = cc
+            by true false v e f g = cc
+
+    -- the counts of a section that are told
+    abbrev Take : ℕ → Type 0
+    Take n = SectionsTake config app weights load cuts h b n
+
+    by_work : (n : ℕ) → (task costs b).section_work ≡ Some n → Take n
+    by_work n is = inr ((n, said (declaration config b).non own.clean own.waits (sym own.section_work ∙ is), omega arith), waits_nowhere n is)
+      where
+        said : (non c v : Bool) → (cond (non && (c && v)) None (work load b)) ≡ Some n → work load b ≡ Some n
+        said true true true e = cc
+        said true true false e = e
+        said true false v e = e
+        said false c v e = e
+
+    by_sum : (n m : ℕ) → n ≤ m → IsToldSum (IsSection config app h b) weights (sum.Counts n) → Take m
+    by_sum n m le are_told = inl (λ positions part. let few = are_told.0.none_above positions part in omega (arith, few, le))
+
+    sum_told : (s : Sum) → IsToldSum (IsSection config app h b) weights s → (section costs h b).counts ≡ many s
+        → (n : ℕ) × (reckoned (section_counts costs h b) ≡ n) × Take n
+    sum_told s are_told is = by (task costs b).section_work refl s are_told is
+      where
+        told_it : IsTold (section_counts costs h b)
+        told_it = told.sections b (counted_task config app w load costs are h there b low.0) below_is
+
+        -- they are the lesser of both
+        same : (o : Option ℕ) → (task costs b).section_work ≡ o → (m : Option ℕ) → (section costs h b).counts ≡ m → section_counts costs h b ≡ lesser o m
+        same o at m counts = ap (λ v. lesser v (section costs h b).counts) at ∙ ap (lesser o) counts
+
+        by : (o : Option ℕ) → (task costs b).section_work ≡ o → (s : Sum) → IsToldSum (IsSection config app h b) weights s → (section costs h b).counts ≡ many s
+            → (n : ℕ) × (reckoned (section_counts costs h b) ≡ n) × Take n
+        by None at (sum.Counts n) are_told is = (n, told_number n (section_counts costs h b) (same None at (Some n) is) told_it, by_sum n n (omega arith) are_told)
+        by None at sum.Huge are_told is = absurd (none_told (section_counts costs h b) (same None at None is) told_it)
+        by None at sum.Endless are_told is = absurd (none_told (section_counts costs h b) (same None at None is) told_it)
+        by (Some own) at (sum.Counts n) are_told is =
+            (min own n, told_number (min own n) (section_counts costs h b) (same (Some own) at (Some n) is) told_it, which (cases_lt own n))
+          where
+            which : (own < n) ⊎ (n ≤ own) → Take (min own n)
+            which (inl lt) = let e : own ≡ min own n = omega (arith, lt) in subst Take e (by_work own at)
+            which (inr le) = by_sum n (min own n) (omega (arith, le)) are_told
+        by (Some own) at sum.Huge are_told is = (own, told_number own (section_counts costs h b) (same (Some own) at None is) told_it, by_work own at)
+        by (Some own) at sum.Endless are_told is = (own, told_number own (section_counts costs h b) (same (Some own) at None is) told_it, by_work own at)
 
     -- where no raised position does what counts, sections do not
     none_made : (c : Counted) (n : ℕ) → ¬ (DoesRaised config app h b c) → SectionsSum config app h b (counted_weights c app) n
@@ -562,7 +636,7 @@ module _ (config : Config) (app : App) (w : Facts config app) (load : List Entry
         is_number : IsTold made
         is_number =
             (told.section_makings j (counted_task config app w load costs are h there j of.0) b (counted_task config app w load costs are h there b low.0)
-            (level_upper config app w load costs are h there j of) (lower_is b low)).activations
+            (level_upper config app w load costs are h there j of) below_is).activations
 
         by : (non : Bool) → (declaration config b).non ≡ non → (itself : Bool) → (h == j) ≡ itself → IsSectionMade config app h b (non || itself) (counts.Activations j) made
             → MadeWithin j (reckoned made)
@@ -576,13 +650,13 @@ module _ (config : Config) (app : App) (w : Facts config app) (load : List Entry
     section_sets j over =
         let of = over_declared b j low over in
         made_few (counts.Settings j) (section_making costs h b j).settings (makings_of_section j of).settings
-        (told.section_makings j (counted_task config app w load costs are h there j of.0) b (counted_task config app w load costs are h there b low.0) (level_upper config app w load costs are h there j of) (lower_is b low)).settings
+        (told.section_makings j (counted_task config app w load costs are h there j of.0) b (counted_task config app w load costs are h there b low.0) (level_upper config app w load costs are h there j of) below_is).settings
 
     abbrev Fits : (raised : Bool) → Start → ℕ → Type 0
-    Fits raised s i = HasSections config app longest weights h b raised (start_by config load longest late costs h raised s (numbers raised i) (lasting raised i))
+    Fits raised s i = HasSections config app longest weights load cuts h b raised (start_by config load longest late costs h raised s (numbers raised i) (lasting raised i))
 
     abbrev Fitting : (raised : Bool) → Type 0
-    Fitting raised = (i : ℕ) × (i < ways) × ((begins i).is_boot ≡ false) × (cond raised late 0 ≤ (begins i).lead) × HasSections config app longest weights h b raised (begins i)
+    Fitting raised = (i : ℕ) × (i < ways) × ((begins i).is_boot ≡ false) × (cond raised late 0 ≤ (begins i).lead) × HasSections config app longest weights load cuts h b raised (begins i)
 
     lead_enough : (raised : Bool) → cond raised late 0 ≤ lead_of raised late
     lead_enough true = omega arith
@@ -596,7 +670,7 @@ module _ (config : Config) (app : App) (w : Facts config app) (load : List Entry
           at.0,
           ap (λ (v : Demand.Start). v.is_boot) at.1 ∙ ap is_boot is ∙ no_boot,
           subst (λ (v : Demand.Start). cond raised late 0 ≤ v.lead) (sym at.1) (lead_enough raised),
-          subst (HasSections config app longest weights h b raised) (sym at.1) (subst (λ v. Fits raised v i) (sym is) (fits i)),
+          subst (HasSections config app longest weights load cuts h b raised) (sym at.1) (subst (λ v. Fits raised v i) (sym is) (fits i)),
         )
 
     -- what raises the task
@@ -608,9 +682,9 @@ module _ (config : Config) (app : App) (w : Facts config app) (load : List Entry
 
     there_is : (section costs h b).exists ≡ true → (raised : Bool) → Fitting raised
     there_is exists raised =
-        fitting raised (start.Section b) (has_section costs h b (counted_task config app w load costs are h there b low.0) (lower_is b low) exists) refl (fits raised)
+        fitting raised (start.Section b) (has_section costs h b (counted_task config app w load costs are h there b low.0) below_is exists) refl (fits raised)
       where
-        known : (n : ℕ) × (reckoned (section costs h b).counts ≡ n) × SectionsSum config app h b weights n
+        known : (n : ℕ) × (reckoned (section_counts costs h b) ≡ n) × Take n
         known = sum_told costs_of.told costs_of.is_told costs_of.counts
 
         fits : (raised : Bool) (i : ℕ) → Fits raised (start.Section b) i
@@ -643,7 +717,7 @@ module _ (config : Config) (app : App) (w : Facts config app) (load : List Entry
         fits true i = record {
           counts = 0;
           raising = 0;
-          sum = no_section_sums config app h b weights 0 not_raised;
+          sum = inl (no_section_sums config app h b weights 0 not_raised);
           takes = λ not_yet. absurd (true≢false not_yet);
           front = omega arith;
           acts = λ j over. inl (no_section_sums config app h b (activation_weights app b j) 0 not_raised);
@@ -652,7 +726,7 @@ module _ (config : Config) (app : App) (w : Facts config app) (load : List Entry
         fits false i = record {
           counts = 0;
           raising = services_front costs h 0 costs.tasks;
-          sum = no_section_sums config app h b weights 0 not_raised;
+          sum = inl (no_section_sums config app h b weights 0 not_raised);
           takes = λ _ preemptable at reach takes. (takes_few at reach takes).1;
           front = omega arith;
           acts = λ j over. inl (no_section_sums config app h b (activation_weights app b j) 0 not_raised);
@@ -676,11 +750,11 @@ module _ (config : Config) (app : App) (w : Facts config app) (load : List Entry
         subst (λ (v : Demand.Start). late ≤ v.lead) (sym at.1) (omega arith),
       )
 
-  pub fits_starts : FitsStarts config app longest late weights all_come h (task costs h).is_entered_once ways begins
+  pub fits_starts : FitsStarts config app longest late weights load cuts (comes costs) h (task costs h).is_entered_once ways begins
   fits_starts = record {
     some = some_start;
     boots = boots;
-    serves = λ t low _. serves t (lower_serves t low);
-    sections = λ b low _. sections b low;
+    serves = λ t low come. serves t (lower_serves t low come);
+    sections = sections;
     leaves = λ once. serves h (own_serves once);
   }

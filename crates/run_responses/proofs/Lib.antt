@@ -1,4 +1,5 @@
 pub mod Coming
+pub mod Never
 pub mod Sizes
 pub mod Numbers
 pub mod Sums

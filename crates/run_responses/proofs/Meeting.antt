@@ -1,5 +1,5 @@
 -- Runs of images meet the bounds of computed costs.
-use Rattle.std.proofs.Common.{◌≡◌, ℕ, ◌+◌, ◌-◌, ◌<◌, ◌≤◌, ◌⊎◌, inl, inr, sym, ◌∙◌, false, Bool, List, [], ◌∷◌, length, arith, Some, cond, true, ltb}
+use Rattle.std.proofs.Common.{refl, ◌≡◌, ℕ, ◌+◌, ◌-◌, ◌<◌, ◌≤◌, ◌⊎◌, inl, inr, sym, ◌∙◌, false, Bool, List, [], ◌∷◌, length, arith, Some, cond, true, ltb}
 use Rattle.std.proofs.lemmas.Bool.{cases_Bool, cases_eq, cases_lt, true≢false}
 use Rattle.std.specs.Prelude.{All}
 use Rattle.std.proofs.lemmas.List.Elements.{All-head, All-tail}
@@ -16,17 +16,19 @@ use Rattle.load_text.specs.LoadText.{is_of}
 use Rattle.load_text.specs.Loads.{said, IsNumber}
 use Rattle.run_windows.specs.declared.costs.Costs.{Costs}
 use Rattle.run_windows.specs.declared.window.Start.{Start}
-use Rattle.run_windows.specs.Costs.{task}
+use Rattle.run_windows.specs.Costs.{task, comes}
 use Rattle.run_windows.specs.Windows.{Numbers, none_made, is_boot, is_target_made, IsSolution}
 use Rattle.response_laws.specs.Demand
-use Rattle.response_laws.specs.Response.{EntersOnce}
+use Rattle.sim_induction.specs.Sound.{events_of}
+use Rattle.response_laws.specs.Response.{EntersOnce, RespondsWithin}
 use Rattle.response_laws.specs.SoundRuns.{IsLongestItem, IsCodeStart}
 use Rattle.response_laws.proofs.Images.{images_respond_by_code}
 use Rattle.run_costs.specs.RunCosts.{AreRunCosts}
 use Rattle.run_windows.specs.RunWindows.{margin, lead_of, run_starts, start_at, run_window, IsStartWithin, AreRunBounds, AreTold}
 use Rattle.run_responses.specs.Meeting.{AreCutTasks, ImagesMeetBounds}
 use Rattle.run_responses.proofs.StartLists.{by_place}
-use Rattle.run_responses.proofs.Coming.{all_come, all_closed}
+use Rattle.run_responses.proofs.Coming.{closed}
+use Rattle.run_responses.proofs.Never.{never_responds}
 use Rattle.run_responses.proofs.Alarms.{is_set, marks}
 use Rattle.run_responses.proofs.Rounds.{law_costs, fits_rounds, cut_as, is_full, is_whole}
 use Rattle.run_responses.proofs.Windows.{enough, has_arrivals, has_expiries, lasts}
@@ -43,7 +45,7 @@ some_said f owner (entry ∷ load) all is = by (is_of f owner entry) (some_said 
 
 module _ (config : Config) (app : App) (wf : WellFormed config app) (load : List Entry) (late longest h r : ℕ) (boot : Bool) (cuts : ℕ → Bool) (costs : Costs)
     (item : IsLongestItem app longest) (cut : AreCutTasks config app cuts) (are : AreRunCosts config app load costs) (there : h < length config.tasks) (told : AreTold costs h)
-    (bounds : AreRunBounds longest late costs h boot r) where
+    (here : comes costs h ≡ true) (bounds : AreRunBounds longest late costs h boot r) where
   abbrev w : Facts config app
   w = facts config app wf
 
@@ -103,16 +105,16 @@ module _ (config : Config) (app : App) (wf : WellFormed config app) (load : List
   lasting opens i = (solved opens i).lasting
 
   abbrev starting : ℕ → Demand.Start
-  starting = begins config app w load longest late costs are h there told numbers lasting
+  starting = begins config app w load longest late costs are h there here told cuts cut numbers lasting
 
-  start_so : (opens : Bool) (i : ℕ) → IsCodeStart config set load late (longest + late) h r once boot law (start_of config app w load longest late costs are h there told numbers lasting opens i)
+  start_so : (opens : Bool) (i : ℕ) → IsCodeStart config set load late (longest + late) h r once boot law (start_of config app w load longest late costs are h there here told cuts cut numbers lasting opens i)
   start_so opens i = record {
     arrivals = has_arrivals config app load longest late costs are h opens (at i) (numbers opens i) (lasting opens i) (solved opens i).room;
     expiries = has_expiries config app load longest late costs are h opens (at i) (numbers opens i) (lasting opens i) (solved opens i).room;
-    enough = λ counts. enough config app w load longest late costs are h there told cuts cut opens (at i) (numbers opens i) (lasting opens i) ((solved opens i).solves counts);
+    enough = λ counts. enough config app w load longest late costs are h there told cuts cut here opens (at i) (numbers opens i) (lasting opens i) ((solved opens i).solves counts);
     lasts = λ counts.
         let within = (solved opens i).within counts in
-        lasts config app w load longest late costs are h there told cuts cut opens (at i) (numbers opens i) (lasting opens i) ((solved opens i).solves counts)
+        lasts config app w load longest late costs are h there told cuts cut here opens (at i) (numbers opens i) (lasting opens i) ((solved opens i).solves counts)
         within.0 r within.1 within.2;
   }
 
@@ -145,13 +147,19 @@ module _ (config : Config) (app : App) (wf : WellFormed config app) (load : List
   }
 
 pub images_meet_bounds : ImagesMeetBounds
-images_meet_bounds config app image load arrivals n late longest h r boot cuts costs wf code sound weighed pace item above come in_load keeps cut works are there told bounds =
-    images_respond_by_code config app image are.weights load all_come arrivals n late longest h r cuts
-    (set config app wf load late longest h r boot cuts costs item cut are there told bounds) (law config app wf load late longest h r boot cuts costs item cut are there told bounds)
-    (task costs h).is_entered_once boot (length (run_starts costs h true) + length (run_starts costs h true)) (starting config app wf load late longest h r boot cuts costs item cut are there told bounds)
-    (enters config app wf load late longest h r boot cuts costs item cut are there told bounds)
-    wf code sound weighed pace are.are_counts (marks config app costs.alarms are.alarms) item come above (λ line. some_said form.Every line load in_load.numbers) keeps (all_closed config app load) works
-    (fits_rounds config app (facts config app wf) load costs are h there told cuts cut)
-    (fits_starts config app (facts config app wf) load longest late costs are h there told (numbers config app wf load late longest h r boot cuts costs item cut are there told bounds)
-    (lasting config app wf load late longest h r boot cuts costs item cut are there told bounds))
-    (λ i _. code_start config app wf load late longest h r boot cuts costs item cut are there told bounds i)
+images_meet_bounds config app image load arrivals n late longest h r boot cuts costs wf code sound weighed pace item above come in_load keeps cut works are there told bounds = by (comes costs h) refl
+  where
+    by : (b : Bool) → comes costs h ≡ b → RespondsWithin config app n (longest + late) h r boot (events_of image arrivals n)
+    by false never =
+        never_responds config app load (comes costs) n (longest + late) h r boot arrivals (events_of image arrivals n) wf (sound.each arrivals n come).osek (sound.each arrivals n come).in_time keeps
+        (closed config app load costs are) never
+    by true here =
+        images_respond_by_code config app image are.weights load (comes costs) arrivals n late longest h r cuts
+        (set config app wf load late longest h r boot cuts costs item cut are there told here bounds) (law config app wf load late longest h r boot cuts costs item cut are there told here bounds)
+        (task costs h).is_entered_once boot (length (run_starts costs h true) + length (run_starts costs h true)) (starting config app wf load late longest h r boot cuts costs item cut are there told here bounds)
+        (enters config app wf load late longest h r boot cuts costs item cut are there told here bounds)
+        wf code sound weighed pace are.are_counts (marks config app costs.alarms are.alarms) item come above (λ line. some_said form.Every line load in_load.numbers) keeps (closed config app load costs are) works
+        (fits_rounds config app (facts config app wf) load costs are h there told cuts cut)
+        (fits_starts config app (facts config app wf) load longest late costs are h there here told cuts cut (numbers config app wf load late longest h r boot cuts costs item cut are there told here bounds)
+        (lasting config app wf load late longest h r boot cuts costs item cut are there told here bounds))
+        (λ i _. code_start config app wf load late longest h r boot cuts costs item cut are there told here bounds i)

@@ -13,14 +13,17 @@ use Rattle.sloth_base.specs.Named.{declaration, undeclared_task, function, body_
 use Rattle.sloth_base.proofs.Services.{same_service}
 use Rattle.code_rules.specs.AppRange.{IsObject}
 use Rattle.code_rules.specs.Code.{IsItem, service_op, TaskReaches}
+use Rattle.code_rules.specs.WellFormed.{held_list_before}
 use Rattle.code_rules.specs.Code
 use Rattle.sloth_base.specs.ServiceCodes.{object_kind}
+use Rattle.osek_scheduler.specs.State.{sleeping_task}
+use Rattle.osek_scheduler.specs.Apart.{priority_of, static_priority}
 use Rattle.osek_scheduler.proofs.Facts.{Facts}
 use Rattle.osek_scheduler.proofs.Stacks.{has_body, calls_reach}
 use Rattle.raised_sections.specs.Walks.{Position, first_position, AreConsecutive, IsWalk}
-use Rattle.raised_sections.specs.Sections.{operation_at}
+use Rattle.raised_sections.specs.Sections.{held_list_along, operation_at, priority_at}
 use Rattle.walk_sums.specs.Activations.{reaches_first}
-use Rattle.walk_sums.proofs.Callers.{AreCallers, Walked, stands_on}
+use Rattle.walk_sums.proofs.Callers.{AreCallers, Walked, item_at, stands_on}
 use Rattle.walk_sums.specs.Rounds.{Reaches, is_wait}
 
 module _ (config : Config) (app : App) (w : Facts config app) (t : ℕ) (declared : t < length config.tasks) where
@@ -102,3 +105,35 @@ module _ (config : Config) (app : App) (w : Facts config app) (t : ℕ) (declare
           which true e = absurd (waits_never basic call at reach is (same_service call.service service.WaitEvent e))
       by op.Return is = refl
       by o is = refl
+
+  -- ---- where it waits it holds nothing
+
+  callers_free : (f h j o m : ℕ) (outer : Position) → AreCallers app t f outer → Code.Reaches app f h → IsItem app h j (service_op service.WaitEvent o m) → held_list_along app outer ≡ []
+  callers_free f h j o m [] called r at = refl
+  callers_free f h j o m (caller ∷ outer) called r at =
+      ap (λ l. l ++ held_list_before app caller.func caller.item)
+      (callers_free caller.func h j o m outer called.1 (calls_reach app caller.func f h (caller.item, called.0.item) r) at)
+      ∙ w.calls_free caller.func caller.item f h j o m service.WaitEvent called.0.item r at (inl refl)
+
+  waits_free : (call : Call) (at : Position) → Reaches app t at → operation_at app at ≡ op.Serve call → call.service ≡ service.WaitEvent → held_list_along app at ≡ []
+  waits_free call [] reach is waits = refl
+  waits_free call (here ∷ outer) reach is waits =
+      let stands = reached_stands reach.0 (here ∷ outer) reach.1 in
+      let same : op.Serve call ≡ service_op service.WaitEvent call.object call.mask = ap (λ s. op.Serve (record { service = s; object = call.object; mask = call.mask })) waits in
+      let item : IsItem app here.func here.item (service_op service.WaitEvent call.object call.mask) =
+      subst (IsItem app here.func here.item) (is ∙ same) (item_at config app w here.func here.item stands.0 stands.1) in
+      ap (λ l. l ++ held_list_before app here.func here.item) (callers_free here.func here.func here.item call.object call.mask outer stands.2 (inl refl) item)
+      ∙ w.serves_free here.func here.item call.object call.mask service.WaitEvent item (inr (inl refl))
+
+  -- so a preemptable task has its static priority there
+  pub waits_unraised : (declaration config t).non ≡ false → (at : Position) → Reaches app t at → is_wait (operation_at app at) ≡ true → priority_at config app t at ≤ static_priority config t
+  waits_unraised preemptable at reach = by (operation_at app at) refl
+    where
+      by : (o : Op) → operation_at app at ≡ o → is_wait o ≡ true → priority_at config app t at ≤ static_priority config t
+      by (op.Serve call) is e =
+          let free = waits_free call at reach is (same_service call.service service.WaitEvent e) in
+          let held = ap (λ l. priority_of config t (record sleeping_task { held = l; raised = (declaration config t).non })) free in
+          let full = ap (λ n. priority_of config t (record sleeping_task { held = []; raised = n })) preemptable in
+          omega (arith, held, full)
+      by op.Return is e = absurd (false≢true e)
+      by o is e = absurd (false≢true e)

@@ -1,5 +1,5 @@
 -- The costs of a record fit the rounds of its task code.
-use Rattle.std.proofs.Common.{◌≡◌, ℕ, ◌+◌, ◌-◌, ◌<◌, ◌≤◌, ◌⊎◌, ◌&&◌, ◌++◌, not, Bool, true, false, min, max, append_assoc, List, [], ◌∷◌, length, get_or, refl, sym, ap, ◌∙◌, subst, arith, inl, inr, Some, None, Option}
+use Rattle.std.proofs.Common.{◌≡◌, ℕ, ◌+◌, ◌-◌, ◌<◌, ◌≤◌, ◌⊎◌, ◌&&◌, ◌||◌, ◌++◌, not, cond, Bool, true, false, min, max, append_assoc, List, [], ◌∷◌, length, get_or, refl, sym, ap, ◌∙◌, subst, arith, inl, inr, Some, None, Option}
 use Rattle.std.specs.List.{AllByRecursion}
 use Rattle.std.specs.Prelude.{Decides}
 use Rattle.std.proofs.lemmas.Bool.{leb-true, le-ltb, cases_lt, true≢false, and_parts, not-true}
@@ -30,15 +30,14 @@ use Rattle.walk_sums.specs.Rounds.{IsTurn, IsClean, Reaches, is_wait}
 use Rattle.walk_sums.specs.Counted.{counted_weights}
 use Rattle.walk_sums.specs.Told.{NoneIsAbove, IsToldSum, are_limited, are_endless, AreToldRounds}
 use Rattle.run_windows.specs.declared.costs.Costs.{Costs}
-use Rattle.run_windows.specs.Costs.{reckoned, task, making, no_makings}
-use Rattle.run_windows.specs.Windows.{is_lower}
+use Rattle.run_windows.specs.Costs.{reckoned, task, comes, making, no_makings}
+use Rattle.run_windows.specs.Windows.{is_lower, is_left_out}
 use Rattle.run_costs.specs.Rounds.{AreRounds, round_cost, activations_of, made}
 use Rattle.response_laws.specs.Demand
 use Rattle.response_laws.specs.Bounded.{IsOfLevel}
 use Rattle.response_laws.specs.Walked.{IsFirstRound, IsLaterRound, FirstRoundsSum, LaterRoundsSum}
 use Rattle.response_laws.specs.Makers.{activation_weights, setting_weights}
 use Rattle.response_laws.specs.Once.{StaysOut}
-use Rattle.run_responses.proofs.Coming.{all_come}
 use Rattle.response_laws.specs.SoundRuns.{WorksWithin, FitsRounds}
 use Rattle.run_costs.specs.RunCosts.{round_entry, AreRunTaskCosts, AreRunMakings, AreRunCosts}
 use Rattle.run_windows.specs.RunWindows.{IsTold, AreTold}
@@ -228,6 +227,10 @@ module _ (config : Config) (app : App) (w : Facts config app) (load : List Entry
       let le = leb-true (static_priority config h) (static_priority config t) over.1 in
       le-ltb (task costs t).priority (task costs h).priority (omega (arith, own, target, le))
 
+  -- of one that comes
+  pub upper_counts : (t : ℕ) → IsOfLevel config h t → comes costs t ≡ true → is_left_out costs h t ≡ false
+  upper_counts t over come = ap (λ b. b || not (comes costs t)) (level_upper t over) ∙ ap not come
+
   pub counted_task : (t : ℕ) → t < length config.tasks → t < length costs.tasks
   counted_task t lt = let same = are.tasks.count in omega (arith, lt, same)
 
@@ -237,16 +240,23 @@ module _ (config : Config) (app : App) (w : Facts config app) (load : List Entry
   abbrev pub next_entry : ℕ → ℕ
   next_entry t = enter_counts config app true t
 
+  -- nothing of a task that never comes
+  abbrev pub if_comes : (t n : ℕ) → ℕ
+  if_comes t n = cond (comes costs t) n 0
+
+  pub at_coming : (t n : ℕ) → comes costs t ≡ true → if_comes t n ≡ n
+  at_coming t n come = ap (λ b. cond b n 0) come
+
   -- what the law takes as costs
   abbrev pub law_costs : Demand.Costs
   law_costs = record {
-    first = λ t. first_entry t + (reckoned (task costs t).first - first_entry t);
-    next = λ t. next_entry t + (reckoned (task costs t).next - next_entry t);
+    first = λ t. if_comes t (first_entry t + (reckoned (task costs t).first - first_entry t));
+    next = λ t. if_comes t (next_entry t + (reckoned (task costs t).next - next_entry t));
     tick = λ c. tick_path config c;
-    first_acts = λ k j. reckoned (making costs k j).first_activations;
-    next_acts = λ k j. reckoned (making costs k j).next_activations;
-    first_sets = λ k j. reckoned (making costs k j).first_settings;
-    next_sets = λ k j. reckoned (making costs k j).next_settings;
+    first_acts = λ k j. if_comes k (reckoned (making costs k j).first_activations);
+    next_acts = λ k j. if_comes k (reckoned (making costs k j).next_activations);
+    first_sets = λ k j. if_comes k (reckoned (making costs k j).first_settings);
+    next_sets = λ k j. if_comes k (reckoned (making costs k j).next_settings);
   }
 
   -- a basic task waits for nothing
@@ -272,22 +282,22 @@ module _ (config : Config) (app : App) (w : Facts config app) (load : List Entry
     fresh_is false t = refl
 
     -- the first rounds of a task, and the others
-    first_told : (t : ℕ) (over : IsOfLevel config h t) → (first_entry t ≤ reckoned (task costs t).first)
+    first_told : (t : ℕ) (over : IsOfLevel config h t) → comes costs t ≡ true → (first_entry t ≤ reckoned (task costs t).first)
         × (WorksWithin load t (reckoned (task costs t).first - first_entry t) ⊎ FirstRoundsSum app (cuts t) t are.weights (reckoned (task costs t).first - first_entry t))
-    first_told t over =
+    first_told t over come =
         let own = are.tasks.each t over.0 in
         cost_told (FirstRoundsSum app (cuts t) t are.weights) (λ n m. weaker (IsFirstRound app (cuts t) t) are.weights n m)
         (first_entry t) (work load t) own.told.first (task costs t).first (own.first ∙ ap (λ e. round_cost e (work load t) own.told.first) (fresh_is own.clean t))
-        (told.rounds t (counted_task t over.0) (level_upper t over)).first
+        (told.rounds t (counted_task t over.0) (upper_counts t over come)).first
         (λ n is. subst (λ c. FirstRoundsSum app c t are.weights n) (cut_as t over.0 own.clean own.clears)
         (first_above app t are.weights n (counts_lighter app are.weights are.are_counts) own.clean (declaration config t).extended own.told (never t over.0) own.rounds is))
 
-    next_told : (t : ℕ) (over : IsOfLevel config h t) → (next_entry t ≤ reckoned (task costs t).next)
+    next_told : (t : ℕ) (over : IsOfLevel config h t) → comes costs t ≡ true → (next_entry t ≤ reckoned (task costs t).next)
         × (WorksWithin load t (reckoned (task costs t).next - next_entry t) ⊎ LaterRoundsSum app (cuts t) t are.weights (reckoned (task costs t).next - next_entry t))
-    next_told t over =
+    next_told t over come =
         by (cost_told (LaterRoundsSum app (cuts t) t are.weights) (λ n m. weaker (IsLaterRound app (cuts t) t) are.weights n m)
         (round_entry config app own.clean true t) (work load t) own.told.later (task costs t).next own.next
-        (told.rounds t (counted_task t over.0) (level_upper t over)).next
+        (told.rounds t (counted_task t over.0) (upper_counts t over come)).next
         (λ n is. subst (λ c. LaterRoundsSum app c t are.weights n) (cut_as t over.0 own.clean own.clears)
         (later_above app t are.weights n (counts_lighter app are.weights are.are_counts) own.clean (declaration config t).extended own.told (never t over.0) own.rounds is)))
       where
@@ -334,50 +344,60 @@ module _ (config : Config) (app : App) (w : Facts config app) (load : List Entry
     once_out k j once decides (inl g) = inl g
     once_out k j once decides (inr (is, le)) = inr (decides.0 is, le)
 
-    pub fits_rounds : FitsRounds config app are.weights load all_come h cuts law_costs
+    pub fits_rounds : FitsRounds config app are.weights load (comes costs) h cuts law_costs
     fits_rounds = record {
       first_round = λ t. reckoned (task costs t).first - first_entry t;
       next_round = λ t. reckoned (task costs t).next - next_entry t;
-      firsts = λ t lt over _. (first_told t (lt, over)).1;
-      nexts = λ t lt over _. (next_told t (lt, over)).1;
-      first = λ t _. omega arith;
-      next = λ t _. omega arith;
+      firsts = λ t lt over come. (first_told t (lt, over) come).1;
+      nexts = λ t lt over come. (next_told t (lt, over) come).1;
+      first = λ t come. let same = at_coming t (first_entry t + (reckoned (task costs t).first - first_entry t)) come in omega (arith, same);
+      next = λ t come. let same = at_coming t (next_entry t + (reckoned (task costs t).next - next_entry t)) come in omega (arith, same);
       tick = λ c. omega arith;
-      first_acts = λ k j over made _.
+      first_acts = λ k j over made come.
           let m = makings_of k j over.0 made.0 in
           let (sums, rounds, first, next) = m.activations in
-          once_out k j m.once m.is_once
+          subst (λ n. FirstRoundsSum app (cuts k) k (activation_weights app k j) n ⊎ (StaysOut config app k j × (1 ≤ n))) (sym (at_coming k (reckoned (making costs k j).first_activations) come))
+          (once_out k j m.once m.is_once
           (made_told (FirstRoundsSum app (cuts k) k (activation_weights app k j)) (first_weaker k (activation_weights app k j)) m.once sums.first (making costs k j).first_activations first
-          (told.makings j (counted_task j made.0) k (counted_task k over.0) (level_upper j made) (level_upper k over)).first_activations
-          (λ n is. first_sum k n over (activations_of k j) m.clean m.is_clean sums rounds is));
-      next_acts = λ k j over made _.
+          (told.makings j (counted_task j made.0) k (counted_task k over.0) (level_upper j made) (upper_counts k over come)).first_activations
+          (λ n is. first_sum k n over (activations_of k j) m.clean m.is_clean sums rounds is)));
+      next_acts = λ k j over made come.
           let m = makings_of k j over.0 made.0 in
           let (sums, rounds, first, next) = m.activations in
-          once_out k j m.once m.is_once
+          subst (λ n. LaterRoundsSum app (cuts k) k (activation_weights app k j) n ⊎ (StaysOut config app k j × (1 ≤ n))) (sym (at_coming k (reckoned (making costs k j).next_activations) come))
+          (once_out k j m.once m.is_once
           (made_told (LaterRoundsSum app (cuts k) k (activation_weights app k j)) (next_weaker k (activation_weights app k j)) m.once sums.later (making costs k j).next_activations next
-          (told.makings j (counted_task j made.0) k (counted_task k over.0) (level_upper j made) (level_upper k over)).next_activations
-          (λ n is. next_sum k n over (activations_of k j) m.clean m.is_clean sums rounds is));
-      first_sets = λ k j over made _.
+          (told.makings j (counted_task j made.0) k (counted_task k over.0) (level_upper j made) (upper_counts k over come)).next_activations
+          (λ n is. next_sum k n over (activations_of k j) m.clean m.is_clean sums rounds is)));
+      first_sets = λ k j over made come.
           let m = makings_of k j over.0 made.0 in
           let (sums, rounds, first, next) = m.settings in
-          many_told (FirstRoundsSum app (cuts k) k (setting_weights app j)) (first_weaker k (setting_weights app j)) sums.first (making costs k j).first_settings first
-          (told.makings j (counted_task j made.0) k (counted_task k over.0) (level_upper j made) (level_upper k over)).first_settings
-          (λ n is. first_sum k n over (counts.Settings j) m.clean m.is_clean sums rounds is);
-      next_sets = λ k j over made _.
+          subst (λ n. FirstRoundsSum app (cuts k) k (setting_weights app j) n) (sym (at_coming k (reckoned (making costs k j).first_settings) come))
+          (many_told (FirstRoundsSum app (cuts k) k (setting_weights app j)) (first_weaker k (setting_weights app j)) sums.first (making costs k j).first_settings first
+          (told.makings j (counted_task j made.0) k (counted_task k over.0) (level_upper j made) (upper_counts k over come)).first_settings
+          (λ n is. first_sum k n over (counts.Settings j) m.clean m.is_clean sums rounds is));
+      next_sets = λ k j over made come.
           let m = makings_of k j over.0 made.0 in
           let (sums, rounds, first, next) = m.settings in
-          many_told (LaterRoundsSum app (cuts k) k (setting_weights app j)) (next_weaker k (setting_weights app j)) sums.later (making costs k j).next_settings next
-          (told.makings j (counted_task j made.0) k (counted_task k over.0) (level_upper j made) (level_upper k over)).next_settings
-          (λ n is. next_sum k n over (counts.Settings j) m.clean m.is_clean sums rounds is);
+          subst (λ n. LaterRoundsSum app (cuts k) k (setting_weights app j) n) (sym (at_coming k (reckoned (making costs k j).next_settings) come))
+          (many_told (LaterRoundsSum app (cuts k) k (setting_weights app j)) (next_weaker k (setting_weights app j)) sums.later (making costs k j).next_settings next
+          (told.makings j (counted_task j made.0) k (counted_task k over.0) (level_upper j made) (upper_counts k over come)).next_settings
+          (λ n is. next_sum k n over (counts.Settings j) m.clean m.is_clean sums rounds is));
       clean = λ t lt over is. ((cut t lt).0 is).0;
     }
 
     -- in the sums of a window the costs of the law are those of the record
-    pub first_same : (t : ℕ) → IsOfLevel config h t → law_costs.first t ≡ reckoned (task costs t).first
-    first_same t over = let le = (first_told t over).0 in omega (arith, le)
+    pub first_same : (t : ℕ) → IsOfLevel config h t → comes costs t ≡ true → law_costs.first t ≡ reckoned (task costs t).first
+    first_same t over come =
+        let le = (first_told t over come).0 in
+        let same = at_coming t (first_entry t + (reckoned (task costs t).first - first_entry t)) come in
+        omega (arith, le, same)
 
-    pub next_same : (t : ℕ) → IsOfLevel config h t → law_costs.next t ≡ reckoned (task costs t).next
-    next_same t over = let le = (next_told t over).0 in omega (arith, le)
+    pub next_same : (t : ℕ) → IsOfLevel config h t → comes costs t ≡ true → law_costs.next t ≡ reckoned (task costs t).next
+    next_same t over come =
+        let le = (next_told t over come).0 in
+        let same = at_coming t (next_entry t + (reckoned (task costs t).next - next_entry t)) come in
+        omega (arith, le, same)
 
 -- ---- a task that is entered once
 

@@ -12,9 +12,10 @@ use Rattle.code_lengths.specs.LongestPaths.{tick_path}
 use Rattle.run_windows.specs.declared.costs.CounterCosts.{CounterCosts}
 use Rattle.run_windows.specs.declared.costs.Costs.{Costs}
 use Rattle.run_windows.specs.declared.window.Start.{Start}
+use Rattle.run_windows.specs.declared.window.Made.{Made}
 use Rattle.run_windows.specs.declared.window.Window.{Window}
 use Rattle.run_windows.specs.declared.window.Rule.TheVariants as rule
-use Rattle.run_windows.specs.Costs.{reckoned, task, makers, making, no_task, no_makings}
+use Rattle.run_windows.specs.Costs.{reckoned, task, comes, makers, making, no_task, no_makings}
 use Rattle.run_windows.specs.Arrivals.{arrivals}
 use Rattle.run_windows.specs.Arrivals
 use Rattle.run_windows.specs.Windows.{Numbers, rule_of, counted, begun_by, is_boot, shared, of_makings, round_makings, activations, settings, round_counts, IsAtMost, IsSolution, is_target_made}
@@ -34,11 +35,20 @@ use Rattle.run_windows.proofs.Settling.{rounds_take}
 use Rattle.run_costs.proofs.Taking.{run_take_counts}
 use Rattle.run_responses.proofs.Sums.{below_list, makings_sum, rounds_sum, ticking_sum, ticks_sum}
 use Rattle.run_responses.proofs.Alarms.{is_set, expire}
-use Rattle.run_responses.proofs.Rounds.{law_costs, level_upper, counted_task, first_same, next_same, costs_alike, acts_alike, sets_alike}
+use Rattle.run_responses.proofs.Rounds.{law_costs, if_comes, first_entry, next_entry, upper_counts, counted_task, first_same, next_same, costs_alike, acts_alike, sets_alike}
 
 -- ---- the start of a window
 
 module _ (config : Config) (load : List Entry) (longest late : ℕ) (costs : Costs) (h : ℕ) where
+  -- so many rounds; and of a task that never comes, of which no round costs anything, what would come of it
+  abbrev pub due_numbers : (opens : Bool) → Start → Numbers → (counts : ℕ) → Numbers
+  due_numbers opens s n counts j =
+      cond (comes costs j) (n j)
+      (record {
+        activations = activations costs (run_window longest late costs h opens s) n counts j;
+        settings = settings costs (run_window longest late costs h opens s) n counts j;
+      })
+
   -- with so many rounds, and so many counts, the margin among them
   abbrev pub start_by : (opens : Bool) → Start → Numbers → (counts : ℕ) → Demand.Start
   start_by opens s n counts = record {
@@ -55,8 +65,8 @@ module _ (config : Config) (load : List Entry) (longest late : ℕ) (costs : Cos
       sets = λ j. (begun_by costs h s j).settings;
     };
     counts = counts - margin longest late;
-    firsts = λ j. (n j).activations;
-    nexts = λ j. (n j).settings;
+    firsts = λ j. (due_numbers opens s n counts j).activations;
+    nexts = λ j. (due_numbers opens s n counts j).settings;
   }
 
 -- ---- arrivals
@@ -101,7 +111,7 @@ module _ (config : Config) (app : App) (load : List Entry) (longest late : ℕ) 
 
 module _ (config : Config) (app : App) (w : Facts config app) (load : List Entry) (longest late : ℕ) (costs : Costs) (are : AreRunCosts config app load costs) (h : ℕ)
     (there : h < length config.tasks) (told : AreTold costs h) (cuts : ℕ → Bool) (cut : AreCutTasks config app cuts)
-    (opens : Bool) (s : Start) (n : Numbers) (counts : ℕ)
+    (here : comes costs h ≡ true) (opens : Bool) (s : Start) (n : Numbers) (counts : ℕ)
     (solves : IsSolution costs (run_window longest late costs h opens s) n counts) where
   abbrev starting : Demand.Start
   starting = start_by config load longest late costs h opens s n counts
@@ -144,35 +154,56 @@ module _ (config : Config) (app : App) (w : Facts config app) (load : List Entry
   abbrev window : Window
   window = run_window longest late costs h opens s
 
+  abbrev due : Numbers
+  due = due_numbers config load longest late costs h opens s n counts
+
   abbrev acts_of : ℕ → ℕ
   acts_of j = activations costs window n counts j
 
   abbrev sets_of : ℕ → ℕ
   sets_of j = settings costs window n counts j
 
-  rule_is : (j : ℕ) → IsOfLevel config h j → (b : Bool) → ((j == h) && (task costs h).is_entered_once) ≡ b → rule_of costs window j ≡ cond b rule.Once rule.Each
-  rule_is j over b e =
-      ap (λ x. cond x rule.Lower (cond ((j == h) && (task costs h).is_entered_once) rule.Once rule.Each)) (level_upper config app w load costs are h there j over)
+  rule_is : (j : ℕ) → IsOfLevel config h j → comes costs j ≡ true → (b : Bool) → ((j == h) && (task costs h).is_entered_once) ≡ b → rule_of costs window j ≡ cond b rule.Once rule.Each
+  rule_is j over come b e =
+      ap (λ x. cond x rule.Out (cond ((j == h) && (task costs h).is_entered_once) rule.Once rule.Each)) (upper_counts config app w load costs are h there j over come)
       ∙ ap (λ x. cond x rule.Once rule.Each) e
 
-  made : (j : ℕ) (over : IsOfLevel config h j) (b : Bool) → ((j == h) && (task costs h).is_entered_once) ≡ b → IsAtMost (counted (cond b rule.Once rule.Each) (acts_of j) (sets_of j)) (n j)
-  made j over b e =
-      subst (λ r. IsAtMost (counted r (acts_of j) (sets_of j)) (n j)) (rule_is j over b e) (solves.made j (counted_task config app w load costs are h there j over.0))
+  made : (j : ℕ) (over : IsOfLevel config h j) → comes costs j ≡ true → (b : Bool) → ((j == h) && (task costs h).is_entered_once) ≡ b → IsAtMost (counted (cond b rule.Once rule.Each) (acts_of j) (sets_of j)) (n j)
+  made j over come b e =
+      subst (λ r. IsAtMost (counted r (acts_of j) (sets_of j)) (n j)) (rule_is j over come b e) (solves.made j (counted_task config app w load costs are h there j over.0))
+
+  -- what rounds of a task make, of one that comes, is at most what they make in the window
+  makings_few : (f x : ℕ → ℕ) (sets : Bool) (j : ℕ) → j < length config.tasks → ((k : ℕ) → of_makings sets (n k) (making costs k j) ≡ (n k).activations * f k + (n k).settings * x k)
+      → sum_over config h (λ k. (due k).activations * if_comes config app w load costs are h there k (f k) + (due k).settings * if_comes config app w load costs are h there k (x k))
+      ≤ round_makings sets n 0 (makers costs j)
+  makings_few f x sets j lt same =
+      by_rounds (λ k. (due k).activations * if_comes config app w load costs are h there k (f k) + (due k).settings * if_comes config app w load costs are h there k (x k)) sets j lt
+      (λ k there. let few = by k (comes costs k) in let e = same k in omega (arith, few, e))
+    where
+      by : (k : ℕ) (b : Bool) → let d : Made = cond b (n k) (record { activations = acts_of k; settings = sets_of k }) in
+          d.activations * cond b (f k) 0 + d.settings * cond b (x k) 0 ≤ (n k).activations * f k + (n k).settings * x k
+      by k true = omega arith
+      by k false = omega arith
 
   acts_few : (j : ℕ) → IsOfLevel config h j → acts_due config h law starting j ≤ acts_of j
   acts_few j over =
       let arrive = ap (arrivals counts) (are.tasks.each j over.0).distance in
       let ticks = by_ticks (is_boot s) false j in
-      let rounds = by_rounds (λ k. (n k).activations * reckoned (making costs k j).first_activations + (n k).settings * reckoned (making costs k j).next_activations) false j over.0
-      (λ k lt. omega arith) in
+      let rounds = makings_few (λ k. reckoned (making costs k j).first_activations) (λ k. reckoned (making costs k j).next_activations) false j over.0 (λ k. refl) in
       omega (arith, arrive, ticks, rounds)
 
   sets_few : (j : ℕ) → IsOfLevel config h j → sets_due config h law starting j ≤ sets_of j
   sets_few j over =
       let ticks = by_ticks (is_boot s) true j in
-      let rounds = by_rounds (λ k. (n k).activations * reckoned (making costs k j).first_settings + (n k).settings * reckoned (making costs k j).next_settings) true j over.0
-      (λ k lt. omega arith) in
+      let rounds = makings_few (λ k. reckoned (making costs k j).first_settings) (λ k. reckoned (making costs k j).next_settings) true j over.0 (λ k. refl) in
       omega (arith, ticks, rounds)
+
+  -- of a task that comes the numbers are those of the window
+  due_is : (j : ℕ) → comes costs j ≡ true → due j ≡ n j
+  due_is j come = ap (λ b. cond b (n j) (record { activations = acts_of j; settings = sets_of j })) come
+
+  due_other : (j : ℕ) → comes costs j ≡ false → due j ≡ record { activations = acts_of j; settings = sets_of j }
+  due_other j never = ap (λ b. cond b (n j) (record { activations = acts_of j; settings = sets_of j })) never
 
   swapped : (a b c : Bool) → (a && b) ≡ c → (b && a) ≡ c
   swapped true true c e = e
@@ -180,15 +211,25 @@ module _ (config : Config) (app : App) (w : Facts config app) (load : List Entry
   swapped false true c e = e
   swapped false false c e = e
 
-  firsts_few : (j : ℕ) → IsOfLevel config h j → ((task costs h).is_entered_once && (j == h)) ≡ false → acts_due config h law starting j ≤ (n j).activations
+  -- the numbers are enough, of a task that comes and of another one
+  few_due : (j : ℕ) → IsOfLevel config h j → ((task costs h).is_entered_once && (j == h)) ≡ false → IsAtMost (record { activations = acts_of j; settings = sets_of j }) (due j)
+  few_due j over other = by (comes costs j) refl
+    where
+      by : (b : Bool) → comes costs j ≡ b → IsAtMost (record { activations = acts_of j; settings = sets_of j }) (due j)
+      by true come =
+          subst (IsAtMost (record { activations = acts_of j; settings = sets_of j })) (sym (due_is j come)) (made j over come false (swapped (task costs h).is_entered_once (j == h) false other))
+      by false never =
+          subst (IsAtMost (record { activations = acts_of j; settings = sets_of j })) (sym (due_other j never)) (record { activations = omega arith; settings = omega arith })
+
+  firsts_few : (j : ℕ) → IsOfLevel config h j → ((task costs h).is_entered_once && (j == h)) ≡ false → acts_due config h law starting j ≤ (due j).activations
   firsts_few j over other =
-      let most = (made j over false (swapped (task costs h).is_entered_once (j == h) false other)).activations in
+      let most = (few_due j over other).activations in
       let few = acts_few j over in
       omega (arith, most, few)
 
-  nexts_few : (j : ℕ) → IsOfLevel config h j → ((task costs h).is_entered_once && (j == h)) ≡ false → sets_due config h law starting j ≤ (n j).settings
+  nexts_few : (j : ℕ) → IsOfLevel config h j → ((task costs h).is_entered_once && (j == h)) ≡ false → sets_due config h law starting j ≤ (due j).settings
   nexts_few j over other =
-      let most = (made j over false (swapped (task costs h).is_entered_once (j == h) false other)).settings in
+      let most = (few_due j over other).settings in
       let few = sets_few j over in
       omega (arith, most, few)
 
@@ -198,32 +239,44 @@ module _ (config : Config) (app : App) (w : Facts config app) (load : List Entry
   entered : (task costs h).is_entered_once ≡ true → IsEnteredOnce config h law starting
   entered once = record {
     number =
-        let most = (made h of_own_level true (ap (λ b. b && (task costs h).is_entered_once) (eq-eqb h h refl) ∙ once)).activations in
+        let most = (made h of_own_level here true (ap (λ b. b && (task costs h).is_entered_once) (eq-eqb h h refl) ∙ once)).activations in
         let acts = acts_few h of_own_level in
         let sets = sets_few h of_own_level in
-        omega (arith, most, acts, sets);
+        let same = ap (λ (m : Made). m.activations) (due_is h here) in
+        omega (arith, most, acts, sets, same);
     cost =
-        next_same config app w load costs are h there told cuts cut h of_own_level ∙ ap reckoned (costs_alike config app load costs are h there once)
-        ∙ sym (first_same config app w load costs are h there told cuts cut h of_own_level);
-    acts = acts_alike config app load costs are h there once;
-    sets = sets_alike config app load costs are h there once;
+        next_same config app w load costs are h there told cuts cut h of_own_level here ∙ ap reckoned (costs_alike config app load costs are h there once)
+        ∙ sym (first_same config app w load costs are h there told cuts cut h of_own_level here);
+    acts = λ j. ap (if_comes config app w load costs are h there h) (acts_alike config app load costs are h there once j);
+    sets = λ j. ap (if_comes config app w load costs are h there h) (sets_alike config app load costs are h there once j);
   }
 
   -- the counts of rounds, and of ticks
-  rounds_few : sum_over config h (λ k. (n k).activations * law.first k + (n k).settings * law.next k) ≤ round_counts n 0 costs.tasks
+  rounds_few : sum_over config h (λ k. (due k).activations * law.first k + (due k).settings * law.next k) ≤ round_counts n 0 costs.tasks
   rounds_few =
-      let sum = below_list no_task (λ k t. shared (n k) t.first t.next) (λ k. cond (is_over config h k) ((n k).activations * law.first k + (n k).settings * law.next k) 0)
+      let sum = below_list no_task (λ k t. shared (n k) t.first t.next) (λ k. cond (is_over config h k) ((due k).activations * law.first k + (due k).settings * law.next k) 0)
       (length config.tasks) costs.tasks are.tasks.count (λ k lt. by k lt (is_over config h k) refl) in
       let same = rounds_sum n 0 costs.tasks in
       omega (arith, sum, same)
     where
-      by : (k : ℕ) → k < length config.tasks → (b : Bool) → is_over config h k ≡ b
-          → cond b ((n k).activations * law.first k + (n k).settings * law.next k) 0 ≤ shared (n k) (task costs k).first (task costs k).next
-      by k lt false e = omega arith
-      by k lt true e =
-          let firsts = ap (λ v. (n k).activations * v) (first_same config app w load costs are h there told cuts cut k (lt, e)) in
-          let nexts = ap (λ v. (n k).settings * v) (next_same config app w load costs are h there told cuts cut k (lt, e)) in
+      member : (k : ℕ) → IsOfLevel config h k → (c : Bool) → comes costs k ≡ c
+          → (due k).activations * law.first k + (due k).settings * law.next k ≤ shared (n k) (task costs k).first (task costs k).next
+      member k over true come =
+          let same = due_is k come in
+          let firsts = ap (λ v. (n k).activations * v) (first_same config app w load costs are h there told cuts cut k over come) in
+          let nexts = ap (λ v. (n k).settings * v) (next_same config app w load costs are h there told cuts cut k over come) in
+          let acts = ap (λ (m : Made). m.activations * law.first k) same in
+          let sets = ap (λ (m : Made). m.settings * law.next k) same in
+          omega (arith, firsts, nexts, acts, sets)
+      member k over false never =
+          let firsts = ap (λ b. (due k).activations * cond b (first_entry config app w load costs are h there k + (reckoned (task costs k).first - first_entry config app w load costs are h there k)) 0) never in
+          let nexts = ap (λ b. (due k).settings * cond b (next_entry config app w load costs are h there k + (reckoned (task costs k).next - next_entry config app w load costs are h there k)) 0) never in
           omega (arith, firsts, nexts)
+
+      by : (k : ℕ) → k < length config.tasks → (b : Bool) → is_over config h k ≡ b
+          → cond b ((due k).activations * law.first k + (due k).settings * law.next k) 0 ≤ shared (n k) (task costs k).first (task costs k).next
+      by k lt false e = omega arith
+      by k lt true e = member k (lt, e) (comes costs k) refl
 
   ticks_few : sum_counters config (λ c. arrivals counts (distance load (counter_line c)) * law.tick c) ≤ Arrivals.tick_counts counts costs.counters
   ticks_few =
@@ -244,7 +297,8 @@ module _ (config : Config) (app : App) (w : Facts config app) (load : List Entry
   -- ---- how long it lasts
 
   pub lasts : (l r : ℕ) → l ≡ cond (is_target_made (Some h) n) counts 0 → l + lead_of opens late ≤ r + margin longest late → LastsWithin h r starting
-  lasts l r is le some =
+  lasts l r is le due_some =
+      let some : 1 ≤ (n h).activations + (n h).settings = subst (λ (m : Made). 1 ≤ m.activations + m.settings) (due_is h here) due_some in
       let made = ap (λ b. cond b counts 0) (made_some (n h).activations (n h).settings some) in
       let enough = room in
       let few = rounds_take n 0 costs.tasks (run_take_counts config app load costs are) h h (omega arith) (counted_task config app w load costs are h there h there) in

@@ -130,7 +130,7 @@ span_more w {c} {d} h = by w.span
     by (Some x) = omega arith
 
 pub counted_more : (r : Rule) {a b s t : ℕ} → a ≤ b → s ≤ t → IsAtMost (counted r a s) (counted r b t)
-counted_more rule.Lower h k = record { activations = omega arith; settings = omega arith }
+counted_more rule.Out h k = record { activations = omega arith; settings = omega arith }
 counted_more rule.Each h k = record { activations = h; settings = k }
 counted_more rule.Once h k = record { activations = omega (arith, h, k); settings = omega arith }
 

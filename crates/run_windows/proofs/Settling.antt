@@ -23,7 +23,7 @@ at_most_both h k =
     record { activations = omega (arith, a, b); settings = omega (arith, c, d) }
 
 counted_within : (r : Rule) (a s : ℕ) → IsAtMost (counted r (capped a) (capped s)) most_made
-counted_within rule.Lower a s = record { activations = omega arith; settings = omega arith }
+counted_within rule.Out a s = record { activations = omega arith; settings = omega arith }
 counted_within rule.Each a s = record { activations = omega arith; settings = omega arith }
 counted_within rule.Once a s = record { activations = omega arith; settings = omega arith }
 
@@ -31,7 +31,7 @@ counted_exactly : (r : Rule) (a s : ℕ) (n : Made) → n.activations ≤ 400000
 counted_exactly r a s n ha hs h = by r h.activations h.settings
   where
     by : (r : Rule) → (counted r (capped a) (capped s)).activations ≤ n.activations → (counted r (capped a) (capped s)).settings ≤ n.settings → IsAtMost (counted r a s) n
-    by rule.Lower x y = record { activations = omega arith; settings = omega arith }
+    by rule.Out x y = record { activations = omega arith; settings = omega arith }
     by rule.Each x y = record { activations = omega (arith, x, ha); settings = omega (arith, y, hs) }
     by rule.Once x y = record { activations = omega (arith, x); settings = omega arith }
 

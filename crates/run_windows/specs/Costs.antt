@@ -1,5 +1,5 @@
 -- What response times are computed from: reading a record of costs.
-use Rattle.std.specs.Prelude.{ℕ, min, List, [], get_or, false, Option, Some, None}
+use Rattle.std.specs.Prelude.{ℕ, min, Bool, List, [], get_or, false, Option, Some, None}
 use Rattle.run_windows.specs.declared.costs.TaskCosts.{TaskCosts}
 use Rattle.run_windows.specs.declared.costs.Makings.{Makings}
 use Rattle.run_windows.specs.declared.costs.Services.{Services}
@@ -33,11 +33,16 @@ no_task =
       first = Some 0;
       next = Some 0;
       raising = 0;
+      section_work = None;
       service = 0;
     }
 
 abbrev pub task : Costs → (t : ℕ) → TaskCosts
 task costs t = get_or costs.tasks t no_task
+
+-- something may make it Ready
+abbrev pub comes : Costs → (t : ℕ) → Bool
+comes costs t = get_or costs.comes t false
 
 -- ---- what makes a task
 
@@ -73,6 +78,16 @@ sections_of costs h = (level costs h).sections
 -- those of task k
 abbrev pub section : Costs → (h k : ℕ) → SectionCosts
 section costs h k = get_or (sections_of costs h) k no_section
+
+-- the lesser of two greatest numbers
+abbrev pub lesser : Option ℕ → Option ℕ → Option ℕ
+lesser (Some own) (Some n) = Some (min own n)
+lesser (Some own) None = Some own
+lesser None n = n
+
+-- the counts of the longest one: by walks, or by what the load says of the task's work where that is less
+abbrev pub section_counts : Costs → (h k : ℕ) → Option ℕ
+section_counts costs h k = lesser (task costs k).section_work (section costs h k).counts
 
 abbrev pub no_section_makings : SectionMakings
 no_section_makings = record { activations = Some 0; settings = Some 0 }

@@ -16,8 +16,8 @@ use Rattle.run_windows.specs.declared.fronts.Way.TheVariants as way
 use Rattle.run_windows.specs.declared.window.Start.{Start}
 use Rattle.run_windows.specs.declared.window.Start.TheVariants as start
 use Rattle.run_windows.specs.declared.window.Window.{Window}
-use Rattle.run_windows.specs.Costs.{reckoned, task, making, section, section_making}
-use Rattle.run_windows.specs.Windows.{is_lower, is_boot, IsBound}
+use Rattle.run_windows.specs.Costs.{reckoned, task, comes, making, section, section_counts, section_making}
+use Rattle.run_windows.specs.Windows.{is_lower, is_left_out, is_below, is_boot, IsBound}
 
 -- ---- services
 
@@ -31,9 +31,9 @@ call_path s = call_words s + max (served_path s) (leaving_path s false)
 
 -- ---- fronts
 
--- a service of task k may stand in front of a window of h: of a lower one, or with which h leaves where it is entered once
+-- a service of task k may stand in front of a window of h: of one that comes and is lower, or is h and leaves with it where it is entered once
 abbrev pub may_serve : Costs → (h k : ℕ) → Bool
-may_serve costs h k = is_lower costs h k || ((k == h) && (task costs h).is_entered_once)
+may_serve costs h k = comes costs k && (is_lower costs h k || ((k == h) && (task costs h).is_entered_once))
 
 -- the longest service that such a task reaches; they are those from task k on
 abbrev pub services_front : Costs → (h k : ℕ) → List TaskCosts → ℕ
@@ -71,7 +71,7 @@ start_counts costs h start.Free = 0
 start_counts costs h start.Boot = 0
 start_counts costs h (start.Activation j) = 0
 start_counts costs h (start.Setting j) = 0
-start_counts costs h (start.Section k) = reckoned (section costs h k).counts
+start_counts costs h (start.Section k) = reckoned (section_counts costs h k)
 
 -- The service behind admissions that came while it was running: one that may stand in front, one that makes the task, or one that raises it.
 abbrev pub start_service : Costs → (h : ℕ) → Start → ℕ
@@ -105,7 +105,7 @@ made_start costs h j front s = start_if (not (is_lower costs h j) && not (front 
 abbrev pub task_starts : Costs → (h j : ℕ) → List Start
 task_starts costs h j =
     made_start costs h j (activation_front costs h j) (start.Activation j)
-    ++ (made_start costs h j (setting_front costs h j) (start.Setting j) ++ start_if (is_lower costs h j && (section costs h j).exists) (start.Section j))
+    ++ (made_start costs h j (setting_front costs h j) (start.Setting j) ++ start_if (is_below costs h j && (section costs h j).exists) (start.Section j))
 
 -- those of these tasks, from task j on
 abbrev pub run_task_starts : Costs → (h j : ℕ) → List TaskCosts → List Start
@@ -183,13 +183,13 @@ pub record AreSectionMakingsTold (m : SectionMakings) : Type 0 where
   pub activations : IsTold m.activations
   pub settings : IsTold m.settings
 
--- All that the level of h is computed from has a number: rounds of its tasks, and sections of lower ones, and how often they make its tasks Ready.
+-- All that the level of h is computed from has a number: rounds of its tasks that come, and sections of lower ones, and how often they make its tasks Ready.
 pub record AreTold (costs : Costs) (h : ℕ) : Type 0 where
-  pub rounds : (t : ℕ) → t < length costs.tasks → is_lower costs h t ≡ false → AreRoundsTold (task costs t)
-  pub makings : (j : ℕ) → j < length costs.tasks → (k : ℕ) → k < length costs.tasks → is_lower costs h j ≡ false → is_lower costs h k ≡ false
+  pub rounds : (t : ℕ) → t < length costs.tasks → is_left_out costs h t ≡ false → AreRoundsTold (task costs t)
+  pub makings : (j : ℕ) → j < length costs.tasks → (k : ℕ) → k < length costs.tasks → is_lower costs h j ≡ false → is_left_out costs h k ≡ false
       → AreMakingsTold (making costs k j)
-  pub sections : (k : ℕ) → k < length costs.tasks → is_lower costs h k ≡ true → IsTold (section costs h k).counts
-  pub section_makings : (j : ℕ) → j < length costs.tasks → (k : ℕ) → k < length costs.tasks → is_lower costs h j ≡ false → is_lower costs h k ≡ true
+  pub sections : (k : ℕ) → k < length costs.tasks → is_below costs h k ≡ true → IsTold (section_counts costs h k)
+  pub section_makings : (j : ℕ) → j < length costs.tasks → (k : ℕ) → k < length costs.tasks → is_lower costs h j ≡ false → is_below costs h k ≡ true
       → AreSectionMakingsTold (section_making costs h k j)
 
 -- ---- response times

@@ -1,5 +1,5 @@
 -- Windows: how many counts they have, from how often their tasks are made Ready.
-use Rattle.std.specs.Prelude.{ℕ, ◌+◌, ◌*◌, ◌<◌, ◌≤◌, ◌≡◌, ◌==◌, ◌&&◌, not, nat_lt, min, cond, Bool, true, false, List, [], ◌∷◌, length, get_or, Option, Some, None, unwrap_or}
+use Rattle.std.specs.Prelude.{ℕ, ◌+◌, ◌*◌, ◌<◌, ◌≤◌, ◌≡◌, ◌==◌, ◌&&◌, ◌||◌, not, nat_lt, min, cond, Bool, true, false, List, [], ◌∷◌, length, get_or, Option, Some, None, unwrap_or}
 use Rattle.run_windows.specs.declared.costs.TaskCosts.{TaskCosts}
 use Rattle.run_windows.specs.declared.costs.Makings.{Makings}
 use Rattle.run_windows.specs.declared.costs.SectionMakings.{SectionMakings}
@@ -10,7 +10,7 @@ use Rattle.run_windows.specs.declared.window.Window.{Window}
 use Rattle.run_windows.specs.declared.window.Made.{Made}
 use Rattle.run_windows.specs.declared.window.Rule.{Rule}
 use Rattle.run_windows.specs.declared.window.Rule.TheVariants as rule
-use Rattle.run_windows.specs.Costs.{reckoned, task, makers, section_making}
+use Rattle.run_windows.specs.Costs.{reckoned, task, comes, makers, section_making}
 use Rattle.run_windows.specs.Arrivals.{arrivals, ticking, tick_counts}
 
 -- ---- the tasks of a window
@@ -23,9 +23,17 @@ Numbers = ℕ → Made
 abbrev pub is_lower : Costs → (h k : ℕ) → Bool
 is_lower costs h k = nat_lt (task costs k).priority (task costs h).priority
 
+-- it has no rounds in windows of h: it is lower, or never comes
+abbrev pub is_left_out : Costs → (h k : ℕ) → Bool
+is_left_out costs h k = is_lower costs h k || not (comes costs k)
+
+-- it is lower than h, and comes
+abbrev pub is_below : Costs → (h k : ℕ) → Bool
+is_below costs h k = is_lower costs h k && comes costs k
+
 -- which makings of j count in a window of h
 abbrev pub level_rule : Costs → (h j : ℕ) → Rule
-level_rule costs h j = cond (is_lower costs h j) rule.Lower (cond ((j == h) && (task costs h).is_entered_once) rule.Once rule.Each)
+level_rule costs h j = cond (is_left_out costs h j) rule.Out (cond ((j == h) && (task costs h).is_entered_once) rule.Once rule.Each)
 
 abbrev pub target_rule : Costs → Option ℕ → (j : ℕ) → Rule
 target_rule costs None j = rule.Each
@@ -36,7 +44,7 @@ rule_of costs w j = target_rule costs w.target j
 
 -- of so many activations and settings these count
 abbrev pub counted : Rule → (activations settings : ℕ) → Made
-counted rule.Lower a s = record { activations = 0; settings = 0 }
+counted rule.Out a s = record { activations = 0; settings = 0 }
 counted rule.Each a s = record { activations = a; settings = s }
 counted rule.Once a s = record { activations = min (a + s) 1; settings = 0 }
 

@@ -21,6 +21,8 @@ pub struct TaskCosts {
     pub next: Option<u32>,
     /// The counts of what raises it within a window.
     pub raising: u32,
+    /// How many counts of its own a section of it takes at most, where the load says so.
+    pub section_work: Option<u32>,
     /// The counts of the longest service that it reaches, with the item of its call.
     pub service: u32,
 }
@@ -76,7 +78,7 @@ pub struct Services {
 pub struct SectionCosts {
     /// It may have some.
     pub exists: bool,
-    /// The counts of the longest.
+    /// The counts of the longest, by walks.
     pub counts: Option<u32>,
 }
 
@@ -108,6 +110,8 @@ impl Drop for Level {
 /// All that the response times of a configuration's tasks under a load are computed from. Lists are in the order of the configuration's numbers.
 pub struct Costs {
     pub tasks: List<TaskCosts>,
+    /// Which tasks something may make Ready.
+    pub comes: List<bool>,
     pub counters: List<CounterCosts>,
     pub alarms: List<AlarmCosts>,
     /// By the task that is made, of each task that makes it.
@@ -123,6 +127,7 @@ impl Drop for Costs {
     fn drop(self) {
         let Costs {
             tasks: _,
+            comes: _,
             counters: _,
             alarms: _,
             makings: _,

@@ -1,9 +1,9 @@
 //! The counts in front of windows.
 ghost use Rattle.std.specs.Prelude.{◌≡◌, ◌≤◌, ◌&&◌};
-ghost use Rattle.run_windows.specs.Costs.{section};
+ghost use Rattle.run_windows.specs.Costs.{section, lesser, section_counts};
 ghost use Rattle.run_windows.specs.RunWindows.{call_words, call_path, may_serve, services_front, makes, services_of, is_made_in_front, activation_front, setting_front, start_counts, start_service, front_of};
 
-use crate::level::is_lower;
+use crate::level::{comes, is_lower};
 use crate::numbers::reckoned;
 use crate::{Costs, SectionCosts, Services, Start, task};
 use code_lengths::{leaving_path, served_path};
@@ -23,7 +23,7 @@ pub enum Way {
 fn may_serve(costs: &Costs, h: usize, k: usize) -> bool
     ensures { result ≡ may_serve costs.now h k }
 {
-    is_lower(costs, h, k) || (k == h && task(costs, h).is_entered_once)
+    comes(costs, k) && (is_lower(costs, h, k) || (k == h && task(costs, h).is_entered_once))
 }
 
 fn call_words(service: Service) -> u32
@@ -133,12 +133,31 @@ pub fn section(costs: &Costs, h: usize, k: usize) -> SectionCosts
     }
 }
 
+fn lesser(work: Option<u32>, sum: Option<u32>) -> Option<u32>
+    ensures { result ≡ lesser work sum }
+{
+    match work {
+        Some(own) => match sum {
+            Some(counts) => Some(own.min(counts)),
+            None => Some(own),
+        },
+        None => sum,
+    }
+}
+
+/// The counts of the longest section of task k for task h.
+pub fn section_counts(costs: &Costs, h: usize, k: usize) -> Option<u32>
+    ensures { result ≡ section_counts costs.now h k }
+{
+    lesser(task(costs, k).section_work, section(costs, h, k).counts)
+}
+
 /// The counts of other tasks with which a start begins.
 pub fn start_counts(costs: &Costs, h: usize, start: Start) -> u32
     ensures { result ≡ start_counts costs.now h start }
 {
     match start {
-        Start::Section(k) => reckoned(section(costs, h, k).counts),
+        Start::Section(k) => reckoned(section_counts(costs, h, k)),
         Start::Free | Start::Boot | Start::Activation(_) | Start::Setting(_) => 0,
     }
 }

@@ -1,7 +1,7 @@
 //! Which makings of a task count in a window, and what a start makes.
 ghost use Rattle.std.specs.Prelude.{◌≡◌};
-ghost use Rattle.run_windows.specs.Costs.{reckoned, task, making, makers, section_makers, section_making};
-ghost use Rattle.run_windows.specs.Windows.{is_lower, level_rule, target_rule, rule_of, counted, section_made, activated_once, set_once, begun_by, begun, is_boot, span_of};
+ghost use Rattle.run_windows.specs.Costs.{reckoned, task, comes, making, makers, section_makers, section_making};
+ghost use Rattle.run_windows.specs.Windows.{is_lower, is_left_out, is_below, level_rule, target_rule, rule_of, counted, section_made, activated_once, set_once, begun_by, begun, is_boot, span_of};
 
 use crate::numbers::reckoned;
 use crate::window::{Rule, Window};
@@ -22,6 +22,7 @@ pub fn task(costs: &Costs, t: usize) -> TaskCosts
             first: Some(0),
             next: Some(0),
             raising: 0,
+            section_work: None,
             service: 0,
         },
     }
@@ -84,11 +85,35 @@ pub fn is_lower(costs: &Costs, h: usize, k: usize) -> bool
     task(costs, k).priority < task(costs, h).priority
 }
 
+/// Whether something may make a task Ready.
+pub fn comes(costs: &Costs, t: usize) -> bool
+    ensures { result ≡ comes costs.now t }
+{
+    match costs.comes.items().get(t) {
+        Some(comes) => *comes,
+        None => false,
+    }
+}
+
+/// Whether a task has no rounds in windows of h: it is lower, or never comes.
+pub fn is_left_out(costs: &Costs, h: usize, k: usize) -> bool
+    ensures { result ≡ is_left_out costs.now h k }
+{
+    is_lower(costs, h, k) || !comes(costs, k)
+}
+
+/// Whether a task is lower than h, and comes.
+pub fn is_below(costs: &Costs, h: usize, k: usize) -> bool
+    ensures { result ≡ is_below costs.now h k }
+{
+    is_lower(costs, h, k) && comes(costs, k)
+}
+
 fn level_rule(costs: &Costs, h: usize, j: usize) -> Rule
     ensures { result ≡ level_rule costs.now h j }
 {
-    if is_lower(costs, h, j) {
-        return Rule::Lower;
+    if is_left_out(costs, h, j) {
+        return Rule::Out;
     }
     if j == h && task(costs, h).is_entered_once {
         Rule::Once
@@ -118,7 +143,7 @@ pub fn counted(rule: Rule, activations: u32, settings: u32) -> Made
     ensures { result ≡ counted rule activations settings }
 {
     match rule {
-        Rule::Lower => Made {
+        Rule::Out => Made {
             activations: 0,
             settings: 0,
         },

@@ -2,11 +2,11 @@
 ghost use Rattle.std.specs.Prelude.{◌≡◌, ◌++◌, ◌&&◌, OnOk, IfOk};
 ghost use Rattle.run_windows.specs.declared.window.Start.TheVariants as start;
 ghost use Rattle.run_windows.specs.Costs.{section};
-ghost use Rattle.run_windows.specs.Windows.{is_lower};
+ghost use Rattle.run_windows.specs.Windows.{is_below};
 ghost use Rattle.run_windows.specs.RunWindows.{activation_front, setting_front, start_if, made_start, task_starts, run_task_starts, run_starts};
 
 use crate::fronts::{activation_front, section, setting_front};
-use crate::level::is_lower;
+use crate::level::{is_below, is_lower};
 use crate::{Costs, Start};
 use sloth_base::NoMemory;
 use std::alloc::Global;
@@ -37,9 +37,9 @@ fn push_made(
 }
 
 fn push_section(starts: &mut Vec<Start>, costs: &Costs, h: usize, k: usize) -> Result<(), NoMemory>
-    ensures { OnOk result (starts.new.items ≡ starts.old.items ++ start_if (is_lower costs.now h k && (section costs.now h k).exists) (start.Section k)) }
+    ensures { OnOk result (starts.new.items ≡ starts.old.items ++ start_if (is_below costs.now h k && (section costs.now h k).exists) (start.Section k)) }
 {
-    let has_some = is_lower(costs, h, k) && section(costs, h, k).exists;
+    let has_some = is_below(costs, h, k) && section(costs, h, k).exists;
     push_if(starts, has_some, Start::Section(k))
 }
 

@@ -1,11 +1,11 @@
 //! Whether all that a response time is computed from has a number.
 ghost use Rattle.std.specs.Prelude.{◌≡◌, ◌<◌, ℕ, true, false, length, Decides};
-ghost use Rattle.run_windows.specs.Costs.{task, making, section, section_making};
-ghost use Rattle.run_windows.specs.Windows.{is_lower};
+ghost use Rattle.run_windows.specs.Costs.{task, making, section_counts, section_making};
+ghost use Rattle.run_windows.specs.Windows.{is_lower, is_left_out, is_below};
 ghost use Rattle.run_windows.specs.RunWindows.{IsTold, AreRoundsTold, AreMakingsTold, AreSectionMakingsTold, AreTold};
 
-use crate::fronts::section;
-use crate::level::{is_lower, making, section_making};
+use crate::fronts::section_counts;
+use crate::level::{is_below, is_left_out, is_lower, making, section_making};
 use crate::numbers::{ENDLESS, reckoned};
 use crate::{Costs, Makings, SectionMakings, TaskCosts, task};
 
@@ -24,13 +24,13 @@ fn are_rounds_told(costs: &TaskCosts) -> bool
 }
 
 fn is_task_told(costs: &Costs, h: usize, t: usize) -> bool
-    ensures { Decides result (is_lower costs.now h t ≡ false → AreRoundsTold (task costs.now t)) }
+    ensures { Decides result (is_left_out costs.now h t ≡ false → AreRoundsTold (task costs.now t)) }
 {
-    is_lower(costs, h, t) || are_rounds_told(&task(costs, t))
+    is_left_out(costs, h, t) || are_rounds_told(&task(costs, t))
 }
 
 fn are_tasks_told(costs: &Costs, h: usize) -> bool
-    ensures { Decides result ((t : ℕ) → t < length costs.now.tasks → is_lower costs.now h t ≡ false → AreRoundsTold (task costs.now t)) }
+    ensures { Decides result ((t : ℕ) → t < length costs.now.tasks → is_left_out costs.now h t ≡ false → AreRoundsTold (task costs.now t)) }
 {
     for t in 0..costs.tasks.items().len() {
         if !is_task_told(costs, h, t) {
@@ -51,13 +51,13 @@ fn are_makings_told(makings: &Makings) -> bool
 }
 
 fn is_making_told(costs: &Costs, h: usize, j: usize, k: usize) -> bool
-    ensures { Decides result (is_lower costs.now h j ≡ false → is_lower costs.now h k ≡ false → AreMakingsTold (making costs.now k j)) }
+    ensures { Decides result (is_lower costs.now h j ≡ false → is_left_out costs.now h k ≡ false → AreMakingsTold (making costs.now k j)) }
 {
-    is_lower(costs, h, j) || (is_lower(costs, h, k) || are_makings_told(&making(costs, k, j)))
+    is_lower(costs, h, j) || (is_left_out(costs, h, k) || are_makings_told(&making(costs, k, j)))
 }
 
 fn are_makers_told(costs: &Costs, h: usize, j: usize) -> bool
-    ensures { Decides result ((k : ℕ) → k < length costs.now.tasks → is_lower costs.now h j ≡ false → is_lower costs.now h k ≡ false
+    ensures { Decides result ((k : ℕ) → k < length costs.now.tasks → is_lower costs.now h j ≡ false → is_left_out costs.now h k ≡ false
         → AreMakingsTold (making costs.now k j)) }
 {
     for k in 0..costs.tasks.items().len() {
@@ -70,7 +70,7 @@ fn are_makers_told(costs: &Costs, h: usize, j: usize) -> bool
 
 fn are_all_makings_told(costs: &Costs, h: usize) -> bool
     ensures { Decides result ((j : ℕ) → j < length costs.now.tasks → (k : ℕ) → k < length costs.now.tasks → is_lower costs.now h j ≡ false
-        → is_lower costs.now h k ≡ false → AreMakingsTold (making costs.now k j)) }
+        → is_left_out costs.now h k ≡ false → AreMakingsTold (making costs.now k j)) }
 {
     for j in 0..costs.tasks.items().len() {
         if !are_makers_told(costs, h, j) {
@@ -83,13 +83,13 @@ fn are_all_makings_told(costs: &Costs, h: usize) -> bool
 // ---- sections
 
 fn is_section_told(costs: &Costs, h: usize, k: usize) -> bool
-    ensures { Decides result (is_lower costs.now h k ≡ true → IsTold (section costs.now h k).counts) }
+    ensures { Decides result (is_below costs.now h k ≡ true → IsTold (section_counts costs.now h k)) }
 {
-    !is_lower(costs, h, k) || is_told(section(costs, h, k).counts)
+    !is_below(costs, h, k) || is_told(section_counts(costs, h, k))
 }
 
 fn are_sections_told(costs: &Costs, h: usize) -> bool
-    ensures { Decides result ((k : ℕ) → k < length costs.now.tasks → is_lower costs.now h k ≡ true → IsTold (section costs.now h k).counts) }
+    ensures { Decides result ((k : ℕ) → k < length costs.now.tasks → is_below costs.now h k ≡ true → IsTold (section_counts costs.now h k)) }
 {
     for k in 0..costs.tasks.items().len() {
         if !is_section_told(costs, h, k) {
@@ -106,14 +106,14 @@ fn are_section_makings_told(makings: &SectionMakings) -> bool
 }
 
 fn is_section_making_told(costs: &Costs, h: usize, j: usize, k: usize) -> bool
-    ensures { Decides result (is_lower costs.now h j ≡ false → is_lower costs.now h k ≡ true → AreSectionMakingsTold (section_making costs.now h k j)) }
+    ensures { Decides result (is_lower costs.now h j ≡ false → is_below costs.now h k ≡ true → AreSectionMakingsTold (section_making costs.now h k j)) }
 {
     is_lower(costs, h, j)
-        || (!is_lower(costs, h, k) || are_section_makings_told(&section_making(costs, h, k, j)))
+        || (!is_below(costs, h, k) || are_section_makings_told(&section_making(costs, h, k, j)))
 }
 
 fn are_section_makers_told(costs: &Costs, h: usize, j: usize) -> bool
-    ensures { Decides result ((k : ℕ) → k < length costs.now.tasks → is_lower costs.now h j ≡ false → is_lower costs.now h k ≡ true
+    ensures { Decides result ((k : ℕ) → k < length costs.now.tasks → is_lower costs.now h j ≡ false → is_below costs.now h k ≡ true
         → AreSectionMakingsTold (section_making costs.now h k j)) }
 {
     for k in 0..costs.tasks.items().len() {
@@ -126,7 +126,7 @@ fn are_section_makers_told(costs: &Costs, h: usize, j: usize) -> bool
 
 fn are_all_section_makings_told(costs: &Costs, h: usize) -> bool
     ensures { Decides result ((j : ℕ) → j < length costs.now.tasks → (k : ℕ) → k < length costs.now.tasks → is_lower costs.now h j ≡ false
-        → is_lower costs.now h k ≡ true → AreSectionMakingsTold (section_making costs.now h k j)) }
+        → is_below costs.now h k ≡ true → AreSectionMakingsTold (section_making costs.now h k j)) }
 {
     for j in 0..costs.tasks.items().len() {
         if !are_section_makers_told(costs, h, j) {

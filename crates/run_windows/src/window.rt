@@ -38,8 +38,8 @@ pub struct Made {
 /// Which makings of a task count.
 #[derive(Clone, Copy)]
 pub enum Rule {
-    /// None: it is lower.
-    Lower,
+    /// None: it is lower, or never comes.
+    Out,
     /// Each.
     Each,
     /// One.

@@ -3,7 +3,7 @@ use Rattle.std.proofs.Common.{◌≡◌, ◌∙◌, ◌+◌, ℕ, List, [], ◌+
 use Rattle.std.specs.Prelude.{max, cond, codes}
 use Rattle.std.specs.List.{flat_map}
 use Rattle.std.proofs.Math.Numerals.{add-one}
-use Rattle.lane_drawing.specs.Drawing.{is_above, head_line, style_lines, axis_lines, lane_line, bar_line, row_middle, legend_lines}
+use Rattle.lane_drawing.specs.Drawing.{is_above, head_lines, axis_lines, lane_line, bar_line, row_middle, legend_lines}
 use Rattle.lane_drawing.specs.declared.bars.Bar.{Bar}
 use Rattle.schedule_picture.specs.Picture.{Drawing, longest_of, tasks_above, task_lane, task_lanes, counter_lane, counter_lanes, mark_lines, picture_text}
 
@@ -47,7 +47,7 @@ eight a b c e k m l z t1 t2 t3 t4 t5 t6 t7 t8 h1 h2 h3 h4 h5 h6 h7 h8 =
 
 -- the text is whole behind the lanes, the lane of kernel code, the marks, the legend and the last line
 pub whole_text : (d : Drawing) (n m middle : ℕ) (bars : List Bar) (t1 t2 t3 t4 t5 t6 t7 t8 : List ℕ) → n ≡ length d.image.tasks → m ≡ length d.image.counters
-    → middle ≡ row_middle (n + m) → bars ≡ d.bars (n + m) → t1 ≡ head_line d.scale (n + m + 1) ++ style_lines → t2 ≡ t1 ++ axis_lines d.scale (n + m + 1)
+    → middle ≡ row_middle (n + m) → bars ≡ d.bars (n + m) → t1 ≡ head_lines d.scale (n + m + 1) → t2 ≡ t1 ++ axis_lines d.scale (n + m + 1)
     → t3 ≡ t2 ++ task_lanes d n → t4 ≡ t3 ++ counter_lanes d m
     → t5 ≡ t4 ++ (lane_line d.scale (codes "kernel") middle ++ flat_map (bar_line d.scale (codes "kernel") middle []) bars)
     → t6 ≡ t5 ++ mark_lines d.image d.levels d.scale d.marks → t7 ≡ t6 ++ legend_lines d.scale (n + m + 1) → t8 ≡ t7 ++ codes "</svg>\n" → t8 ≡ picture_text d
@@ -55,9 +55,9 @@ whole_text d n m middle bars t1 t2 t3 t4 t5 t6 t7 t8 tasks counters low shown h1
     let M : List ℕ = mark_lines d.image d.levels d.scale d.marks in
     let K : ℕ → List Bar → List ℕ = λ y x. lane_line d.scale (codes "kernel") y ++ flat_map (bar_line d.scale (codes "kernel") y []) x in
     let W : ℕ → ℕ → List ℕ = λ a b.
-    (head_line d.scale (a + b + 1) ++ style_lines) ++ axis_lines d.scale (a + b + 1) ++ task_lanes d a ++ counter_lanes d b ++ K (row_middle (a + b)) (d.bars (a + b))
+    head_lines d.scale (a + b + 1) ++ axis_lines d.scale (a + b + 1) ++ task_lanes d a ++ counter_lanes d b ++ K (row_middle (a + b)) (d.bars (a + b))
     ++ M ++ legend_lines d.scale (a + b + 1) ++ codes "</svg>\n" in
     let kernel : K middle bars ≡ K (row_middle (n + m)) (d.bars (n + m)) = ap (λ y. K y bars) low ∙ ap (λ x. K (row_middle (n + m)) x) shown in
-    eight (head_line d.scale (n + m + 1) ++ style_lines) (axis_lines d.scale (n + m + 1)) (task_lanes d n) (counter_lanes d m) (K (row_middle (n + m)) (d.bars (n + m)))
+    eight (head_lines d.scale (n + m + 1)) (axis_lines d.scale (n + m + 1)) (task_lanes d n) (counter_lanes d m) (K (row_middle (n + m)) (d.bars (n + m)))
     M (legend_lines d.scale (n + m + 1)) (codes "</svg>\n") t1 t2 t3 t4 t5 t6 t7 t8 h1 h2 h3 h4 (h5 ∙ ap (λ x. t4 ++ x) kernel) h6 h7 h8
     ∙ ap (λ a. W a m) tasks ∙ ap (λ b. W (length d.image.tasks) b) counters

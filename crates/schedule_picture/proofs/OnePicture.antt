@@ -15,7 +15,7 @@ use Rattle.lane_drawing.specs.declared.scale.Scale.{Scale}
 use Rattle.lane_drawing.specs.Bars.{AreBars}
 use Rattle.std.specs.Prelude.{codes}
 use Rattle.std.specs.List.{flat_map}
-use Rattle.lane_drawing.specs.Drawing.{head_line, style_lines, axis_lines, lane_line, bar_line, row_middle, legend_lines}
+use Rattle.lane_drawing.specs.Drawing.{head_lines, axis_lines, lane_line, bar_line, row_middle, legend_lines}
 use Rattle.lane_drawing.proofs.Growing.{one_bars}
 use Rattle.schedule_picture.specs.LaneLooks.{owned_lanes, look_of}
 use Rattle.schedule_picture.specs.Picture.{Drawing, IsPictureOf, scale_of, lane_text, shown_arrivals, tasks_above, task_lane, task_lanes, counter_lane, counter_lanes, mark_lines, picture_text}
@@ -71,7 +71,7 @@ module _ (image : Image) (A : List Admission) (marks : List Mark) (addresses lev
       let lanes : task_lanes (drawing b) n ≡ task_lanes (drawing c) n = same_lanes b c n (λ lane below. same lane (omega (arith, below))) in
       let counters : counter_lanes (drawing b) m ≡ counter_lanes (drawing c) m = same_counters b c m (λ lane below. same lane (omega (arith, below))) in
       let T : List ℕ → List ℕ → List Bar → List ℕ = λ tasks counted bars.
-      (head_line scale (n + m + 1) ++ style_lines) ++ axis_lines scale (n + m + 1) ++ tasks ++ counted
+      head_lines scale (n + m + 1) ++ axis_lines scale (n + m + 1) ++ tasks ++ counted
       ++ (lane_line scale (codes "kernel") (row_middle (n + m)) ++ flat_map (bar_line scale (codes "kernel") (row_middle (n + m)) []) bars)
       ++ mark_lines image levels scale marks ++ legend_lines scale (n + m + 1) ++ codes "</svg>\n" in
       ap (λ l. T l (counter_lanes (drawing b) m) (b (n + m))) lanes ∙ ap (λ l. T (task_lanes (drawing c) n) l (b (n + m))) counters

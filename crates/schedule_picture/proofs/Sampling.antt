@@ -93,7 +93,7 @@ module _ (image : Image) (A : List Arrival) where
   -- ---- lanes
 
   pub shown_none : (from : ℕ) (s : Sampler) (strips : List Lane) (notes : Notes) (watch : Watch) → HasGivenFirst image A from s → length strips ≡ owned_lanes image + 1
-      → ((lane : ℕ) → lane < owned_lanes image + 1 → IsFreshStrip from (get_or strips lane empty_lane)) → notes ≡ no_notes → watch ≡ no_watch
+      → ((lane : ℕ) → lane < owned_lanes image + 1 → IsFreshStrip from (get_or strips lane empty_lane)) → notes ≡ no_notes → watch ≡ no_watch A
       → HasShown image A from from s strips notes watch
   shown_none from s strips notes watch h lanes fresh none unseen = record {
     samples = h.samples;

@@ -17,11 +17,11 @@ abbrev alarms_at : Image → List Arrival → ℕ → List ℕ
 alarms_at image arrivals n = (words_behind image arrivals n).alarms
 
 module _ (image : Image) (A : List Arrival) (from : ℕ) where
-  none : (xs : List Sample) → run_watch image A xs from 0 ≡ no_watch
+  none : (xs : List Sample) → run_watch image A xs from 0 ≡ no_watch A
   unfolding run_watch
   none xs = refl
 
-  pub watch_none : (xs : List Sample) → no_watch ≡ run_watch image A xs from (from - from)
+  pub watch_none : (xs : List Sample) → no_watch A ≡ run_watch image A xs from (from - from)
   watch_none xs = sym (ap (run_watch image A xs from) (let e : from - from ≡ 0 = omega arith in e) ∙ none xs)
 
   -- with one sample more it is the same

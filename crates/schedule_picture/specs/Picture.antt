@@ -1,5 +1,5 @@
 -- The picture of a part of a run.
-use Rattle.std.specs.Prelude.{ℕ, zero, suc, ◌+◌, ◌-◌, ◌==◌, ◌&&◌, ltb, leb, Bool, true, ◌≡◌, ◌≤◌, max, cond, List, [], ◌++◌, codes, filter, length, get_or}
+use Rattle.std.specs.Prelude.{ℕ, zero, suc, ◌+◌, ◌-◌, ◌==◌, ◌&&◌, ltb, leb, Bool, true, ◌≡◌, ◌≤◌, max, cond, if◌then◌else◌, List, [], ◌++◌, codes, filter, length, get_or}
 use Rattle.std.specs.List.{flat_map}
 use Rattle.sloth_base.specs.declared.event.Arrival.{Arrival}
 use Rattle.sloth_base.specs.declared.image.Image.{Image}
@@ -14,11 +14,11 @@ use Rattle.lane_drawing.specs.Bars.{AreBars}
 use Rattle.sloth_base.specs.Owners.{counter_line}
 use Rattle.schedule_picture.specs.LaneLooks.{owned_lanes, look_of}
 use Rattle.lane_drawing.specs.declared.scale.Scale.{Scale}
-use Rattle.lane_drawing.specs.Drawing.{left_margin, head_line, style_lines, axis_lines, lane_line, bar_line, row_middle, is_above, legend_lines}
+use Rattle.lane_drawing.specs.Drawing.{left_margin, head_lines, axis_lines, lane_line, bar_line, row_middle, is_above, legend_lines}
 use Rattle.lane_drawing.specs.Arrivals.{arrival_line}
 use Rattle.run_samples.specs.declared.admissions.Admission.{Admission}
 use Rattle.run_samples.specs.Admissions.{run_admissions}
-use Rattle.lane_drawing.specs.Marks.{wake_line, expiry_line}
+use Rattle.lane_drawing.specs.Marks.{arrow_line, expiry_line}
 use Rattle.schedule_picture.specs.Items.{bar_words}
 use Rattle.schedule_picture.specs.Marks.{run_marks, run_addresses}
 use Rattle.schedule_picture.specs.declared.marks.Actor.{Actor}
@@ -120,9 +120,10 @@ abbrev pub has_actor : Image → Actor → Bool
 has_actor image (actor.Task task) = ltb task (length image.tasks)
 has_actor image (actor.Counter counter) = ltb counter (length image.counters)
 
--- and so is the task that is woken
+-- and so is the task that is woken or activated
 abbrev pub has_object : Image → Sign → Bool
 has_object image (sign.Wakes task) = ltb task (length image.tasks)
+has_object image (sign.Activates task) = ltb task (length image.tasks)
 has_object image (sign.Expires alarm) = true
 
 -- a mark is of the image, in the counts of a picture
@@ -130,11 +131,20 @@ abbrev pub is_marked : Image → Scale → Mark → Bool
 is_marked image scale mark =
     (leb scale.from mark.at && ltb mark.at scale.to) && (has_actor image mark.actor && has_object image mark.sign)
 
+-- the height of the edge of a row's bars, so many pixels from its middle, on the side of another row
+abbrev pub bar_edge : (row other height : ℕ) → ℕ
+bar_edge row other height = if ltb row other then row_middle row + height else row_middle row - height
+
+-- a line from the bars of who acts to those of a task, of which that of a Ready one is lower
+abbrev pub arrow_between : Image → (levels : List ℕ) → Scale → (at : ℕ) → Actor → (does : List ℕ) → (task : ℕ) → List ℕ
+arrow_between image levels scale at by does task =
+    arrow_line scale at (actor_name image by) (bar_edge (actor_row image levels by) (tasks_above levels task (length image.tasks)) 12) does (get_or image.tasks task [])
+    (bar_edge (tasks_above levels task (length image.tasks)) (actor_row image levels by) 6)
+
 -- what is drawn of a mark at a count
 abbrev pub sign_line : Image → (levels : List ℕ) → Scale → (at : ℕ) → Actor → Sign → List ℕ
-sign_line image levels scale at by (sign.Wakes task) =
-    wake_line scale at (actor_name image by) (row_middle (actor_row image levels by)) (get_or image.tasks task [])
-    (row_middle (tasks_above levels task (length image.tasks)))
+sign_line image levels scale at by (sign.Wakes task) = arrow_between image levels scale at by (codes " wakes ") task
+sign_line image levels scale at by (sign.Activates task) = arrow_between image levels scale at by (codes " activates ") task
 sign_line image levels scale at by (sign.Expires alarm) = expiry_line scale at alarm (row_middle (actor_row image levels by))
 
 abbrev pub mark_line : Image → (levels : List ℕ) → Scale → Mark → List ℕ
@@ -147,11 +157,11 @@ mark_lines image levels scale marks = flat_map (mark_line image levels scale) (f
 -- The text: the axis, a lane for each task, that of the highest level on top, one for each counter, a lane for kernel code, the marks, and what they mean.
 abbrev pub picture_text : Drawing → List ℕ
 picture_text d =
-    (head_line d.scale (owned_lanes d.image + 1) ++ style_lines) ++ axis_lines d.scale (owned_lanes d.image + 1) ++ task_lanes d (length d.image.tasks)
+    head_lines d.scale (owned_lanes d.image + 1) ++ axis_lines d.scale (owned_lanes d.image + 1) ++ task_lanes d (length d.image.tasks)
     ++ counter_lanes d (length d.image.counters) ++ kernel_lane d ++ mark_lines d.image d.levels d.scale d.marks ++ legend_lines d.scale (owned_lanes d.image + 1) ++ codes "</svg>\n"
 
 -- A text is the picture of a run from one count to below another: the run gets there, each lane has the bars of what it shows, arrivals are
--- marked as they were kept or lost, and so are wakings and expiries.
+-- marked as they were kept or lost, and so are wakings, activations and expiries.
 pub record IsPictureOf (image : Image) (arrivals : List Arrival) (from to : ℕ) (text : List ℕ) : Type 0 where
   pub whole : run_end image arrivals to ≡ ends.Whole
   pub samples : List Sample

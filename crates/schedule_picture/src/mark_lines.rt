@@ -1,13 +1,13 @@
 //! The marks of a picture.
-ghost use Rattle.std.specs.Prelude.{◌≡◌, ◌≤◌, ◌+◌, ◌++◌, OnOk, IsTrue, ltb, length};
+ghost use Rattle.std.specs.Prelude.{◌≡◌, ◌≤◌, ◌<◌, ◌+◌, ◌++◌, OnOk, IsTrue, ltb, length};
 ghost use Rattle.sloth_base.specs.ImageRange.{InFormat};
 ghost use Rattle.sloth_base.specs.Limits.{task_limit, counter_limit, name_limit};
 ghost use Rattle.lane_drawing.specs.Scale.{IsScale};
-ghost use Rattle.schedule_picture.specs.Picture.{actor_name, actor_row, has_actor, has_object, is_marked, mark_line, mark_lines};
+ghost use Rattle.schedule_picture.specs.Picture.{actor_name, actor_row, arrow_between, bar_edge, has_actor, has_object, is_marked, mark_line, mark_lines};
 
 use crate::marks::{Actor, Mark, Sign};
 use crate::text::{row_middle, tasks_above};
-use lane_drawing::{Scale, expiry_line, wake_line};
+use lane_drawing::{Scale, arrow_line, expiry_line};
 use sloth_base::{Image, NoMemory, TASK_LIMIT};
 use trace_text::LineText;
 
@@ -21,12 +21,13 @@ fn has_actor(image: &Image, actor: &Actor) -> bool
     }
 }
 
-// Whether the task that is woken is one of the image's.
+// Whether the task that is woken or activated is one of the image's.
 fn has_object(image: &Image, sign: &Sign) -> bool
     ensures { result ≡ has_object image.now sign.now }
 {
     match sign {
         Sign::Wakes(task) => usize::from(*task) < image.tasks.items().len(),
+        Sign::Activates(task) => usize::from(*task) < image.tasks.items().len(),
         Sign::Expires(_) => true,
     }
 }
@@ -64,6 +65,43 @@ fn actor_row(image: &Image, levels: &[u8; TASK_LIMIT], actor: &Actor) -> u32
     }
 }
 
+// The height of the edge of a row's bars, so many pixels from its middle, on the side of another row.
+fn bar_edge(row: u32, other: u32, height: u32) -> u32
+    requires row { row ≤ task_limit + counter_limit }
+    requires height { height ≤ 12 }
+    ensures { result ≡ bar_edge row other height }
+{
+    if row < other {
+        row_middle(row) + height
+    } else {
+        row_middle(row) - height
+    }
+}
+
+// The line of what one does to a task: between the edges of the bars of both, of which that of a Ready task is lower.
+fn arrow_between(
+    image: &Image,
+    levels: &[u8; TASK_LIMIT],
+    scale: Scale,
+    mark: &Mark,
+    does: &[u8],
+    task: usize,
+) -> LineText
+    requires format { InFormat image.now }
+    requires scale { IsScale scale }
+    requires marked { IsTrue (is_marked image.now scale mark.now) }
+    requires does { length does.now ≤ 11 }
+    requires task { task < length image.now.tasks }
+    ensures { result ≡ arrow_between image.now levels.now scale mark.now.at mark.now.actor does.now task }
+{
+    let tasks = image.tasks.items();
+    let by = actor_name(image, &mark.actor);
+    let start = actor_row(image, levels, &mark.actor);
+    let end = tasks_above(levels, tasks.len(), task);
+    let (from, to) = (bar_edge(start, end, 12), bar_edge(end, start, 6));
+    arrow_line(scale, mark.at, by, from, does, tasks[task].bytes(), to)
+}
+
 // The line of a mark.
 fn mark_line(image: &Image, levels: &[u8; TASK_LIMIT], scale: Scale, mark: &Mark) -> LineText
     requires format { InFormat image.now }
@@ -71,16 +109,29 @@ fn mark_line(image: &Image, levels: &[u8; TASK_LIMIT], scale: Scale, mark: &Mark
     requires marked { IsTrue (is_marked image.now scale mark.now) }
     ensures { result ≡ mark_line image.now levels.now scale mark.now }
 {
-    let middle = row_middle(actor_row(image, levels, &mark.actor));
     match &mark.sign {
-        Sign::Wakes(task) => {
-            let tasks = image.tasks.items();
-            let woken = usize::from(*task);
-            let by = actor_name(image, &mark.actor);
-            let end = row_middle(tasks_above(levels, tasks.len(), woken));
-            wake_line(scale, mark.at, by, middle, tasks[woken].bytes(), end)
+        Sign::Wakes(task) => arrow_between(
+            image,
+            levels,
+            scale,
+            mark,
+            b" wakes ",
+            usize::from(*task),
+        ),
+        Sign::Activates(task) => {
+            arrow_between(
+                image,
+                levels,
+                scale,
+                mark,
+                b" activates ",
+                usize::from(*task),
+            )
         }
-        Sign::Expires(alarm) => expiry_line(scale, mark.at, u32::from(*alarm), middle),
+        Sign::Expires(alarm) => {
+            let middle = row_middle(actor_row(image, levels, &mark.actor));
+            expiry_line(scale, mark.at, u32::from(*alarm), middle)
+        }
     }
 }
 

@@ -1,13 +1,14 @@
 //! What of a run is marked between its counts.
-ghost use Rattle.std.specs.Prelude.{◌≡◌, ◌<◌, ◌++◌, OnOk, [], ◌∷◌, cond, if◌then◌else◌};
+ghost use Rattle.std.specs.Prelude.{◌≡◌, ◌<◌, ◌++◌, OnOk, [], ◌∷◌, cond};
+ghost use Rattle.std.specs.List.{list_any};
 ghost use Rattle.sloth_base.specs.Limits.{task_limit, alarm_limit};
 ghost use Rattle.schedule_picture.specs.declared.marks.Actor.TheVariants.{Counter};
-ghost use Rattle.schedule_picture.specs.declared.marks.Sign.TheVariants.{Wakes, Expires};
-ghost use Rattle.schedule_picture.specs.Marks.{is_task_woken, actor_of, wakes, wakes_by, is_alarm_over, ticking, expiries, expiries_at, marks_when_open, marks_when_masked, marks_at, no_watch, watched};
+ghost use Rattle.schedule_picture.specs.declared.marks.Sign.TheVariants.{Wakes, Activates, Expires};
+ghost use Rattle.schedule_picture.specs.Marks.{is_task_woken, comes_between, is_task_activated, actor_of, task_marks, tasks_marks, is_alarm_over, ticking, expiries, expiries_at, marks_when_open, marks_when_masked, marks_at, no_watch, watched};
 
-use lane_drawing::{is_over, is_woken};
+use lane_drawing::{is_activated, is_over, is_woken};
 use run_samples::Sample;
-use sloth_base::{ALARM_LIMIT, FIRST_COUNTER_LINE, Line, NoMemory, TASK_LIMIT};
+use sloth_base::{ALARM_LIMIT, Arrival, FIRST_COUNTER_LINE, Line, NoMemory, TASK_LIMIT};
 use sloth_runner::task_states::Seen;
 use std::alloc::Global;
 use std::marker::Model;
@@ -19,10 +20,11 @@ pub enum Actor {
     Counter(u8),
 }
 
-/// What is marked: that a task is woken, or that an alarm expires.
+/// What is marked: that a task is woken or activated, or that an alarm expires.
 #[derive(Clone, Copy)]
 pub enum Sign {
     Wakes(u8),
+    Activates(u8),
     Expires(u8),
 }
 
@@ -40,6 +42,30 @@ fn is_task_woken(before: &Seen, now: &Seen, task: usize) -> bool
     ensures { result ≡ is_task_woken before.now now.now task }
 {
     is_woken(before.tasks[task], now.tasks[task])
+}
+
+// Whether an arrival of a line comes after a count, and at another at the latest.
+fn comes_between(line: usize, after: u32, last: u32, arrival: &Arrival) -> bool
+    ensures { result ≡ comes_between line after last arrival.now }
+{
+    usize::from(arrival.line.0) == line && (after < arrival.at && arrival.at <= last)
+}
+
+fn has_come(arrivals: &[Arrival], line: usize, after: u32, last: u32) -> bool
+    ensures { result ≡ list_any (comes_between line after last) arrivals.now }
+{
+    arrivals
+        .iter()
+        .any(|arrival| comes_between(line, after, last, arrival))
+}
+
+// Whether a task is Suspended at one count and Ready at the next that finds interrupts open, and no arrival of its own comes between.
+fn is_task_activated(arrivals: &[Arrival], before: &Seen, now: &Seen, task: usize) -> bool
+    requires { task < task_limit }
+    ensures { result ≡ is_task_activated arrivals.now before.now now.now task }
+{
+    is_activated(before.tasks[task], now.tasks[task])
+        && !has_come(arrivals, task, before.count, now.count)
 }
 
 fn actor_of(taken: &Option<Line>, running: u32) -> Option<Actor>
@@ -93,12 +119,56 @@ fn push_wake(
     push_if(marks, is_task_woken(before, now, task), mark)
 }
 
-// Appends the marks of the tasks that are woken.
-fn push_wakes(marks: &mut Vec<Mark>, by: Actor, before: &Seen, now: &Seen) -> Result<(), NoMemory>
-    ensures { OnOk result (marks.new.items ≡ marks.old.items ++ wakes by before.now now.now task_limit) }
+// Appends the mark of a task, if it is activated.
+fn push_activation(
+    marks: &mut Vec<Mark>,
+    arrivals: &[Arrival],
+    by: Actor,
+    before: &Seen,
+    now: &Seen,
+    task: usize,
+) -> Result<(), NoMemory>
+    requires { task < task_limit }
+    ensures { OnOk result (marks.new.items ≡ marks.old.items
+        ++ cond (is_task_activated arrivals.now before.now now.now task) (record { at = now.now.count; actor = by; sign = Activates task } ∷ []) []) }
+{
+    let mark = Mark {
+        at: now.count,
+        actor: by,
+        sign: Sign::Activates(task as u8),
+    };
+    push_if(marks, is_task_activated(arrivals, before, now, task), mark)
+}
+
+// Appends what is marked of a task.
+fn push_task_marks(
+    marks: &mut Vec<Mark>,
+    arrivals: &[Arrival],
+    by: Actor,
+    before: &Seen,
+    now: &Seen,
+    task: usize,
+) -> Result<(), NoMemory>
+    requires { task < task_limit }
+    ensures { OnOk result (marks.new.items ≡ marks.old.items ++ task_marks arrivals.now by before.now now.now task) }
+{
+    push_wake(marks, by, before, now, task)?;
+    push_activation(marks, arrivals, by, before, now, task)?;
+    Ok(())
+}
+
+// Appends what is marked of all tasks.
+fn push_tasks_marks(
+    marks: &mut Vec<Mark>,
+    arrivals: &[Arrival],
+    by: Actor,
+    before: &Seen,
+    now: &Seen,
+) -> Result<(), NoMemory>
+    ensures { OnOk result (marks.new.items ≡ marks.old.items ++ tasks_marks arrivals.now by before.now now.now task_limit) }
 {
     for task in 0..TASK_LIMIT {
-        push_wake(marks, by, before, now, task)?;
+        push_task_marks(marks, arrivals, by, before, now, task)?;
     }
     Ok(())
 }
@@ -164,14 +234,19 @@ fn push_expiries(
 }
 
 // Appends what a count marks that finds interrupts open, behind one that did.
-fn push_when_open(marks: &mut Vec<Mark>, last: &Sample, now: &Option<Seen>) -> Result<(), NoMemory>
-    ensures { OnOk result (marks.new.items ≡ marks.old.items ++ marks_when_open last.now.taken last.now.seen now.now) }
+fn push_when_open(
+    marks: &mut Vec<Mark>,
+    arrivals: &[Arrival],
+    last: &Sample,
+    now: &Option<Seen>,
+) -> Result<(), NoMemory>
+    ensures { OnOk result (marks.new.items ≡ marks.old.items ++ marks_when_open arrivals.now last.now.taken last.now.seen now.now) }
 {
     let (Some(before), Some(now)) = (&last.seen, now) else {
         return Ok(());
     };
     match actor_of(&last.taken, before.running) {
-        Some(by) => push_wakes(marks, by, before, now),
+        Some(by) => push_tasks_marks(marks, arrivals, by, before, now),
         None => Ok(()),
     }
 }
@@ -197,12 +272,13 @@ fn push_when_masked(
 // Appends what a count marks, behind the last one that found interrupts open, if one did.
 fn push_marks(
     marks: &mut Vec<Mark>,
+    arrivals: &[Arrival],
     last: &Option<Sample>,
     sample: &Sample,
     before: &[u32; ALARM_LIMIT],
     now: &[u32; ALARM_LIMIT],
 ) -> Result<(), NoMemory>
-    ensures { OnOk result (marks.new.items ≡ marks.old.items ++ marks_at last.now sample.now before.now now.now) }
+    ensures { OnOk result (marks.new.items ≡ marks.old.items ++ marks_at arrivals.now last.now sample.now before.now now.now) }
 {
     let Some(last) = last else {
         return Ok(());
@@ -210,34 +286,36 @@ fn push_marks(
     if sample.interrupts.masked {
         push_when_masked(marks, last, before, now)
     } else {
-        push_when_open(marks, last, &sample.seen)
+        push_when_open(marks, arrivals, last, &sample.seen)
     }
 }
 
-/// A run that is watched: the last sample that found interrupts open, the ticks that alarms had left at the last count, and the marks and the
+/// A run that is watched: its arrivals, the last sample that found interrupts open, the ticks that alarms had left at the last count, and the marks and the
 /// addresses so far.
 #[derive(Drop)]
-pub struct Watching {
+pub struct Watching<'a> {
+    arrivals: &'a [Arrival],
     last: Option<Sample>,
     alarms: [u32; ALARM_LIMIT],
     marks: Vec<Mark>,
     addresses: Vec<u32>,
 }
 
-impl Model for Watching {
+impl<'a> Model for Watching<'a> {
     ghost use Rattle.schedule_picture.specs.Marks.{Watch};
 
     ghost Value = { Watch };
 
-    ghost view = { λ watching. record { last = watching.last; alarms = watching.alarms; marks = watching.marks.items; addresses = watching.addresses.items } };
+    ghost view = { λ watching. record { arrivals = watching.arrivals.now; last = watching.last; alarms = watching.alarms; marks = watching.marks.items; addresses = watching.addresses.items } };
 }
 
-impl Watching {
-    /// A run of which nothing has been seen.
-    pub fn new(alloc: Global) -> Watching
-        ensures { result ≡ no_watch }
+impl<'a> Watching<'a> {
+    /// A run with arrivals, of which nothing has been seen.
+    pub fn new(alloc: Global, arrivals: &'a [Arrival]) -> Watching<'a>
+        ensures { result ≡ no_watch arrivals.now }
     {
         Watching {
+            arrivals,
             last: None,
             alarms: [0; ALARM_LIMIT],
             marks: Vec::new(alloc),
@@ -254,7 +332,14 @@ impl Watching {
     ) -> Result<(), NoMemory>
         ensures { OnOk result (self.new ≡ watched self.old sample.now alarms.now address) }
     {
-        push_marks(&mut self.marks, &self.last, sample, &self.alarms, alarms)?;
+        push_marks(
+            &mut self.marks,
+            self.arrivals,
+            &self.last,
+            sample,
+            &self.alarms,
+            alarms,
+        )?;
         if !sample.interrupts.masked {
             self.last = Some(*sample);
         }

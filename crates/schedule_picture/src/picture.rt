@@ -90,7 +90,7 @@ fn show_all(
     requires lanes { length strips.old.items ≡ tasks + counters + 1 }
     requires fresh { (lane : ℕ) → lane < tasks + counters + 1 → IsFreshStrip from (get_or strips.old.items lane empty_lane) }
     requires none { noting.old ≡ no_notes }
-    requires unseen { watching.old ≡ no_watch }
+    requires unseen { watching.old ≡ no_watch (sampled_arrivals sampler.old) }
     requires ordered { from ≤ to }
     requires few { to ≤ count_limit }
     ensures stops { IfOk result (λ end. IfSome end (StopsBefore (sampled_image sampler.old) (sampled_arrivals sampler.old) to)) }
@@ -168,7 +168,7 @@ pub fn draw(
     }
     let mut strips = empty_strips(alloc, tasks + counters, from)?;
     let mut noting = Noting::new(alloc);
-    let mut watching = Watching::new(alloc);
+    let mut watching = Watching::new(alloc, arrivals);
     if let Some(halt) = show_all(
         &mut sampler,
         &mut strips,

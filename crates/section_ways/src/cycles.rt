@@ -1,8 +1,8 @@
 //! Cycles within sections.
 use crate::frames::{Frame, Mode};
-use crate::items::{called, func_at};
-use crate::levels::{Tables, table_at};
+use crate::orders::searched;
 use crate::starts::call_from;
+use crate::tables::Tables;
 use crate::walking::points_on;
 use sloth_base::NoMemory;
 use std::alloc::Global;
@@ -27,31 +27,7 @@ fn is_known(reached: &[Reached], func: usize, whole: bool) -> bool {
         .any(|one| one.func == func && one.whole == whole)
 }
 
-// Reaches what an item calls.
-fn reach(
-    tables: &Tables,
-    reached: &mut Vec<Reached>,
-    turn: usize,
-    from: Reached,
-    item: usize,
-) -> Result<(), NoMemory> {
-    let Some((func, whole)) = call_from(tables, from.whole, from.func, item) else {
-        return Ok(());
-    };
-    if is_known(reached.as_slice(), func, whole) {
-        return Ok(());
-    }
-    push(
-        reached,
-        Reached {
-            func,
-            whole,
-            item,
-            before: turn,
-        },
-    )
-}
-
+// Reaches what the items of a function call.
 fn reach_all(
     tables: &Tables,
     reached: &mut Vec<Reached>,
@@ -69,11 +45,49 @@ fn reach_all(
     Ok(())
 }
 
-// The items of the cycle of a function.
-fn cycle_in<'t>(tables: &'t Tables<'_>, func: usize, whole: bool) -> &'t [usize] {
-    match table_at(tables, whole).cycles.as_slice().get(func) {
-        Some(cycle) => cycle.items(),
-        None => &[],
+// Reaches what an item calls.
+fn reach(
+    tables: &Tables,
+    reached: &mut Vec<Reached>,
+    before: usize,
+    from: Reached,
+    item: usize,
+) -> Result<(), NoMemory> {
+    let Some((func, whole)) = call_from(tables, from.func, from.whole, item) else {
+        return Ok(());
+    };
+    if is_known(reached.as_slice(), func, whole) {
+        return Ok(());
+    }
+    push(
+        reached,
+        Reached {
+            func,
+            whole,
+            item,
+            before,
+        },
+    )
+}
+
+// The items of a cycle of a function, if it has one.
+fn cycle_in(tables: &Tables, func: usize, whole: bool) -> Result<Vec<usize>, NoMemory> {
+    let alloc = tables.walks.alloc();
+    match tables.place(func, whole) {
+        Some(place) => {
+            let search = searched(alloc, &place)?;
+            Ok(search.into_cycle())
+        },
+        None => Ok(Vec::new(alloc)),
+    }
+}
+
+fn frame_at(from: Reached, item: usize) -> Frame {
+    let func = from.func;
+    Frame {
+        point: Point { func, item },
+        whole: from.whole,
+        mode: Mode::Least,
     }
 }
 
@@ -86,53 +100,27 @@ fn turned(alloc: Global, back: &[Frame]) -> Result<Vec<Frame>, NoMemory> {
     Ok(frames)
 }
 
-// The calls that lead to one that was reached, the outermost first.
-fn callers_of(alloc: Global, reached: &[Reached], last: usize) -> Result<Vec<Frame>, NoMemory> {
-    let mut back = Vec::new(alloc);
-    let mut at = last;
-    for _turn in 0..reached.len() {
-        if 0 < at && at < reached.len() && reached[at].before < reached.len() {
-            let before = reached[reached[at].before];
-            let point = Point {
-                func: before.func,
-                item: reached[at].item,
-            };
-            push(
-                &mut back,
-                Frame {
-                    point,
-                    whole: before.whole,
-                    mode: Mode::Least,
-                },
-            )?;
-            at = reached[at].before;
-        }
-    }
-    turned(alloc, back.as_slice())
-}
-
-// The functions in progress at an item of one that was reached.
+// The functions in progress at an item of one that was reached: it, and the calls that lead to it; the outermost first.
 fn frames_at(
     alloc: Global,
     reached: &[Reached],
     turn: usize,
-    from: Reached,
     item: usize,
 ) -> Result<Vec<Frame>, NoMemory> {
-    let mut frames = callers_of(alloc, reached, turn)?;
-    let point = Point {
-        func: from.func,
-        item,
-    };
-    push(
-        &mut frames,
-        Frame {
-            point,
-            whole: from.whole,
-            mode: Mode::Least,
-        },
-    )?;
-    Ok(frames)
+    let mut back = Vec::new(alloc);
+    let (mut at, mut item) = (turn, item);
+    for _turn in 0..reached.len() + 1 {
+        if at < reached.len() {
+            push(&mut back, frame_at(reached[at], item))?;
+            item = reached[at].item;
+            at = if at == 0 {
+                reached.len()
+            } else {
+                reached[at].before
+            };
+        }
+    }
+    turned(alloc, back.as_slice())
 }
 
 /// The functions in progress at a cycle, the innermost at its first item.
@@ -153,29 +141,22 @@ pub fn cycle_start(tables: &Tables, body: usize, whole: bool) -> Result<Vec<Fram
             return Ok(Vec::new(alloc));
         }
         let from = reached[turn];
-        if let Some(item) = cycle_in(tables, from.func, from.whole).first() {
-            return frames_at(alloc, reached.as_slice(), turn, from, *item);
+        let cycle = cycle_in(tables, from.func, from.whole)?;
+        if let Some(item) = cycle.as_slice().first() {
+            return frames_at(alloc, reached.as_slice(), turn, *item);
         }
         reach_all(tables, &mut reached, turn, from)?;
     }
     Ok(Vec::new(alloc))
 }
 
-fn push_all(points: &mut Vec<Point>, further: &[Point]) -> Result<(), NoMemory> {
-    for point in further {
-        push(points, *point)?;
-    }
-    Ok(())
-}
-
 // The points of a function from its first item to its `ret`, by the shortest way.
 fn push_passage(tables: &Tables, points: &mut Vec<Point>, func: usize) -> Result<(), NoMemory> {
     let mut frames = Vec::new(tables.walks.alloc());
-    let point = Point { func, item: 0 };
     push(
         &mut frames,
         Frame {
-            point,
+            point: Point { func, item: 0 },
             whole: true,
             mode: Mode::Least,
         },
@@ -186,19 +167,21 @@ fn push_passage(tables: &Tables, points: &mut Vec<Point>, func: usize) -> Result
         0
     };
     let passage = points_on(tables, &mut frames, left)?;
-    push_all(points, passage.as_slice())
+    for point in passage.as_slice() {
+        push(points, *point)?;
+    }
+    Ok(())
 }
 
 /// The points of the positions of a cycle, its first item at both ends.
 pub fn cycle_points(tables: &Tables, at: Frame) -> Result<Vec<Point>, NoMemory> {
     let mut points = Vec::new(tables.walks.alloc());
     let func = at.point.func;
-    for item in cycle_in(tables, func, at.whole) {
+    let cycle = cycle_in(tables, func, at.whole)?;
+    for item in cycle.as_slice() {
         push(&mut points, Point { func, item: *item })?;
-        if let Some(caller) = func_at(tables.walks.app(), func) {
-            if let Some(other) = called(caller, *item) {
-                push_passage(tables, &mut points, other)?;
-            }
+        if let Some((other, _raised)) = call_from(tables, func, at.whole, *item) {
+            push_passage(tables, &mut points, other)?;
         }
     }
     push(&mut points, at.point)?;

@@ -1,99 +1,47 @@
 //! An order of a body's items, each behind those that it goes on to, or the first cycle that is found.
-use crate::items::{Level, Nexts, called, is_alive, is_last, op_of};
-use bound_rules::{Body, is_marked, number_at};
-use sloth_base::{Func, List, NoMemory};
+use crate::items::{Nexts, Place};
+use bound_rules::is_marked;
+use sloth_base::NoMemory;
 use std::alloc::Global;
-use task_verify::{falls, way};
 use text_pieces::push;
 
-/// The items in an order of finish, and the items of a cycle, if there is one.
-pub struct Order {
-    pub items: List<usize>,
-    cycle: List<usize>,
+/// A search of a body: the items in an order of finish, and the items of a cycle, if there is one.
+pub struct Search {
+    seen: Vec<bool>,
+    done: Vec<bool>,
+    stack: Vec<usize>,
+    pub order: Vec<usize>,
+    cycle: Vec<usize>,
 }
 
 // Written out: what is derived is proved anew wherever a value is let go.
-impl Drop for Order {
+impl Drop for Search {
     fn drop(self) {
-        let Order { items: _, cycle: _ } = self;
+        let Search {
+            seen: _,
+            done: _,
+            stack: _,
+            order: _,
+            cycle: _,
+        } = self;
     }
 }
 
-impl Order {
+impl Search {
     /// The items of the cycle.
-    pub fn into_cycle(self) -> List<usize> {
-        let Order { items: _, cycle } = self;
+    pub fn into_cycle(self) -> Vec<usize> {
+        let Search {
+            seen: _,
+            done: _,
+            stack: _,
+            order: _,
+            cycle,
+        } = self;
         cycle
     }
 }
 
-// The item, where the task is raised there too.
-fn if_alive(body: &Body, level: Level, item: usize) -> Option<usize> {
-    if is_alive(body, level, item) {
-        Some(item)
-    } else {
-        None
-    }
-}
-
-// The item behind, past a call where the function returns; `backs` has the sizes up to the `ret` of each function.
-fn next(func: &Func, body: &Body, level: Level, backs: &[u32], item: usize) -> Option<usize> {
-    let op = op_of(func, item)?;
-    let goes = match called(func, item) {
-        Some(other) => 0 < number_at(backs, other),
-        None => falls(op),
-    };
-    if goes && item < func.items.items().len() {
-        if_alive(body, level, item + 1)
-    } else {
-        None
-    }
-}
-
-fn jump(func: &Func, body: &Body, level: Level, item: usize) -> Option<usize> {
-    let label = way(op_of(func, item)?)?;
-    let place = func.labels.items().get(label as usize)?;
-    if_alive(body, level, place.item as usize)
-}
-
-fn in_order(one: Option<usize>, other: Option<usize>) -> Nexts {
-    match (one, other) {
-        (Some(next), Some(jump)) => {
-            if jump < next {
-                Nexts {
-                    lower: other,
-                    higher: one,
-                }
-            } else {
-                Nexts {
-                    lower: one,
-                    higher: other,
-                }
-            }
-        },
-        _ => Nexts {
-            lower: one,
-            higher: other,
-        },
-    }
-}
-
-/// Where sections go on from an item, inside its body and past calls.
-pub fn nexts(func: &Func, body: &Body, level: Level, backs: &[u32], item: usize) -> Nexts {
-    if !is_alive(body, level, item) || is_last(func, item) {
-        return Nexts {
-            lower: None,
-            higher: None,
-        };
-    }
-    in_order(
-        next(func, body, level, backs, item),
-        jump(func, body, level, item),
-    )
-}
-
-/// As many unmarked places.
-pub fn no_marks(alloc: Global, count: usize) -> Result<Vec<bool>, NoMemory> {
+fn no_marks(alloc: Global, count: usize) -> Result<Vec<bool>, NoMemory> {
     let mut marks = Vec::new(alloc);
     for _place in 0..count {
         push(&mut marks, false)?;
@@ -110,28 +58,25 @@ fn mark(marks: &mut [bool], place: usize) {
 // The item, where it is not marked.
 fn unmarked(marks: &[bool], item: Option<usize>) -> Option<usize> {
     match item {
-        Some(item) => {
-            if item >= marks.len() || marks[item] {
+        Some(place) => {
+            if place >= marks.len() || marks[place] {
                 None
             } else {
-                Some(item)
+                item
             }
         },
         None => None,
     }
 }
 
-// One that an item goes on to and that is not seen.
-fn unseen(seen: &[bool], nexts: Nexts) -> Option<usize> {
-    match unmarked(seen, nexts.lower) {
-        Some(item) => Some(item),
-        None => unmarked(seen, nexts.higher),
+// One that an item goes on to and that is not marked.
+fn open(marks: &[bool], nexts: Nexts) -> Option<usize> {
+    let lower = unmarked(marks, nexts.lower);
+    if lower.is_some() {
+        lower
+    } else {
+        unmarked(marks, nexts.higher)
     }
-}
-
-// One that it goes on to and that is not done.
-fn open(done: &[bool], nexts: Nexts) -> Option<usize> {
-    unseen(done, nexts)
 }
 
 // The items of the stack from this one on.
@@ -155,55 +100,17 @@ fn cycle_from(
     Ok(cycle)
 }
 
-// The tables of a search.
-struct Search {
-    seen: Vec<bool>,
-    done: Vec<bool>,
-    stack: Vec<usize>,
-    order: Vec<usize>,
-    cycle: Vec<usize>,
-}
-
-// Written out, as above.
-impl Drop for Search {
-    fn drop(self) {
-        let Search {
-            seen: _,
-            done: _,
-            stack: _,
-            order: _,
-            cycle: _,
-        } = self;
-    }
-}
-
-impl Search {
-    // The tables before a body of so many items is searched.
-    fn new(alloc: Global, count: usize) -> Result<Search, NoMemory> {
-        let seen = no_marks(alloc, count)?;
-        let done = no_marks(alloc, count)?;
-        Ok(Search {
-            seen,
-            done,
-            stack: Vec::new(alloc),
-            order: Vec::new(alloc),
-            cycle: Vec::new(alloc),
-        })
-    }
-
-    fn into_order(self) -> Order {
-        let Search {
-            seen: _,
-            done: _,
-            stack: _,
-            order,
-            cycle,
-        } = self;
-        Order {
-            items: List::from_vec(order),
-            cycle: List::from_vec(cycle),
-        }
-    }
+// The tables before a body of so many items is searched.
+fn no_search(alloc: Global, count: usize) -> Result<Search, NoMemory> {
+    let seen = no_marks(alloc, count)?;
+    let done = no_marks(alloc, count)?;
+    Ok(Search {
+        seen,
+        done,
+        stack: Vec::new(alloc),
+        order: Vec::new(alloc),
+        cycle: Vec::new(alloc),
+    })
 }
 
 // Finishes an item, from which nothing new is seen: one that it goes on to and that is not done closes a cycle.
@@ -226,20 +133,13 @@ fn visit(search: &mut Search, item: usize) -> Result<(), NoMemory> {
 const TURNS: usize = 1_000_000;
 
 // Goes on from the items of the stack until all that they go on to are done.
-fn dive(
-    alloc: Global,
-    func: &Func,
-    body: &Body,
-    level: Level,
-    backs: &[u32],
-    search: &mut Search,
-) -> Result<(), NoMemory> {
+fn dive(alloc: Global, place: &Place, search: &mut Search) -> Result<(), NoMemory> {
     for _turn in 0..TURNS {
         let Some(item) = search.stack.pop() else {
             return Ok(());
         };
-        let nexts = nexts(func, body, level, backs, item);
-        match unseen(search.seen.as_slice(), nexts) {
+        let nexts = place.nexts(item);
+        match open(search.seen.as_slice(), nexts) {
             Some(next) => {
                 push(&mut search.stack, item)?;
                 visit(search, next)?;
@@ -250,32 +150,15 @@ fn dive(
     Ok(())
 }
 
-fn search_all(
-    alloc: Global,
-    func: &Func,
-    body: &Body,
-    level: Level,
-    backs: &[u32],
-    search: &mut Search,
-) -> Result<(), NoMemory> {
-    for item in 0..func.items.items().len() {
-        if is_alive(body, level, item) && !is_marked(search.seen.as_slice(), item) {
-            visit(search, item)?;
-            dive(alloc, func, body, level, backs, search)?;
+/// Searches the items of a body before which the task is raised.
+pub fn searched(alloc: Global, place: &Place) -> Result<Search, NoMemory> {
+    let count = place.func.items.items().len();
+    let mut search = no_search(alloc, count)?;
+    for item in 0..count {
+        if place.is_alive(item) && !is_marked(search.seen.as_slice(), item) {
+            visit(&mut search, item)?;
+            dive(alloc, place, &mut search)?;
         }
     }
-    Ok(())
-}
-
-/// The order of the items of a body before which the task is raised.
-pub fn order_of(
-    alloc: Global,
-    func: &Func,
-    body: &Body,
-    level: Level,
-    backs: &[u32],
-) -> Result<Order, NoMemory> {
-    let mut search = Search::new(alloc, func.items.items().len())?;
-    search_all(alloc, func, body, level, backs, &mut search)?;
-    Ok(search.into_order())
+    Ok(search)
 }

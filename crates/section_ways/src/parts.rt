@@ -1,8 +1,7 @@
 //! The greatest parts of the sections of a function, and where they begin.
-use crate::items::{Level, called, is_alive};
-use crate::sizes::{Sizes, both};
-use bound_rules::{Body, is_marked, number_at};
-use sloth_base::Func;
+use crate::items::{Place, Size, both, size_at};
+use crate::tables::Tables;
+use bound_rules::is_marked;
 
 /// Where a part begins: at an item; within what it calls, without going on behind it; or within what it calls, and on behind it.
 #[derive(Clone, Copy)]
@@ -20,7 +19,7 @@ pub struct Part {
     pub begin: Begin,
 }
 
-pub const NO_PART: Part = Part {
+const NO_PART: Part = Part {
     size: 0,
     item: 0,
     begin: Begin::Here,
@@ -38,14 +37,6 @@ pub const NO_PARTS: Parts = Parts {
     out: NO_PART,
 };
 
-/// The parts of the function of this number.
-pub fn parts_at(table: &[Parts], func: usize) -> Parts {
-    match table.get(func) {
-        Some(parts) => *parts,
-        None => NO_PARTS,
-    }
-}
-
 // The first of the greatest.
 fn greater(one: Part, size: u32, item: usize, begin: Begin) -> Part {
     if one.size < size {
@@ -55,61 +46,36 @@ fn greater(one: Part, size: u32, item: usize, begin: Begin) -> Part {
     }
 }
 
-/// Whether what an item calls is called raised.
-pub fn calls_raised(body: &Body, level: Level, item: usize) -> bool {
-    level.whole || is_alive(body, level, item)
+// With those that begin at an item, of this size.
+fn with_item(parts: Parts, size: Size, item: usize) -> Parts {
+    Parts {
+        most: greater(parts.most, size.on, item, Begin::Here),
+        out: greater(parts.out, size.back, item, Begin::Here),
+    }
 }
 
-// With those that begin within what an item calls.
-fn with_call(parts: Parts, sizes: &Sizes, inner: Parts, item: usize) -> Parts {
-    let behind = match item.checked_add(1) {
-        Some(next) => next,
-        None => item,
-    };
-    let on = both(inner.out.size, number_at(sizes.on.as_slice(), behind));
-    let back = both(inner.out.size, number_at(sizes.back.as_slice(), behind));
+// With those that begin within what an item calls; `behind` is the size of the item behind.
+fn with_call(parts: Parts, inner: Parts, behind: Size, item: usize) -> Parts {
     let most = greater(parts.most, inner.most.size, item, Begin::Inside);
+    let (on, back) = (
+        both(inner.out.size, behind.on),
+        both(inner.out.size, behind.back),
+    );
     Parts {
         most: greater(most, on, item, Begin::Behind),
         out: greater(parts.out, back, item, Begin::Behind),
     }
 }
 
-// With those that begin at an item.
-fn with_item(parts: Parts, sizes: &Sizes, item: usize) -> Parts {
-    Parts {
-        most: greater(
-            parts.most,
-            number_at(sizes.on.as_slice(), item),
-            item,
-            Begin::Here,
-        ),
-        out: greater(
-            parts.out,
-            number_at(sizes.back.as_slice(), item),
-            item,
-            Begin::Here,
-        ),
-    }
-}
-
 /// The greatest parts of a function, from those of the functions that it calls.
-pub fn parts_of(
-    func: &Func,
-    body: &Body,
-    level: Level,
-    sizes: &Sizes,
-    whole: &[Parts],
-    own: &[Parts],
-) -> Parts {
+pub fn greatest_parts(tables: &Tables, place: &Place, sizes: &[Size]) -> Parts {
     let mut parts = NO_PARTS;
-    for item in 0..func.items.items().len() {
-        if is_marked(body.reached.items(), item) {
-            parts = with_item(parts, sizes, item);
-            if let Some(other) = called(func, item) {
-                let raised = calls_raised(body, level, item);
-                let inner = parts_at(if raised { whole } else { own }, other);
-                parts = with_call(parts, sizes, inner, item);
+    for item in 0..place.func.items.items().len() {
+        if is_marked(place.body.reached.items(), item) {
+            parts = with_item(parts, size_at(sizes, item), item);
+            if let Some(other) = place.called(item) {
+                let inner = tables.parts(other, place.calls_raised(item));
+                parts = with_call(parts, inner, size_at(sizes, item + 1), item);
             }
         }
     }

@@ -1,91 +1,47 @@
 //! Where a greatest section of a task begins.
 use crate::frames::{Frame, Mode};
-use crate::items::{Level, called, func_at};
-use crate::levels::{Tables, table_at};
-use crate::parts::{Begin, Part, calls_raised, parts_at};
+use crate::parts::{Begin, Part};
+use crate::tables::Tables;
 use sloth_base::NoMemory;
 use text_pieces::push;
 use walk_sums::Point;
 
-// A function in which a part begins: whether it was called raised, and whether the part leaves it by its `ret`.
-#[derive(Clone, Copy)]
-struct Entry {
-    func: usize,
-    whole: bool,
-    leaves: bool,
-}
-
-fn part_of(tables: &Tables, entry: Entry) -> Part {
-    let parts = parts_at(table_at(tables, entry.whole).parts.as_slice(), entry.func);
-    if entry.leaves { parts.out } else { parts.most }
-}
-
 /// What an item calls, and whether raised.
-pub fn call_from(tables: &Tables, whole: bool, func: usize, item: usize) -> Option<(usize, bool)> {
-    let level = Level {
-        whole,
-        priority: tables.priority,
-    };
-    match (
-        func_at(tables.walks.app(), func),
-        tables.walks.bodies().get(func),
-    ) {
-        (Some(caller), Some(body)) => match called(caller, item) {
-            Some(other) => Some((other, calls_raised(body, level, item))),
+pub fn call_from(tables: &Tables, func: usize, whole: bool, item: usize) -> Option<(usize, bool)> {
+    match tables.place(func, whole) {
+        Some(place) => match place.called(item) {
+            Some(other) => Some((other, place.calls_raised(item))),
             None => None,
-        },
-        _ => None,
-    }
-}
-
-// The function into which the part's begin leads on.
-fn inner(tables: &Tables, entry: Entry, part: Part) -> Option<Entry> {
-    match call_from(tables, entry.whole, entry.func, part.item) {
-        Some((func, whole)) => match part.begin {
-            Begin::Here => None,
-            Begin::Inside => Some(Entry {
-                func,
-                whole,
-                leaves: false,
-            }),
-            Begin::Behind => Some(Entry {
-                func,
-                whole,
-                leaves: true,
-            }),
         },
         None => None,
     }
 }
 
+// The greatest part of a function, or of those that leave it by its `ret`.
+fn part_from(tables: &Tables, func: usize, whole: bool, leaves: bool) -> Part {
+    let parts = tables.parts(func, whole);
+    if leaves { parts.out } else { parts.most }
+}
+
 /// The functions in progress where a greatest section begins; `whole` says that the body counts as raised.
-pub fn start_of(tables: &Tables, body: usize, whole: bool) -> Result<Vec<Frame>, NoMemory> {
+pub fn section_start(tables: &Tables, body: usize, whole: bool) -> Result<Vec<Frame>, NoMemory> {
     let mut frames = Vec::new(tables.walks.alloc());
-    let mut entry = Entry {
-        func: body,
-        whole,
-        leaves: false,
-    };
+    let (mut func, mut whole, mut leaves) = (body, whole, false);
     for _turn in 0..tables.walks.app().funcs.items().len() + 1 {
-        let part = part_of(tables, entry);
+        let part = part_from(tables, func, whole, leaves);
         let point = Point {
-            func: entry.func,
+            func,
             item: part.item,
         };
-        let mode = if entry.leaves { Mode::Back } else { Mode::On };
-        push(
-            &mut frames,
-            Frame {
-                point,
-                whole: entry.whole,
-                mode,
+        let mode = if leaves { Mode::Back } else { Mode::On };
+        push(&mut frames, Frame { point, whole, mode })?;
+        match (part.begin, call_from(tables, func, whole, part.item)) {
+            (Begin::Here, _) | (_, None) => return Ok(frames),
+            (begin, Some((inner, raised))) => {
+                leaves = matches!(begin, Begin::Behind);
+                func = inner;
+                whole = raised;
             },
-        )?;
-        match inner(tables, entry, part) {
-            Some(further) => {
-                entry = further;
-            },
-            None => return Ok(frames),
         }
     }
     Ok(frames)

@@ -1,33 +1,24 @@
 //! From position to position along parts of greatest or least size.
 use crate::frames::{Frame, Mode};
-use crate::items::{Level, Nexts, called, func_at, is_return};
-use crate::levels::{Tables, table_at};
-use crate::orders::nexts;
-use crate::sizes::both;
-use bound_rules::{Body, number_at};
-use sloth_base::{Func, NoMemory};
+use crate::items::{Nexts, Place, Size, both, size_at};
+use crate::tables::{Tables, is_lesser};
+use sloth_base::{NoMemory, Op};
 use text_pieces::push;
 use walk_sums::Point;
 
-// The size from an item on, as the mode asks for it.
-fn size_at(tables: &Tables, frame: Frame, item: usize) -> u32 {
-    match table_at(tables, frame.whole)
-        .sizes
-        .as_slice()
-        .get(frame.point.func)
-    {
-        Some(sizes) => match frame.mode {
-            Mode::On => number_at(sizes.on.as_slice(), item),
-            Mode::Back => number_at(sizes.back.as_slice(), item),
-            Mode::Least => number_at(sizes.least.as_slice(), item),
-        },
-        None => 0,
+// What of a size the mode asks for.
+fn told(mode: Mode, size: Size) -> u32 {
+    match mode {
+        Mode::On => size.on,
+        Mode::Back => size.back,
+        Mode::Least => size.least,
     }
 }
 
+// The size from an item on, as the mode asks for it.
 fn size_of(tables: &Tables, frame: Frame, item: Option<usize>) -> u32 {
     match item {
-        Some(item) => size_at(tables, frame, item),
+        Some(item) => told(frame.mode, tables.size(frame.point.func, frame.whole, item)),
         None => 0,
     }
 }
@@ -36,7 +27,7 @@ fn size_of(tables: &Tables, frame: Frame, item: Option<usize>) -> u32 {
 fn is_better(mode: Mode, one: u32, other: u32) -> bool {
     match mode {
         Mode::On | Mode::Back => one < other,
-        Mode::Least => one == 0 || (0 < other && other < one),
+        Mode::Least => is_lesser(one, other),
     }
 }
 
@@ -52,13 +43,11 @@ fn choice(tables: &Tables, frame: Frame, nexts: Nexts) -> Option<usize> {
     if 0 < size { item } else { None }
 }
 
-// The mode in which a part goes through what an item calls.
-fn mode_inside(tables: &Tables, frame: Frame, other: usize, further: u32) -> Mode {
-    match frame.mode {
+// The mode in which a part goes through what an item calls; `further` is the size behind the call.
+fn mode_inside(mode: Mode, inner: Size, further: u32) -> Mode {
+    match mode {
         Mode::On => {
-            let inside = number_at(tables.calls.on.as_slice(), other);
-            let behind = both(number_at(tables.calls.back.as_slice(), other), further);
-            if behind <= inside {
+            if both(inner.back, further) <= inner.on {
                 Mode::On
             } else {
                 Mode::Back
@@ -81,25 +70,24 @@ fn leave(tables: &Tables, frames: &mut Vec<Frame>, left: Frame) -> Result<bool, 
     };
     caller.point.item = behind;
     push(frames, caller)?;
-    Ok(0 < size_at(tables, caller, behind))
+    Ok(0 < size_of(tables, caller, Some(behind)))
 }
 
 fn enter(
     tables: &Tables,
     frames: &mut Vec<Frame>,
     frame: Frame,
-    other: usize,
-    nexts: Nexts,
+    func: usize,
+    next: Option<usize>,
 ) -> Result<bool, NoMemory> {
-    let mode = mode_inside(tables, frame, other, size_of(tables, frame, nexts.lower));
+    let inner = size_at(tables.calls.as_slice(), func);
+    let mode = mode_inside(frame.mode, inner, size_of(tables, frame, next));
     push(frames, frame)?;
+    let point = Point { func, item: 0 };
     push(
         frames,
         Frame {
-            point: Point {
-                func: other,
-                item: 0,
-            },
+            point,
             whole: true,
             mode,
         },
@@ -121,25 +109,19 @@ fn go_on(
     Ok(true)
 }
 
-fn step_in(
+// From an item that does this.
+fn step_from(
     tables: &Tables,
     frames: &mut Vec<Frame>,
-    func: &Func,
-    body: &Body,
+    place: &Place,
+    op: Op,
     frame: Frame,
 ) -> Result<bool, NoMemory> {
-    let item = frame.point.item;
-    if is_return(func, item) {
-        return leave(tables, frames, frame);
-    }
-    let level = Level {
-        whole: frame.whole,
-        priority: tables.priority,
-    };
-    let nexts = nexts(func, body, level, tables.calls.back.as_slice(), item);
-    match called(func, item) {
-        Some(other) => enter(tables, frames, frame, other, nexts),
-        None => go_on(tables, frames, frame, nexts),
+    let nexts = place.nexts(frame.point.item);
+    match op {
+        Op::Return => leave(tables, frames, frame),
+        Op::Invoke { func } => enter(tables, frames, frame, func.0 as usize, nexts.lower),
+        _ => go_on(tables, frames, frame, nexts),
     }
 }
 
@@ -148,13 +130,12 @@ pub fn step(tables: &Tables, frames: &mut Vec<Frame>) -> Result<bool, NoMemory> 
     let Some(frame) = frames.pop() else {
         return Ok(false);
     };
-    let number = frame.point.func;
-    match (
-        func_at(tables.walks.app(), number),
-        tables.walks.bodies().get(number),
-    ) {
-        (Some(func), Some(body)) => step_in(tables, frames, func, body, frame),
-        _ => Ok(false),
+    match tables.place(frame.point.func, frame.whole) {
+        Some(place) => match place.op(frame.point.item) {
+            Some(op) => step_from(tables, frames, &place, op, frame),
+            None => Ok(false),
+        },
+        None => Ok(false),
     }
 }
 

@@ -7,9 +7,9 @@ ghost use Rattle.section_ways.specs.WantedWays.{ArePointsOf, IsWayOf};
 
 use crate::cycles::{cycle_points, cycle_start};
 use crate::frames::{Frame, points_of};
-use crate::levels::{Tables, tables_of};
 use crate::pair::Trial;
-use crate::starts::start_of;
+use crate::starts::section_start;
+use crate::tables::{Tables, all_tables};
 use crate::tried::body_in;
 use crate::walking::points_on;
 use sloth_base::{App, Config, List, NoMemory};
@@ -43,7 +43,7 @@ fn frames_of(
     let body = body_in(app, task);
     let non = config.tasks.items()[task].non;
     match wanted {
-        Wanted::Section(_) => start_of(tables, body, non),
+        Wanted::Section(_) => section_start(tables, body, non),
         Wanted::Cycle => cycle_start(tables, body, non),
     }
 }
@@ -175,7 +175,7 @@ pub fn way_of(walks: &Walks, above: usize, wanted: Wanted) -> Result<Option<Way>
     ensures { IfOk result (IsWayOf walks.now.config walks.now.app above wanted) }
 {
     let tasks = walks.config().tasks.items();
-    let tables = tables_of(walks, tasks[above].priority)?;
+    let tables = all_tables(walks, tasks[above].priority)?;
     for task in 0..tasks.len() {
         if let Some(points) = points_for(walks, &tables, above, task, wanted)? {
             return Ok(Some(Way {

@@ -13,6 +13,7 @@ use Rattle.rv32_instr.specs.declared.block.Block.{Block}
 use Rattle.sim_relation.specs.Bounds.{AreBelow}
 use Rattle.sloth_link.specs.declared.datum.Datum.{Datum}
 use Rattle.stack_bounds.specs.Bounds.{AreBounds}
+use Rattle.prio_levels.specs.Levels.{AreLevels}
 use Rattle.mem_map.specs.Planned.{IsPlanned}
 use Rattle.mem_map.specs.Stacks.{address_behind_data}
 use Rattle.mem_map.specs.Sections.{addresses, marks_of}
@@ -46,6 +47,7 @@ pub record IsImageOf (config : Config) (app : App) (levels : Levels) (map : Map)
 pub record IsOfPlannedMap (config : Config) (app : App) (bounds : Bounds) (image : Image) : Type 0 where
   pub map : Map
   pub levels : Levels
+  pub are_levels : AreLevels config levels
   pub planned : IsPlanned config app bounds map
   pub is : IsImageOf config app levels map image.memory image.marks
 

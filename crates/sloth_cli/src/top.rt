@@ -7,6 +7,8 @@ ghost use Rattle.core_commands.specs.CommandFiles.{ReadsInOrder};
 ghost use Rattle.core_commands.specs.Top.{world, IsTopAnswer, HasUsageAnswer, HasOverwriteAnswer, HasRefusalAnswer, IsComplete};
 ghost use Rattle.core_commands.specs.ImageAnswers.{HasImageFaultAnswer, HasNoImageAnswer, HasExecRefusedAnswer, HasExecutedAnswer, HasListedAnswer};
 ghost use Rattle.core_commands.specs.SampleAnswers.{HasSampleRefusedAnswer, HasSampledAnswer};
+ghost use Rattle.sloth_commands.specs.BuiltFormulas.{BuiltFilesAreRight};
+ghost use Rattle.sloth_commands.specs.BuiltRegisters.{BuiltImagesShowRegisters};
 ghost use Rattle.sloth_commands.specs.BuiltResponses.{BuiltRunsKeepResponses};
 ghost use Rattle.sloth_commands.specs.BuiltRuns.{BuiltRunsAreChecked, BuiltRunsKeepBlockingBounds};
 ghost use Rattle.sloth_commands.specs.ToolAnswers.{HasToolAnswer, HasToolDoneAnswer};
@@ -107,6 +109,8 @@ pub fn sloth_top<F: Store, S: Sink>(
     ensures bounds { BuiltRunsKeepBlockingBounds }
     ensures responses { BuiltRunsKeepResponses }
     ensures checked { BuiltRunsAreChecked }
+    ensures formulas { BuiltFilesAreRight }
+    ensures registers { BuiltImagesShowRegisters }
 {
     answer(alloc, words, files, out)
 }

@@ -7,3 +7,5 @@ mod Registers
 mod Printed
 pub mod BuiltRuns
 pub mod BuiltResponses
+pub mod BuiltFormulas
+pub mod BuiltRegisters

@@ -5,3 +5,5 @@ pub mod PrintedMap
 pub mod CheckedRuns
 pub mod BuiltRuns
 pub mod BuiltResponses
+pub mod BuiltFormulas
+pub mod BuiltRegisters

@@ -1,4 +1,6 @@
 //! Laws of the definitions.
+ghost use Rattle.sloth_commands.specs.BuiltFormulas.{BuiltFilesAreRight};
+ghost use Rattle.sloth_commands.specs.BuiltRegisters.{BuiltImagesShowRegisters};
 ghost use Rattle.sloth_commands.specs.BuiltResponses.{BuiltRunsKeepResponses};
 ghost use Rattle.sloth_commands.specs.BuiltRuns.{BuiltRunsAreChecked, BuiltRunsKeepBlockingBounds};
 ghost use Rattle.sloth_commands.specs.CheckedRuns.{SoundRunsAreChecked};
@@ -30,4 +32,15 @@ pub fn runs_are_checked()
 /// The same of every run of an image that is built.
 pub fn built_runs_are_checked()
     ensures { BuiltRunsAreChecked }
+{}
+
+/// The formulas of the file that `orti` writes of texts show, wherever a run of an image that is built of them finds interrupts open, what the abstract
+/// scheduler has.
+pub fn built_files_are_right()
+    ensures { BuiltFilesAreRight }
+{}
+
+/// Wherever a run of an image that is built finds interrupts open, the registers that `debug` shows of its tasks are those of the abstract scheduler.
+pub fn built_images_show_registers()
+    ensures { BuiltImagesShowRegisters }
 {}

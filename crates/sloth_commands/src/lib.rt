@@ -8,7 +8,8 @@
 //! (`built_runs_keep_blocking_bounds`), and its text is that of a run of the abstract scheduler with the arrivals in time, so `check` answers yes
 //! (`built_runs_are_checked`; of any sound image with its items in place `runs_are_checked`): `specs/BuiltRuns`, `specs/CheckedRuns`. Those that keep a load keep the
 //! response times that `response` tells of its texts (`built_runs_keep_responses`; `specs/BuiltResponses`). And the map that `map`
-//! prints of texts is that by which each piece of their image stands (`prints_map_of_image`; `specs/PrintedMap`).
+//! prints of texts is that by which each piece of their image stands (`prints_map_of_image`; `specs/PrintedMap`). The formulas that `orti` writes are right wherever
+//! interrupts are open (`built_files_are_right`; `specs/BuiltFormulas`), and so are the registers of tasks that `debug` shows (`built_images_show_registers`; `specs/BuiltRegisters`).
 //!
 //! What the top call promises of tools: `specs/ToolFiles` (`IsToolAnswer`, the table of tools that the definitions of `core_commands` take), `specs/ToolAnswers`,
 //! `specs/ToolLines`. What a tool answers: `tool_commands` (`Answers`). The other commands: `core_commands`.

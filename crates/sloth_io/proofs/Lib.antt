@@ -5,3 +5,4 @@ pub mod Passing
 pub mod Files
 pub mod Reading
 pub mod Delivering
+mod Called

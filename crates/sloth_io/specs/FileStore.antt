@@ -1,10 +1,11 @@
 -- Files of the system.
-use Rattle.std.specs.Prelude.{◌≡◌, ◌+◌, ◌≤◌, ◌<◌, ℕ, min, List, [], ◌∷◌, ◌++◌, length, Option, None, Result, Ok, Err, false}
+use Rattle.std.specs.Prelude.{◌≡◌, ◌+◌, ◌≤◌, ◌<◌, ℕ, min, List, [], ◌∷◌, ◌++◌, length, Option, None, Some, Result, Ok, Err, Bool, false, not, ◌&&◌, ◌==◌}
 use Rattle.std.specs.Io.KnownBytes.{Appends, Consumes, IsAtEnd}
 use Rattle.sloth_io.specs.Store.{Files}
 use Rattle.sloth_io.specs.declared.store.StoreFault.{StoreFault}
 use Rattle.sloth_io.specs.declared.store.StoreFault.TheVariants.{Failed, TooLong, Memory}
-use Rattle.sloth_io.specs.declared.file_store.FileStore.{FileStore}
+use Rattle.sloth_io.specs.declared.file_store.SystemFiles.{SystemFiles}
+use Rattle.sloth_io.specs.declared.found.Found.{Found}
 
 -- a store that does not tell its files, with these counts, these reads and writes, and these names of which it said that they are of one file
 abbrev pub untold_files : ℕ → ℕ → ℕ → (reads writes same : List (List ℕ × List ℕ)) → Files
@@ -22,7 +23,7 @@ untold_files failed_reads overlong_reads failed_writes reads writes same = recor
 }
 
 -- what files of the system show
-abbrev pub shown_files : {R : Type 0} → FileStore R → Files
+abbrev pub shown_files : {S : Type 0} → SystemFiles S → Files
 shown_files store = untold_files store.failed_reads store.overlong_reads store.failed_writes store.reads.items store.writes.items store.same.items
 
 -- what they show behind a read with this outcome, which delivered these bytes where it was done
@@ -32,8 +33,8 @@ files_after_read (Err Failed) name bytes old = record old { failed_reads = min (
 files_after_read (Err TooLong) name bytes old = record old { overlong_reads = min (old.overlong_reads + 1) 18446744073709551615 }
 files_after_read (Err Memory) name bytes old = old
 
--- how many bytes the last call took from a file or wrote to it
-abbrev pub taken_bytes : {R : Type 0} → FileStore R → ℕ
+-- how many bytes the last call took from a file or was to write to it
+abbrev pub taken_bytes : {S : Type 0} → SystemFiles S → ℕ
 taken_bytes store = store.taken
 
 -- some bytes stand behind the old ones
@@ -55,3 +56,8 @@ IsWholeRest old new bytes = Consumes old new bytes × IsAtEnd new
 -- some open file, if it tells its bytes, took all of these behind what it held
 abbrev pub IsGivenTo : {F : Type 0} → (F → Option (List ℕ)) → List ℕ → Type 0
 IsGivenTo {F} contents bytes = (from to : F) × Appends (contents from) (contents to) bytes
+
+-- both are one plain file: it has one device and one number there
+abbrev pub is_one_plain_file : Option Found → Option Found → Bool
+is_one_plain_file (Some one) (Some other) = one.plain && not (one.number == 0) && one.number == other.number && one.device == other.device
+is_one_plain_file _ _ = false

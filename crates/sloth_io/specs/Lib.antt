@@ -8,3 +8,5 @@ pub mod FileStore
 pub mod OutSink
 pub mod Buffered
 pub mod Slots
+pub mod System
+pub mod Replaced

@@ -1,25 +1,26 @@
 //! The system's files.
-ghost use Rattle.std.specs.Prelude.{◌≡◌, ◌≢◌, ◌<◌, ◌+◌, [], IsTrue, true, OnErr, OnOk, length, take};
+ghost use Rattle.std.specs.Prelude.{◌≡◌, ◌≢◌, ◌<◌, ◌+◌, ℕ, List, [], ◌∷◌, Option, Some, IsTrue, true, OnErr, OnOk, length, take};
 ghost use Rattle.std.specs.Io.{appended_bytes};
 ghost use Rattle.sloth_io.specs.Store.{IsAppended, IsMissing, IsTooLong, IsUnwritten, IsFileWritten, MayBeOneFile};
 ghost use Rattle.sloth_io.specs.Store.{KeepsOthers, KeepsFiles, KeepsReads, said_same};
 ghost use Rattle.sloth_io.specs.FileStore.{IsGivenTo, IsWholeRest, HasPrefix, HasPrefixBeyond, HasPrefixWithin};
-ghost use Rattle.sloth_io.specs.FileStore.{shown_files, taken_bytes, untold_files, files_after_read};
+ghost use Rattle.sloth_io.specs.declared.found.Found.{Found};
+ghost use Rattle.sloth_io.specs.System.{Opened, Followed, added};
+ghost use Rattle.sloth_io.specs.Replaced.{IsReplaced, IsUnreplaced};
+ghost use Rattle.sloth_io.specs.FileStore.{is_one_plain_file, shown_files, taken_bytes, untold_files, files_after_read};
 
 use crate::history::History;
 use crate::replaced_files::replace_file;
 use crate::whole_files::read_whole;
-use crate::{Store, StoreFault};
+use crate::{Found, Host, Store, StoreFault, System};
 use std::alloc::Global;
-use std::fs;
-use std::os::unix::fs::MetadataExt;
 use std::rt::Files;
 
 /// Files of the system. It tells nothing of what they hold, but the bytes that its reads delivered and its writes gave, counts each refusal,
-/// and keeps how many bytes the last call took from a file or wrote to it.
+/// and keeps how many bytes the last call took from a file or was to write to it.
 #[derive(Drop)]
-pub struct FileStore<'a, R> {
-    rt: &'a R,
+pub struct SystemFiles<S> {
+    system: S,
     alloc: Global,
     failed_reads: u64,
     overlong_reads: u64,
@@ -30,13 +31,16 @@ pub struct FileStore<'a, R> {
     same: History,
 }
 
-impl<'a, R: Files> FileStore<'a, R> {
+/// The system's own files.
+pub type FileStore<'a, R> = SystemFiles<Host<'a, R>>;
+
+impl<'a, R: Files> SystemFiles<Host<'a, R>> {
     /// The files that this handle reaches, with no refusal counted, and nothing read or written.
-    pub fn new(rt: &'a R, alloc: Global) -> FileStore<'a, R>
+    pub fn new(rt: &'a R, alloc: Global) -> SystemFiles<Host<'a, R>>
         ensures { shown_files result ≡ untold_files 0 0 0 [] [] [] }
     {
-        FileStore {
-            rt,
+        SystemFiles {
+            system: Host::new(rt),
             alloc,
             failed_reads: 0,
             overlong_reads: 0,
@@ -47,7 +51,9 @@ impl<'a, R: Files> FileStore<'a, R> {
             same: History::new(),
         }
     }
+}
 
+impl<S: System> SystemFiles<S> {
     /// How many reads have failed.
     pub fn failed_reads(&self) -> u64
         ensures { result ≡ (shown_files self.now).failed_reads }
@@ -60,6 +66,7 @@ impl<'a, R: Files> FileStore<'a, R> {
         ensures told { shown_files self.new ≡ files_after_read outcome name.now bytes.now (shown_files self.old) }
         ensures keeps { KeepsFiles (shown_files self.old) (shown_files self.new) }
         ensures taken { taken_bytes self.new ≡ taken_bytes self.old }
+        ensures system { self.new.system ≡ self.old.system }
     {
         match outcome {
             Ok(()) => self.reads = self.reads.and(name.as_bytes(), bytes),
@@ -73,8 +80,8 @@ impl<'a, R: Files> FileStore<'a, R> {
 }
 
 // Opens a file and reads it whole.
-fn read_file<R: Files>(
-    rt: &R,
+fn read_file<S: System>(
+    system: &mut S,
     name: &str,
     limit: usize,
     into: &mut Vec<u8>,
@@ -82,10 +89,12 @@ fn read_file<R: Files>(
     ensures ok { OnOk result (HasPrefixWithin limit into.old.items into.new.items) }
     ensures too_long { result ≡ Err StoreFault.TooLong → HasPrefixBeyond limit into.old.items into.new.items }
     ensures front { HasPrefix into.old.items into.new.items }
-    ensures whole { OnOk result ((from to : R.File) × IsWholeRest (R.File.remaining from) (R.File.remaining to)
-        (appended_bytes into.old.items into.new.items)) }
+    ensures whole { OnOk result ((from to : S.File) × IsWholeRest (S.File.remaining from) (S.File.remaining to)
+        (appended_bytes into.old.items into.new.items)
+        × (S.calls system.new ≡ added (S.calls system.old) (Opened name.now (Some (S.File.remaining from)) ∷ []))) }
+    ensures asked { (from : Option (Option (List ℕ))) × (S.calls system.new ≡ added (S.calls system.old) (Opened name.now from ∷ [])) }
 {
-    let Ok(mut file) = fs::open(rt, name) else {
+    let Some(mut file) = system.open_file(name) else {
         return Err(StoreFault::Failed);
     };
     read_whole(&mut file, limit, into)
@@ -102,18 +111,19 @@ fn take_back(outcome: Result<(), StoreFault>, before: usize, into: &mut Vec<u8>)
     }
 }
 
-// Both names are of one plain file: what they lead to has one device and one number there.
-fn is_same_file<R: Files>(rt: &R, one: &str, other: &str) -> bool {
-    let Ok(one) = fs::metadata(rt, one) else {
-        return false;
-    };
-    let Ok(other) = fs::metadata(rt, other) else {
-        return false;
-    };
-    one.is_file() && one.ino() != 0 && one.ino() == other.ino() && one.dev() == other.dev()
+// Both are one plain file: it has one device and one number there.
+fn is_one_file(one: Option<Found>, other: Option<Found>) -> bool
+    ensures { result ≡ is_one_plain_file one other }
+{
+    match (one, other) {
+        (Some(one), Some(other)) => {
+            one.plain && one.number != 0 && one.number == other.number && one.device == other.device
+        }
+        _ => false,
+    }
 }
 
-impl<'a, R: Files> Store for FileStore<'a, R> {
+impl<S: System> Store for SystemFiles<S> {
     ghost seen = { λ store. shown_files store };
 
     fn read(&mut self, name: &str, limit: usize, into: &mut Vec<u8>) -> Result<(), StoreFault>
@@ -130,12 +140,14 @@ impl<'a, R: Files> Store for FileStore<'a, R> {
         ensures taken { OnOk result (length into.new.items ≡ length into.old.items + taken_bytes self.new) }
         ensures taken_beyond { result ≡ Err StoreFault.TooLong → limit < taken_bytes self.new }
 
-        // What a read delivers is all that was left of an open file, if it tells that.
-        ensures whole { OnOk result ((from to : R.File) × IsWholeRest (R.File.remaining from) (R.File.remaining to)
-            (appended_bytes into.old.items into.new.items)) }
+        // What a read delivers is all that was left of an open file, if it tells that; the file of this name alone was opened.
+        ensures whole { OnOk result ((from to : S.File) × IsWholeRest (S.File.remaining from) (S.File.remaining to)
+            (appended_bytes into.old.items into.new.items)
+            × (S.calls self.new.system ≡ added (S.calls self.old.system) (Opened name.now (Some (S.File.remaining from)) ∷ []))) }
+        ensures asked { (from : Option (Option (List ℕ))) × (S.calls self.new.system ≡ added (S.calls self.old.system) (Opened name.now from ∷ [])) }
     {
         let before = into.len();
-        let outcome = read_file(self.rt, name, limit, into);
+        let outcome = read_file(&mut self.system, name, limit, into);
         self.taken = into.len() - before;
         self.tell_read(outcome, name, &into[before..]);
         take_back(outcome, before, into);
@@ -153,12 +165,14 @@ impl<'a, R: Files> Store for FileStore<'a, R> {
         // A write is done only where the file took all bytes.
         ensures taken { OnOk result (taken_bytes self.new ≡ length bytes.now) }
 
-        // Some open file, if it tells its bytes, took all of these.
-        ensures given { OnOk result (IsGivenTo R.File.contents bytes.now) }
+        // Some open file, if it tells its bytes, took all of these. It had them and no others as it was closed and took its name; where anything failed,
+        // a plain file of that name is as it was.
+        ensures given { OnOk result (IsGivenTo S.File.contents bytes.now) }
+        ensures replaced { OnOk result (IsReplaced (S.calls self.old.system) (S.calls self.new.system) name.now bytes.now) }
+        ensures unreplaced { OnErr result (IsUnreplaced (S.calls self.old.system) (S.calls self.new.system) name.now) }
     {
-        let taken = replace_file(self.rt, self.alloc, name, bytes);
-        self.taken = taken.unwrap_or(0);
-        if taken == Some(bytes.len()) {
+        self.taken = bytes.len();
+        if replace_file(&mut self.system, self.alloc, name, bytes) {
             self.writes = self.writes.and(name.as_bytes(), bytes);
             return Ok(());
         }
@@ -170,8 +184,14 @@ impl<'a, R: Files> Store for FileStore<'a, R> {
         ensures yes { result ≡ true → MayBeOneFile (shown_files self.old) one.now other.now }
         ensures no { IsTrue (shown_files self.old).tells → one.now ≡ other.now → result ≡ true }
         ensures said { shown_files self.new ≡ said_same result one.now other.now (shown_files self.old) }
+
+        // It looks at both, behind links, and says what they are.
+        ensures looked { (first second : Option Found) × (result ≡ is_one_plain_file first second)
+            × (S.calls self.new.system ≡ added (S.calls self.old.system) (Followed one.now first ∷ Followed other.now second ∷ [])) }
     {
-        let is = is_same_file(self.rt, one, other);
+        let first = self.system.follow(one);
+        let second = self.system.follow(other);
+        let is = is_one_file(first, second);
         if is {
             self.same = self.same.and(one.as_bytes(), other.as_bytes());
         }

@@ -5,11 +5,13 @@
 //! from the file, and a write is done only where the file took all bytes. They do not tell what a file or the terminal holds, but what the system
 //! delivered and what it was given: each read that was done and each write, with the file's name and its bytes, in the order of the calls; the
 //! bytes that were put, and those that the system took of them (`Files`, `specs/OutSink`). For any files that tell their bytes, a read that was done
-//! delivered all that was left of an open file, and a write was taken by one (`IsWholeRest`, `IsGivenTo`). That the calls of the system deliver
-//! what stands in the file of that name, and write what they are given, is trusted.
+//! delivered all that was left of an open file, and a write was taken by one (`IsWholeRest`, `IsGivenTo`).
 //!
-//! A write of a plain file goes to a new file beside it, which takes its name and mode when all is written and closed (`replaced_files`): until then,
-//! and where anything fails, the old bytes stand there. This is tested, not proved.
+//! The system's form stands on a trait with a method for each call of the system, which may tell the calls that were made (`System`, `specs/System`). For any
+//! implementation: a read opened the file of its name alone; what two names lead to was looked at, and is what was said of it; a write was done by exactly the calls of a replacement, whose file
+//! held the bytes and no others as it was closed, and where it was not done no call touched a plain file of that name (`SystemFiles`, `specs/Replaced`). A new file goes beside
+//! the old one, gets its permissions, and takes its name when all is written, on its disk and closed (`replaced_files`). The system's own calls (`host`, `FileStore`) are one
+//! line each, and like the writer of standard output trusted: the toolchain tells nothing of what they do.
 //!
 //! Any sink tells the pieces that were put. A text is put a line at a time by `put_lines`: each line is one put, and where one fails, the sink took the
 //! lines before it whole (`lines`, `specs/Lines`).
@@ -25,7 +27,9 @@ pub mod backlog;
 pub mod buffer;
 pub mod buffered;
 pub mod file_store;
+pub mod found;
 mod history;
+pub mod host;
 pub mod lines;
 pub mod mem_sink;
 pub mod mem_store;
@@ -34,9 +38,12 @@ mod replaced_files;
 pub mod sink;
 pub mod slots;
 pub mod store;
+pub mod system;
 mod whole_files;
 
-pub use file_store::FileStore;
+pub use file_store::{FileStore, SystemFiles};
+pub use found::Found;
+pub use host::Host;
 pub use lines::put_lines;
 pub use mem_sink::MemSink;
 pub use mem_store::MemStore;
@@ -44,3 +51,4 @@ pub use out_sink::OutSink;
 pub use sink::{Sink, SinkFault};
 pub use slots::MemFile;
 pub use store::{Store, StoreFault};
+pub use system::System;

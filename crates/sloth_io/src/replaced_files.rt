@@ -1,118 +1,222 @@
 //! Files that are written anew: until all is written, and where anything fails, what stood there stands there.
-ghost use Rattle.std.specs.Prelude.{◌≡◌, Ok, Some, IfSome, length};
+ghost use Rattle.std.specs.Prelude.{◌≡◌, ◌≢◌, ◌++◌, [], ◌∷◌, Option, List, ℕ, IfOk, Some, None, false, true, codes, string_bytes};
+ghost use Rattle.std.specs.Io.KnownBytes.{Appends};
+ghost use Rattle.sloth_io.specs.declared.found.Found.{Found};
 ghost use Rattle.sloth_io.specs.FileStore.{IsGivenTo};
+ghost use Rattle.sloth_io.specs.System.{Call, Synced, added, LeavesFile, LeavesFiles};
+ghost use Rattle.sloth_io.specs.Replaced.{is_written_there, is_users_link, has_owner, may_follow, owner_calls, tried_calls, first_mode, mode_calls};
+ghost use Rattle.sloth_io.specs.Replaced.{filling_calls, calls_in_place, calls_beside, calls_there, IsReplaced, IsUnreplaced};
 
-use crate::StoreFault;
 use crate::whole_files::write_whole;
+use crate::{Found, System};
+use sloth_base::NoMemory;
 use std::alloc::Global;
-use std::fs;
-use std::fs::{File, OpenFile, OpenOptions, Permissions};
-use std::io::{ErrorKind, Write};
-use std::os::unix::fs::MetadataExt;
-use std::rt::Files;
 
-// There is something of this name that is no plain file, as a terminal or a link, or a plain file that has another name too.
-fn is_written_there<R: Files>(rt: &R, name: &str) -> bool {
-    match fs::symlink_metadata(rt, name) {
-        Ok(found) => !found.is_file() || found.nlink() > 1,
-        Err(_) => false,
+// Something stands there that is no plain file, as a terminal or a link, or a plain file that has another name too.
+fn stays_there(found: Option<Found>) -> bool
+    ensures { result ≡ is_written_there found }
+{
+    match found {
+        Some(found) => !found.plain || found.names > 1,
+        None => false,
     }
 }
 
-// There is no file of this name, or one that may be written.
-fn may_be_written<R: Files>(rt: &R, name: &str) -> bool {
-    match OpenOptions::new().write(true).open(rt, name) {
-        Ok(_) => true,
-        Err(fault) => fault.kind() == ErrorKind::NotFound,
+// It is a link that root did not make.
+fn needs_owner(found: Option<Found>) -> bool
+    ensures { result ≡ is_users_link found }
+{
+    match found {
+        Some(found) => found.link && found.owner != 0,
+        None => false,
     }
 }
 
-// The mode of the file of this name, if there is one.
-fn mode_of<R: Files>(rt: &R, name: &str) -> Option<Permissions> {
-    match fs::symlink_metadata(rt, name) {
-        Ok(found) => Some(found.permissions()),
-        Err(_) => None,
+// Both are there, and belong to one user.
+fn is_of_owner(found: Option<Found>, own: Option<Found>) -> bool
+    ensures { result ≡ has_owner found own }
+{
+    match (found, own) {
+        (Some(found), Some(own)) => found.owner == own.owner,
+        _ => false,
     }
 }
 
-// Gives a file this mode, if one is given.
-fn takes_mode<F: OpenFile>(file: &F, mode: Option<Permissions>) -> bool {
-    match mode {
-        Some(mode) => file.set_permissions(mode).is_ok(),
+// A link is followed that belongs to root or to the user of this process.
+fn is_followed<S: System>(system: &mut S, found: Option<Found>) -> bool
+    ensures { (own : Option Found) × (S.calls system.new ≡ added (S.calls system.old) (owner_calls found own)) × (result ≡ may_follow found own) }
+{
+    if !needs_owner(found) {
+        return true;
+    }
+    let own = system.follow("/proc/self");
+    is_of_owner(found, own)
+}
+
+// A new file's mode until it is written.
+fn mode_before(found: Option<Found>) -> u32
+    ensures { result ≡ first_mode found }
+{
+    match found {
+        Some(_) => 0o600,
+        None => 0o666,
+    }
+}
+
+// Gives an open file the permissions of the one that it is to replace, if there is one.
+fn takes_mode<S: System>(system: &mut S, file: &S::File, found: Option<Found>) -> bool
+    ensures { S.calls system.new ≡ added (S.calls system.old) (mode_calls found result) }
+{
+    match found {
+        Some(found) => system.set_mode(file, found.mode & 0o777),
         None => true,
     }
 }
 
-// Writes to an open file, and says how many bytes it took. Where it took all, they are on the disk.
-fn write_open<F: Write + OpenFile>(file: &mut F, bytes: &[u8]) -> Option<usize>
-    ensures { IfSome result (λ n. n ≡ length bytes.now → IsGivenTo F.contents bytes.now) }
-{
-    let taken = write_whole(file, bytes);
-    if taken < bytes.len() {
-        return Some(taken);
-    }
-    if file.flush().is_err() || file.sync_all().is_err() {
-        return None;
-    }
-    Some(taken)
-}
-
-// Makes a file that was not there, of this mode, and writes it. It is closed behind that.
-fn write_new<R: Files>(
-    rt: &R,
-    name: &str,
-    mode: Option<Permissions>,
+// Writes an open file. Where it is done, the file took all bytes, has the permissions of the one that it is to replace, and is on its disk.
+fn write_open<S: System>(
+    system: &mut S,
+    file: &mut S::File,
+    found: Option<Found>,
     bytes: &[u8],
-) -> Result<Option<usize>, StoreFault>
-    ensures { result ≡ Ok (Some (length bytes.now)) → IsGivenTo R.File.contents bytes.now }
+) -> bool
+    ensures given { result ≡ true → Appends (S.File.contents file.old) (S.File.contents file.new) bytes.now }
+    ensures done { result ≡ true → S.calls system.new ≡ added (S.calls system.old) (mode_calls found true ++ Synced true ∷ []) }
+    ensures failed { LeavesFiles (S.calls system.old) (S.calls system.new) }
 {
-    let Ok(mut file) = File::create_new(rt, name) else {
-        return Err(StoreFault::Failed);
-    };
-    if !takes_mode(&file, mode) {
-        return Ok(None);
+    if write_whole(file, bytes) < bytes.len() {
+        return false;
     }
-    Ok(write_open(&mut file, bytes))
+    if !takes_mode(system, file, found) {
+        return false;
+    }
+    system.sync(file)
 }
 
-// Writes a new file beside the one of this name, and gives it that name. Where anything fails, the old one stays, and the new one is removed; one that
-// stood there before is left as it is.
-fn write_beside<R: Files>(rt: &R, name: &str, beside: &str, bytes: &[u8]) -> Option<usize>
-    ensures { result ≡ Some (length bytes.now) → IsGivenTo R.File.contents bytes.now }
+// The same, and closes it.
+fn fill<S: System>(system: &mut S, file: S::File, found: Option<Found>, bytes: &[u8]) -> bool
+    ensures given { result ≡ true → IsGivenTo S.File.contents bytes.now }
+    ensures done { result ≡ true → (to : Option (List ℕ)) × Appends (S.File.contents file) to bytes.now
+        × (S.calls system.new ≡ added (S.calls system.old) (filling_calls found to)) }
+    ensures failed { LeavesFiles (S.calls system.old) (S.calls system.new) }
 {
-    let Ok(written) = write_new(rt, beside, mode_of(rt, name), bytes) else {
-        return None;
-    };
-    if written == Some(bytes.len()) && fs::rename(rt, beside, name).is_ok() {
-        return written;
+    let mut file = file;
+    let done = write_open(system, &mut file, found, bytes);
+    system.close(file);
+    done
+}
+
+// Fills a new file, and gives it the name of the old one.
+fn put_in_place<S: System>(
+    system: &mut S,
+    name: &str,
+    beside: &str,
+    file: S::File,
+    found: Option<Found>,
+    bytes: &[u8],
+) -> bool
+    ensures given { result ≡ true → IsGivenTo S.File.contents bytes.now }
+    ensures done { result ≡ true → (to : Option (List ℕ)) × Appends (S.File.contents file) to bytes.now
+        × (S.calls system.new ≡ added (S.calls system.old) (calls_in_place found name.now beside.now to)) }
+    ensures failed { result ≡ false → LeavesFile name.now (S.calls system.old) (S.calls system.new) }
+{
+    if !fill(system, file, found, bytes) {
+        return false;
     }
-    let _ = fs::remove_file(rt, beside);
-    None
+    if !system.rename(beside, name) {
+        return false;
+    }
+    system.sync_folder(name);
+    true
+}
+
+// Writes a new file beside the one of a name, and gives it that name. Where anything fails, the old one stays, and the new one is removed; one that
+// stood there before is left as it is.
+fn write_beside<S: System>(
+    system: &mut S,
+    name: &str,
+    beside: &str,
+    found: Option<Found>,
+    bytes: &[u8],
+) -> bool
+    ensures given { result ≡ true → IsGivenTo S.File.contents bytes.now }
+    ensures done { result ≡ true → (from to : Option (List ℕ)) × Appends from to bytes.now
+        × (S.calls system.new ≡ added (S.calls system.old) (calls_beside found name.now beside.now from to)) }
+    ensures failed { result ≡ false → beside.now ≢ name.now → LeavesFile name.now (S.calls system.old) (S.calls system.new) }
+{
+    let Some(file) = system.make_file(beside, mode_before(found)) else {
+        return false;
+    };
+    if put_in_place(system, name, beside, file, found, bytes) {
+        return true;
+    }
+    system.remove(beside);
+    false
 }
 
 // Writes what is no plain file where it is.
-fn write_there<R: Files>(rt: &R, name: &str, bytes: &[u8]) -> Option<usize>
-    ensures { result ≡ Some (length bytes.now) → IsGivenTo R.File.contents bytes.now }
+fn write_there<S: System>(system: &mut S, name: &str, bytes: &[u8]) -> bool
+    ensures given { result ≡ true → IsGivenTo S.File.contents bytes.now }
+    ensures done { result ≡ true → (from to : Option (List ℕ)) × Appends from to bytes.now
+        × (S.calls system.new ≡ added (S.calls system.old) (calls_there name.now from to)) }
+    ensures failed { (further : List Call) × (S.calls system.new ≡ added (S.calls system.old) further) }
 {
-    let Ok(mut file) = fs::create(rt, name) else {
-        return None;
+    let Some(file) = system.empty_file(name) else {
+        return false;
     };
-    Some(write_whole(&mut file, bytes))
+    fill(system, file, None, bytes)
 }
 
-/// Makes a file hold these bytes: by a new file beside it, of its name with `.new` behind it and of its mode, which takes its name when all is written
-/// and closed. What is no plain file, or has another name too, is written where it is. How many bytes were taken, or none where the file was not made.
-pub fn replace_file<R: Files>(rt: &R, alloc: Global, name: &str, bytes: &[u8]) -> Option<usize>
-    ensures { result ≡ Some (length bytes.now) → IsGivenTo R.File.contents bytes.now }
+// The same of a link only where root or the user of this process made it.
+fn replace_there<S: System>(system: &mut S, found: Option<Found>, name: &str, bytes: &[u8]) -> bool
+    ensures given { result ≡ true → IsGivenTo S.File.contents bytes.now }
+    ensures done { result ≡ true → (own : Option Found) × (from to : Option (List ℕ)) × Appends from to bytes.now × (may_follow found own ≡ true)
+        × (S.calls system.new ≡ added (S.calls system.old) (owner_calls found own ++ calls_there name.now from to)) }
+    ensures failed { (further : List Call) × (S.calls system.new ≡ added (S.calls system.old) further) }
 {
-    if is_written_there(rt, name) {
-        return write_there(rt, name, bytes);
+    if !is_followed(system, found) {
+        return false;
     }
-    if !may_be_written(rt, name) {
-        return None;
+    write_there(system, name, bytes)
+}
+
+// A file that is there can be opened to write it.
+fn is_writable<S: System>(system: &mut S, name: &str, found: Option<Found>) -> bool
+    ensures done { result ≡ true → S.calls system.new ≡ added (S.calls system.old) (tried_calls name.now found) }
+    ensures failed { LeavesFiles (S.calls system.old) (S.calls system.new) }
+{
+    match found {
+        Some(_) => system.may_write(name),
+        None => true,
     }
-    let Ok(beside) = format!(in alloc; "{name}.new") else {
-        return None;
+}
+
+// The name of a new file beside the one of this name.
+fn beside_name(alloc: Global, name: &str) -> Result<String, NoMemory>
+    ensures { IfOk result (λ text. string_bytes text ≡ name.now ++ codes ".new") }
+{
+    let mut text = String::from_str(alloc, name)?;
+    text.push_str(".new")?;
+    Ok(text)
+}
+
+/// Makes a file hold these bytes, and says whether it was done: by a new file beside it, of its name with `.new` behind it, which gets its permissions
+/// and takes its name when all is written and closed. What is no plain file, or has another name too, is written where it is; a link only where root or
+/// the user of this process made it.
+pub fn replace_file<S: System>(system: &mut S, alloc: Global, name: &str, bytes: &[u8]) -> bool
+    ensures given { result ≡ true → IsGivenTo S.File.contents bytes.now }
+    ensures done { result ≡ true → IsReplaced (S.calls system.old) (S.calls system.new) name.now bytes.now }
+    ensures failed { result ≡ false → IsUnreplaced (S.calls system.old) (S.calls system.new) name.now }
+{
+    let found = system.look(name);
+    if stays_there(found) {
+        return replace_there(system, found, name, bytes);
+    }
+    if !is_writable(system, name, found) {
+        return false;
+    }
+    let Ok(beside) = beside_name(alloc, name) else {
+        return false;
     };
-    write_beside(rt, name, beside.as_str(), bytes)
+    write_beside(system, name, beside.as_str(), found, bytes)
 }

@@ -12,9 +12,9 @@ use Rattle.symbol_build.specs.SymbolFiles.{parts_of}
 use Rattle.symbol_build.specs.BuiltFiles.{BuiltMayShow, BuiltMemoryIsLoaded, LoadsImage}
 
 pub built_may_show : BuiltMayShow
-built_may_show config app name lines image built =
+built_may_show config app name origins image built =
     let p = built.planned in
-    may_show config app p.bounds p.by_map.map p.by_map.is.has_items.well_formed p.by_map.planned name lines image.memory p.by_map.is.ends
+    may_show config app p.bounds p.by_map.map p.by_map.is.has_items.well_formed p.by_map.planned name origins image.memory p.by_map.is.ends
 
 loads_image : (parts : FileParts) (image : Image) → MayShow parts → parts.memory ≡ image.memory → LoadsImage (symbol_file parts) image
 loads_image parts image may is =
@@ -30,6 +30,6 @@ loads_image parts image may is =
     }
 
 pub built_memory_is_loaded : BuiltMemoryIsLoaded
-built_memory_is_loaded config app name lines image file h =
-    let parts = parts_of name lines config app h.is_built.planned.by_map.map image.memory in
-    subst (λ (f : List ℕ). LoadsImage f image) (sym h.is) (loads_image parts image (built_may_show config app name lines image h.is_built) refl)
+built_memory_is_loaded config app name origins image file h =
+    let parts = parts_of name origins config app h.is_built.planned.by_map.map image.memory in
+    subst (λ (f : List ℕ). LoadsImage f image) (sym h.is) (loads_image parts image (built_may_show config app name origins image h.is_built) refl)

@@ -12,3 +12,4 @@ pub mod Rows
 pub mod SourceFiles
 pub mod Standing
 pub mod StandingSymbols
+pub mod SmallPlaces

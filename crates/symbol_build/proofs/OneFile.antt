@@ -6,27 +6,26 @@ use Rattle.sloth_base.specs.declared.image.Image.{Image}
 use Rattle.sloth_base.specs.declared.places.Bounds.{Bounds}
 use Rattle.sloth_region.specs.declared.extent.Extent.{Extent}
 use Rattle.sloth_region.specs.declared.map.Map.{Map}
-use Rattle.asm_lines.specs.Faults.{source_lines}
 use Rattle.code_rules.specs.WellFormed.{WellFormed}
 use Rattle.map_text.proofs.OneText.{rows_alike, same_bounds}
 use Rattle.map_text.specs.declared.piece_rows.Row.{Row}
 use Rattle.mem_map.proofs.OnePlan.{AreAlike, one_plan}
 use Rattle.mem_map.specs.Planned.{IsPlanned}
 use Rattle.sloth_source.proofs.Unique.{one_meaning}
-use Rattle.symbol_image.specs.DataLines.{data_lines}
+use Rattle.symbol_image.specs.declared.line_places.Origins.{Origins}
 use Rattle.symbol_image.specs.SymbolFile.{file_of, laid_parts, parts_borders, symbol_file}
-use Rattle.symbol_build.specs.SymbolFiles.{IsFileOfImage, OneSymbolFile, parts_of}
+use Rattle.symbol_build.specs.SymbolFiles.{IsFileOfImage, OneSymbolFile, parts_of, source_origins}
 
-module _ (name lines : List ℕ) (config : Config) (app : App) (memory : List ℕ) where
+module _ (name : List ℕ) (origins : Origins) (config : Config) (app : App) (memory : List ℕ) where
   -- the file of a map
   abbrev file_by : Map → List ℕ
-  file_by m = symbol_file (parts_of name lines config app m memory)
+  file_by m = symbol_file (parts_of name origins config app m memory)
 
   -- it is that of the map with other tops and words
   file_alike : (m : Map) (tops : List ℕ) (words : Extent) → file_by (record m { tops = tops; words = words }) ≡ file_by m
   unfolding symbol_file
   file_alike m tops words =
-      let p = parts_of name lines config app m memory in
+      let p = parts_of name origins config app m memory in
       ap (λ (rows : List Row). file_of (parts_borders p) (laid_parts p (parts_borders p) rows)) (rows_alike config m tops words)
 
   pub same_file : (m n : Map) → AreAlike m n → file_by m ≡ file_by n
@@ -38,22 +37,22 @@ module _ (name lines : List ℕ) (config : Config) (app : App) (memory : List �
       ∙ ap (λ x. record m { extents = n.extents; places = n.places; stacks = n.stacks; idle = n.idle; handlers = x }) h.handlers in
       ap file_by whole ∙ file_alike n m.tops m.words
 
-one_of_image : (config : Config) (app : App) (name lines : List ℕ) (image : Image) (one other : List ℕ) → WellFormed config app
-    → IsFileOfImage config app name lines image one → IsFileOfImage config app name lines image other → one ≡ other
-one_of_image config app name lines image one other well h k =
+one_of_image : (config : Config) (app : App) (name : List ℕ) (origins : Origins) (image : Image) (one other : List ℕ) → WellFormed config app
+    → IsFileOfImage config app name origins image one → IsFileOfImage config app name origins image other → one ≡ other
+one_of_image config app name origins image one other well h k =
     let a = h.is_built.planned in
     let b = k.is_built.planned in
     let bounds = same_bounds config app a.bounds b.bounds well a.are_bounds b.are_bounds in
     let P : Bounds → Type 0 = λ x. IsPlanned config app x a.by_map.map in
     let alike = one_plan config app well.in_range b.bounds a.by_map.map b.by_map.map (subst P bounds a.by_map.planned) b.by_map.planned in
-    h.is ∙ same_file name lines config app image.memory a.by_map.map b.by_map.map alike ∙ sym k.is
+    h.is ∙ same_file name origins config app image.memory a.by_map.map b.by_map.map alike ∙ sym k.is
 
 pub one_symbol_file : OneSymbolFile
 one_symbol_file oil src name one other h k image =
     let same = one_meaning oil src h.config k.config h.app k.app h.accepted k.accepted in
-    let lines = data_lines 1 (source_lines src) in
-    let C : Config → Type 0 = λ c. IsFileOfImage c h.app name lines h.image one in
-    let A : App → Type 0 = λ a. IsFileOfImage k.config a name lines h.image one in
-    let I : Image → Type 0 = λ i. IsFileOfImage k.config k.app name lines i one in
-    one_of_image k.config k.app name lines k.image one other k.of_image.is_built.planned.by_map.is.has_items.well_formed
+    let origins = source_origins src in
+    let C : Config → Type 0 = λ c. IsFileOfImage c h.app name origins h.image one in
+    let A : App → Type 0 = λ a. IsFileOfImage k.config a name origins h.image one in
+    let I : Image → Type 0 = λ i. IsFileOfImage k.config k.app name origins i one in
+    one_of_image k.config k.app name origins k.image one other k.of_image.is_built.planned.by_map.is.has_items.well_formed
     (subst I image (subst A same.1 (subst C same.0 h.of_image))) k.of_image

@@ -15,6 +15,7 @@ use Rattle.mem_map.specs.Planned.{IsPlanned}
 use Rattle.mem_map.specs.StackParts.{no_extent}
 use Rattle.mem_map.specs.Stacks.{address_behind_data}
 use Rattle.symbol_image.specs.FileParts.{MayShow}
+use Rattle.symbol_image.specs.declared.line_places.Origins.{Origins}
 use Rattle.symbol_image.specs.SymbolFile.{symbol_file}
 use Rattle.symbol_build.proofs.OneFile.{same_file}
 use Rattle.symbol_build.proofs.Shown.{may_show}
@@ -31,14 +32,14 @@ module _ (config : Config) (app : App) (bounds : Bounds) (image : Image) (by_map
   alike : AreAlike m by_map.map
   alike = one_plan config app well.in_range bounds m by_map.map planned by_map.planned
 
-  pub may_show_again : (name lines memory : List ℕ) → memory ≡ image.memory → MayShow (parts_of name lines config app m memory)
-  may_show_again name lines memory is =
-      may_show config app bounds m well planned name lines memory
+  pub may_show_again : (name : List ℕ) (origins : Origins) (memory : List ℕ) → memory ≡ image.memory → MayShow (parts_of name origins config app m memory)
+  may_show_again name origins memory is =
+      may_show config app bounds m well planned name origins memory
       (ap (λ (bytes : List ℕ). memory_base + length bytes) is ∙ by_map.is.ends ∙ sym (same_end m by_map.map alike))
 
-  pub own_file : (name lines other memory file : List ℕ) → memory ≡ image.memory → other ≡ lines → file ≡ symbol_file (parts_of name other config app m memory)
-      → file ≡ symbol_file (parts_of name lines config app by_map.map image.memory)
-  own_file name lines other memory file is same e =
-      e ∙ ap (λ (l : List ℕ). symbol_file (parts_of name l config app m memory)) same
-      ∙ ap (λ (bytes : List ℕ). symbol_file (parts_of name lines config app m bytes)) is
-      ∙ same_file name lines config app image.memory m by_map.map alike
+  pub own_file : (name : List ℕ) (origins other : Origins) (memory file : List ℕ) → memory ≡ image.memory → other ≡ origins → file ≡ symbol_file (parts_of name other config app m memory)
+      → file ≡ symbol_file (parts_of name origins config app by_map.map image.memory)
+  own_file name origins other memory file is same e =
+      e ∙ ap (λ (o : Origins). symbol_file (parts_of name o config app m memory)) same
+      ∙ ap (λ (bytes : List ℕ). symbol_file (parts_of name origins config app m bytes)) is
+      ∙ same_file name origins config app image.memory m by_map.map alike

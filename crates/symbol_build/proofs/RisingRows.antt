@@ -1,5 +1,6 @@
 -- The rows of planned task code rise.
-use Rattle.std.proofs.Common.{◌≡◌, ◌<◌, ◌≤◌, ◌+◌, ◌-◌, ◌^◌, ◌⊎◌, inl, inr, ℕ, zero, suc, Bool, cond, List, [], ◌∷◌, ◌++◌, length, get_or, sym, subst, arith}
+use Rattle.std.proofs.Common.{◌≡◌, ◌<◌, ◌≤◌, ◌+◌, ◌-◌, ◌^◌, ◌⊎◌, inl, inr, ℕ, zero, suc, Bool, true, false, cond, List, [], ◌∷◌, ◌++◌, length, get_or, sym, subst, arith}
+use Rattle.std.specs.Prelude.{◌==◌}
 use Rattle.std.proofs.lemmas.Bool.{cases_lt, lt-ltb, le-ltb}
 use Rattle.sloth_base.specs.declared.app.Func.{Func}
 use Rattle.sloth_base.specs.declared.app.Item.{Item}
@@ -9,6 +10,11 @@ use Rattle.mem_map.specs.Starts.{end_of, starts}
 use Rattle.symbol_image.specs.LineMachine.{AreRisingRows}
 use Rattle.map_text.specs.LineRows.{first_rows, item_address, item_rows, last_row, line_rows, row}
 use Rattle.map_text.specs.declared.line_rows.LineRow.{LineRow}
+use Rattle.symbol_image.specs.FileRows.{file_rows, row_from}
+use Rattle.symbol_image.specs.LinePlaces.{no_place}
+use Rattle.symbol_image.specs.declared.file_rows.FileRow.{FileRow}
+use Rattle.symbol_image.specs.declared.line_places.Place.{Place}
+use Rattle.symbol_build.proofs.SmallPlaces.{AreSmall, IsSmall}
 use Rattle.symbol_build.proofs.RisingLines.{BodiesRise, ItemsRise}
 
 -- ---- addresses of pieces
@@ -45,11 +51,20 @@ lines-within : (a l : ℕ) (rows : List LineRow) (end last : ℕ) → Rises a l 
 lines-within a l [] end last h = h.1
 lines-within a l (r ∷ rows) end last h = let p = h.1 in let q = lines-within r.address r.line rows end last h.2 in omega (arith, p, q)
 
-are_rising : (a l : ℕ) (rows : List LineRow) (end last : ℕ) → end < 2 ^ 32 → last < 2 ^ 32 → Rises a l rows end last → AreRisingRows a l rows end
-are_rising a l [] end last e f h = (h.0, e)
-are_rising a l (r ∷ rows) end last e f h =
+-- a row with a place, or without one, in front of others
+risen : (a address line : ℕ) (place : Place) (rows : List FileRow) (end : ℕ) (b : Bool) → a ≤ address → line < 2 ^ 32 → IsSmall place → AreRisingRows address rows end
+    → AreRisingRows a (cond b (row_from address 1 line) (row_from address place.file place.line) ∷ rows) end
+risen a address line place rows end true above small place_small h = (above, omega arith, small, h)
+risen a address line place rows end false above small place_small h = (above, place_small.0, place_small.1, h)
+
+are_rising : (places : List Place) → AreSmall places → (a l : ℕ) (rows : List LineRow) (end last : ℕ) → end < 2 ^ 32 → last < 2 ^ 32 → Rises a l rows end last
+    → AreRisingRows a (file_rows places rows) end
+are_rising places small a l [] end last e f h = (h.0, e)
+are_rising places small a l (r ∷ rows) end last e f h =
     let q = lines-within r.address r.line rows end last h.2 in
-    (h.0, h.1, omega (arith, q, f), are_rising r.address r.line rows end last e f h.2)
+    let place = get_or places (r.line - 1) no_place in
+    risen a r.address r.line place (file_rows places rows) end (place.file == 0) h.0 (omega (arith, q, f)) (small (r.line - 1))
+    (are_rising places small r.address r.line rows end last e f h.2)
 
 -- the last instruction of a first item
 last_rises : (first next line : ℕ) → first ≤ next → Rises first line (last_row first next line) next line
@@ -100,11 +115,11 @@ module _ (places : Places) (end : ℕ) (step : (k : ℕ) → item_address places
   )
 
 -- so rows of pieces that follow each other rise, where the lines do
-pub rows_rise : (places : Places) (at end to : ℕ) (lens : List ℕ) (funcs : List Func) → places.items ≡ starts at lens → end_of at lens ≤ end → end < 2 ^ 32 → to < 2 ^ 32
-    → BodiesRise 1 funcs to → AreRisingRows 0 1 (line_rows places end 0 funcs) end
-rows_rise places at end to lens funcs is below small few h =
+pub rows_rise : (places : Places) (sources : List Place) → AreSmall sources → (at end to : ℕ) (lens : List ℕ) (funcs : List Func) → places.items ≡ starts at lens → end_of at lens ≤ end → end < 2 ^ 32 → to < 2 ^ 32
+    → BodiesRise 1 funcs to → AreRisingRows 0 (file_rows sources (line_rows places end 0 funcs)) end
+rows_rise places sources sources_small at end to lens funcs is below small few h =
     let step : (k : ℕ) → item_address places end k ≤ item_address places end (suc k) =
     λ k. subst (λ (l : List ℕ). get_or l k end ≤ get_or l (suc k) end) (sym is) (starts_rise at end lens k below) in
     let within : (k : ℕ) → item_address places end k ≤ end = λ k. subst (λ (l : List ℕ). get_or l k end ≤ end) (sym is) (starts_within at end lens k below) in
-    are_rising 0 1 (line_rows places end 0 funcs) end to small few
+    are_rising sources sources_small 0 1 (line_rows places end 0 funcs) end to small few
     (earlier 0 (item_address places end 0) 1 1 (line_rows places end 0 funcs) end to (omega arith) (omega arith) (bodies places end step 0 1 to funcs within h))

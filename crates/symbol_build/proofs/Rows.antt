@@ -12,6 +12,8 @@ use Rattle.mem_map.specs.Starts.{code_byte_count}
 use Rattle.mem_map.specs.Zones.{data_zone}
 use Rattle.symbol_build.proofs.RisingLines.{BodiesRise, bodies_rise}
 use Rattle.symbol_build.proofs.RisingRows.{rows_rise}
+use Rattle.symbol_build.proofs.SmallPlaces.{source_places_small}
+use Rattle.symbol_build.specs.SymbolFiles.{source_origins}
 use Rattle.symbol_build.specs.SourceRows.{SourceLinesAreRows, rows_by}
 
 pub source_lines_are_rows : SourceLinesAreRows
@@ -23,6 +25,6 @@ source_lines_are_rows oil src config app bounds m short accepted p =
     let from = p.addresses.data_from in
     let near = p.near in
     let few = lines_few src in
-    program_makes (rows_by app m) (data_zone m).base
-    (rows_rise m.places (items_at p.lengths) (data_zone m).base (1 + length lines) (map code_byte_count p.lengths.items) app.funcs p.addresses.items (omega (arith, from))
+    program_makes (rows_by (source_origins src).places app m) (data_zone m).base
+    (rows_rise m.places (source_origins src).places (source_places_small src) (items_at p.lengths) (data_zone m).base (1 + length lines) (map code_byte_count p.lengths.items) app.funcs p.addresses.items (omega (arith, from))
     (omega (arith, from, near)) (omega (arith, few, short)) (subst (λ (fs : List Func). BodiesRise 1 fs (1 + length lines)) (sym funcs) rise))

@@ -22,6 +22,7 @@ use Rattle.mem_map.specs.Zones.{all_stacks, code_zone, data_zone}
 use Rattle.mem_map.specs.Plan.{items_at, prologues_at, services_at, ticks_at}
 use Rattle.map_text.specs.LineRows.{item_count}
 use Rattle.map_text.specs.Borders.{HasBorders}
+use Rattle.symbol_image.specs.declared.line_places.Origins.{Origins}
 use Rattle.symbol_image.specs.FileParts.{MayShow}
 use Rattle.symbol_image.specs.FrameRows.{HasFrames}
 use Rattle.symbol_build.specs.SymbolFiles.{parts_of}
@@ -94,9 +95,9 @@ module _ (config : Config) (app : App) (bounds : Bounds) (m : Map) (well : WellF
             omega (arith, near, at, is);
       }
 
-  pub may_show : (name lines memory : List ℕ) → memory_base + length memory ≡ address_behind_data m
-      → MayShow (parts_of name lines config app m memory)
-  may_show name lines memory ends =
+  pub may_show : (name : List ℕ) (origins : Origins) (memory : List ℕ) → memory_base + length memory ≡ address_behind_data m
+      → MayShow (parts_of name origins config app m memory)
+  may_show name origins memory ends =
       let tasks = p.zones.few_tasks in
       let counters = well.in_range.configuration.few_counters in
       let alarms = well.in_range.configuration.few_alarms in

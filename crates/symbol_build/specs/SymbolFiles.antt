@@ -14,9 +14,11 @@ use Rattle.sim_laws.specs.TaskStates.{HasTaskStates}
 use Rattle.asm_lines.specs.Faults.{source_lines}
 use Rattle.sloth_build.specs.ImageOf.{HasPlannedMap}
 use Rattle.sloth_source.specs.Texts.{AreAccepted}
-use Rattle.symbol_image.specs.DataLines.{data_lines}
 use Rattle.symbol_image.specs.FileParts.{FileParts}
+use Rattle.symbol_image.specs.LinePlaces.{origins_of}
 use Rattle.symbol_image.specs.SymbolFile.{symbol_file}
+use Rattle.symbol_image.specs.declared.line_places.Origins.{Origins}
+use Rattle.text_pieces.specs.Lines.{lines}
 
 -- An image of a configuration and its task code, as it is built: each of its runs is one of the abstract scheduler, no stretch takes more than its
 -- weight, its events keep the pace, the machine shows its task states, its items are in place, its numbers and names are those of an image file, and
@@ -32,15 +34,19 @@ pub record IsBuilt (config : Config) (app : App) (image : Image) : Type 0 where
   pub counters : image.counters ≡ counter_names config
   pub planned : HasPlannedMap config app image
 
--- what the file is made from, of a source with this name, which declares its symbols in these lines
-abbrev pub parts_of : (name lines : List ℕ) → Config → App → Map → (memory : List ℕ) → FileParts
-parts_of name lines config app map memory =
-    record { source = name; config = config; app = app; map = map; lines = lines; memory = memory }
+-- where a source declares its symbols, and where its lines come from
+abbrev pub source_origins : (src : List ℕ) → Origins
+source_origins src = origins_of (lines src) (source_lines src)
+
+-- what the file is made from, of a source with this name and these origins
+abbrev pub parts_of : (name : List ℕ) → Origins → Config → App → Map → (memory : List ℕ) → FileParts
+parts_of name origins config app map memory =
+    record { source = name; config = config; app = app; map = map; origins = origins; memory = memory }
 
 -- the file is that of an image which is built, by its own map: so each symbol and each line has the address where that image has the piece or the item
-pub record IsFileOfImage (config : Config) (app : App) (name lines : List ℕ) (image : Image) (file : List ℕ) : Type 0 where
+pub record IsFileOfImage (config : Config) (app : App) (name : List ℕ) (origins : Origins) (image : Image) (file : List ℕ) : Type 0 where
   pub is_built : IsBuilt config app image
-  pub is : file ≡ symbol_file (parts_of name lines config app is_built.planned.by_map.map image.memory)
+  pub is : file ≡ symbol_file (parts_of name origins config app is_built.planned.by_map.map image.memory)
 
 -- the texts are accepted, and the file is that of an image which is built of what they mean; the second text has this name
 pub record IsSymbolFile (oil src name file : List ℕ) : Type 0 where
@@ -48,7 +54,7 @@ pub record IsSymbolFile (oil src name file : List ℕ) : Type 0 where
   pub app : App
   pub image : Image
   pub accepted : AreAccepted oil src config app
-  pub of_image : IsFileOfImage config app name (data_lines 1 (source_lines src)) image file
+  pub of_image : IsFileOfImage config app name (source_origins src) image file
 
 -- texts have one file for each image
 abbrev pub OneSymbolFile : Type 0

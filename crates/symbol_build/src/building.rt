@@ -7,10 +7,9 @@ ghost use Rattle.asm_lines.specs.Faults.{SourceLinesFault, source_lines};
 ghost use Rattle.sloth_build.specs.Gathered.{MayBuild};
 ghost use Rattle.map_text.specs.Listable.{IsListable};
 ghost use Rattle.sloth_source.specs.Texts.{SourcesErrorIs};
-ghost use Rattle.symbol_image.specs.DataLines.{data_lines};
 ghost use Rattle.symbol_image.specs.FileParts.{MayShow};
 ghost use Rattle.symbol_image.specs.SymbolFile.{symbol_file};
-ghost use Rattle.symbol_build.specs.SymbolFiles.{IsFileOfImage, IsSymbolFile, parts_of};
+ghost use Rattle.symbol_build.specs.SymbolFiles.{IsFileOfImage, IsSymbolFile, parts_of, source_origins};
 
 use asm_lines::SourceLine;
 use map_text::map_rows;
@@ -20,7 +19,8 @@ use sloth_build::image::image;
 use sloth_region::Map;
 use sloth_source::{Source, read};
 use std::alloc::Global;
-use symbol_image::{Parts, data_lines, symbol_file};
+use symbol_image::{Origins, Parts, origins_of, symbol_file};
+use text_pieces::lines;
 
 // What the lines of a source are, in which there is no fault, so that only memory can be wanting.
 fn lines_of(alloc: Global, src: &[u8]) -> Result<List<SourceLine>, NoMemory>
@@ -34,29 +34,30 @@ fn lines_of(alloc: Global, src: &[u8]) -> Result<List<SourceLine>, NoMemory>
     }
 }
 
-// The lines in which it declares its symbols.
-fn declaring_lines(alloc: Global, src: &[u8]) -> Result<Vec<u32>, NoMemory>
+// Where it declares its symbols, and where its lines come from.
+fn source_origins(alloc: Global, src: &[u8]) -> Result<Origins, NoMemory>
     requires short { length src.now ≤ file_limit }
     requires none { NoFault (SourceLinesFault src.now) }
-    ensures { IfOk result (λ found. found.items ≡ data_lines 1 (source_lines src.now)) }
+    ensures { IfOk result (λ found. found ≡ source_origins src.now) }
 {
-    let lines = lines_of(alloc, src)?;
-    data_lines(alloc, lines.items())
+    let statements = lines_of(alloc, src)?;
+    let texts = lines(alloc, src)?;
+    origins_of(alloc, texts.as_slice(), statements.items())
 }
 
 // The file of these parts.
 fn file_of<'t>(
     alloc: Global,
     name: &'t [u8],
-    lines: &'t [u32],
+    origins: &'t Origins,
     config: &'t Config,
     app: &'t App,
     map: &'t Map,
     memory: &'t [u8],
 ) -> Result<Vec<u8>, NoMemory>
     requires listable { IsListable config.now map.now }
-    requires may { MayShow (parts_of name.now lines.now config.now app.now map.now memory.now) }
-    ensures { IfOk result (λ file. file.items ≡ symbol_file (parts_of name.now lines.now config.now app.now map.now memory.now)) }
+    requires may { MayShow (parts_of name.now origins.now config.now app.now map.now memory.now) }
+    ensures { IfOk result (λ file. file.items ≡ symbol_file (parts_of name.now origins.now config.now app.now map.now memory.now)) }
 {
     let rows = map_rows(alloc, config, map)?;
     let parts = Parts {
@@ -64,7 +65,7 @@ fn file_of<'t>(
         config,
         app,
         map,
-        lines,
+        origins,
         memory,
     };
     symbol_file(alloc, &parts, rows.as_slice())
@@ -83,15 +84,15 @@ fn planned_file(
     requires none { NoFault (SourceLinesFault src.now) }
     requires may { MayBuild config.now app.now bounds.now }
     ensures { IfOk result (λ file.
-        (image : AnyImage) × IsFileOfImage config.now app.now name.now (data_lines 1 (source_lines src.now)) image file.items) }
+        (image : AnyImage) × IsFileOfImage config.now app.now name.now (source_origins src.now) image file.items) }
 {
     let image = image(alloc, config, app, bounds)?;
     let map = plan(alloc, app, config, bounds)?;
-    let lines = declaring_lines(alloc, src)?;
+    let origins = source_origins(alloc, src)?;
     file_of(
         alloc,
         name,
-        lines.as_slice(),
+        &origins,
         config,
         app,
         &map,

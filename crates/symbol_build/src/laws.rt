@@ -29,7 +29,7 @@ pub fn sections_stand()
     ensures names { NamesStand }
 {}
 
-/// On the standard's machine of lines the section of accepted texts makes exactly the rows of their items.
+/// On the standard's machine of lines the section of accepted texts makes exactly the rows of their items, each from the place that comments state.
 pub fn source_lines_are_rows()
     ensures { SourceLinesAreRows }
 {}

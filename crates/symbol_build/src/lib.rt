@@ -7,7 +7,7 @@
 //! What is built can be shown, so its file loads the byte of each of its addresses, from one segment alone (`built_memory_is_loaded`,
 //! `specs/BuiltFiles`). The section headers say where each section stands in the file (`sections_stand`, `specs/StandingSections`), so the readers of
 //! the tables find each symbol in it (`symbols_stand`, `specs/StandingSymbols`). The source lines of accepted texts make exactly their rows on the
-//! standard's machine: of each item the address of its first instruction and its line (`source_lines_are_rows`, `specs/SourceRows`); they stand in the
+//! standard's machine: of each item the address of its first instruction, and the file and the line that comments of the source state, else its own (`source_lines_are_rows`, `specs/SourceRows`); they stand in the
 //! file, as do the entries of symbols and bodies (`files_say_source`, `specs/SourceFiles`). The file: `symbol_image` (`SymbolFile`); lines and entries:
 //! `map_text` (`LineRows`), `symbol_image` (`LineMachine`, `EntryTree`); the image's map: `sloth_build` (`ImageOf`); texts: `sloth_source` (`Texts`).
 #![tactic(auto)]

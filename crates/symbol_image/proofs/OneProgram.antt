@@ -4,9 +4,9 @@ use Rattle.std.specs.List.{flat_map}
 use Rattle.std.proofs.lemmas.List.Elements.{All-head, All-tail}
 use Rattle.image_file.specs.Fields.{four_bytes}
 use Rattle.image_file.proofs.Unique.{Splits, four}
-use Rattle.symbol_image.specs.Fields.{signed_leb, unsigned_leb}
-use Rattle.symbol_image.specs.LineMachine.{AdvanceLine, AdvancePc, Copy, EndSequence, HasMatrix, IsOperation, MatrixRow, Operation, SetAddress, at_first, matrix_of, operation_bytes}
-use Rattle.symbol_image.proofs.Groups.{signed, unsigned}
+use Rattle.symbol_image.specs.Fields.{negative_leb, signed_leb, unsigned_leb}
+use Rattle.symbol_image.specs.LineMachine.{AdvanceLine, AdvancePc, Copy, EndSequence, HasMatrix, IsOperation, MatrixRow, Operation, RetreatLine, SetAddress, SetFile, at_first, matrix_of, operation_bytes}
+use Rattle.symbol_image.proofs.Groups.{negative, signed, signs_differ, unsigned}
 
 -- an operation is determined by its bytes
 operation : (x y : Operation) (r s : List ℕ) → IsOperation x → IsOperation y → operation_bytes x ++ r ≡ operation_bytes y ++ s → Splits x y r s
@@ -20,6 +20,20 @@ operation (AdvanceLine m) (AdvanceLine n) r s p q e =
     let t : signed_leb m ++ r ≡ signed_leb n ++ s = cc in
     let h : Splits m n r s = signed m n r s p q t in
     (ap AdvanceLine h.0, h.1)
+operation (RetreatLine m) (RetreatLine n) r s p q e =
+    let t : negative_leb m ++ r ≡ negative_leb n ++ s = cc in
+    let h : Splits m n r s = negative m n r s p.1 q.1 t in
+    (ap RetreatLine h.0, h.1)
+operation (AdvanceLine m) (RetreatLine n) r s p q e =
+    let t : signed_leb m ++ r ≡ negative_leb n ++ s = cc in
+    absurd (signs_differ m n r s p q.0 q.1 t)
+operation (RetreatLine m) (AdvanceLine n) r s p q e =
+    let t : signed_leb n ++ s ≡ negative_leb m ++ r = cc in
+    absurd (signs_differ n m s r q p.0 p.1 t)
+operation (SetFile m) (SetFile n) r s p q e =
+    let t : unsigned_leb m ++ r ≡ unsigned_leb n ++ s = cc in
+    let h : Splits m n r s = unsigned m n r s p q t in
+    (ap SetFile h.0, h.1)
 operation (SetAddress m) (SetAddress n) r s p q e =
     let t : four_bytes m ++ r ≡ four_bytes n ++ s = cc in
     let h : Splits m n r s = four m n r s p q t in
@@ -33,6 +47,8 @@ some : (x : Operation) (r : List ℕ) → [] ≡ operation_bytes x ++ r → ⊥
 some Copy r e = cc
 some (AdvancePc n) r e = cc
 some (AdvanceLine n) r e = cc
+some (RetreatLine n) r e = cc
+some (SetFile n) r e = cc
 some EndSequence r e = cc
 some (SetAddress n) r e = cc
 

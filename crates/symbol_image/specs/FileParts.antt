@@ -5,17 +5,18 @@ use Rattle.sloth_base.specs.declared.config.Config.{Config}
 use Rattle.sloth_region.specs.declared.map.Map.{Map}
 use Rattle.mem_map.specs.Zones.{data_zone}
 use Rattle.map_text.specs.Borders.{HasBorders}
+use Rattle.symbol_image.specs.declared.line_places.Origins.{Origins}
 use Rattle.symbol_image.specs.FrameRows.{HasFrames}
 use Rattle.symbol_image.specs.WordSymbols.{HasWords}
 
--- the name of the source, what it means with its configuration, the map that is planned for it, the lines in which it declares its symbols, and
--- the image's memory
+-- the name of the source, what it means with its configuration, the map that is planned for it, where it declares its symbols and its lines come from,
+-- and the image's memory
 pub record FileParts : Type 0 where
   pub source : List ℕ
   pub config : Config
   pub app : App
   pub map : Map
-  pub lines : List ℕ
+  pub origins : Origins
   pub memory : List ℕ
 
 -- task code within its limits, and the map of an image with this memory

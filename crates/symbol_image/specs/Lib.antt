@@ -6,6 +6,7 @@ pub mod EntryBytes
 pub mod EntryTree
 pub mod Fields
 pub mod FileParts
+pub mod FileRows
 pub mod FrameEntries
 pub mod FrameRows
 pub mod Frames
@@ -14,10 +15,12 @@ pub mod Headers
 pub mod Layout
 pub mod LayoutViews
 pub mod LineMachine
+pub mod LinePlaces
 pub mod LineSection
 pub mod Loading
 pub mod Reading
 pub mod Sections
+pub mod StatedPlaces
 pub mod SymbolFile
 pub mod SymbolTable
 pub mod Symbols

@@ -3,6 +3,7 @@ use Rattle.std.specs.Prelude.{ℕ, ◌+◌, ◌-◌, List, [], ◌∷◌, ◌++�
 use Rattle.sloth_base.specs.MemoryMap.{memory_base, vectors_base}
 use Rattle.symbol_image.specs.Abbreviations.{abbreviation_section}
 use Rattle.symbol_image.specs.Entries.{info_section}
+use Rattle.symbol_image.specs.FileRows.{file_rows}
 use Rattle.map_text.specs.LineRows.{line_rows}
 use Rattle.symbol_image.specs.LineSection.{line_section}
 use Rattle.map_text.specs.Rows.{map_rows}
@@ -74,11 +75,12 @@ kinds_section = plain (codes ".debug_abbrev") abbreviation_section
 
 -- the entries
 abbrev pub entries_section : FileParts → (code_end : ℕ) → Section
-entries_section p code_end = plain (codes ".debug_info") (info_section p.source p.app p.map.places code_end p.lines)
+entries_section p code_end = plain (codes ".debug_info") (info_section p.source p.app p.map.places code_end p.origins.lines)
 
 -- the lines
 abbrev pub lines_section : FileParts → (code_end : ℕ) → Section
-lines_section p code_end = plain (codes ".debug_line") (line_section p.source (line_rows p.map.places code_end 0 p.app.funcs) code_end)
+lines_section p code_end = plain (codes ".debug_line")
+    (line_section p.source p.origins.files (file_rows p.origins.places (line_rows p.map.places code_end 0 p.app.funcs)) code_end)
 
 -- the frames
 abbrev pub frames_section : FileParts → (code_end : ℕ) → List Row → Section

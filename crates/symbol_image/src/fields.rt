@@ -1,7 +1,7 @@
 //! The fields of which sections are made.
 ghost use Rattle.std.specs.Prelude.{◌≡◌, ◌≤◌, ◌++◌, IfOk, OnOk};
 ghost use Rattle.image_file.specs.Fields.{four_bytes, two_bytes};
-ghost use Rattle.symbol_image.specs.Fields.{groups, signed_leb, sized, text_bytes, unsigned_leb};
+ghost use Rattle.symbol_image.specs.Fields.{groups, negative_leb, signed_leb, sized, text_bytes, unsigned_leb};
 
 use image_file::{put_u16, put_u32};
 use sloth_base::NoMemory;
@@ -12,6 +12,9 @@ const FOUR_BYTES: usize = 4294967296;
 
 /// How many numbers two bytes hold.
 const TWO_BYTES: u32 = 65536;
+
+/// How many numbers five groups of seven bits hold.
+const FIVE_GROUPS: u64 = 34359738368;
 
 /// Appends bytes.
 pub fn put_bytes(section: &mut Vec<u8>, bytes: &[u8]) -> Result<(), NoMemory>
@@ -72,6 +75,24 @@ pub fn put_signed(section: &mut Vec<u8>, number: u32) -> Result<(), NoMemory>
     ensures { OnOk result (section.new.items ≡ section.old.items ++ signed_leb number) }
 {
     put_groups(section, 64, number)
+}
+
+/// Appends a number that is so much below zero as a signed LEB128 of five groups.
+#[tactic(auto, unfolding(crate::specs::Fields::negative_leb))]
+pub fn put_negative(section: &mut Vec<u8>, less: u32) -> Result<(), NoMemory>
+    ensures { OnOk result (section.new.items ≡ section.old.items ++ negative_leb less) }
+{
+    let number = FIVE_GROUPS - u64::from(less);
+    put_bytes(
+        section,
+        &[
+            (number % 128) as u8 + 128,
+            (number / 128 % 128) as u8 + 128,
+            (number / 16384 % 128) as u8 + 128,
+            (number / 2097152 % 128) as u8 + 128,
+            (number / 268435456) as u8,
+        ],
+    )
 }
 
 /// Bytes behind their length.

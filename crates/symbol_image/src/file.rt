@@ -131,7 +131,7 @@ fn lay_entries(alloc: Global, laid: &mut Laid, parts: &Parts, code_end: u32) -> 
         parts.app,
         &parts.map.places,
         code_end,
-        parts.lines,
+        parts.origins.lines.items(),
     )?;
     lay_plain(laid, b".debug_info", entries.as_slice())
 }
@@ -141,7 +141,14 @@ fn lay_lines(alloc: Global, laid: &mut Laid, parts: &Parts, code_end: u32) -> Re
     requires { item_count parts.now.app.funcs ≤ item_limit }
     ensures { OnOk result (laid_of laid.new ≡ laid_with (laid_of laid.old) (lines_section parts.now code_end)) }
 {
-    let lines = line_section(alloc, parts.source, parts.app, &parts.map.places, code_end)?;
+    let lines = line_section(
+        alloc,
+        parts.source,
+        parts.app,
+        &parts.map.places,
+        parts.origins,
+        code_end,
+    )?;
     lay_plain(laid, b".debug_line", lines.as_slice())
 }
 

@@ -4,6 +4,7 @@ ghost use Rattle.symbol_image.specs.LineMachine.{OneMatrix, ProgramHasRows};
 ghost use Rattle.symbol_image.specs.Loading.{LoadedOnce, MemoryIsLoaded, NothingElseIsLoaded};
 ghost use Rattle.symbol_image.specs.Reading.{SymbolsReadBack};
 ghost use Rattle.symbol_image.specs.Sections.{SectionsAgree};
+ghost use Rattle.symbol_image.specs.StatedPlaces.{FilesAreNames, OthersHaveNone, PlacesAreStated};
 
 /// Each byte of an image's memory is loaded to its address, by one segment alone, and no other byte of the file is loaded.
 pub fn memory_is_loaded_once()
@@ -22,10 +23,17 @@ pub fn sections_and_segments_agree()
     ensures { SectionsAgree }
 {}
 
-/// The program of rows whose addresses and lines do not fall makes exactly them on the standard's machine, and one end; bytes make one matrix at most.
+/// The program of rows whose addresses do not fall makes exactly them on the standard's machine, and one end; bytes make one matrix at most.
 pub fn lines_are_rows()
     ensures makes { ProgramHasRows }
     ensures one { OneMatrix }
+{}
+
+/// The line of a source comes from the place that the last comment above it in its body states, and has none without one; the table of files has the names.
+pub fn places_are_stated()
+    ensures stated { PlacesAreStated }
+    ensures none { OthersHaveNone }
+    ensures files { FilesAreNames }
 {}
 
 /// The section of entries reads by the table of kinds; each symbol and each body is among them, and each symbol's type is that of its bytes.

@@ -2,33 +2,70 @@
 ghost use Rattle.std.specs.Prelude.{◌≡◌, ◌≤◌, ◌++◌, IfOk, OnOk};
 ghost use Rattle.sloth_base.specs.Limits.{item_limit};
 ghost use Rattle.map_text.specs.LineRows.{item_count, line_rows};
-ghost use Rattle.symbol_image.specs.LineSection.{address_from, end_behind, first_row, further_rows, line_from, line_header, line_program, line_section, line_unit, row_behind};
+ghost use Rattle.symbol_image.specs.LineSection.{address_from, end_behind, file_from, first_row, further_rows, line_from, line_header, line_program, line_section, line_unit, place_from, row_behind};
 ghost use Rattle.symbol_image.specs.Fields.{sized};
+ghost use Rattle.symbol_image.specs.FileRows.{file_rows};
 
-use crate::fields::{put_bytes, put_length, put_signed, put_text, put_unsigned, sized};
+use crate::Origins;
+use crate::fields::{
+    put_bytes, put_length, put_negative, put_signed, put_text, put_unsigned, sized,
+};
+use crate::file_rows::{FileRow, file_row};
+use crate::line_places::Place;
 use image_file::{put_u16, put_u32};
 use map_text::LineRow;
 use map_text::line_rows::line_rows;
 use sloth_base::{App, NoMemory, Places};
 use std::alloc::Global;
 
+/// Where rows begin: in line 1 of the source.
+const BEGINNING: FileRow = FileRow {
+    address: 0,
+    file: 1,
+    line: 1,
+};
+
 // The header behind its length.
-fn line_header(alloc: Global, source: &[u8]) -> Result<Vec<u8>, NoMemory>
-    ensures { IfOk result (λ header. header.items ≡ line_header source.now) }
+fn line_header(alloc: Global, source: &[u8], files: &[u8]) -> Result<Vec<u8>, NoMemory>
+    ensures { IfOk result (λ header. header.items ≡ line_header source.now files.now) }
 {
     let mut header = Vec::from_slice(alloc, &[1, 1, 1, 253, 12, 13])?;
     put_bytes(&mut header, &[0, 1, 1, 1, 1, 0, 0, 0, 1, 0, 0, 1, 0])?;
     put_text(&mut header, source)?;
-    put_bytes(&mut header, &[0, 0, 0, 0])?;
+    put_bytes(&mut header, &[0, 0, 0])?;
+    put_bytes(&mut header, files)?;
+    put_bytes(&mut header, &[0])?;
     Ok(header)
 }
 
-// Appends that a row's line is reached from another, and the row.
-fn put_line(section: &mut Vec<u8>, line: u32, row: LineRow) -> Result<(), NoMemory>
-    ensures { OnOk result (section.new.items ≡ section.old.items ++ line_from line row) }
+// Appends that a file is reached from another.
+fn put_file(section: &mut Vec<u8>, file: u32, to: u32) -> Result<(), NoMemory>
+    ensures { OnOk result (section.new.items ≡ section.old.items ++ file_from file to) }
+{
+    if file == to {
+        return Ok(());
+    }
+    put_bytes(section, &[4])?;
+    put_unsigned(section, to)
+}
+
+// Appends that a line is reached from another.
+fn put_line(section: &mut Vec<u8>, line: u32, to: u32) -> Result<(), NoMemory>
+    ensures { OnOk result (section.new.items ≡ section.old.items ++ line_from line to) }
 {
     put_bytes(section, &[3])?;
-    put_signed(section, row.line.saturating_sub(line))?;
+    if to < line {
+        return put_negative(section, line - to);
+    }
+    put_signed(section, to - line)
+}
+
+// Appends that a row's file and line are reached from those of another, and the row.
+fn put_place(section: &mut Vec<u8>, from: FileRow, row: FileRow) -> Result<(), NoMemory>
+    ensures { OnOk result (section.new.items ≡ section.old.items ++ place_from from row) }
+{
+    put_file(section, from.file, row.file)?;
+    put_line(section, from.line, row.line)?;
     put_bytes(section, &[1])
 }
 
@@ -41,20 +78,20 @@ fn put_address(section: &mut Vec<u8>, address: u32, to: u32) -> Result<(), NoMem
 }
 
 // Appends the first row.
-fn put_first(section: &mut Vec<u8>, row: LineRow) -> Result<(), NoMemory>
+fn put_first(section: &mut Vec<u8>, row: FileRow) -> Result<(), NoMemory>
     ensures { OnOk result (section.new.items ≡ section.old.items ++ first_row row) }
 {
     put_bytes(section, &[0, 5, 2])?;
     put_u32(section, row.address)?;
-    put_line(section, 1, row)
+    put_place(section, BEGINNING, row)
 }
 
-// Appends a row behind one of this address and line.
-fn put_row(section: &mut Vec<u8>, address: u32, line: u32, row: LineRow) -> Result<(), NoMemory>
-    ensures { OnOk result (section.new.items ≡ section.old.items ++ row_behind address line row) }
+// Appends a row behind another.
+fn put_row(section: &mut Vec<u8>, from: FileRow, row: FileRow) -> Result<(), NoMemory>
+    ensures { OnOk result (section.new.items ≡ section.old.items ++ row_behind from row) }
 {
-    put_address(section, address, row.address)?;
-    put_line(section, line, row)
+    put_address(section, from.address, row.address)?;
+    put_place(section, from, row)
 }
 
 // Appends the end of all rows behind one of this address.
@@ -65,74 +102,102 @@ fn put_end(section: &mut Vec<u8>, address: u32, end: u32) -> Result<(), NoMemory
     put_bytes(section, &[0, 1, 1])
 }
 
-// Appends the rows behind a first one, and the end of them all.
+// Appends the rows behind a first one, whose lines have these places, and the end of them all.
 fn put_further(
     section: &mut Vec<u8>,
-    first: LineRow,
+    first: FileRow,
+    places: &[Place],
     rows: &[LineRow],
     end: u32,
 ) -> Result<(), NoMemory>
-    ensures { OnOk result (section.new.items ≡ section.old.items ++ further_rows first.address first.line rows.now end) }
+    ensures { OnOk result (section.new.items ≡ section.old.items ++ further_rows first (file_rows places.now rows.now) end) }
 {
     let mut last = first;
     for row in rows {
-        put_row(section, last.address, last.line, *row)?;
-        last.advance(*row);
+        let next = file_row(places, *row);
+        put_row(section, last, next)?;
+        last = next;
     }
     put_end(section, last.address, end)
 }
 
 // Appends the program of rows.
 #[tactic(auto, unfolding(crate::specs::LineSection::line_program))]
-fn put_program(section: &mut Vec<u8>, rows: &[LineRow], end: u32) -> Result<(), NoMemory>
-    ensures { OnOk result (section.new.items ≡ section.old.items ++ line_program rows.now end) }
+fn put_program(
+    section: &mut Vec<u8>,
+    places: &[Place],
+    rows: &[LineRow],
+    end: u32,
+) -> Result<(), NoMemory>
+    ensures { OnOk result (section.new.items ≡ section.old.items ++ line_program (file_rows places.now rows.now) end) }
 {
     let Some((first, rest)) = rows.split_first() else {
         return Ok(());
     };
-    put_first(section, *first)?;
-    put_further(section, *first, rest, end)
+    let first = file_row(places, *first);
+    put_first(section, first)?;
+    put_further(section, first, places, rest, end)
 }
 
 // Appends the header behind its length.
-fn put_header(alloc: Global, unit: &mut Vec<u8>, source: &[u8]) -> Result<(), NoMemory>
-    ensures { OnOk result (unit.new.items ≡ unit.old.items ++ sized (line_header source.now)) }
+fn put_header(
+    alloc: Global,
+    unit: &mut Vec<u8>,
+    source: &[u8],
+    files: &[u8],
+) -> Result<(), NoMemory>
+    ensures { OnOk result (unit.new.items ≡ unit.old.items ++ sized (line_header source.now files.now)) }
 {
-    let header = line_header(alloc, source)?;
+    let header = line_header(alloc, source, files)?;
     put_length(unit, header.len())?;
     put_bytes(unit, header.as_slice())
 }
 
 // What stands behind the length of the section of rows.
-fn line_unit(alloc: Global, source: &[u8], rows: &[LineRow], end: u32) -> Result<Vec<u8>, NoMemory>
-    ensures { IfOk result (λ unit. unit.items ≡ line_unit source.now rows.now end) }
+fn line_unit(
+    alloc: Global,
+    source: &[u8],
+    origins: &Origins,
+    rows: &[LineRow],
+    end: u32,
+) -> Result<Vec<u8>, NoMemory>
+    ensures { IfOk result (λ unit. unit.items ≡ line_unit source.now origins.now.files (file_rows origins.now.places rows.now) end) }
 {
     let mut unit = Vec::new(alloc);
     put_u16(&mut unit, 4)?;
-    put_header(alloc, &mut unit, source)?;
-    put_program(&mut unit, rows, end)?;
+    put_header(alloc, &mut unit, source, origins.files.items())?;
+    put_program(&mut unit, origins.places.items(), rows, end)?;
     Ok(unit)
 }
 
 // The section of rows.
-fn section_of(alloc: Global, source: &[u8], rows: &[LineRow], end: u32) -> Result<Vec<u8>, NoMemory>
-    ensures { IfOk result (λ section. section.items ≡ line_section source.now rows.now end) }
+fn section_of(
+    alloc: Global,
+    source: &[u8],
+    origins: &Origins,
+    rows: &[LineRow],
+    end: u32,
+) -> Result<Vec<u8>, NoMemory>
+    ensures { IfOk result (λ section. section.items ≡ line_section source.now origins.now.files (file_rows origins.now.places rows.now) end) }
 {
-    let unit = line_unit(alloc, source, rows, end)?;
+    let unit = line_unit(alloc, source, origins, rows, end)?;
     sized(alloc, unit.as_slice())
 }
 
-/// The section of the lines of task code whose items have these places, up to the address behind them; `source` is the name of its source.
+/// The section of the lines of task code whose items have these places, up to the address behind them; `source` is the name of its source, whose lines come
+/// from these origins.
 pub fn line_section(
     alloc: Global,
     source: &[u8],
     app: &App,
     places: &Places,
+    origins: &Origins,
     end: u32,
 ) -> Result<Vec<u8>, NoMemory>
     requires { item_count app.now.funcs ≤ item_limit }
-    ensures { IfOk result (λ section. section.items ≡ line_section source.now (line_rows places.now end 0 app.now.funcs) end) }
+    ensures { IfOk result (λ section. section.items ≡ line_section source.now origins.now.files
+        (file_rows origins.now.places (line_rows places.now end 0 app.now.funcs)) end) }
 {
     let rows = line_rows(alloc, places, end, app.funcs.items())?;
-    section_of(alloc, source, rows.as_slice(), end)
+    section_of(alloc, source, origins, rows.as_slice(), end)
 }

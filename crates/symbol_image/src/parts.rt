@@ -1,10 +1,11 @@
 //! What a file for debuggers is made from.
 
+use crate::Origins;
 use sloth_base::{App, Config};
 use sloth_region::Map;
 use std::marker::Model;
 
-/// The name of the source; what it means with its configuration; the map that is planned for it; the lines in which it declares its symbols;
+/// The name of the source; what it means with its configuration; the map that is planned for it; where it declares its symbols and its lines come from;
 /// and the image's memory.
 #[derive(Drop)]
 pub struct Parts<'t> {
@@ -12,7 +13,7 @@ pub struct Parts<'t> {
     pub config: &'t Config,
     pub app: &'t App,
     pub map: &'t Map,
-    pub lines: &'t [u32],
+    pub origins: &'t Origins,
     pub memory: &'t [u8],
 }
 
@@ -26,7 +27,7 @@ impl<'t> Model for Parts<'t> {
       config = parts.config.now;
       app = parts.app.now;
       map = parts.map.now;
-      lines = parts.lines.now;
+      origins = parts.origins.now;
       memory = parts.memory.now;
     } };
 }

@@ -26,6 +26,7 @@ reads_image tool.Why = false
 reads_image tool.TaskBound = false
 reads_image tool.TaskResponse = false
 reads_image tool.Symbols = false
+reads_image tool.Orti = false
 reads_image tool.Labels = false
 reads_image tool.TraceReason = false
 reads_image tool.Unused = false

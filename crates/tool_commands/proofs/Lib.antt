@@ -10,6 +10,7 @@ pub mod MapAnswers
 pub mod ResponseAnswers
 pub mod SharesAnswers
 pub mod OneAnswer
+pub mod OrtiAnswers
 pub mod PictureAnswers
 pub mod RunAnswers
 pub mod SourceAnswers

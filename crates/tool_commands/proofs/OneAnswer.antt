@@ -23,6 +23,7 @@ use Rattle.tool_commands.proofs.ElfAnswers.{Wrote, elf-one, elf-view, unelf-one}
 use Rattle.tool_commands.proofs.InferAnswers.{infer-one}
 use Rattle.tool_commands.proofs.LossesAnswers.{losses-one, losses-image}
 use Rattle.tool_commands.proofs.MapAnswers.{MapSays, one_map}
+use Rattle.tool_commands.proofs.OrtiAnswers.{one_orti}
 use Rattle.tool_commands.proofs.ResponseAnswers.{one_response_answer}
 use Rattle.tool_commands.proofs.SharesAnswers.{SharesSays, one_shares}
 use Rattle.tool_commands.proofs.PictureAnswers.{Pictures, one_pictures}
@@ -57,6 +58,7 @@ one_answer tool.Shares counts names inputs a b d p q =
 one_answer tool.Response counts names inputs a b d p q = one_response_answer (input inputs 0) (input inputs 1) (input inputs 2) a b p q
 one_answer tool.TaskResponse counts names inputs a b d p q = absurd (false≢true d)
 one_answer tool.Symbols counts names inputs a b d p q = absurd (false≢true d)
+one_answer tool.Orti counts names inputs a b d p q = one_orti (input inputs 0) (input inputs 1) a b p q
 one_answer tool.Why counts names inputs a b d p q = absurd (false≢true d)
 one_answer tool.TaskBound counts names inputs a b d p q = absurd (false≢true d)
 one_answer tool.Labels counts names inputs a b d p q = absurd (false≢true d)
@@ -85,6 +87,7 @@ reads-one tool.Why h = omega arith
 reads-one tool.TaskBound h = omega arith
 reads-one tool.TaskResponse h = omega arith
 reads-one tool.Symbols h = omega arith
+reads-one tool.Orti h = omega arith
 reads-one tool.Labels h = omega arith
 reads-one tool.TraceReason h = omega arith
 reads-one tool.Unused h = omega arith
@@ -112,6 +115,7 @@ no-image tool.Why counts names inputs fault h = absurd h
 no-image tool.TaskBound counts names inputs fault h = absurd h
 no-image tool.TaskResponse counts names inputs fault h = absurd h
 no-image tool.Symbols counts names inputs fault h = absurd h
+no-image tool.Orti counts names inputs fault h = absurd h
 no-image tool.Labels counts names inputs fault h = absurd h
 no-image tool.TraceReason counts names inputs fault h = absurd h
 no-image tool.Unused counts names inputs fault h = absurd h
@@ -146,6 +150,7 @@ image-or-fault tool.Why counts names inputs a reads h = absurd (false≢true rea
 image-or-fault tool.TaskBound counts names inputs a reads h = absurd (false≢true reads)
 image-or-fault tool.TaskResponse counts names inputs a reads h = absurd (false≢true reads)
 image-or-fault tool.Symbols counts names inputs a reads h = absurd (false≢true reads)
+image-or-fault tool.Orti counts names inputs a reads h = absurd (false≢true reads)
 image-or-fault tool.Labels counts names inputs a reads h = absurd (false≢true reads)
 image-or-fault tool.TraceReason counts names inputs a reads h = absurd (false≢true reads)
 image-or-fault tool.Unused counts names inputs a reads h = absurd (false≢true reads)

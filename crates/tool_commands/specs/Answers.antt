@@ -18,6 +18,7 @@ use Rattle.tool_commands.specs.LabelsAnswers.{IsLabelsAnswer}
 use Rattle.tool_commands.specs.TraceReasons.{IsTraceReasonAnswer}
 use Rattle.tool_commands.specs.UnusedAnswers.{IsUnusedAnswer}
 use Rattle.tool_commands.specs.ResponseAnswers.{IsResponseAnswer, IsTaskResponseAnswer}
+use Rattle.tool_commands.specs.OrtiAnswers.{IsOrtiAnswer}
 use Rattle.tool_commands.specs.PictureAnswers.{IsPictureAnswer}
 use Rattle.tool_commands.specs.SymbolsAnswers.{IsSymbolsAnswer}
 use Rattle.tool_commands.specs.WaveAnswers.{IsWaveAnswer}
@@ -50,12 +51,14 @@ IsAnswer tool.TaskBound counts names inputs answer = IsTaskBoundAnswer (input in
 IsAnswer tool.TaskResponse counts names inputs answer =
     IsTaskResponseAnswer (input inputs 0) (input inputs 1) (input inputs 2) (input names 3) answer
 IsAnswer tool.Symbols counts names inputs answer = IsSymbolsAnswer (input inputs 0) (input inputs 1) (input names 1) answer
+IsAnswer tool.Orti counts names inputs answer = IsOrtiAnswer (input inputs 0) (input inputs 1) answer
 IsAnswer tool.Labels counts names inputs answer = IsLabelsAnswer (input inputs 0) (input inputs 1) answer
 IsAnswer tool.TraceReason counts names inputs answer =
     IsTraceReasonAnswer (input inputs 0) (input inputs 1) (input inputs 2) (input inputs 3) (number_of counts) answer
 IsAnswer tool.Unused counts names inputs answer = IsUnusedAnswer (input inputs 0) (input inputs 1) answer
 
--- its answer is determined by what it reads; the file of `symbols` by the image too, and of a response's starts more than one may be the greatest
+-- Its answer is determined by what it reads. Of those that are not, the text is: a reason, of several that are true, of a refusal (`why`), of lists at labels
+-- and of a text of events; a walk, of several of the greatest time, of a blocking time, and a start of a response; the file of `symbols`, by the image too.
 abbrev pub is_determined : Tool → Bool
 is_determined tool.Elf = true
 is_determined tool.Unelf = true
@@ -76,6 +79,7 @@ is_determined tool.Why = false
 is_determined tool.TaskBound = false
 is_determined tool.TaskResponse = false
 is_determined tool.Symbols = false
+is_determined tool.Orti = true
 is_determined tool.Labels = false
 is_determined tool.TraceReason = false
 is_determined tool.Unused = true

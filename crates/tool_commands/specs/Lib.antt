@@ -11,6 +11,7 @@ pub mod MapAnswers
 pub mod ResponseAnswers
 pub mod SharesAnswers
 pub mod WhyAnswers
+pub mod OrtiAnswers
 pub mod PictureAnswers
 pub mod RunAnswers
 pub mod SourceAnswers

@@ -1,6 +1,8 @@
--- The answers of tools that print what two texts, a configuration and its task code, mean: `bounds`, alone and with `latency` or `counts`, and `map`.
-use Rattle.std.specs.Prelude.{ℕ, ◌≡◌, List, []}
+-- The answers of tools that print what two texts, a configuration and its task code, mean, as `bounds`, alone and with `latency` or `counts`, and `map`;
+-- and of those that write it to a file.
+use Rattle.std.specs.Prelude.{ℕ, ◌≡◌, List, [], length}
 use Rattle.sloth_source.specs.Texts.{FirstRefusal}
+use Rattle.tool_commands.specs.Lines.{written_line}
 use Rattle.tool_answers.specs.declared.answer.ToolAnswer.{ToolAnswer}
 use Rattle.tool_answers.specs.declared.answer.ToolAnswer.TheVariants as answer
 
@@ -16,3 +18,16 @@ IsSourceAnswer Says oil src answer.NoHolds = ⊥
 IsSourceAnswer Says oil src (answer.OpenDeadline lines) = ⊥
 IsSourceAnswer Says oil src (answer.Explained kind lines) = ⊥
 IsSourceAnswer Says oil src answer.NoTask = ⊥
+
+-- the same of a file
+abbrev pub IsFileAnswer : (Says : List ℕ → Type 0) (oil src : List ℕ) → ToolAnswer → Type 0
+IsFileAnswer Says oil src (answer.Done outcome) = Says outcome.file × (outcome.text ≡ written_line (length outcome.file))
+IsFileAnswer Says oil src (answer.Refused refusal) = FirstRefusal oil src refusal
+IsFileAnswer Says oil src (answer.Stopped pc stop) = ⊥
+IsFileAnswer Says oil src (answer.NotAnImage fault) = ⊥
+IsFileAnswer Says oil src (answer.NotAnElf fault) = ⊥
+IsFileAnswer Says oil src (answer.BadTrace fault) = ⊥
+IsFileAnswer Says oil src answer.NoHolds = ⊥
+IsFileAnswer Says oil src (answer.OpenDeadline lines) = ⊥
+IsFileAnswer Says oil src (answer.Explained kind lines) = ⊥
+IsFileAnswer Says oil src answer.NoTask = ⊥

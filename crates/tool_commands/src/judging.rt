@@ -13,6 +13,7 @@ use crate::infer_command::infer;
 use crate::labels_command::labels;
 use crate::losses_command::losses;
 use crate::map_command::map;
+use crate::orti_command::orti;
 use crate::picture_command::picture;
 use crate::response_command::{response, task_response};
 use crate::shares_command::shares;
@@ -122,6 +123,7 @@ pub fn judge(
             inputs[1].items(),
             name_of(names, 1),
         ),
+        Tool::Orti => orti(alloc, inputs[0].items(), inputs[1].items()),
         Tool::Labels => labels(alloc, inputs[0].items(), inputs[1].items()),
         Tool::TraceReason => trace_reason(
             alloc,

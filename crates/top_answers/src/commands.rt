@@ -1,12 +1,10 @@
 //! Commands on files in memory.
 ghost use Rattle.std.specs.Prelude.{◌≡◌, ◌≤◌, IfOk, length};
 
-use crate::faults::Faults;
-use crate::repeats::number_before;
-use crate::rows::{Piece, Rows};
-use crate::syntax::shown;
-use crate::texts::{LONGEST, Texts, add_text, append, push, refill};
-use debug_command::{DebugWords, debug, debug_words};
+use crate::rows::Piece::{Address, Number, Text};
+use crate::rows::{Rows, shown};
+use crate::texts::{LONGEST, Texts, add, append, number_before, push, refill};
+use debug_command::{debug, debug_words};
 use debug_session::MemInput;
 use sloth_base::{List, Name, NoMemory};
 use sloth_cli::{Status, sloth_top};
@@ -15,9 +13,6 @@ use std::alloc::Global;
 
 /// The bytes that an image file may have, and those that a command may print.
 const SPACE: u32 = 2_200_000;
-
-/// The same where a command is run many times, and prints little.
-const LITTLE: u32 = 200_000;
 
 // A file with this space, or with that for its own bytes where they are more; none of more than 16,000,000 bytes.
 fn file(alloc: Global, name: &[u8], bytes: &[u8], space: u32) -> Result<MemFile, NoMemory>
@@ -35,19 +30,13 @@ fn file(alloc: Global, name: &[u8], bytes: &[u8], space: u32) -> Result<MemFile,
     })
 }
 
-// The three texts, an image file with this space, and a file `out` with the same, which holds nothing. These calls are to fail.
-fn store(
-    alloc: Global,
-    texts: &Texts,
-    img: &[u8],
-    space: u32,
-    fails: &[u32],
-) -> Result<MemStore, NoMemory> {
+// The texts, this image file, and a file `out`, which holds nothing. These calls fail.
+fn store(alloc: Global, texts: &Texts, img: &[u8], fails: &[u32]) -> Result<MemStore, NoMemory> {
     let oil = file(alloc, b"oil", &texts.oil, 0)?;
     let src = file(alloc, b"src", &texts.src, 0)?;
     let arr = file(alloc, b"arr", &texts.arr, 0)?;
-    let img = file(alloc, b"img", img, space)?;
-    let out = file(alloc, b"out", b"", space)?;
+    let img = file(alloc, b"img", img, SPACE)?;
+    let out = file(alloc, b"out", b"", SPACE)?;
     MemStore::new(alloc, &[arr, img, oil, out, src], fails)
 }
 
@@ -58,261 +47,198 @@ pub fn words(alloc: Global, line: &str) -> Vec<String> {
         return words;
     }
     for word in line.split(' ') {
-        add_text(alloc, &mut words, word);
+        if let Ok(text) = String::from_str(alloc, word) {
+            add(&mut words, text);
+        }
     }
     words
 }
 
-/// What a command prints with how it ends, how many bytes it prints, and the image file behind it, which is the file `out` where that was written.
-/// The text is empty where memory was wanting.
+/// What a command prints with how it ends, how many bytes it prints, and the image file after it, which is the file
+/// `out` where that was written. The text is empty where memory was wanting.
 #[derive(Drop)]
 pub struct Outcome {
     pub text: String,
-    pub printed: usize,
-    pub img: Vec<u8>,
+    printed: usize,
+    img: Vec<u8>,
 }
 
-// A session on whose input the OIL text comes.
-fn session(alloc: Global, asked: &DebugWords, files: &mut MemStore, out: &mut MemSink) -> Status {
+// Does what the words say. On the input of a session comes the OIL text.
+fn top(alloc: Global, words: &[String], files: &mut MemStore, out: &mut MemSink) -> Status {
+    let Some(asked) = debug_words(words) else {
+        return sloth_top(alloc, words, files, out);
+    };
     let mut bytes = Vec::new(alloc);
     append(&mut bytes, files.file("oil").unwrap_or(b""));
     let mut input = MemInput::new(bytes.as_slice(), false);
-    debug(alloc, files, &mut input, out, asked)
+    debug(alloc, files, &mut input, out, &asked)
 }
 
-// Does what the words say.
-fn top(alloc: Global, words: &[String], files: &mut MemStore, out: &mut MemSink) -> Status {
-    match debug_words(words) {
-        Some(asked) => session(alloc, &asked, files, out),
-        None => sloth_top(alloc, words, files, out),
-    }
-}
-
-// The image file that a command left: the file `out`, unless it holds nothing.
-fn image_left(files: &MemStore) -> &[u8] {
-    match files.file("out") {
-        Some(out) if !out.is_empty() => out,
-        _ => files.file("img").unwrap_or(b""),
-    }
-}
-
-// What a command printed, how it ended, and the image file that it left.
-fn made_outcome(alloc: Global, printed: &[u8], ended: &str, img: &[u8]) -> Outcome {
-    let mut text = String::new(alloc);
-    push(&mut text, shown(printed));
-    push(&mut text, ended);
-    let mut left = Vec::new(alloc);
-    append(&mut left, img);
-    Outcome {
-        text,
-        printed: printed.len(),
-        img: left,
-    }
-}
-
-// Runs the command of these words on these files.
-fn command_outcome(
-    alloc: Global,
-    words: &[String],
-    files: &mut MemStore,
-    out: &mut MemSink,
-) -> Outcome {
-    let status = top(alloc, words, files, out);
-    match format!(in alloc; "=== {status:?}\n") {
-        Ok(ended) => made_outcome(alloc, out.taken(), ended.as_str(), image_left(&*files)),
-        Err(_) => made_outcome(alloc, b"", "", b""),
-    }
-}
-
-// The same with an output of this space.
-fn outcome_in_space(
-    alloc: Global,
-    words: &[String],
-    files: &mut MemStore,
-    space: u32,
-    faults: &Faults,
-) -> Outcome {
-    match MemSink::new(alloc, space, &faults.sink) {
-        Ok(out) => {
-            let mut out = out;
-            command_outcome(alloc, words, files, &mut out)
+impl Outcome {
+    // What the command of these words makes of these files.
+    fn fill(&mut self, alloc: Global, words: &[String], files: &mut MemStore, out: &mut MemSink) {
+        let status = top(alloc, words, files, out);
+        push(&mut self.text, shown(out.taken()));
+        self.printed = out.taken().len();
+        if let Ok(ended) = format!(in alloc; "=== {status:?}\n") {
+            push(&mut self.text, &ended);
         }
-        Err(_) => made_outcome(alloc, b"", "", b""),
+        append(&mut self.img, files.file("out").unwrap_or(b""));
+        if self.img.is_empty() {
+            append(&mut self.img, files.file("img").unwrap_or(b""));
+        }
     }
 }
 
-// Runs the command of a line on these files, of at most 16,000,000 bytes each, with these failing calls.
-fn answer(
+/// Calls that are to fail: those of the store by their numbers from 1, and those of the sink, each with the bytes that
+/// it takes before.
+#[derive(Drop)]
+pub struct Faults {
+    store: Vec<u32>,
+    sink: Vec<(u32, u32)>,
+}
+
+impl Faults {
+    /// No calls.
+    pub fn new(alloc: Global) -> Faults {
+        Faults {
+            store: Vec::new(alloc),
+            sink: Vec::new(alloc),
+        }
+    }
+
+    // Adds the calls that words name, of the store as `3`, of the sink as `2:1`.
+    fn read(&mut self, words: &str) {
+        for word in words.split(' ') {
+            let (call, bytes) = word.split_once(':').unwrap_or((word, ""));
+            match (call.parse::<u32>(), bytes.parse::<u32>()) {
+                (Ok(call), Ok(bytes)) => add(&mut self.sink, (call, bytes)),
+                (Ok(call), Err(_)) => add(&mut self.store, call),
+                _ => {}
+            }
+        }
+    }
+}
+
+/// What the command of a line makes of these files, where these calls fail.
+pub fn command_outcome(
     alloc: Global,
     line: &str,
     texts: &Texts,
     img: &[u8],
-    space: u32,
     faults: &Faults,
 ) -> Outcome {
     let words = words(alloc, line);
-    match store(alloc, texts, img, space, &faults.store) {
-        Ok(files) => {
-            let mut files = files;
-            outcome_in_space(alloc, words.as_slice(), &mut files, space, faults)
+    let mut outcome = Outcome {
+        text: String::new(alloc),
+        printed: 0,
+        img: Vec::new(alloc),
+    };
+    if let Ok(files) = store(alloc, texts, img, &faults.store) {
+        if let Ok(out) = MemSink::new(alloc, SPACE, &faults.sink) {
+            let (mut files, mut out) = (files, out);
+            outcome.fill(alloc, words.as_slice(), &mut files, &mut out);
         }
-        Err(_) => made_outcome(alloc, b"", "", b""),
     }
+    outcome
 }
 
-// The same where no call fails.
-fn answer_whole(alloc: Global, line: &str, texts: &Texts, img: &[u8], space: u32) -> Outcome {
-    let none = Faults::read(alloc, "", "");
-    answer(alloc, line, texts, img, space, &none)
+/// Runs the command of a line, and prints what it prints and how it ends, or, `summed`, how many lines it prints, their
+/// CRC-32 and how it ends. The image file that it leaves is kept; or, `keep`, nothing is printed, and what it prints
+/// takes the place of the image file.
+pub fn run(rows: &mut Rows, word: &str, line: &str, texts: &mut Texts) {
+    let none = Faults::new(rows.alloc);
+    let outcome = command_outcome(rows.alloc, line, texts, &texts.img, &none);
+    let text = outcome.text.as_str();
+    let printed = text.as_bytes().get(..outcome.printed).unwrap_or(b"");
+    match word {
+        "keep" => return refill(&mut texts.img, printed),
+        "summed" => {
+            let (sum, ended) = (checksum(text.as_bytes()), text.lines().last().unwrap_or(""));
+            let lines = text.lines().count();
+            form!(rows; "% lines % %\n"; Number(lines as u64), Address(sum), Text(ended))
+        }
+        _ => rows.text(text),
+    }
+    refill(&mut texts.img, &outcome.img);
 }
 
-/// What the command of a line prints with how it ends, on these files, where no call fails.
-pub fn printed(alloc: Global, line: &str, texts: &Texts, img: &[u8]) -> String {
-    let answer = answer_whole(alloc, line, texts, img, LITTLE);
-    answer.text
-}
-
-// Runs the command of a line, and keeps the image file that it leaves. Gives what it prints with how it ends.
-fn done(alloc: Global, line: &str, texts: &mut Texts) -> String {
-    let answer = answer_whole(alloc, line, texts, &texts.img, SPACE);
-    texts.img = answer.img;
-    answer.text
-}
-
-/// Runs the command of a line, and prints what it prints and its status. The image file that it leaves is kept.
-pub fn run(rows: &mut Rows, line: &str, texts: &mut Texts) {
-    let text = done(rows.alloc(), line, texts);
-    rows.text(text.as_str());
-}
-
-/// Runs the command of a line, and prints how many lines it prints, their CRC-32 (IEEE 802.3), and how it ends. The image file that it
-/// leaves is kept.
-pub fn run_summed(rows: &mut Rows, line: &str, texts: &mut Texts) {
-    let text = done(rows.alloc(), line, texts);
-    rows.row(
-        Piece::Count(text.lines().count()),
-        &[
-            Piece::Text("lines"),
-            Piece::Address(checksum(text.as_bytes())),
-            Piece::Text(text.lines().last().unwrap_or("")),
-        ],
-    );
-}
-
-/// Prints how many bytes the image file has, and their CRC-32 (IEEE 802.3).
-pub fn show_sum(rows: &mut Rows, texts: &Texts) {
-    rows.row(
-        Piece::Count(texts.img.len()),
-        &[Piece::Text("bytes"), Piece::Address(checksum(&texts.img))],
-    );
-}
-
-/// Prints the image file as a text.
-pub fn show(rows: &mut Rows, texts: &Texts) {
-    rows.text(shown(&texts.img));
-}
-
-/// Runs the command of a line, and puts what it prints in the place of the image file.
-pub fn run_kept(alloc: Global, line: &str, texts: &mut Texts) {
-    let answer = answer_whole(alloc, line, texts, &texts.img, SPACE);
-    let printed = answer.text.as_bytes().get(..answer.printed).unwrap_or(b"");
-    refill(&mut texts.img, printed);
-}
-
-/// Runs two commands, which ` / ` divides, one after the other, and prints how many bytes both answer, or that their answers differ.
+/// Runs two commands, which ` / ` divides, one after the other, and prints how many bytes both answer, or that their
+/// answers differ.
 pub fn run_both(rows: &mut Rows, lines: &str, texts: &mut Texts) {
-    let Some((one, other)) = lines.split_once(" / ") else {
-        return;
-    };
-    let first = done(rows.alloc(), one, texts);
-    let second = done(rows.alloc(), other, texts);
-    if first == second {
-        rows.row(
-            Piece::Text("both"),
-            &[Piece::Count(first.len()), Piece::Text("bytes")],
-        );
+    let (one, other) = lines.split_once(" / ").unwrap_or((lines, ""));
+    let none = Faults::new(rows.alloc);
+    let first = command_outcome(rows.alloc, one, texts, &texts.img, &none);
+    let second = command_outcome(rows.alloc, other, texts, &first.img, &none);
+    let same = first.text == second.text;
+    let text = if same {
+        "both % bytes\n"
     } else {
-        rows.line("they differ");
-    }
-}
-
-// Prints a text behind a number of these things, and keeps it as the last one, unless it is that.
-fn show_new(rows: &mut Rows, number: usize, things: &str, text: String, last: &mut String) {
-    if text != *last {
-        rows.row(Piece::Count(number), &[Piece::Text(things)]);
-        rows.text(text.as_str());
-        *last = text;
-    }
-}
-
-/// Runs the command of a line with the image file cut to each length, from 0 to its whole. Where the answer is another one than with a
-/// byte less, prints the length and the answer.
-pub fn run_cut(rows: &mut Rows, line: &str, texts: &Texts) {
-    let mut last = String::new(rows.alloc());
-    for size in 0..=texts.img.len() {
-        let text = printed(rows.alloc(), line, texts, &texts.img[..size]);
-        show_new(rows, size, "bytes", text, &mut last);
-    }
-}
-
-/// Runs the command of a line with 0, 1, 2, .. line feeds behind each text, up to a number: `600 order oil src arr img 300`. Where the answer is
-/// another one than with a line feed less, prints how many there are and the answer.
-pub fn run_lengthened(rows: &mut Rows, asked: &str, texts: &mut Texts) {
-    let Some((number, line)) = number_before(asked) else {
-        return;
+        "they differ\n"
     };
-    let mut last = String::new(rows.alloc());
+    form!(rows; text; ; first.text.len());
+    refill(&mut texts.img, &second.img);
+}
+
+// What the command of a line makes of these files, with the image file cut to this length.
+fn cut_outcome(alloc: Global, line: &str, texts: &Texts, size: usize) -> Outcome {
+    let img = texts.img.get(..size).unwrap_or(b"");
+    let none = Faults::new(alloc);
+    command_outcome(alloc, line, texts, img, &none)
+}
+
+/// Runs a command on different files, and prints each answer that is another one than that before, with its number.
+/// `cut`, and a command: with the image file cut to each length. `lengthened`, and a number and a command: with so many
+/// line feeds after each text, from 0.
+pub fn run_series(rows: &mut Rows, word: &str, asked: &str, texts: &mut Texts) {
+    let (whole, cut) = (texts.img.len(), word == "cut");
+    let most = u32::try_from(whole).unwrap_or(0);
+    let text = if cut { "% bytes\n%" } else { "% more\n%" };
+    let (number, line) = number_before(asked).unwrap_or((most, asked));
+    let mut last = String::new(rows.alloc);
     for more in 0..=number {
-        let text = printed(rows.alloc(), line, texts, &texts.img);
-        show_new(rows, more as usize, "more", text, &mut last);
-        texts.lengthen();
+        let size = if cut { more as usize } else { whole };
+        let outcome = cut_outcome(rows.alloc, line, texts, size);
+        if outcome.text != last {
+            form!(rows; text; Number(more as u64), Text(&outcome.text));
+            last = outcome.text;
+        }
+        if !cut {
+            append(&mut texts.oil, b"\n");
+            append(&mut texts.src, b"\n");
+            append(&mut texts.arr, b"\n");
+        }
     }
 }
 
-// The CRC-32 of IEEE 802.3.
-fn checksum(bytes: &[u8]) -> u32 {
+/// The CRC-32 of IEEE 802.3.
+pub fn checksum(bytes: &[u8]) -> u32 {
     let mut sum: u32 = 0xffff_ffff;
     for byte in bytes {
         sum ^= u32::from(*byte);
         for _ in 0..8 {
-            sum = if sum & 1 == 1 {
-                (sum >> 1) ^ 0xedb8_8320
-            } else {
-                sum >> 1
-            };
+            sum = (sum >> 1) ^ (0_u32.wrapping_sub(sum & 1) & 0xedb8_8320);
         }
     }
     !sum
 }
 
-// Prints an answer, and what the image file is, beside the one before and the one that the command leaves where no call fails.
-fn list_state(rows: &mut Rows, answer: &Outcome, before: &[u8], image: &[u8]) {
-    rows.text(answer.text.as_str());
-    if answer.img.as_slice() == before {
-        rows.line("IMG as before");
-    } else if answer.img.as_slice() == image {
-        rows.line("IMG the image");
-    } else {
-        rows.line("IMG another");
-    }
-}
-
-// Runs the command of a line where no call fails, and then with failing calls, and prints the second answer, and what the image file is
-// beside the one that the first leaves.
-fn run_faulty(rows: &mut Rows, line: &str, texts: &Texts, faults: &Faults) {
-    let whole = answer_whole(rows.alloc(), line, texts, &texts.img, LITTLE);
-    let answer = answer(rows.alloc(), line, texts, &texts.img, LITTLE, faults);
-    list_state(rows, &answer, &texts.img, &whole.img);
-}
-
-/// Runs a command with failing calls: of the store, ` / `, of the sink, ` / `, the command. Prints the answer, and what the image file is.
+/// Runs a command with failing calls: of the store, ` / `, of the sink, ` / `, the command; and where no call fails.
+/// Prints the first answer, and what the image file is beside the one before and the one that the second leaves.
 pub fn run_failing(rows: &mut Rows, asked: &str, texts: &Texts) {
-    let Some((store, rest)) = asked.split_once("/ ") else {
-        return;
-    };
-    let Some((sink, line)) = rest.split_once("/ ") else {
-        return;
-    };
-    let faults = Faults::read(rows.alloc(), store, sink);
-    run_faulty(rows, line, texts, &faults);
+    let (calls, rest) = asked.split_once("/ ").unwrap_or(("", asked));
+    let (puts, line) = rest.split_once("/ ").unwrap_or(("", rest));
+    let mut faults = Faults::new(rows.alloc);
+    let whole = command_outcome(rows.alloc, line, texts, &texts.img, &faults);
+    faults.read(calls);
+    faults.read(puts);
+    let answer = command_outcome(rows.alloc, line, texts, &texts.img, &faults);
+    rows.text(&answer.text);
+    if answer.img == texts.img {
+        rows.text("IMG as before\n");
+    } else if answer.img == whole.img {
+        rows.text("IMG the image\n");
+    } else {
+        rows.text("IMG another\n");
+    }
 }

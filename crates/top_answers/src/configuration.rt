@@ -1,82 +1,123 @@
-//! The listing of a configuration.
+//! The listings of tokens, trees, configurations and loads.
 ghost use Rattle.sloth_base.specs.ConfigRange.{InRange};
 
-use crate::rows::Rows;
-use crate::syntax::shown;
+use crate::rows::Piece::{Bytes, Flag, Number, Text};
+use crate::rows::{Piece, Rows, Told};
+use crate::task_code::list_numbers;
+use crate::texts::short;
+use load_text::{Form, read_load};
+use oil_lex::{Token, TokenKind};
+use oil_parse::{OilObject, OilTree, OilValue};
 use prio_levels::assign;
-use sloth_base::{Action, AlarmDecl, Config, CounterDecl, ResId, TaskDecl};
+use sloth_base::{Action, AlarmDecl, Config, TaskDecl, counter_names, task_names};
 
-/// Prints a row for each resource: a text, and its number.
-pub fn list_numbers(rows: &mut Rows, text: &str, resources: &[ResId]) {
-    for resource in resources {
-        rows.numbers(text, &[resource.0]);
+// Appends the line and the kind of a token.
+fn put_kind(rows: &mut Rows, token: &Token) {
+    form!(rows; "% "; ; token.line);
+    match token.kind {
+        TokenKind::Word => rows.text("Word"),
+        TokenKind::Number(number) => form!(rows; "Number(%)"; ; number),
+        TokenKind::Text => rows.text("Text"),
+        TokenKind::Sign => rows.text("Sign"),
+    }
+}
+
+/// Prints the line, the kind and the bytes of each token.
+pub fn list_tokens(rows: &mut Rows, tokens: &[Token]) {
+    for token in tokens {
+        put_kind(rows, token);
+        form!(rows; " %\n"; Bytes(token.span));
+    }
+}
+
+fn shown_value(value: &OilValue) -> Piece<'_> {
+    match value {
+        OilValue::Word(word) => Bytes(word.bytes()),
+        OilValue::Number(number) => Number(*number as u64),
+        OilValue::Text(text) => Bytes(text.bytes()),
+    }
+}
+
+fn list_object(rows: &mut Rows, object: &OilObject) {
+    form!(rows; "% % %\n"; Number(object.line as u64), Bytes(object.kind.bytes()), Bytes(object.name.bytes()));
+    for attr in object.attrs.items() {
+        form!(rows; "% % % = %\n"; Number(attr.line as u64), Number(attr.depth as u64), Bytes(attr.name.bytes()),
+            shown_value(&attr.value));
+    }
+}
+
+/// Prints the line, kind and name of each object, and the line, depth, name and value of each of its attributes.
+pub fn list_tree(rows: &mut Rows, tree: &OilTree) {
+    form!(rows; "% CPU\n"; ; tree.cpu_line);
+    for object in tree.objects.items() {
+        list_object(rows, object);
     }
 }
 
 fn list_task(rows: &mut Rows, task: &TaskDecl) {
-    let name = shown(task.name.bytes());
-    rows.named("task ", name, " % extended ", &[task.priority as i64]);
-    rows.flag(task.extended, "\nnon ");
-    rows.flag(task.non, " autostart ");
-    rows.flag(task.autostart, " events ");
-    rows.form("%\n", &[task.events as i64]);
+    form!(rows; "task % % extended %\nnon % autostart % events %\n"; Bytes(task.name.bytes()),
+        Number(task.priority as u64), Flag(task.extended), Flag(task.non), Flag(task.autostart); task.events);
     list_numbers(rows, "lists", task.resources.items())
 }
 
-fn list_counters(rows: &mut Rows, counters: &[CounterDecl]) {
-    for counter in counters {
-        rows.named(
-            "counter ",
-            shown(counter.name.bytes()),
-            " % %\n",
-            &[counter.max as i64, counter.min_cycle as i64],
-        );
+// Appends what an alarm does, its time and its cycle.
+fn put_action(rows: &mut Rows, alarm: &AlarmDecl) {
+    match alarm.action {
+        Action::Activate(task) => form!(rows; "activates %"; ; task.0),
+        Action::Set(task, mask) => form!(rows; "sets % %"; ; task.0, mask),
     }
+    form!(rows; " % %\n"; ; alarm.time, alarm.cycle)
 }
 
 fn list_alarm(rows: &mut Rows, alarm: &AlarmDecl) {
-    let name = shown(alarm.name.bytes());
-    rows.named("alarm ", name, " % ", &[alarm.counter as i64]);
-    match alarm.action {
-        Action::Activate(task) => rows.form("activates %", &[task.0 as i64]),
-        Action::Set(task, mask) => rows.form("sets % %", &[task.0 as i64, mask as i64]),
-    }
-    rows.form(" % %\n", &[alarm.time as i64, alarm.cycle as i64])
+    form!(rows; "alarm % % "; Bytes(alarm.name.bytes()); alarm.counter);
+    put_action(rows, alarm)
 }
 
-// The tasks, resources and events.
+// The tasks, resources, events, counters and alarms.
 fn list_objects(rows: &mut Rows, config: &Config) {
     for task in config.tasks.items() {
         list_task(rows, task);
     }
     for resource in config.resources.items() {
-        rows.named("resource ", shown(resource.bytes()), "\n", &[]);
+        form!(rows; "resource %\n"; Bytes(resource.bytes()));
     }
     for event in config.events.items() {
-        let name = shown(event.name.bytes());
-        rows.named("event ", name, " %\n", &[event.mask as i64]);
+        form!(rows; "event % %\n"; Bytes(event.name.bytes()); event.mask);
     }
-}
-
-// The counters and alarms.
-fn list_clock(rows: &mut Rows, config: &Config) {
-    list_counters(rows, config.counters.items());
+    for counter in config.counters.items() {
+        form!(rows; "counter % % %\n"; Bytes(counter.name.bytes()); counter.max, counter.min_cycle);
+    }
     for alarm in config.alarms.items() {
         list_alarm(rows, alarm);
     }
 }
 
-/// Prints the tasks, resources, events, counters and alarms, and the levels of the tasks and of the resources' ceilings.
+/// Prints the objects, and the levels of the tasks and of the resources' ceilings.
 pub fn list_config(rows: &mut Rows, config: &Config)
     requires { InRange config.now }
 {
     list_objects(rows, config);
-    list_clock(rows, config);
     let levels = assign(config);
     rows.text("levels ");
     rows.debug(&levels.task);
     rows.text("\nceilings ");
     rows.debug(&levels.ceiling);
-    rows.form("\ntop % scheduler ", &[levels.top as i64]);
-    rows.flag(config.res_scheduler, "\n")
+    form!(rows; "\ntop % scheduler %\n"; Number(levels.top as u64), Flag(config.res_scheduler))
+}
+
+/// Prints the entries of a load's text for a configuration.
+pub fn list_load(rows: &mut Rows, config: &Config, text: &[u8]) -> Told {
+    let tasks = task_names(rows.alloc, config)?;
+    let counters = counter_names(rows.alloc, config)?;
+    let load = read_load(rows.alloc, short(text)?, tasks.items(), counters.items())?;
+    for entry in load.as_slice() {
+        let form = match entry.form {
+            Form::Every => "every",
+            Form::Work => "work",
+            Form::Deadline => "deadline",
+        };
+        form!(rows; "% % %\n"; Text(form); entry.owner.0, entry.number);
+    }
+    Ok(())
 }

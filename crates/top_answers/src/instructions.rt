@@ -1,178 +1,110 @@
 //! The listing of instructions.
+use crate::rows::Piece::{Address, Number, Signed, Text};
 use crate::rows::Rows;
-use rv32_instr::{InstrKind, decode, encode};
+use rv32_instr::InstrKind::*;
+use rv32_instr::{Instr, InstrKind, decode, encode};
 use sloth_base::Reg;
 
-// The mnemonic of an instruction on registers.
-fn register_mnemonic(kind: &InstrKind) -> &'static str {
+// Appends a mnemonic and its fields: the numbers of two registers, and a number.
+fn put(rows: &mut Rows, name: &str, first: &Reg, second: &Reg, number: i32) {
+    form!(rows; " % % % %\n"; Text(name), Number(first.0 as u64), Number(second.0 as u64), Signed(number))
+}
+
+// Appends an instruction on three registers, or another one without a number of 12 bits. Behind the last field stands
+// 0.
+fn put_plain(rows: &mut Rows, kind: &InstrKind) {
     match kind {
-        InstrKind::Add { .. } => "Add",
-        InstrKind::Sub { .. } => "Sub",
-        InstrKind::Sll { .. } => "Sll",
-        InstrKind::Slt { .. } => "Slt",
-        InstrKind::Sltu { .. } => "Sltu",
-        InstrKind::Xor { .. } => "Xor",
-        InstrKind::Srl { .. } => "Srl",
-        InstrKind::Sra { .. } => "Sra",
-        InstrKind::Or { .. } => "Or",
-        InstrKind::And { .. } => "And",
-        _ => "?",
+        Add { rd, rs1, rs2 } => put(rows, "Add", rd, rs1, rs2.0 as i32),
+        Sub { rd, rs1, rs2 } => put(rows, "Sub", rd, rs1, rs2.0 as i32),
+        Sll { rd, rs1, rs2 } => put(rows, "Sll", rd, rs1, rs2.0 as i32),
+        Slt { rd, rs1, rs2 } => put(rows, "Slt", rd, rs1, rs2.0 as i32),
+        Sltu { rd, rs1, rs2 } => put(rows, "Sltu", rd, rs1, rs2.0 as i32),
+        Xor { rd, rs1, rs2 } => put(rows, "Xor", rd, rs1, rs2.0 as i32),
+        Srl { rd, rs1, rs2 } => put(rows, "Srl", rd, rs1, rs2.0 as i32),
+        Sra { rd, rs1, rs2 } => put(rows, "Sra", rd, rs1, rs2.0 as i32),
+        Or { rd, rs1, rs2 } => put(rows, "Or", rd, rs1, rs2.0 as i32),
+        And { rd, rs1, rs2 } => put(rows, "And", rd, rs1, rs2.0 as i32),
+        Slli { rd, rs1, amount } => put(rows, "Slli", rd, rs1, *amount as i32),
+        Srli { rd, rs1, amount } => put(rows, "Srli", rd, rs1, *amount as i32),
+        Srai { rd, rs1, amount } => put(rows, "Srai", rd, rs1, *amount as i32),
+        Lui { rd, imm } => form!(rows; " Lui % % 0\n"; ; rd.0, *imm),
+        Auipc { rd, imm } => form!(rows; " Auipc % % 0\n"; ; rd.0, *imm),
+        Jal { rd, imm } => form!(rows; " Jal % % 0\n"; Number(rd.0 as u64), Signed(*imm)),
+        Fence { bits } => form!(rows; " Fence % 0 0\n"; ; *bits),
+        Ecall => rows.text(" Ecall 0 0 0\n"),
+        Ebreak => rows.text(" Ebreak 0 0 0\n"),
+        Mret => rows.text(" Mret 0 0 0\n"),
+        _ => put_access(rows, kind),
     }
 }
 
-// The mnemonic of an instruction on a register and a number, or on registers.
-fn number_mnemonic(kind: &InstrKind) -> &'static str {
+// Appends a branch, a store, or an instruction on a register of the machine.
+fn put_access(rows: &mut Rows, kind: &InstrKind) {
     match kind {
-        InstrKind::Addi { .. } => "Addi",
-        InstrKind::Slti { .. } => "Slti",
-        InstrKind::Sltiu { .. } => "Sltiu",
-        InstrKind::Xori { .. } => "Xori",
-        InstrKind::Ori { .. } => "Ori",
-        InstrKind::Andi { .. } => "Andi",
-        InstrKind::Slli { .. } => "Slli",
-        InstrKind::Srli { .. } => "Srli",
-        InstrKind::Srai { .. } => "Srai",
-        _ => register_mnemonic(kind),
+        Beq { rs1, rs2, imm } => put(rows, "Beq", rs1, rs2, *imm),
+        Bne { rs1, rs2, imm } => put(rows, "Bne", rs1, rs2, *imm),
+        Blt { rs1, rs2, imm } => put(rows, "Blt", rs1, rs2, *imm),
+        Bge { rs1, rs2, imm } => put(rows, "Bge", rs1, rs2, *imm),
+        Bltu { rs1, rs2, imm } => put(rows, "Bltu", rs1, rs2, *imm),
+        Bgeu { rs1, rs2, imm } => put(rows, "Bgeu", rs1, rs2, *imm),
+        Sb { rs1, rs2, imm } => put(rows, "Sb", rs1, rs2, *imm),
+        Sh { rs1, rs2, imm } => put(rows, "Sh", rs1, rs2, *imm),
+        Sw { rs1, rs2, imm } => put(rows, "Sw", rs1, rs2, *imm),
+        Csrrw { rd, rs1, csr } => put(rows, "Csrrw", rd, rs1, *csr as i32),
+        Csrrs { rd, rs1, csr } => put(rows, "Csrrs", rd, rs1, *csr as i32),
+        Csrrc { rd, rs1, csr } => put(rows, "Csrrc", rd, rs1, *csr as i32),
+        Csrrwi { rd, number, csr } => form!(rows; " Csrrwi % % %\n"; ; rd.0, *number, *csr),
+        Csrrsi { rd, number, csr } => form!(rows; " Csrrsi % % %\n"; ; rd.0, *number, *csr),
+        Csrrci { rd, number, csr } => form!(rows; " Csrrci % % %\n"; ; rd.0, *number, *csr),
+        _ => put_numbered(rows, kind),
     }
 }
 
-// The mnemonic of an access to memory or to the machine's registers, or of an instruction on numbers.
-fn access_mnemonic(kind: &InstrKind) -> &'static str {
+// Appends a load, an instruction on a register and a number, or a jump to a register.
+fn put_numbered(rows: &mut Rows, kind: &InstrKind) {
     match kind {
-        InstrKind::Lb { .. } => "Lb",
-        InstrKind::Lh { .. } => "Lh",
-        InstrKind::Lw { .. } => "Lw",
-        InstrKind::Lbu { .. } => "Lbu",
-        InstrKind::Lhu { .. } => "Lhu",
-        InstrKind::Sb { .. } => "Sb",
-        InstrKind::Sh { .. } => "Sh",
-        InstrKind::Sw { .. } => "Sw",
-        InstrKind::Csrrw { .. } => "Csrrw",
-        InstrKind::Csrrs { .. } => "Csrrs",
-        InstrKind::Csrrc { .. } => "Csrrc",
-        InstrKind::Csrrwi { .. } => "Csrrwi",
-        InstrKind::Csrrsi { .. } => "Csrrsi",
-        InstrKind::Csrrci { .. } => "Csrrci",
-        _ => number_mnemonic(kind),
+        Jalr { rd, rs1, imm } => put(rows, "Jalr", rd, rs1, *imm),
+        Lb { rd, rs1, imm } => put(rows, "Lb", rd, rs1, *imm),
+        Lh { rd, rs1, imm } => put(rows, "Lh", rd, rs1, *imm),
+        Lw { rd, rs1, imm } => put(rows, "Lw", rd, rs1, *imm),
+        Lbu { rd, rs1, imm } => put(rows, "Lbu", rd, rs1, *imm),
+        Lhu { rd, rs1, imm } => put(rows, "Lhu", rd, rs1, *imm),
+        Addi { rd, rs1, imm } => put(rows, "Addi", rd, rs1, *imm),
+        Slti { rd, rs1, imm } => put(rows, "Slti", rd, rs1, *imm),
+        Sltiu { rd, rs1, imm } => put(rows, "Sltiu", rd, rs1, *imm),
+        Xori { rd, rs1, imm } => put(rows, "Xori", rd, rs1, *imm),
+        Ori { rd, rs1, imm } => put(rows, "Ori", rd, rs1, *imm),
+        Andi { rd, rs1, imm } => put(rows, "Andi", rd, rs1, *imm),
+        _ => {}
     }
 }
 
-// The mnemonic of an instruction.
-fn mnemonic(kind: &InstrKind) -> &'static str {
-    match kind {
-        InstrKind::Lui { .. } => "Lui",
-        InstrKind::Auipc { .. } => "Auipc",
-        InstrKind::Jal { .. } => "Jal",
-        InstrKind::Jalr { .. } => "Jalr",
-        InstrKind::Beq { .. } => "Beq",
-        InstrKind::Bne { .. } => "Bne",
-        InstrKind::Blt { .. } => "Blt",
-        InstrKind::Bge { .. } => "Bge",
-        InstrKind::Bltu { .. } => "Bltu",
-        InstrKind::Bgeu { .. } => "Bgeu",
-        InstrKind::Fence { .. } => "Fence",
-        InstrKind::Ecall => "Ecall",
-        InstrKind::Ebreak => "Ebreak",
-        InstrKind::Mret => "Mret",
-        _ => access_mnemonic(kind),
-    }
-}
-
-// The numbers of two registers, and a number.
-fn with_number(first: &Reg, second: &Reg, number: i32) -> [i64; 3] {
-    [first.0 as i64, second.0 as i64, number as i64]
-}
-
-// The fields of a load, of an instruction on a register and a number, and of a jump behind a register.
-fn number_fields(kind: &InstrKind) -> [i64; 3] {
-    match kind {
-        InstrKind::Jalr { rd, rs1, imm }
-        | InstrKind::Lb { rd, rs1, imm }
-        | InstrKind::Lh { rd, rs1, imm }
-        | InstrKind::Lw { rd, rs1, imm }
-        | InstrKind::Lbu { rd, rs1, imm }
-        | InstrKind::Lhu { rd, rs1, imm }
-        | InstrKind::Addi { rd, rs1, imm }
-        | InstrKind::Slti { rd, rs1, imm }
-        | InstrKind::Sltiu { rd, rs1, imm }
-        | InstrKind::Xori { rd, rs1, imm }
-        | InstrKind::Ori { rd, rs1, imm }
-        | InstrKind::Andi { rd, rs1, imm } => with_number(rd, rs1, *imm),
-        _ => [0, 0, 0],
-    }
-}
-
-// The fields of a branch, of a store, and of a load or an instruction on a register and a number.
-fn branch_fields(kind: &InstrKind) -> [i64; 3] {
-    match kind {
-        InstrKind::Beq { rs1, rs2, imm }
-        | InstrKind::Bne { rs1, rs2, imm }
-        | InstrKind::Blt { rs1, rs2, imm }
-        | InstrKind::Bge { rs1, rs2, imm }
-        | InstrKind::Bltu { rs1, rs2, imm }
-        | InstrKind::Bgeu { rs1, rs2, imm }
-        | InstrKind::Sb { rs1, rs2, imm }
-        | InstrKind::Sh { rs1, rs2, imm }
-        | InstrKind::Sw { rs1, rs2, imm } => with_number(rs1, rs2, *imm),
-        _ => number_fields(kind),
-    }
-}
-
-// The fields of an instruction on registers, and of those with a number.
-fn register_fields(kind: &InstrKind) -> [i64; 3] {
-    match kind {
-        InstrKind::Add { rd, rs1, rs2 }
-        | InstrKind::Sub { rd, rs1, rs2 }
-        | InstrKind::Sll { rd, rs1, rs2 }
-        | InstrKind::Slt { rd, rs1, rs2 }
-        | InstrKind::Sltu { rd, rs1, rs2 }
-        | InstrKind::Xor { rd, rs1, rs2 }
-        | InstrKind::Srl { rd, rs1, rs2 }
-        | InstrKind::Sra { rd, rs1, rs2 }
-        | InstrKind::Or { rd, rs1, rs2 }
-        | InstrKind::And { rd, rs1, rs2 } => with_number(rd, rs1, rs2.0 as i32),
-        _ => branch_fields(kind),
-    }
-}
-
-// The fields of an instruction in their order, with 0 behind the last.
-fn fields(kind: &InstrKind) -> [i64; 3] {
-    match kind {
-        InstrKind::Lui { rd, imm } | InstrKind::Auipc { rd, imm } => [rd.0 as i64, *imm as i64, 0],
-        InstrKind::Jal { rd, imm } => [rd.0 as i64, *imm as i64, 0],
-        InstrKind::Slli { rd, rs1, amount }
-        | InstrKind::Srli { rd, rs1, amount }
-        | InstrKind::Srai { rd, rs1, amount } => with_number(rd, rs1, *amount as i32),
-        InstrKind::Csrrw { rd, rs1, csr }
-        | InstrKind::Csrrs { rd, rs1, csr }
-        | InstrKind::Csrrc { rd, rs1, csr } => with_number(rd, rs1, *csr as i32),
-        InstrKind::Csrrwi { rd, number, csr }
-        | InstrKind::Csrrsi { rd, number, csr }
-        | InstrKind::Csrrci { rd, number, csr } => [rd.0 as i64, *number as i64, *csr as i64],
-        InstrKind::Fence { bits } => [*bits as i64, 0, 0],
-        _ => register_fields(kind),
-    }
-}
-
-// Prints a word, and the word, the mnemonic and the fields of the instruction that it is.
-fn list_word(rows: &mut Rows, word: u32) {
-    rows.address(word);
-    match decode(word) {
-        Some(instr) => {
-            let kind = instr.kind();
-            rows.text(" ");
-            rows.address(encode(instr));
-            rows.named(" ", mnemonic(&kind), " % % %\n", &fields(&kind))
-        }
-        None => rows.line(" none"),
-    }
-}
-
-/// Prints the instruction of each word of a text, which has a word on each line in hexadecimal.
+/// Prints the words of a text, one on each line in hexadecimal, and behind each the word of the instruction that it is,
+/// its mnemonic and its fields.
 pub fn list_instructions(rows: &mut Rows, text: &str) {
     for line in text.lines() {
         if let Ok(word) = u32::from_str_radix(line, 16) {
-            list_word(rows, word);
+            match decode(word) {
+                Some(instr) => {
+                    form!(rows; "% %"; Address(word), Address(encode(instr)));
+                    put_plain(rows, &instr.kind())
+                }
+                None => form!(rows; "% none\n"; Address(word)),
+            }
         }
+    }
+}
+
+/// An instruction as a word, and as the word of what is read of that and taken apart.
+pub fn list_instruction(rows: &mut Rows) {
+    let kind = Addi {
+        rd: Reg(5),
+        rs1: Reg(0),
+        imm: 7,
+    };
+    let word = encode(Instr::of(kind));
+    if let Some(instr) = decode(word) {
+        let again = encode(Instr::of(instr.kind()));
+        form!(rows; "addi % %\n"; Address(word), Address(again));
     }
 }

@@ -1,58 +1,55 @@
-//! An instruction, the controller, the buses and the machine.
-ghost use Rattle.std.specs.Prelude.{◌<◌};
+//! Regions of addresses, the controller, the buses and the machine over an image's memory.
+ghost use Rattle.std.specs.Prelude.{◌≡◌, ◌≤◌, ◌<◌, ◌+◌};
 ghost use Rattle.sloth_base.specs.ImageRange.{InFormat};
 ghost use Rattle.sloth_base.specs.Limits.{count_limit};
 
-use crate::rows::{Piece, Rows};
+use crate::rows::Piece::{Address, Flag, Number};
+use crate::rows::{Rows, Told};
 use irq_ctrl::Controller;
-use rv32_instr::{Instr, InstrKind, decode, encode};
-use rv32_machine::{Bus, FlatBus, Machine, SlothBus};
-use sloth_base::{Image, Line, Reg, Width};
+use rv32_machine::{Bus, FlatBus, Machine, SlothBus, Stop};
+use sloth_base::{Image, Line, Step, Width};
+use sloth_region::Region;
 
-/// A word of memory.
-const WORD: u32 = 0x8000_0000;
-
-/// The bytes of the controller that enable line 1, and that hold its level.
-const ENABLED: u32 = 0x1000_0021;
-
-const LEVEL: u32 = 0x1000_0041;
-
-// The word of an instruction that is read and taken apart.
-fn again(word: u32) -> u32 {
-    match decode(word) {
-        Some(instr) => encode(Instr::of(instr.kind())),
-        None => 0,
+/// The numbers in front of a line, in hexadecimal digits; 99 of other words, and behind the last.
+pub fn hex_words(line: &str) -> [u32; 5] {
+    let mut numbers = [99; 5];
+    for (place, word) in line.split(' ').enumerate() {
+        if place < 5 {
+            numbers[place] = u32::from_str_radix(word, 16).unwrap_or(99);
+        }
     }
+    numbers
 }
 
-/// An instruction as a word, and read back.
-pub fn list_instruction(rows: &mut Rows) {
-    let kind = InstrKind::Addi {
-        rd: Reg(5),
-        rs1: Reg(0),
-        imm: 7,
-    };
-    let word = encode(Instr::of(kind));
-    let again = Piece::Address(again(word));
-    rows.row(Piece::Text("addi"), &[Piece::Address(word), again])
+/// Which of the pieces with these lengths and alignments, a line each, are placed in a region of this address and
+/// length, and its extents then.
+pub fn list_region(rows: &mut Rows, words: &str, lines: &str) {
+    let numbers = hex_words(words);
+    let (base, len) = (numbers[0], numbers[1]);
+    if base.checked_add(len).is_none() {
+        return;
+    }
+    let mut region = Region::new(base, len);
+    for line in lines.lines() {
+        let numbers = hex_words(line);
+        let (len, align) = (numbers[0], numbers[1]);
+        if len == 0 || region.extents().len() >= 90 {
+            return;
+        }
+        let placed = region.place(len, if align == 16 { 16 } else { 4 }).is_ok();
+        form!(rows; "placed %\n"; Flag(placed));
+    }
+    for extent in region.extents() {
+        form!(rows; "extent % %\n"; Address(extent.base); extent.len);
+    }
 }
 
 // The number of a line, 32 for none.
-fn number(line: Option<Line>) -> Piece<'static> {
+fn number(line: Option<Line>) -> u8 {
     match line {
-        Some(line) => Piece::Number(line.0.into()),
-        None => Piece::Number(32),
+        Some(line) => line.0,
+        None => 32,
     }
-}
-
-// The line that is chosen, and the pending byte of line 3.
-fn list_lines(rows: &mut Rows, lines: &Controller) {
-    let line = number(lines.choose(1));
-    let pending = Piece::Number(lines.load(3).into());
-    rows.row(
-        Piece::Text("line"),
-        &[line, Piece::Text("pending"), pending],
-    )
 }
 
 /// A line that is enabled at level 2, arrives, is chosen and is taken.
@@ -61,103 +58,135 @@ pub fn list_controller(rows: &mut Rows) {
     lines.store(35, 1);
     lines.store(67, 2);
     lines.arrive(Line(3));
-    list_lines(rows, &lines);
+    form!(rows; "line % pending %\n"; ; number(lines.choose(1)), lines.load(3));
     lines.take(Line(3));
-    list_lines(rows, &lines)
+    form!(rows; "line % pending %\n"; ; number(lines.choose(1)), lines.load(3))
 }
 
-/// Whether a byte or word is stored.
-pub fn is_stored<B: Bus>(bus: &mut B, address: u32, width: Width, value: u32) -> bool {
+// Whether a byte or word is stored.
+fn is_stored<B: Bus>(bus: &mut B, address: u32, width: Width, value: u32) -> bool {
     bus.store(address, width, value).is_ok()
 }
 
-// A word that is stored and loaded again.
-fn list_word(rows: &mut Rows, memory: FlatBus) {
-    let mut memory = memory;
-    let stored = is_stored(&mut memory, WORD, Width::Word, 42);
-    let loaded = memory.load(WORD, Width::Word).unwrap_or(0);
-    rows.row(
-        Piece::Text("stored"),
-        &[
-            Piece::Flag(stored),
-            Piece::Text("loaded"),
-            Piece::Number(loaded),
-        ],
-    )
-}
-
-/// A word of a memory without a controller.
-pub fn list_flat_word(rows: &mut Rows, image: &Image)
+/// A word of a memory without a controller that is stored and loaded again.
+pub fn list_word(rows: &mut Rows, image: &Image) -> Told
     requires { InFormat image.now }
 {
-    match FlatBus::new(rows.alloc(), image) {
-        Ok(memory) => list_word(rows, memory),
-        Err(_) => rows.leave_out(),
-    }
+    let mut memory = FlatBus::new(rows.alloc, image)?;
+    let stored = is_stored(&mut memory, 0x8000_0000, Width::Word, 42);
+    let loaded = memory.load(0x8000_0000, Width::Word).unwrap_or(0);
+    form!(rows; "stored % loaded %\n"; Flag(stored); loaded);
+    Ok(())
 }
 
 // The line that a bus chooses at which line 1 arrives, once the line is enabled at level 2, and none behind its taking.
-fn list_choices(rows: &mut Rows, bus: SlothBus) {
-    let mut bus = bus;
+fn list_choices(rows: &mut Rows, bus: &mut SlothBus) {
     bus.arrive(Line(1));
-    let enabled = is_stored(&mut bus, ENABLED, Width::Byte, 1);
-    let leveled = is_stored(&mut bus, LEVEL, Width::Byte, 2);
-    rows.row(
-        Piece::Text("enabled"),
-        &[Piece::Flag(enabled), Piece::Flag(leveled)],
-    );
-    rows.row(Piece::Text("chosen"), &[number(bus.choose(1))]);
+    let enabled = is_stored(bus, 0x1000_0021, Width::Byte, 1);
+    let leveled = is_stored(bus, 0x1000_0041, Width::Byte, 2);
+    form!(rows; "enabled % %\n"; Flag(enabled), Flag(leveled));
+    form!(rows; "chosen %\n"; ; number(bus.choose(1)));
     bus.take(Line(1));
-    rows.row(Piece::Text("chosen"), &[number(bus.choose(1))])
-}
-
-/// The choices of a bus at which line 1 arrives.
-pub fn list_choice(rows: &mut Rows, image: &Image)
-    requires { InFormat image.now }
-{
-    match SlothBus::new(rows.alloc(), image) {
-        Ok(bus) => list_choices(rows, bus),
-        Err(_) => rows.leave_out(),
-    }
-}
-
-fn list_step(rows: &mut Rows, machine: &mut Machine<SlothBus>)
-    requires { machine.old.count < count_limit }
-{
-    match machine.step() {
-        Ok(step) => rows.row(
-            Piece::Text("step"),
-            &[
-                Piece::Number(step.count),
-                Piece::Text("at"),
-                Piece::Address(step.pc),
-            ],
-        ),
-        Err(_) => rows.line("stopped"),
-    }
+    form!(rows; "chosen %\n"; ; number(bus.choose(1)))
 }
 
 // The first step of a machine, and where the next one is behind an arrival.
-fn list_steps(rows: &mut Rows, machine: &mut Machine<SlothBus>)
+fn list_first_step(rows: &mut Rows, machine: &mut Machine<SlothBus>)
     requires { machine.old.count < count_limit }
 {
-    list_step(rows, machine);
+    match machine.step() {
+        Ok(step) => form!(rows; "step % at %\n"; Number(step.count as u64), Address(step.pc)),
+        Err(_) => rows.text("stopped\n"),
+    }
     machine.bus_mut().arrive(Line(1));
-    rows.row(Piece::Text("next"), &[Piece::Address(machine.next_pc())])
+    form!(rows; "next %\n"; Address(machine.next_pc()))
 }
 
-// The same of a machine over a bus.
-fn list_machine_steps(rows: &mut Rows, bus: SlothBus) {
+fn list_stop(rows: &mut Rows, stop: Stop) {
+    match stop {
+        Stop::Fetch(pc) => form!(rows; "Fetch(%)\n"; ; pc),
+        Stop::Illegal(word) => form!(rows; "Illegal(%)\n"; ; word),
+        Stop::Environment => rows.text("Environment\n"),
+        Stop::Misaligned(address) => form!(rows; "Misaligned(%)\n"; ; address),
+        Stop::Access(address) => form!(rows; "Access(%)\n"; ; address),
+    }
+}
+
+// What the second of two instructions does.
+fn second_step<B: Bus + Drop>(bus: B, first: u32, second: u32) -> Result<Step, Stop> {
+    let mut bus = bus;
+    let _ = is_stored(&mut bus, 0x8000_0480, Width::Word, first);
+    let _ = is_stored(&mut bus, 0x8000_0484, Width::Word, second);
     let mut machine = Machine::new(bus);
-    list_steps(rows, &mut machine)
+    if let Err(stop) = machine.step() {
+        return Err(stop);
+    }
+    machine.step()
 }
 
-/// The first step of an image.
-pub fn list_first_step(rows: &mut Rows, image: &Image)
+// How the second of two instructions stops, or which line it touches: over a memory without a controller, or with one.
+fn list_pair(rows: &mut Rows, flat: bool, image: &Image, line: &str) -> Told
     requires { InFormat image.now }
 {
-    match SlothBus::new(rows.alloc(), image) {
-        Ok(bus) => list_machine_steps(rows, bus),
-        Err(_) => rows.leave_out(),
+    let numbers = hex_words(line);
+    let (first, second) = (numbers[0], numbers[1]);
+    let step = if flat {
+        second_step(FlatBus::new(rows.alloc, image)?, first, second)
+    } else {
+        second_step(SlothBus::new(rows.alloc, image)?, first, second)
+    };
+    match step {
+        Ok(step) => form!(rows; "touches %\n"; ; number(step.touched)),
+        Err(stop) => list_stop(rows, stop),
     }
+    Ok(())
+}
+
+/// The same of the two words in front of each line.
+pub fn list_pairs(rows: &mut Rows, flat: bool, image: &Image, lines: &str) -> Told
+    requires { InFormat image.now }
+{
+    for line in lines.lines() {
+        list_pair(rows, flat, image, line)?;
+    }
+    Ok(())
+}
+
+// How a step stops, or that it does not.
+fn list_next(rows: &mut Rows, machine: &mut Machine<SlothBus>)
+    requires { machine.old.count < count_limit }
+    ensures { machine.new.count ≤ machine.old.count + 1 }
+{
+    match machine.step() {
+        Ok(_) => rows.text("no stop\n"),
+        Err(stop) => list_stop(rows, stop),
+    }
+}
+
+// Three steps of a machine over that bus, at which line 3 arrives, once the line is enabled at level 2. The first
+// instruction enables interrupts (csrrsi x0, mstatus, 8), and no code stands at the line's vector.
+fn list_waiting(rows: &mut Rows, bus: SlothBus) {
+    let mut bus = bus;
+    let _ = is_stored(&mut bus, 0x1000_0023, Width::Byte, 1);
+    let _ = is_stored(&mut bus, 0x1000_0043, Width::Byte, 2);
+    let _ = is_stored(&mut bus, 0x8000_0480, Width::Word, 0x3004_6073);
+    let mut machine = Machine::new(bus);
+    machine.arrive(Line(3));
+    list_next(rows, &mut machine);
+    list_next(rows, &mut machine);
+    form!(rows; "next %\n"; Address(machine.next_pc()));
+    list_next(rows, &mut machine)
+}
+
+/// The choices of a bus (`chosen`), the first `step` of a machine over it, or its steps to a vector (`vector`).
+pub fn list_machine(rows: &mut Rows, asked: &str, image: &Image) -> Told
+    requires { InFormat image.now }
+{
+    let mut bus = SlothBus::new(rows.alloc, image)?;
+    match asked {
+        "chosen" => list_choices(rows, &mut bus),
+        "step" => list_first_step(rows, &mut Machine::new(bus)),
+        _ => list_waiting(rows, bus),
+    }
+    Ok(())
 }

@@ -1,176 +1,131 @@
 //! What OIL texts, task source and loads mean, or how they are refused.
 ghost use Rattle.std.specs.Prelude.{◌≤◌, IfOk, length};
 ghost use Rattle.sloth_base.specs.ConfigRange.{InRange};
-ghost use Rattle.code_rules.specs.AppRange.{IsTaskCode};
 ghost use Rattle.code_rules.specs.WellFormed.{WellFormed};
 ghost use Rattle.stack_bounds.specs.Bounds.{AreBounds};
 
-use crate::configuration::list_config;
-use crate::generated::list_sample;
+use crate::configuration::{list_config, list_load, list_tokens, list_tree};
 use crate::kernel::list_kernel;
-use crate::loads::list_load;
-use crate::plain_values::code_name;
-use crate::rows::Rows;
-use crate::syntax::{list_tokens, list_tree};
-use crate::task_code::{list_app, list_counts, list_sizes, list_stacks};
+use crate::rows::Piece::{Bytes, Number, Text};
+use crate::rows::{Rows, Told};
+use crate::task_code::{list_code, list_stacks, name};
+use crate::texts::{Texts, number_before, short};
+use app_gen::sample;
 use asm_parse::parse_app;
 use oil_lex::tokens;
 use oil_model::resolve;
-use oil_parse::{OilTree, parse};
-use sloth_base::{App, Bounds, BuildError, Config};
+use oil_parse::parse;
+use sloth_base::{App, Bounds, BuildError, Config, TASK_LIMIT};
 use sloth_source::read;
 use stack_bounds::offsets;
 use std::alloc::Global;
 
-fn tree(alloc: Global, text: &[u8]) -> Result<OilTree, BuildError>
-    requires { length text.now ≤ 16000000 }
-{
-    let tokens = tokens(alloc, text)?;
-    parse(alloc, tokens.as_slice())
+const CODES: &str = "O1 O2 O3 O4 O5 O6 O7 O8 O9 O10 O11 O12 O13 O14 O15 A1 A2 A3 A4 A5 A6 A7 \
+    V1 V2 V3 V4 V5 V6 V7 V8 V9 V10 V11 V12 T1 T2 T3 T4 L1 L2 L3 L4";
+
+/// Prints why a text has no meaning, if so it is.
+pub fn list_error(rows: &mut Rows, told: Told) {
+    match told {
+        Ok(()) => {}
+        Err(BuildError::Refused(refusal)) => {
+            let code = name(CODES, refusal.code as usize);
+            form!(rows; "refused % %\n"; Number(refusal.line as u64), Text(code))
+        }
+        Err(BuildError::Memory) => rows.text("no memory\n"),
+    }
 }
 
 fn config(alloc: Global, text: &[u8]) -> Result<Config, BuildError>
-    requires { length text.now ≤ 16000000 }
     ensures { IfOk result InRange }
 {
-    let tokens = tokens(alloc, text)?;
+    let tokens = tokens(alloc, short(text)?)?;
     let tree = parse(alloc, tokens.as_slice())?;
     resolve(alloc, &tree)
 }
 
-fn app(alloc: Global, oil: &[u8], text: &[u8]) -> Result<App, BuildError>
-    requires oil { length oil.now ≤ 16000000 }
-    requires text { length text.now ≤ 16000000 }
-    ensures { IfOk result (λ app. IsTaskCode app) }
-{
-    let config = config(alloc, oil)?;
-    parse_app(alloc, text, &config)
-}
-
-/// Prints the code of a kernel of the configuration of an OIL text.
-pub fn answer_words(rows: &mut Rows, asked: &str, oil: &[u8])
-    requires { length oil.now ≤ 16000000 }
-{
-    match config(rows.alloc(), oil) {
-        Ok(config) => list_kernel(rows, asked, &config),
-        Err(error) => list_error(rows, error),
+// The tokens of an OIL text, or its tree.
+fn answer_syntax(rows: &mut Rows, asked: &str, text: &[u8]) -> Told {
+    let tokens = tokens(rows.alloc, short(text)?)?;
+    if asked == "tokens" {
+        list_tokens(rows, tokens.as_slice());
+        return Ok(());
     }
+    let tree = parse(rows.alloc, tokens.as_slice())?;
+    list_tree(rows, &tree);
+    Ok(())
 }
 
-/// Prints why a text has no meaning.
-pub fn list_error(rows: &mut Rows, error: BuildError) {
-    match error {
-        BuildError::Refused(refusal) => {
-            rows.form("refused % ", &[refusal.line as i64]);
-            rows.line(code_name(&refusal.code));
-        }
-        BuildError::Memory => rows.line("no memory"),
-    }
-}
-
-fn answer_tokens(rows: &mut Rows, text: &[u8])
-    requires { length text.now ≤ 16000000 }
+// What task source means beside a configuration.
+fn answer_code(rows: &mut Rows, asked: &str, config: &Config, text: &[u8]) -> Told
+    requires { InRange config.now }
 {
-    match tokens(rows.alloc(), text) {
-        Ok(tokens) => list_tokens(rows, tokens.as_slice()),
-        Err(error) => list_error(rows, error),
-    }
+    let app = parse_app(rows.alloc, short(text)?, config)?;
+    list_code(rows, asked, &app)
 }
 
-fn answer_tree(rows: &mut Rows, text: &[u8])
-    requires { length text.now ≤ 16000000 }
+// What a configuration is, what code its kernel has, or what a load or task source means beside it.
+fn answer_beside(rows: &mut Rows, asked: &str, config: &Config, text: &[u8]) -> Told
+    requires { InRange config.now }
 {
-    match tree(rows.alloc(), text) {
-        Ok(tree) => list_tree(rows, &tree),
-        Err(error) => list_error(rows, error),
+    if let Some(asked) = asked.strip_prefix("words ") {
+        return list_kernel(rows, asked, config);
     }
+    match asked {
+        "config" => list_config(rows, config),
+        "load" => return list_load(rows, config, text),
+        _ => return answer_code(rows, asked, config, text),
+    }
+    Ok(())
 }
 
-fn answer_config(rows: &mut Rows, text: &[u8])
-    requires { length text.now ≤ 16000000 }
-{
-    match config(rows.alloc(), text) {
-        Ok(config) => list_config(rows, &config),
-        Err(error) => list_error(rows, error),
-    }
+// The same of the configuration of an OIL text.
+fn answer_configured(rows: &mut Rows, asked: &str, oil: &[u8], text: &[u8]) -> Told {
+    let config = config(rows.alloc, oil)?;
+    answer_beside(rows, asked, &config, text)
 }
 
-// Answers what the text of a load says.
-fn answer_load(rows: &mut Rows, oil: &[u8], text: &[u8])
-    requires oil { length oil.now ≤ 16000000 }
-    requires text { length text.now ≤ 16000000 }
-{
-    match config(rows.alloc(), oil) {
-        Ok(config) => list_load(rows, &config, text),
-        Err(error) => list_error(rows, error),
-    }
-}
-
-// Lists what the tasks of a configuration need of the stacks.
-fn list_offsets(rows: &mut Rows, config: &Config, app: &App, bounds: &Bounds)
+// What the tasks of a configuration need of the stacks.
+fn list_offsets(rows: &mut Rows, config: &Config, app: &App, bounds: &Bounds) -> Told
     requires well_formed { WellFormed config.now app.now }
     requires bounds { AreBounds config.now app.now bounds.now }
 {
-    match offsets(rows.alloc(), config, app, bounds) {
-        Ok(offsets) => list_stacks(rows, bounds, &offsets),
-        Err(_) => rows.leave_out(),
-    }
+    let offsets = offsets(rows.alloc, config, app, bounds)?;
+    list_stacks(rows, bounds, &offsets);
+    Ok(())
 }
 
-// Answers what the tasks of a text need of the stacks.
-fn answer_stacks(rows: &mut Rows, oil: &[u8], text: &[u8])
-    requires oil { length oil.now ≤ 16000000 }
-    requires text { length text.now ≤ 16000000 }
-{
-    match read(rows.alloc(), oil, text) {
-        Ok(source) => list_offsets(rows, &source.config, &source.app, &source.bounds),
-        Err(error) => list_error(rows, error),
-    }
+// What the tasks of a text need of the stacks.
+fn answer_stacks(rows: &mut Rows, oil: &[u8], text: &[u8]) -> Told {
+    let source = read(rows.alloc, short(oil)?, short(text)?)?;
+    list_offsets(rows, &source.config, &source.app, &source.bounds)
 }
 
-fn list_code(rows: &mut Rows, asked: &str, app: &App)
-    requires { IsTaskCode app.now }
-{
+// The two texts and the arrivals of the application that a seed and a number of tasks ask for.
+fn list_sample(rows: &mut Rows, asked: &str) -> Told {
+    let (seed, tasks) = number_before(asked).unwrap_or((0, ""));
+    let tasks = tasks.parse::<u32>().unwrap_or(0);
+    if tasks < 1 || tasks > TASK_LIMIT as u32 {
+        return Ok(());
+    }
+    let sample = sample(rows.alloc, seed, tasks)?;
+    form!(rows; "%%"; Bytes(sample.oil.items()), Bytes(sample.src.items()));
+    for arrival in sample.arrivals.items() {
+        form!(rows; "% T%\n"; ; arrival.at, arrival.line.0);
+    }
+    Ok(())
+}
+
+/// Answers what is asked of the lines before the question, or of these beside the OIL text; after `words `, of a kernel
+/// of that.
+pub fn answer_read(rows: &mut Rows, asked: &str, texts: &Texts) -> Told {
+    if let Some(numbers) = asked.strip_prefix("generated ") {
+        return list_sample(rows, numbers);
+    }
+    let text = texts.lines.strip_suffix(b"\n").unwrap_or(b"");
     match asked {
-        "listing" => list_app(rows, app),
-        "sizes" => list_sizes(rows, app),
-        _ => list_counts(rows, app),
+        "tokens" | "tree" => answer_syntax(rows, asked, text),
+        "config" => answer_configured(rows, asked, text, text),
+        "stacks" => answer_stacks(rows, &texts.oil, text),
+        _ => answer_configured(rows, asked, &texts.oil, text),
     }
-}
-
-// Answers what task source means: its listing, its sizes, or how much there is of each kind.
-fn answer_code(rows: &mut Rows, asked: &str, oil: &[u8], text: &[u8])
-    requires oil { length oil.now ≤ 16000000 }
-    requires text { length text.now ≤ 16000000 }
-{
-    match app(rows.alloc(), oil, text) {
-        Ok(app) => list_code(rows, asked, &app),
-        Err(error) => list_error(rows, error),
-    }
-}
-
-fn answer_asked(rows: &mut Rows, asked: &str, oil: &[u8], text: &[u8])
-    requires oil { length oil.now ≤ 16000000 }
-    requires text { length text.now ≤ 16000000 }
-{
-    match asked {
-        "tokens" => answer_tokens(rows, text),
-        "tree" => answer_tree(rows, text),
-        "config" => answer_config(rows, text),
-        "stacks" => answer_stacks(rows, oil, text),
-        "load" => answer_load(rows, oil, text),
-        _ => answer_code(rows, asked, oil, text),
-    }
-}
-
-/// Answers what is asked of a text, or of a text beside an OIL text.
-pub fn answer_read(rows: &mut Rows, asked: &str, oil: &[u8], text: &[u8])
-    requires oil { length oil.now ≤ 16000000 }
-    requires text { length text.now ≤ 16000000 }
-{
-    match asked.strip_prefix("generated ") {
-        Some(numbers) => list_sample(rows, numbers.as_bytes()),
-        None => answer_asked(rows, asked, oil, text),
-    }
-    rows.line("===");
 }

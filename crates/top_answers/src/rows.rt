@@ -1,17 +1,18 @@
 //! Rows that are printed.
-use crate::syntax::shown;
+use sloth_base::BuildError;
 use std::alloc::Global;
-use std::fmt::{Debug, Display};
+use std::fmt::Debug;
+
+/// Rows are told, or a text is refused or memory is wanting.
+pub type Told = Result<(), BuildError>;
 
 /// A piece of a row. Bytes are shown as text, an address in eight hexadecimal digits.
 #[derive(Clone, Copy)]
 pub enum Piece<'a> {
     Text(&'a str),
     Bytes(&'a [u8]),
-    Number(u32),
-    Count(usize),
-    Sum(u64),
-    Signed(i64),
+    Number(u64),
+    Signed(i32),
     Address(u32),
     Flag(bool),
 }
@@ -19,9 +20,14 @@ pub enum Piece<'a> {
 /// Rows that are not printed yet, and whether some are left out for want of memory.
 #[derive(Drop)]
 pub struct Rows {
-    alloc: Global,
-    text: String,
+    pub alloc: Global,
+    pub text: String,
     wanting: bool,
+}
+
+/// Bytes as text, or `?` where they are none.
+pub fn shown(bytes: &[u8]) -> &str {
+    str::from_utf8(bytes).unwrap_or("?")
 }
 
 impl Rows {
@@ -32,16 +38,6 @@ impl Rows {
             text: String::new(alloc),
             wanting: false,
         }
-    }
-
-    /// The rows as a text.
-    pub fn into_text(self) -> String {
-        self.text
-    }
-
-    /// Where memory comes from.
-    pub fn alloc(&self) -> Global {
-        self.alloc
     }
 
     /// Some rows are left out.
@@ -56,14 +52,6 @@ impl Rows {
         }
     }
 
-    /// Appends what is shown of a value.
-    pub fn value<T: Display + Drop>(&mut self, value: T) {
-        match format!(in self.alloc; "{value}") {
-            Ok(text) => self.text(&text),
-            Err(_) => self.leave_out(),
-        }
-    }
-
     /// Appends what is shown of a value to whoever looks for a fault.
     pub fn debug<T: Debug>(&mut self, value: &T) {
         match format!(in self.alloc; "{value:?}") {
@@ -72,87 +60,42 @@ impl Rows {
         }
     }
 
-    /// Appends an address in eight hexadecimal digits.
-    pub fn address(&mut self, address: u32) {
-        match format!(in self.alloc; "{address:08x}") {
+    fn put(&mut self, piece: Piece) {
+        let made = match piece {
+            Piece::Text(text) => return self.text(text),
+            Piece::Bytes(bytes) => return self.text(shown(bytes)),
+            Piece::Number(number) => format!(in self.alloc; "{number}"),
+            Piece::Signed(number) => format!(in self.alloc; "{number}"),
+            Piece::Address(address) => format!(in self.alloc; "{address:08x}"),
+            Piece::Flag(flag) => format!(in self.alloc; "{flag}"),
+        };
+        match made {
             Ok(text) => self.text(&text),
             Err(_) => self.leave_out(),
         }
     }
 
-    fn put(&mut self, piece: Piece) {
-        match piece {
-            Piece::Text(text) => self.text(text),
-            Piece::Bytes(bytes) => self.text(shown(bytes)),
-            Piece::Number(number) => self.value(number),
-            Piece::Count(count) => self.value(count),
-            Piece::Sum(sum) => self.value(sum),
-            Piece::Signed(number) => self.value(number),
-            Piece::Address(address) => self.address(address),
-            Piece::Flag(flag) => self.value(flag),
+    /// Appends a text in which a piece stands for each `%` (`form!`).
+    pub fn form(&mut self, text: &str, pieces: &[Piece]) {
+        for (place, part) in text.split('%').enumerate() {
+            self.text(part);
+            if let Some(piece) = pieces.get(place) {
+                self.put(*piece);
+            }
         }
-    }
-
-    /// Appends pieces, each behind a space, and ends the row.
-    pub fn end(&mut self, pieces: &[Piece]) {
-        for piece in pieces {
-            self.text(" ");
-            self.put(*piece);
-        }
-        self.text("\n");
-    }
-
-    /// Appends a row of pieces with a space between two of them.
-    pub fn row(&mut self, first: Piece, rest: &[Piece]) {
-        self.put(first);
-        self.end(rest);
-    }
-
-    /// Appends a row of one text.
-    pub fn line(&mut self, text: &str) {
-        self.text(text);
-        self.text("\n");
-    }
-
-    /// Appends a row of a text and a number.
-    pub fn count(&mut self, text: &str, number: usize) {
-        self.row(Piece::Text(text), &[Piece::Count(number)]);
     }
 
     /// Appends a row of a text and numbers.
     pub fn numbers(&mut self, text: &str, numbers: &[u32]) {
         self.text(text);
         for number in numbers {
-            self.text(" ");
-            self.value(*number);
+            form!(self; " %"; ; *number);
         }
         self.text("\n");
     }
 
-    /// Appends a flag, and a text behind it.
-    pub fn flag(&mut self, flag: bool, text: &str) {
-        self.value(flag);
-        self.text(text);
-    }
-
-    /// Appends a text in which a number stands for each `%`.
-    pub fn form(&mut self, text: &str, numbers: &[i64]) {
-        for (place, part) in text.split('%').enumerate() {
-            self.text(part);
-            if let Some(number) = numbers.get(place) {
-                self.value(*number);
-            }
-        }
-    }
-
-    /// Appends two texts, and a third in which a number stands for each `%`.
-    pub fn named(&mut self, before: &str, name: &str, behind: &str, numbers: &[i64]) {
-        self.text(before);
-        self.text(name);
-        self.form(behind, numbers)
-    }
-
-    /// Prints the rows, and behind them where some are left out. What cannot be printed is missing where the output is compared.
+    /// Prints the rows, and behind them where some are left out. What cannot be printed is missing where the output is
+    /// compared.
     pub fn print(&mut self, rt: &impl Print) {
         if self.wanting {
             self.text("rows are left out\n");

@@ -1,82 +1,193 @@
-//! Public calls on the texts of a configuration and its task code.
-ghost use Rattle.std.specs.Prelude.{◌≤◌, IfOk, length};
-ghost use Rattle.sloth_build.specs.Gathered.{MayBuild};
+//! Public calls on the texts of a configuration and its task code: copies, rules, bytes of stack, generators, and the
+//! abstract scheduler.
+ghost use Rattle.std.specs.Prelude.{◌≡◌, ◌<◌, length};
+ghost use Rattle.call_graph.specs.Ranks.{RanksOf};
+ghost use Rattle.code_rules.specs.AppRange.{AppInRange, IsTaskCode};
+ghost use Rattle.code_rules.specs.WellFormed.{WellFormed};
+ghost use Rattle.rv32_expand.specs.InPlace.{IsAppItem};
+ghost use Rattle.rv32_expand.specs.Sizes.{AgreeWithSizes, HasWordAddresses, IsVerified};
+ghost use Rattle.sloth_base.specs.ConfigRange.{InRange};
+ghost use Rattle.sloth_base.specs.Named.{function, item_of};
+ghost use Rattle.sloth_build.specs.Gathered.{MayBuild, MayGenerate};
+ghost use Rattle.sloth_link.specs.Image.{MayLink};
 
-use crate::generating::{list_generated, list_levels};
-use crate::readers::list_error;
-use crate::rows::{Piece, Rows};
-use crate::rules::{list_copied_app, list_copied_config, list_judged};
-use crate::scheduler::list_scheduler;
-use crate::texts::{LONGEST, Texts};
-use sloth_base::{App, Bounds, BuildError, Config};
+use crate::rows::Piece::{Address, Flag};
+use crate::rows::{Rows, Told};
+use crate::task_code::list_stacks;
+use crate::texts::{Texts, short};
+use call_graph::Ranks;
+use osek_machine::Osek;
+use rv32_instr::Block;
+use sloth_base::{App, Bounds, Config, Event, Item, Levels, Places, TaskId};
 use sloth_build::build;
-use sloth_source::{Source, read};
-use std::alloc::Global;
-
-// What both texts mean.
-fn accepted_source(alloc: Global, oil: &[u8], src: &[u8]) -> Result<Source, BuildError>
-    requires oil { length oil.now ≤ 16000000 }
-    requires src { length src.now ≤ 16000000 }
-    ensures { IfOk result (λ source. MayBuild source.config source.app source.bounds) }
-{
-    let source = read(alloc, oil, src)?;
-    Ok(source)
-}
+use sloth_region::Map;
+use sloth_source::read;
+use stack_bounds::bound;
+use task_verify::{Verified, verify};
 
 // How much there is of each kind.
 fn list_sizes(rows: &mut Rows, config: &Config, app: &App) {
-    rows.row(
-        Piece::Text("tasks"),
-        &[
-            Piece::Count(config.tasks.items().len()),
-            Piece::Text("functions"),
-            Piece::Count(app.funcs.items().len()),
-            Piece::Text("symbols"),
-            Piece::Count(app.symbols.items().len()),
-        ],
-    )
+    let (tasks, funcs) = (config.tasks.items().len(), app.funcs.items().len());
+    form!(rows; "tasks % functions % symbols %\n"; ; tasks, funcs, app.symbols.items().len())
 }
 
-// What the rules, the generators and the abstract scheduler give of what both texts mean.
-fn list_meaning(rows: &mut Rows, config: &Config, app: &App, bounds: &Bounds)
-    requires { MayBuild config.now app.now bounds.now }
+// How many tasks and functions there are in copies.
+fn list_copies(rows: &mut Rows, config: &Config, app: &App) -> Told {
+    let tasks = config.copy(rows.alloc)?.tasks.items().len();
+    let funcs = app.copy(rows.alloc)?.funcs.items().len();
+    form!(rows; "copied %\ncopied %\n"; ; tasks, funcs);
+    Ok(())
+}
+
+// How many tasks and functions were verified, the bytes of stack of the tasks, and of the stack that the basic tasks
+// share.
+fn list_accepted(rows: &mut Rows, verified: &Verified, ranks: &Ranks) -> Told
+    requires { RanksOf verified.now.app ranks.now }
 {
-    list_sizes(rows, config, app);
-    list_copied_config(rows, config);
-    list_copied_app(rows, app);
-    list_levels(rows, config);
-    list_judged(rows, config, app);
-    list_generated(rows, config, app, bounds);
-    list_scheduler(rows, config, app)
+    let (config, app) = (verified.config(), verified.app());
+    form!(rows; "verified % %\n"; ; config.tasks.items().len(), app.funcs.items().len());
+    let bounds = bound(rows.alloc, verified, ranks)?;
+    list_stacks(rows, &bounds, &[]);
+    Ok(())
 }
 
-fn list_source(rows: &mut Rows, oil: &[u8], src: &[u8])
-    requires oil { length oil.now ≤ 16000000 }
-    requires src { length src.now ≤ 16000000 }
+fn list_ranked(rows: &mut Rows, config: &Config, app: &App, ranks: &Ranks) -> Told
+    requires in_range { AppInRange config.now app.now }
+    requires belong { RanksOf app.now ranks.now }
 {
-    match accepted_source(rows.alloc(), oil, src) {
-        Ok(source) => list_meaning(rows, &source.config, &source.app, &source.bounds),
-        Err(error) => list_error(rows, error),
-    }
+    let verified = verify(rows.alloc, config, app, ranks)?;
+    list_accepted(rows, &verified, ranks)
 }
 
-// What is built of both texts.
-fn list_built(rows: &mut Rows, oil: &[u8], src: &[u8])
-    requires oil { length oil.now ≤ 16000000 }
-    requires src { length src.now ≤ 16000000 }
+// What the rules give of task code.
+fn list_judged(rows: &mut Rows, config: &Config, app: &App) -> Told
+    requires { AppInRange config.now app.now }
 {
-    match build(rows.alloc(), oil, src) {
-        Ok(built) => list_sizes(rows, &built.config, &built.app),
-        Err(error) => list_error(rows, error),
-    }
+    let ranks = call_graph::ranks(rows.alloc, app)?;
+    list_ranked(rows, config, app, &ranks)
 }
 
-/// What public calls give of the OIL text and the task source.
-pub fn list_sources(rows: &mut Rows, texts: &Texts) {
-    let (oil, src) = (texts.oil.as_slice(), texts.src.as_slice());
-    if oil.len() > LONGEST || src.len() > LONGEST {
+// The code of an item of the first function.
+fn list_item(rows: &mut Rows, item: &Item, app: &App, places: &Places)
+    requires in_range { IsTaskCode app.now }
+    requires verified { IsVerified app.now }
+    requires is_item { IsAppItem app.now 0 0 }
+    requires is { item.now ≡ item_of (function app.now 0) 0 }
+    requires covers { HasWordAddresses app.now places.now }
+    requires agree { AgreeWithSizes app.now places.now }
+{
+    let code = rv32_expand::expand(item, 0, 0, app, places);
+    rows.numbers("item", &[code.len, rv32_expand::length(item, app)])
+}
+
+// The items of the first function.
+fn first_items(app: &App) -> &[Item]
+    requires { 0 < length app.now.funcs }
+    ensures { result.now ≡ (function app.now 0).items }
+{
+    app.funcs.items()[0].items.items()
+}
+
+fn list_first_item(rows: &mut Rows, app: &App, places: &Places)
+    requires in_range { IsTaskCode app.now }
+    requires verified { IsVerified app.now }
+    requires covers { HasWordAddresses app.now places.now }
+    requires agree { AgreeWithSizes app.now places.now }
+{
+    if app.funcs.items().len() == 0 {
         return;
     }
-    list_source(rows, oil, src);
-    list_built(rows, oil, src)
+    let items = first_items(app);
+    if items.len() == 0 {
+        return;
+    }
+    list_item(rows, &items[0], app, places)
+}
+
+// The address of each routine and how many words it has, the code of an item, and the length of the image of these
+// routines with the items and symbols of the task code.
+fn list_parts(rows: &mut Rows, config: &Config, app: &App, map: &Map, blocks: &[Block]) -> Told
+    requires { MayLink config.now app.now map.now blocks.now }
+{
+    for block in blocks {
+        form!(rows; "routine % %\n"; Address(block.at); block.code.items().len());
+    }
+    list_first_item(rows, app, &map.places);
+    let image = sloth_link::link(rows.alloc, blocks, app, config, map)?;
+    form!(rows; "image % marks %\n"; ; image.memory.items().len(), image.marks.items().len());
+    Ok(())
+}
+
+// The image by a map, and what it is made of.
+fn list_planned(rows: &mut Rows, config: &Config, app: &App, levels: &Levels, map: &Map) -> Told
+    requires { MayGenerate config.now app.now levels.now map.now }
+{
+    let blocks = sloth_build::gathering::gather(rows.alloc, config, app, levels, map)?;
+    list_parts(rows, config, app, map, blocks.as_slice())
+}
+
+// What the generators give of task code.
+fn list_generated(rows: &mut Rows, config: &Config, app: &App, bounds: &Bounds) -> Told
+    requires { MayBuild config.now app.now bounds.now }
+{
+    let levels = prio_levels::assign(config);
+    let map = mem_map::plan(rows.alloc, app, config, bounds)?;
+    list_planned(rows, config, app, &levels, &map)
+}
+
+// The levels of the first two tasks, of the first ceiling, and the highest one.
+fn list_levels(rows: &mut Rows, config: &Config)
+    requires { InRange config.now }
+{
+    let levels = prio_levels::assign(config);
+    form!(rows; "levels % % % %\n"; ; levels.task[0], levels.task[1], levels.ceiling[0], levels.top)
+}
+
+// Whether the first steps of the abstract scheduler have a next state, and the states of the first two tasks behind
+// them.
+fn list_steps(rows: &mut Rows, osek: &mut Osek) {
+    let boot = osek.step(&Event::Boot).is_ok();
+    let idle = osek.step(&Event::Idle).is_ok();
+    form!(rows; "boot % idle %\n"; Flag(boot), Flag(idle));
+    for task in 0..2 {
+        if (task as usize) < osek.task_count() {
+            rows.debug(&osek.state(TaskId(task)));
+            rows.text("\n");
+        }
+    }
+}
+
+fn list_scheduler(rows: &mut Rows, config: &Config, app: &App) -> Told
+    requires { WellFormed config.now app.now }
+{
+    let mut osek = Osek::boot(rows.alloc, config, app)?;
+    list_steps(rows, &mut osek);
+    Ok(())
+}
+
+// What the rules, the generators or the abstract scheduler give of what both texts mean.
+fn list_meaning(rows: &mut Rows, asked: &str, config: &Config, app: &App, bounds: &Bounds) -> Told
+    requires { MayBuild config.now app.now bounds.now }
+{
+    match asked {
+        "sizes" => list_sizes(rows, config, app),
+        "levels" => list_levels(rows, config),
+        "copies" => return list_copies(rows, config, app),
+        "judged" => return list_judged(rows, config, app),
+        "generated" => return list_generated(rows, config, app, bounds),
+        _ => return list_scheduler(rows, config, app),
+    }
+    Ok(())
+}
+
+/// What public calls give of the OIL text and the task source: of what both mean, or of what is `built` of them.
+pub fn list_sources(rows: &mut Rows, asked: &str, texts: &Texts) -> Told {
+    let (oil, src) = (short(&texts.oil)?, short(&texts.src)?);
+    if asked == "built" {
+        let built = build(rows.alloc, oil, src)?;
+        list_sizes(rows, &built.config, &built.app);
+        return Ok(());
+    }
+    let source = read(rows.alloc, oil, src)?;
+    list_meaning(rows, asked, &source.config, &source.app, &source.bounds)
 }

@@ -1,8 +1,8 @@
 //! A command that is run once for each moment of an arrival.
-use crate::commands::printed;
-use crate::repeats::number_before;
+use crate::commands::{Faults, command_outcome};
+use crate::rows::Piece::Text;
 use crate::rows::Rows;
-use crate::texts::{Texts, push, refill};
+use crate::texts::{Texts, number_before, push, refill};
 
 // A line behind its two counts. A status has none.
 fn event_text(line: &str) -> Option<&str> {
@@ -20,91 +20,63 @@ fn note(rows: &mut Rows, seen: &mut String, before: &str, line: &str) {
     }
     push(seen, line);
     push(seen, "\n");
-    rows.text(before);
-    rows.line(line);
+    form!(rows; "%%\n"; Text(before), Text(line));
 }
 
-// Prints the different lines of events that begin so, and gives how many runs there are, and how many of them have exactly one such line.
-fn list_each(rows: &mut Rows, prefix: &str, text: &str) -> (u32, u32) {
-    let mut seen = String::new(rows.alloc());
-    let (mut runs, mut once, mut found): (u32, u32, u32) = (0, 0, 0);
+// Prints the different last events of the runs (`last`), or the different lines of events that begin so (`each`), and
+// `once` as well how many runs there are, and how many of them have exactly one such line.
+fn answer(rows: &mut Rows, word: &str, prefix: &str, text: &str) {
+    let mut seen = String::new(rows.alloc);
+    let (mut runs, mut once, mut found, mut last) = (0_u32, 0_u32, 0_u32, "");
     for line in text.lines() {
         match event_text(line) {
             Some(event) => {
-                if event.starts_with(prefix) {
+                last = event;
+                if word != "last" && event.starts_with(prefix) {
                     found = found.saturating_add(1);
                     note(rows, &mut seen, "", event);
                 }
             }
             None => {
+                if word == "last" && !last.is_empty() {
+                    note(rows, &mut seen, "last ", last);
+                }
                 runs = runs.saturating_add(1);
                 once = once.saturating_add(u32::from(found == 1));
                 found = 0;
-            }
-        }
-    }
-    (runs, once)
-}
-
-// Prints the different last events of the runs.
-fn list_last(rows: &mut Rows, text: &str) {
-    let mut seen = String::new(rows.alloc());
-    let mut last = "";
-    for line in text.lines() {
-        match event_text(line) {
-            Some(event) => last = event,
-            None => {
-                if !last.is_empty() {
-                    note(rows, &mut seen, "last ", last);
-                }
                 last = "";
             }
         }
     }
-}
-
-// Prints what a question such as `once enter High` asks of the printed runs.
-fn answer(rows: &mut Rows, question: &str, text: &str) {
-    match question.split_once(' ') {
-        Some((word, prefix)) => {
-            let (runs, once) = list_each(rows, prefix, text);
-            if word == "once" {
-                rows.form("once in % of % runs\n", &[once as i64, runs as i64]);
-            }
-        }
-        None => list_last(rows, text),
+    if word == "once" {
+        form!(rows; "once in % of % runs\n"; ; once, runs);
     }
 }
 
 // Appends what a command prints with one arrival of a task at each of the moments that words such as `1 400 High` name.
 fn run_each(rows: &mut Rows, words: &str, command: &str, texts: &mut Texts, text: &mut String) {
-    let Some((first, rest)) = number_before(words) else {
-        return;
-    };
-    let Some((last, task)) = number_before(rest) else {
-        return;
-    };
+    let (first, rest) = number_before(words).unwrap_or((1, ""));
+    let (last, task) = number_before(rest).unwrap_or((0, ""));
+    let none = Faults::new(rows.alloc);
     for moment in first..=last {
-        if let Ok(line) = format!(in rows.alloc(); "{moment} {task}\n") {
+        if let Ok(line) = format!(in rows.alloc; "{moment} {task}\n") {
             refill(&mut texts.arr, line.as_bytes());
         }
-        let run = printed(rows.alloc(), command, texts, &texts.img);
-        push(text, run.as_str());
+        let run = command_outcome(rows.alloc, command, texts, &texts.img, &none);
+        push(text, &run.text);
     }
 }
 
-/// Runs a command once for each moment, with one arrival of a task then, and prints what was asked of the lines: behind words such as
-/// `1 400 High` stand the command and the questions, with ` / ` between them. A question is `once` or `each` and how lines begin, or `last`.
+/// Runs a command once for each moment, with one arrival of a task then, and prints what was asked of the lines: behind
+/// words such as `1 400 High` stand the command and the questions, with ` / ` between them. A question is `once` or
+/// `each` and how lines begin, or `last`.
 pub fn run_sweep(rows: &mut Rows, asked: &str, texts: &mut Texts) {
-    let Some((words, rest)) = asked.split_once(" / ") else {
-        return;
-    };
-    let Some((command, questions)) = rest.split_once(" / ") else {
-        return;
-    };
-    let mut text = String::new(rows.alloc());
+    let (words, rest) = asked.split_once(" / ").unwrap_or((asked, ""));
+    let (command, questions) = rest.split_once(" / ").unwrap_or((rest, ""));
+    let mut text = String::new(rows.alloc);
     run_each(rows, words, command, texts, &mut text);
     for question in questions.split(" / ") {
-        answer(rows, question, text.as_str());
+        let (word, prefix) = question.split_once(' ').unwrap_or((question, ""));
+        answer(rows, word, prefix, &text);
     }
 }

@@ -1,4 +1,9 @@
-//! The files that commands are run on, and changes of them.
+//! The files that commands are run on, and changes of them. What memory is wanting for is missing where the output is
+//! compared.
+ghost use Rattle.std.specs.Prelude.{◌≤◌, IfOk, length};
+
+use crate::rows::shown;
+use sloth_base::NoMemory;
 use std::alloc::Global;
 
 /// The greatest length of a file.
@@ -14,7 +19,18 @@ pub struct Texts {
     pub lines: Vec<u8>,
 }
 
-/// Appends bytes. What memory is wanting for is missing where the output is compared, here and below.
+/// A text that readers take, of at most 16,000,000 bytes.
+pub fn short(text: &[u8]) -> Result<&[u8], NoMemory>
+    ensures { IfOk result (λ text. length text.now ≤ 16000000) }
+{
+    if text.len() > LONGEST {
+        Err(NoMemory)
+    } else {
+        Ok(text)
+    }
+}
+
+/// Appends bytes.
 pub fn append(text: &mut Vec<u8>, bytes: &[u8]) {
     let _ = text.extend_from_slice(bytes);
 }
@@ -29,17 +45,33 @@ pub fn add<T: Drop>(list: &mut Vec<T>, thing: T) {
     let _ = list.push(thing);
 }
 
-/// Adds a copy of a text to a list.
-pub fn add_text(alloc: Global, list: &mut Vec<String>, text: &str) {
-    if let Ok(text) = String::from_str(alloc, text) {
-        add(list, text);
-    }
-}
-
 /// Puts bytes in the place of those of a text.
 pub fn refill(text: &mut Vec<u8>, bytes: &[u8]) {
     text.clear();
     append(text, bytes);
+}
+
+/// The number in front of words, and what stands behind one space.
+pub fn number_before(words: &str) -> Option<(u32, &str)> {
+    let (digits, rest) = words.split_once(' ')?;
+    let number = digits.parse::<u32>().ok()?;
+    Some((number, rest))
+}
+
+// One copy more, of this number.
+fn add_copy(alloc: Global, lines: &mut Vec<u8>, number: u32, text: &[u8]) {
+    for byte in text {
+        match byte {
+            b'%' => {
+                if let Ok(digits) = format!(in alloc; "{number}") {
+                    append(lines, digits.as_bytes());
+                }
+            }
+            b'|' => append(lines, b"\n"),
+            _ => append(lines, &[*byte]),
+        }
+    }
+    append(lines, b"\n");
 }
 
 impl Texts {
@@ -54,70 +86,42 @@ impl Texts {
         }
     }
 
-    /// Puts the lines in the place of the file of this name, if there is one.
-    pub fn replace(&mut self, name: &str) -> bool {
-        match name {
-            "oil" => refill(&mut self.oil, &self.lines),
-            "src" => refill(&mut self.src, &self.lines),
-            "arr" => refill(&mut self.arr, &self.lines),
-            "img" => refill(&mut self.img, &self.lines),
-            _ => return false,
+    /// Appends a line, or the copies that it stands for: `%repeat 65 func f%|ret|end` stands for so many copies of what
+    /// stands behind the number, where each `%` is the number of the copy, from 0, and each `|` ends a line.
+    pub fn add_line(&mut self, alloc: Global, line: &[u8]) {
+        if let Some(rest) = line.strip_prefix(b"%repeat ") {
+            if let Some((count, text)) = number_before(shown(rest)) {
+                for number in 0..count {
+                    add_copy(alloc, &mut self.lines, number, text.as_bytes());
+                }
+                return;
+            }
         }
-        true
+        append(&mut self.lines, line);
+        append(&mut self.lines, b"\n");
     }
 
-    /// Puts a line feed behind each text.
-    pub fn lengthen(&mut self) {
-        append(&mut self.oil, b"\n");
-        append(&mut self.src, b"\n");
-        append(&mut self.arr, b"\n");
-    }
-
-    // The place in the image file that a number names; behind `-` it counts back from the end.
-    fn place(&self, word: &str) -> Option<usize> {
-        match word.strip_prefix("-") {
-            None => word.parse::<usize>().ok(),
-            Some(back) => self.img.len().checked_sub(back.parse::<usize>().ok()?),
-        }
-    }
-
-    // Puts the bytes of these hexadecimal digits in the place of the image file.
-    fn make(&mut self, alloc: Global, digits: &str) {
-        if let Ok(bytes) = hex::decode(alloc, digits) {
-            self.img = bytes;
-        }
-    }
-
-    // Writes bytes over those of the image file from a place on, and behind the last byte appends them.
-    fn put(&mut self, at: usize, bytes: &[u8]) {
-        if at == self.img.len() {
-            append(&mut self.img, bytes);
-            return;
-        }
+    // Writes bytes over those of the image file from a place on, and appends those that come behind its end: `AT HEX`;
+    // behind `-` the place counts back from the end.
+    fn change(&mut self, alloc: Global, words: &str) -> Option<()> {
+        let (place, digits) = words.split_once(' ')?;
+        let at = match place.strip_prefix("-") {
+            None => place.parse::<usize>().ok()?,
+            Some(back) => self.img.len().checked_sub(back.parse::<usize>().ok()?)?,
+        };
+        let bytes = hex::decode(alloc, digits).ok()?;
         for (i, byte) in bytes.iter().enumerate() {
             if at < self.img.len() && i < self.img.len() - at {
                 self.img[at + i] = *byte;
+            } else {
+                add(&mut self.img, *byte);
             }
         }
-    }
-
-    // Changes the image file: `AT HEX` writes these bytes over those from a place on, and behind the last byte appends them.
-    fn change(&mut self, alloc: Global, words: &str) {
-        let Some((place, digits)) = words.split_once(' ') else {
-            return;
-        };
-        if let Some(at) = self.place(place) {
-            if let Ok(bytes) = hex::decode(alloc, digits) {
-                self.put(at, &bytes);
-            }
-        }
+        Some(())
     }
 
     // Takes a line out of the image file, by its number from 1.
-    fn drop_line(&mut self, alloc: Global, number: &str) {
-        let Ok(number) = number.parse::<usize>() else {
-            return;
-        };
+    fn drop_line(&mut self, alloc: Global, number: usize) {
         let mut kept = Vec::new(alloc);
         for (i, line) in self.img.split(|byte| *byte == b'\n').enumerate() {
             if Some(i) != number.checked_sub(1) {
@@ -129,12 +133,19 @@ impl Texts {
         self.img = kept;
     }
 
-    /// Changes the image file, if that is what this word asks for.
+    /// Puts the lines in the place of the file of this name, or changes the image file, if that is what this word asks
+    /// for.
     pub fn alter(&mut self, alloc: Global, word: &str, rest: &str) -> bool {
         match word {
-            "image" => self.make(alloc, rest),
-            "change" => self.change(alloc, rest),
-            "drop" => self.drop_line(alloc, rest),
+            "oil" => refill(&mut self.oil, &self.lines),
+            "src" => refill(&mut self.src, &self.lines),
+            "arr" => refill(&mut self.arr, &self.lines),
+            "img" => refill(&mut self.img, &self.lines),
+            "image" => self.img = hex::decode(alloc, rest).unwrap_or(Vec::new(alloc)),
+            "change" => {
+                let _ = self.change(alloc, rest);
+            }
+            "drop" => self.drop_line(alloc, rest.parse::<usize>().unwrap_or(0)),
             "shorten" => {
                 self.img.pop();
             }

@@ -2,3 +2,4 @@ mod FaultLines
 mod NamedFaults
 mod Apart
 mod Trees
+mod FewLines

@@ -1,5 +1,6 @@
 -- The lines behind a refusal of names and forms.
-use Rattle.std.specs.Prelude.{ℕ, ◌≡◌, ◌++◌, ◌⊎◌, nat_lt, All, Bool, true, false, List, [], ◌∷◌, length, take, Option, Some, None, codes}
+use Rattle.std.specs.Prelude.{ℕ, ◌≡◌, ◌++◌, ◌⊎◌, ◌&&◌, ◌<◌, nat_lt, nat_le, IsTrue, IfSome, All, Bool, true, false, List, [], ◌∷◌, length, take, Option, Some, None, codes, if◌then◌else◌}
+use Rattle.std.specs.List.{list_all}
 use Rattle.std.specs.List.Sorted.{IsNonDecreasingBy}
 use Rattle.sloth_base.specs.declared.refusal.Part.{Part}
 use Rattle.sloth_base.specs.declared.refusal.Refusal.{Refusal}
@@ -18,10 +19,13 @@ first_lines (Some line) = number_line (codes "first") line
 abbrev pub named_lines : List ℕ → Option ℕ → List ℕ
 named_lines name first = name_line name ++ first_lines first
 
+-- a word: it has bytes, no blank and no end of a line among them, and is no longer than a text may be
+abbrev pub is_word : List ℕ → Bool
+is_word name = nat_lt 0 (length name) && (nat_le (length name) 4194304 && list_all (nat_lt 32) name)
+
 -- the name that a fault concerns, if there is one
 abbrev pub concerned_words : List ℕ → List ℕ
-concerned_words [] = []
-concerned_words (byte ∷ name) = codes " " ++ (byte ∷ name)
+concerned_words name = if is_word name then codes " " ++ name else []
 
 -- `among`, the line and the code of a fault, and the name that it concerns
 abbrev pub among_line : Note → List ℕ
@@ -44,7 +48,9 @@ told_lines notes = among_lines (take 1000 notes) ++ more_lines (nat_lt 1000 (len
 -- a name with the line of an earlier thing, or nothing
 pub record HasName (lines : List ℕ) : Type 0 where
   pub name : List ℕ
+  pub word : IsTrue (is_word name)
   pub first : Option ℕ
+  pub number : IfSome first (λ line. line < 4294967296)
   pub are : lines ≡ named_lines name first
 
 abbrev pub IsNamed : List ℕ → Type 0

@@ -1,5 +1,5 @@
 -- The answer of the command `why`.
-use Rattle.std.specs.Prelude.{ℕ, ◌≡◌, ◌<◌, ◌⊎◌, List, [], length, Option, Some, None}
+use Rattle.std.specs.Prelude.{ℕ, ◌≡◌, ◌<◌, ◌≤◌, ◌⊎◌, List, [], length, Option, Some, None}
 use Rattle.sloth_base.specs.declared.config.Config.{Config}
 use Rattle.sloth_base.specs.declared.app.App.{App}
 use Rattle.sloth_base.specs.declared.refusal.Code.{Code}
@@ -122,14 +122,18 @@ cause_of code.V11 = cause.Rule
 cause_of code.V12 = cause.Rule
 cause_of _ = cause.Nothing
 
+-- the most bytes of the lines of a cycle or of a fault of task code; where they are more, none is told
+abbrev pub lines_limit : ℕ
+lines_limit = 1073741824
+
 -- what the lines are, by what explains the refusal
 abbrev pub AreLinesBy : Cause → (oil src : List ℕ) → Refusal → List ℕ → Type 0
 AreLinesBy cause.Nothing oil src r lines = lines ≡ []
 AreLinesBy cause.OilName oil src r lines = TellsMeaning oil lines
 AreLinesBy cause.SourceForm oil src r lines = TellsForms src lines
 AreLinesBy cause.SourceName oil src r lines = TellsNames oil src lines
-AreLinesBy cause.Cycle oil src r lines = (lines ≡ []) ⊎ TellsCycle oil src r lines
-AreLinesBy cause.Rule oil src r lines = (lines ≡ []) ⊎ TellsFault oil src r lines
+AreLinesBy cause.Cycle oil src r lines = (lines ≡ []) ⊎ (TellsCycle oil src r lines × (length lines ≤ lines_limit))
+AreLinesBy cause.Rule oil src r lines = (lines ≡ []) ⊎ (TellsFault oil src r lines × (length lines ≤ lines_limit))
 
 -- what the lines behind a refusal are
 abbrev pub AreWhyLines : (oil src : List ℕ) → Refusal → List ℕ → Type 0

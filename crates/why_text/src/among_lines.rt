@@ -1,6 +1,7 @@
 //! The lines `among`: each fault of the stage that is at fault.
-ghost use Rattle.std.specs.Prelude.{◌≡◌, ◌++◌, OnOk, take};
-ghost use Rattle.why_text.specs.NameLines.{concerned_words, among_line, among_lines, more_lines, told_lines};
+ghost use Rattle.std.specs.Prelude.{◌≡◌, ◌++◌, nat_lt, OnOk, take};
+ghost use Rattle.std.specs.List.{list_all};
+ghost use Rattle.why_text.specs.NameLines.{is_word, concerned_words, among_line, among_lines, more_lines, told_lines};
 
 use command_line::code_text;
 use sloth_base::NoMemory;
@@ -11,13 +12,35 @@ use text_pieces::pieces::Piece::{Number, Word};
 // How many faults are told.
 const AMONG_LIMIT: usize = 1_000;
 
+// The greatest number of bytes of a name, as of a text.
+const LONGEST: usize = 4_194_304;
+
+fn is_shown(byte: u8) -> bool
+    ensures { result ≡ nat_lt 32 byte }
+{
+    byte > 32
+}
+
+fn are_shown(name: &[u8]) -> bool
+    ensures { result ≡ list_all (nat_lt 32) name.now }
+{
+    name.iter().all(|byte| is_shown(*byte))
+}
+
+/// Whether a name is a word: it has bytes, no blank and no end of a line, and is no longer than a text may be.
+pub fn is_word(name: &[u8]) -> bool
+    ensures { result ≡ is_word name.now }
+{
+    !name.is_empty() && name.len() <= LONGEST && are_shown(name)
+}
+
 fn push_concerned(text: &mut Vec<u8>, name: &[u8]) -> Result<(), NoMemory>
     ensures { OnOk result (text.new.items ≡ text.old.items ++ concerned_words name.now) }
 {
-    if name.is_empty() {
-        return Ok(());
+    if is_word(name) {
+        return line!(text; Word(b" "), Word(name));
     }
-    line!(text; Word(b" "), Word(name))
+    Ok(())
 }
 
 fn push_note(text: &mut Vec<u8>, note: &Note) -> Result<(), NoMemory>

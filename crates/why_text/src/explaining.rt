@@ -1,5 +1,5 @@
 //! The lines behind a refusal.
-ghost use Rattle.std.specs.Prelude.{◌≡◌, ◌<◌, ◌⊎◌, length, [], IfOk, IfSome, IfNone};
+ghost use Rattle.std.specs.Prelude.{◌≡◌, ◌<◌, ◌≤◌, ◌⊎◌, length, [], Some, IfOk, IfSome, IfNone};
 ghost use Rattle.sloth_base.specs.declared.config.Config.{Config};
 ghost use Rattle.sloth_base.specs.Named.{function};
 ghost use Rattle.sloth_base.specs.ConfigRange.{InRange};
@@ -8,7 +8,7 @@ ghost use Rattle.call_graph.specs.Ranks.{RanksOf};
 ghost use Rattle.sloth_source.specs.OilText.{OilText};
 ghost use Rattle.sloth_source.specs.SourceText.{HasApp};
 ghost use Rattle.sloth_source.specs.RankedTexts.{HasRanks};
-ghost use Rattle.why_text.specs.WhyLines.{TellsFault, TellsNames, TellsCycle, IsCycleLine, IsCycleOn, HasCycleIn, HasWitnessLines, cause_of, AreLinesBy, AreWhyLines};
+ghost use Rattle.why_text.specs.WhyLines.{TellsFault, TellsNames, TellsCycle, IsCycleLine, IsCycleOn, HasCycleIn, HasWitnessLines, cause_of, lines_limit, AreLinesBy, AreWhyLines};
 
 use crate::meaning::oil_text;
 use crate::named_events::named_events;
@@ -227,6 +227,9 @@ fn fault_for(
 
 // ---- all
 
+// The most bytes of the lines of a cycle or of a fault of task code.
+const LINES_LIMIT: usize = 1_073_741_824;
+
 // What explains a refusal.
 #[derive(Clone, Copy)]
 enum Cause {
@@ -253,6 +256,21 @@ fn cause_of(code: Code) -> Cause
     }
 }
 
+// The lines that were found, if they are no more than a gigabyte, or none.
+fn few_lines(alloc: Global, found: Option<List<u8>>) -> List<u8>
+    ensures { (result ≡ []) ⊎ ((found ≡ Some result) × (length result ≤ lines_limit)) }
+{
+    match found {
+        Some(lines) => {
+            if lines.items().len() <= LINES_LIMIT {
+                return lines;
+            }
+            no_lines(alloc)
+        }
+        None => no_lines(alloc),
+    }
+}
+
 fn cycle_lines(
     alloc: Global,
     oil: &[u8],
@@ -261,12 +279,10 @@ fn cycle_lines(
 ) -> Result<List<u8>, NoMemory>
     requires oil { length oil.now < 4294967295 }
     requires src { length src.now < 4294967295 }
-    ensures { IfOk result (λ lines. (lines ≡ []) ⊎ TellsCycle oil.now src.now refusal lines) }
+    ensures { IfOk result (λ lines. (lines ≡ []) ⊎ (TellsCycle oil.now src.now refusal lines × (length lines ≤ lines_limit))) }
 {
-    match cycle_for(alloc, oil, src, refusal)? {
-        Some(lines) => Ok(lines),
-        None => Ok(no_lines(alloc)),
-    }
+    let found = cycle_for(alloc, oil, src, refusal)?;
+    Ok(few_lines(alloc, found))
 }
 
 fn fault_lines(
@@ -277,12 +293,10 @@ fn fault_lines(
 ) -> Result<List<u8>, NoMemory>
     requires oil { length oil.now < 4294967295 }
     requires src { length src.now < 4294967295 }
-    ensures { IfOk result (λ lines. (lines ≡ []) ⊎ TellsFault oil.now src.now refusal lines) }
+    ensures { IfOk result (λ lines. (lines ≡ []) ⊎ (TellsFault oil.now src.now refusal lines × (length lines ≤ lines_limit))) }
 {
-    match fault_for(alloc, oil, src, refusal)? {
-        Some(lines) => Ok(lines),
-        None => Ok(no_lines(alloc)),
-    }
+    let found = fault_for(alloc, oil, src, refusal)?;
+    Ok(few_lines(alloc, found))
 }
 
 // The lines behind a refusal that is explained so.

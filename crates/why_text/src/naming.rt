@@ -1,13 +1,13 @@
 //! The lines behind a refusal of names and forms: the name that it concerns, and each fault of its stage.
-ghost use Rattle.std.specs.Prelude.{◌≡◌, ◌<◌, ◌^◌, ◌++◌, [], length, IfOk, IfErr, OnOk};
+ghost use Rattle.std.specs.Prelude.{◌≡◌, ◌<◌, ◌^◌, ◌++◌, [], length, IsTrue, IfOk, IfErr, IfSome, OnOk};
 ghost use Rattle.sloth_base.specs.declared.refusal.Part.TheVariants.{Src};
 ghost use Rattle.least_fault.specs.Order.{ErrorIs};
 ghost use Rattle.asm_lines.specs.Faults.{source_lines, SourceLinesFault};
 ghost use Rattle.stage_faults.specs.ToldNames.{ToldName};
-ghost use Rattle.why_text.specs.NameLines.{first_lines, HasName, IsNamed, TellsNotes, AreFaultLines};
+ghost use Rattle.why_text.specs.NameLines.{first_lines, is_word, HasName, IsNamed, TellsNotes, AreFaultLines};
 ghost use Rattle.why_text.specs.WhyLines.{TellsForms, TellsNamesFor};
 
-use crate::among_lines::push_told;
+use crate::among_lines::{is_word, push_told};
 use crate::oil_names::is_of;
 use crate::pieces::{push_name, push_number_line};
 use asm_lines::{SourceLine, read};
@@ -20,7 +20,8 @@ use std::alloc::Global;
 // ---- the lines
 
 fn push_first(text: &mut Vec<u8>, first: Option<u32>) -> Result<(), NoMemory>
-    ensures { OnOk result (text.new.items ≡ text.old.items ++ first_lines first) }
+    ensures text { OnOk result (text.new.items ≡ text.old.items ++ first_lines first) }
+    ensures number { IfSome first (λ line. line < 4294967296) }
 {
     match first {
         Some(line) => push_number_line(text, b"first", line),
@@ -29,6 +30,7 @@ fn push_first(text: &mut Vec<u8>, first: Option<u32>) -> Result<(), NoMemory>
 }
 
 fn name_text(alloc: Global, note: &Note) -> Result<Vec<u8>, NoMemory>
+    requires { IsTrue (is_word note.now.name.now) }
     ensures { IfOk result (λ text. HasName text.items) }
 {
     let mut text = Vec::new(alloc);
@@ -37,11 +39,11 @@ fn name_text(alloc: Global, note: &Note) -> Result<Vec<u8>, NoMemory>
     Ok(text)
 }
 
-/// The name that the first of these faults concerns, if it is that of the refusal and has one.
+/// The name that the first of these faults concerns, if it is that of the refusal and a word.
 pub fn refusal_name(alloc: Global, notes: &[Note], refusal: Refusal) -> Result<Vec<u8>, NoMemory>
     ensures { IfOk result (λ text. IsNamed text.items) }
 {
-    if notes.is_empty() || !is_of(&notes[0], refusal) || notes[0].name.is_empty() {
+    if notes.is_empty() || !is_of(&notes[0], refusal) || !is_word(notes[0].name) {
         return Ok(Vec::new(alloc));
     }
     let text = name_text(alloc, &notes[0])?;

@@ -1,18 +1,26 @@
+use Rattle.std.proofs.Common.{◌∙◌}
 use Rattle.debug_session.proofs.Parting.{part_refused, part_passed, part_last}
 use Rattle.debug_session.proofs.actions.actions_request.Goals as goal
 
 pub returns-in-Err : goal.returns-in-Err
 returns-in-Err c =
-    part_refused c.args.tasks c.in-Err.fault c.is_none-only.result c.loop-further.rest.now c.front.result.now c.loop-further.chosen _ c.front.ensures c.in-Err.ensures.err c.loop-further.invariant.0
+    part_refused c.args.tasks c.in-Err.fault c.is_none-only.result c.loop-further.rest.now c.before-part.result.now c.loop-further.chosen _ _ c.before-part.ensures
+    c.step_with.ensures c.in-Err.is c.loop-further.invariant.0
 
 pub loop-further-preserved : goal.loop-further-preserved
 loop-further-preserved c = (
-  part_passed c.args.tasks c.is_none-only.result c.loop-further.rest.now c.front.result.now c.in-Some.further.now c.loop-further.chosen c.in-Ok.step _ c.front.ensures c.in-Some.ensures.some
-      c.in-Ok.ensures.ok c.loop-further.invariant.0,
+  part_passed c.args.tasks c.is_none-only.result c.loop-further.rest.now c.before-part.result.now c.in-Some.further.now c.loop-further.chosen c.in-Ok.step _ _
+      c.before-part.ensures c.in-Some.ensures.some c.step_with.ensures c.in-Ok.is c.loop-further.invariant.0,
   c.loop-further.invariant.1,
 )
 
-pub returns : goal.returns
-returns c =
-    part_last c.args.tasks c.is_none-only.result c.loop-further.rest.now c.front-2.result.now c.loop-further.chosen _ c.last_request.result c.front-2.ensures c.in_default.ensures.none
-    c.last_request.ensures c.loop-further.invariant.0
+pub returns-in-Ok-step_with : goal.returns-in-Ok-step_with
+returns-in-Ok-step_with c =
+    c.chosen_request.ensures
+    ∙ part_last c.args.tasks c.is_none-only.result c.loop-further.rest.now c.before-last.result.now c.loop-further.chosen c.in-Ok-step_with.step _ _ c.before-last.ensures
+    c.in_default.ensures.none c.step_with-2.ensures c.in-Ok-step_with.is c.loop-further.invariant.0
+
+pub returns-in-Err-step_with : goal.returns-in-Err-step_with
+returns-in-Err-step_with c =
+    part_refused c.args.tasks c.in-Err-step_with.fault c.is_none-only.result c.loop-further.rest.now c.before-last.result.now c.loop-further.chosen _ _ c.before-last.ensures
+    c.step_with-2.ensures c.in-Err-step_with.is c.loop-further.invariant.0

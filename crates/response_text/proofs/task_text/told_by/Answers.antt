@@ -2,6 +2,7 @@ use Rattle.std.proofs.Common.{◌≡◌, ◌∙◌, ℕ, ◌<◌, List, sym, ap,
 use Rattle.std.proofs.lemmas.Result.{IfOk-weaker}
 use Rattle.response_text.specs.declared.told.Told.{Told}
 use Rattle.response_text.specs.declared.told.Response.{Response}
+use Rattle.run_windows.specs.Costs.{comes}
 use Rattle.response_text.specs.TaskText.{response_of, task_lines, HasParts}
 use Rattle.response_text.proofs.task_text.told_by.Goals as goal
 
@@ -30,7 +31,7 @@ returns c =
       parts = c.in_ok-parts.parts.items;
       are_parts = c.in_ok-parts.ensures;
       is = is
-          ∙ (ap (λ (r : Response). task_lines config app load c.args.task r c.deref.result.now) c.response_of-response.ensures
-          ∙ ap (λ (l : List ℕ). task_lines config app load c.args.task (response_of anywhere behind) l) c.deref.ensures.value);
+          ∙ (ap (λ (r : Response). task_lines config app load c.args.task r c.deref.result.now) (c.response_of-response.ensures ∙ ap (λ b. response_of b anywhere behind) c.comes-is_made.ensures)
+          ∙ ap (λ (l : List ℕ). task_lines config app load c.args.task (response_of (comes c.args.found.now.costs c.args.task) anywhere behind) l) c.deref.ensures.value);
     } in
     IfOk-weaker _ _ _ (λ told is. made _ is) c.task_lines.ensures

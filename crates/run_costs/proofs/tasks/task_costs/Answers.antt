@@ -3,6 +3,10 @@ use Rattle.std.specs.Prelude.{Decides}
 use Rattle.sloth_base.specs.Named.{declaration}
 use Rattle.walk_sums.specs.Rounds.{IsClean}
 use Rattle.run_costs.specs.Rounds.{AreRounds}
+use Rattle.sloth_base.specs.declared.service.Service.TheVariants as service
+use Rattle.walk_sums.proofs.Bodily.{facts_of}
+use Rattle.run_costs.specs.Services.{reaches}
+use Rattle.run_costs.proofs.Greatest.{reach_decided}
 use Rattle.run_costs.proofs.Bodies.{task_body}
 use Rattle.run_costs.proofs.tasks.task_costs.Goals as goal
 
@@ -28,5 +32,8 @@ returns c =
       first = c.cost_of-first.ensures;
       next = c.cost_of-next.ensures;
       raising = search;
+      waits = reaches c.args.services.now service.WaitEvent c.args.task;
+      is_waiting = reach_decided c.args.config.now c.args.app.now (facts_of c.args.config.now c.args.app.now c.requires.well_formed) c.args.task c.requires.inside c.args.services.now c.requires.services service.WaitEvent;
+      section_work = c.section_work.ensures;
       service = search;
     }

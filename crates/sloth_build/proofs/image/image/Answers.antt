@@ -66,5 +66,5 @@ returns c =
       tasks = h.tasks;
       functions = h.functions;
       counters = h.counters;
-      planned = record { map = map; levels = levels; planned = c.in_ok-map.ensures; is = is };
+      planned = record { map = map; levels = levels; are_levels = c.assign-levels.ensures.levels; planned = c.in_ok-map.ensures; is = is };
     }

@@ -1,6 +1,8 @@
 use Rattle.core_commands.proofs.Complete.{tells-usage, tells-refused, is-complete}
 use Rattle.core_commands.proofs.ImageComplete.{tells-fault, tells-no-image, tells-exec-refused, tells-executed, tells-listed}
 use Rattle.core_commands.proofs.SampleComplete.{tells-sample-refused, tells-sampled}
+use Rattle.sloth_commands.proofs.BuiltFormulas.{built-files-are-right}
+use Rattle.sloth_commands.proofs.BuiltRegisters.{built-images-show-registers}
 use Rattle.sloth_commands.proofs.BuiltResponses.{built-keep-responses}
 use Rattle.sloth_commands.proofs.BuiltRuns.{built-are-checked, built-keep-bounds}
 use Rattle.sloth_commands.proofs.ToolComplete.{knows-image, tells-tool, tells-tool-done}
@@ -51,3 +53,9 @@ returns-clause-responses g c = built-keep-responses
 
 pub returns-clause-checked : goal.returns-clause-checked
 returns-clause-checked g c = built-are-checked
+
+pub returns-clause-formulas : goal.returns-clause-formulas
+returns-clause-formulas g c = built-files-are-right
+
+pub returns-clause-registers : goal.returns-clause-registers
+returns-clause-registers g c = built-images-show-registers

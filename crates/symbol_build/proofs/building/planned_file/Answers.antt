@@ -1,11 +1,9 @@
 use Rattle.std.proofs.Common.{◌≡◌, ◌∙◌}
 use Rattle.std.proofs.lemmas.Result.{IfOk-weaker}
-use Rattle.asm_lines.specs.Faults.{source_lines}
 use Rattle.map_text.proofs.Listing.{listable}
 use Rattle.sloth_base.specs.declared.image.Image.{Image}
-use Rattle.symbol_image.specs.DataLines.{data_lines}
 use Rattle.symbol_image.specs.SymbolFile.{symbol_file}
-use Rattle.symbol_build.specs.SymbolFiles.{IsFileOfImage, parts_of}
+use Rattle.symbol_build.specs.SymbolFiles.{IsFileOfImage, parts_of, source_origins}
 use Rattle.symbol_build.proofs.OwnFile.{may_show_again, own_file}
 use Rattle.symbol_build.proofs.building.planned_file.Goals as goal
 
@@ -16,18 +14,18 @@ file_of-requires-clause-listable c =
 pub file_of-requires-clause-may : goal.file_of-requires-clause-may
 file_of-requires-clause-may c =
     may_show_again c.args.config.now c.args.app.now c.args.bounds.now c.in_ok-image.image c.in_ok-image.ensures.planned c.in_ok-map.map c.in_ok-map.ensures
-    c.args.name.now c.as_slice.result.now c.items.result.now c.items.ensures
+    c.args.name.now c.in_ok-origins.origins c.items.result.now c.items.ensures
 
 pub returns : goal.returns
 returns c =
     let config = c.args.config.now in
     let app = c.args.app.now in
     let name = c.args.name.now in
-    let lines = data_lines 1 (source_lines c.args.src.now) in
+    let origins = source_origins c.args.src.now in
     let image = c.in_ok-image.image in
     let h = c.in_ok-image.ensures in
-    IfOk-weaker c.file_of.result (λ file. file.items ≡ symbol_file (parts_of name c.as_slice.result.now config app c.in_ok-map.map c.items.result.now))
-    (λ file. (i : Image) × IsFileOfImage config app name lines i file.items)
+    IfOk-weaker c.file_of.result (λ file. file.items ≡ symbol_file (parts_of name c.in_ok-origins.origins config app c.in_ok-map.map c.items.result.now))
+    (λ file. (i : Image) × IsFileOfImage config app name origins i file.items)
     (λ file e. (
       image,
       record {
@@ -42,8 +40,8 @@ returns c =
           counters = h.counters;
           planned = record { bounds = c.args.bounds.now; are_bounds = c.requires.may.are_bounds; by_map = h.planned };
         };
-        is = own_file config app c.args.bounds.now image h.planned c.in_ok-map.map c.in_ok-map.ensures name lines c.as_slice.result.now c.items.result.now
-            file.items c.items.ensures (c.as_slice.ensures.value ∙ c.in_ok-lines.ensures) e;
+        is = own_file config app c.args.bounds.now image h.planned c.in_ok-map.map c.in_ok-map.ensures name origins c.in_ok-origins.origins c.items.result.now
+            file.items c.items.ensures c.in_ok-origins.ensures e;
       },
     ))
     c.file_of.ensures

@@ -1,6 +1,0 @@
-use Rattle.std.proofs.Common.{◌≡◌, drop}
-use Rattle.debug_session.specs.Hex.{number_from}
-use Rattle.debug_session.proofs.hex.digits.Given as goal
-
-abbrev pub invariant-loop-byte : goal.invariant-loop-byte
-invariant-loop-byte l = number_from l.value (drop l.byte-index l.text) ≡ number_from 0 l.text

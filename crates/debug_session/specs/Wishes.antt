@@ -1,6 +1,0 @@
--- What a way stops at, as the code has it.
-use Rattle.debug_session.specs.Causes.{Wish}
-use Rattle.debug_session.specs.declared.wanted.Wanted.{Wanted}
-
-abbrev pub wish_of : Wanted → Wish
-wish_of wanted = record { points = wanted.points.now; target = wanted.target; from = wanted.from; to = wanted.to }

@@ -1,0 +1,108 @@
+//! Where ways end, and why.
+ghost use Rattle.std.specs.Prelude.{◌≡◌, ◌≤◌};
+ghost use Rattle.debug_ways.specs.Cursor.{cursor_run};
+ghost use Rattle.debug_ways.specs.Causes.{cause_by_watch, cause_at, watched_before, passage_ahead, passage_back, passage};
+ghost use Rattle.debug_ways.specs.Wishes.{wish_of};
+
+use crate::points::{Watch, break_at, watched};
+use crate::wanted::{Cause, Passage, Wanted};
+use crate::{Cursor, Look, Machine, go_ahead, go_back};
+
+// The watchpoint that is met, or else another cause.
+fn cause_by_watch(watch: &Option<Watch>, cause: Cause) -> Cause
+    ensures { result ≡ cause_by_watch watch.now cause }
+{
+    match watch {
+        Some(watch) => Cause::Watch(watch.kind, watch.address),
+        None => cause,
+    }
+}
+
+// Why a way ends at a count but for watchpoints, if it does.
+fn cause_at(wanted: &Wanted, look: &Look) -> Option<Cause>
+    ensures { result ≡ cause_at (wish_of wanted.now) look.now }
+{
+    match break_at(wanted.points, look.pc) {
+        Some(kind) => Some(Cause::Break(kind)),
+        None => wanted.is_reached(look).then_some(Cause::Step),
+    }
+}
+
+// The watchpoint that the access of the count before meets.
+fn watched_before<M: Machine>(cursor: &mut Cursor<M>, wanted: &Wanted, count: u32) -> Option<Watch>
+    requires { count ≤ (cursor_run M.run cursor.old).end }
+    ensures watch { result ≡ watched_before (wish_of wanted.now) (cursor_run M.run cursor.old) count }
+    ensures run { cursor_run M.run cursor.new ≡ cursor_run M.run cursor.old }
+{
+    if count == 0 {
+        return None;
+    }
+    watched(wanted.points, &cursor.look(count - 1).access)
+}
+
+// The way forward from a count.
+fn passage_ahead<M: Machine>(cursor: &mut Cursor<M>, wanted: &Wanted, from: u32) -> Passage
+    requires { from ≤ (cursor_run M.run cursor.old).end }
+    ensures passage { result ≡ passage_ahead (wish_of wanted.now) (cursor_run M.run cursor.old) from }
+    ensures within { result.count ≤ (cursor_run M.run cursor.old).end }
+    ensures run { cursor_run M.run cursor.new ≡ cursor_run M.run cursor.old }
+{
+    let first = cursor.look(from);
+    let count = go_ahead(cursor, wanted, from);
+    let last = cursor.look(count);
+    let cause = if count == from {
+        Cause::End
+    } else {
+        match cause_at(wanted, &last) {
+            Some(cause) => cause,
+            None => cause_by_watch(&watched(wanted.points, &last.access), Cause::End),
+        }
+    };
+    Passage {
+        count,
+        cause: cause_by_watch(&watched(wanted.points, &first.access), cause),
+    }
+}
+
+// The way back from a count. A machine goes back for an access alone where nothing else ends the way.
+fn passage_back<M: Machine>(cursor: &mut Cursor<M>, wanted: &Wanted, from: u32) -> Passage
+    requires { from ≤ (cursor_run M.run cursor.old).end }
+    ensures passage { result ≡ passage_back (wish_of wanted.now) (cursor_run M.run cursor.old) from }
+    ensures within { result.count ≤ (cursor_run M.run cursor.old).end }
+    ensures run { cursor_run M.run cursor.new ≡ cursor_run M.run cursor.old }
+{
+    let before = watched_before(cursor, wanted, from);
+    let count = go_back(cursor, wanted, from);
+    let last = cursor.look(count);
+    let cause = if from == 0 {
+        Cause::Begin
+    } else {
+        match cause_at(wanted, &last) {
+            Some(cause) => cause,
+            None => cause_by_watch(&watched_before(cursor, wanted, count), Cause::Begin),
+        }
+    };
+    Passage {
+        count,
+        cause: cause_by_watch(&before, cause),
+    }
+}
+
+/// The way from a count, forward or back.
+pub fn passage<M: Machine>(
+    cursor: &mut Cursor<M>,
+    backwards: bool,
+    wanted: &Wanted,
+    from: u32,
+) -> Passage
+    requires { from ≤ (cursor_run M.run cursor.old).end }
+    ensures passage { result ≡ passage backwards (wish_of wanted.now) (cursor_run M.run cursor.old) from }
+    ensures within { result.count ≤ (cursor_run M.run cursor.old).end }
+    ensures run { cursor_run M.run cursor.new ≡ cursor_run M.run cursor.old }
+{
+    if backwards {
+        passage_back(cursor, wanted, from)
+    } else {
+        passage_ahead(cursor, wanted, from)
+    }
+}

@@ -1,0 +1,87 @@
+//! What a count of a run shows of threads.
+ghost use Rattle.std.specs.Prelude.{◌≡◌, ◌≤◌};
+ghost use Rattle.debug_ways.specs.Cursor.{cursor_run};
+ghost use Rattle.debug_ways.specs.Shown.{least_of, seen_of, view_of, shown_thread};
+
+use crate::standing::{Standing, thread_of};
+use crate::{Cursor, Machine};
+use osek_scheduler::TaskState;
+use sloth_base::TASK_LIMIT;
+
+/// What a count shows of tasks.
+#[derive(Clone, Copy)]
+pub struct Seen {
+    pub count: u32,
+    /// The number of the running task and 1 more, or 0 where none runs.
+    pub running: u8,
+    pub states: [TaskState; TASK_LIMIT],
+}
+
+/// What a count shows of threads: of the machine its level and mstatus, of tasks what the last count showed that found interrupts open.
+#[derive(Clone, Copy)]
+pub struct View {
+    pub count: u32,
+    pub level: u32,
+    pub mstatus: u32,
+    pub seen: Option<Seen>,
+}
+
+/// The lesser one.
+pub fn least_of(one: u32, other: u32) -> u32
+    ensures { result ≡ least_of one other }
+{
+    if other < one { other } else { one }
+}
+
+/// What the last count shows of tasks that finds interrupts open, if one does.
+pub fn seen_of<M: Machine>(cursor: &mut Cursor<M>, count: u32) -> Option<Seen>
+    requires { count ≤ (cursor_run M.run cursor.old).end }
+    ensures seen { result ≡ seen_of (cursor_run M.run cursor.old) count }
+    ensures run { cursor_run M.run cursor.new ≡ cursor_run M.run cursor.old }
+{
+    match cursor.look(count).open_count {
+        Some(open_count) => {
+            if open_count > cursor.end() {
+                return None;
+            }
+            let running = cursor.look(open_count).running;
+            let states = cursor.states(open_count);
+            Some(Seen {
+                count: open_count,
+                running,
+                states,
+            })
+        }
+        None => None,
+    }
+}
+
+/// What a count shows of threads.
+pub fn view_of<M: Machine>(cursor: &mut Cursor<M>, count: u32) -> View
+    requires { count ≤ (cursor_run M.run cursor.old).end }
+    ensures view { result ≡ view_of (cursor_run M.run cursor.old) count }
+    ensures run { cursor_run M.run cursor.new ≡ cursor_run M.run cursor.old }
+{
+    let level = cursor.register(count, 1, 36).unwrap_or(0);
+    let mstatus = cursor.register(count, 1, 33).unwrap_or(0);
+    let seen = seen_of(cursor, count);
+    View {
+        count,
+        level,
+        mstatus,
+        seen,
+    }
+}
+
+/// The thread whose registers are shown.
+pub fn shown_thread<M: Machine>(cursor: &mut Cursor<M>, standing: &Standing) -> u32
+    requires { standing.now.count ≤ (cursor_run M.run cursor.old).end }
+    ensures thread { result ≡ shown_thread (cursor_run M.run cursor.old) standing.now }
+    ensures run { cursor_run M.run cursor.new ≡ cursor_run M.run cursor.old }
+{
+    if standing.general == 0 {
+        thread_of(&cursor.look(standing.count))
+    } else {
+        standing.general
+    }
+}

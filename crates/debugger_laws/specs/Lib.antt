@@ -1,0 +1,3 @@
+pub mod RightValues
+pub mod RightFiles
+pub mod TaskRegisters

@@ -1,0 +1,21 @@
+//! What debuggers show of an image is what the abstract scheduler has: laws, of each count of a run that finds interrupts open, whatever lines arrive.
+//!
+//! Each formula of the file that `orti` writes has, over memory and controller, the value that its attribute is (`images_show`; `specs/RightValues`,
+//! `specs/RightFiles`). The table of the file and the values of formulas: `orti_text` (`OrtiTable`, `Formulas`).
+//!
+//! The registers x5 to x29 that `debug` shows of a task are the scheduler's, and those of the running task and of each preempted one are shown
+//! (`images_show_registers`; `specs/TaskRegisters`). What is shown: `debug_view` (`Registers`, `Contexts`).
+#![tactic(auto)]
+
+ghost use Rattle.debugger_laws.specs.RightFiles.{PlannedImagesShow};
+ghost use Rattle.debugger_laws.specs.TaskRegisters.{PlannedImagesShowRegisters};
+
+/// Wherever interrupts are open, a debugger that evaluates the formulas of the file of an image sees the system of the abstract scheduler.
+pub fn images_show()
+    ensures { PlannedImagesShow }
+{}
+
+/// Wherever interrupts are open, `debug` shows the registers of the tasks of the abstract scheduler.
+pub fn images_show_registers()
+    ensures { PlannedImagesShowRegisters }
+{}

@@ -1,0 +1,12 @@
+pub mod Formulas
+pub mod Tables
+pub mod Attributes
+pub mod Values
+pub mod InReach
+pub mod OrtiTable
+pub mod OrtiText
+pub mod ByState
+pub mod Places
+pub mod FormulaReading
+pub mod FileNames
+pub mod TableReading

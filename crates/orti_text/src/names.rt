@@ -1,0 +1,192 @@
+//! The names of objects, and the texts that values stand for.
+ghost use Rattle.std.specs.Prelude.{◌≡◌, ◌<◌, ◌≤◌, ◌==◌, ◌++◌, ◌∷◌, [], IfOk, OnOk, codes, cond, filter, length, map};
+ghost use Rattle.sloth_base.specs.Limits.{task_limit};
+ghost use Rattle.sloth_base.specs.declared.config.TaskDecl.{TaskDecl as AnyTask};
+ghost use Rattle.mem_map.specs.StackParts.{first_own, own_before, stack_number};
+ghost use Rattle.orti_text.specs.Attributes.{object_names, stack_names, state_names};
+ghost use Rattle.orti_text.specs.declared.attributes.Kind.TheVariants.{Alarm, Resource, Task};
+
+use crate::{Kind, Put};
+use sloth_base::{AlarmDecl, Config, List, Name, NoMemory, TaskDecl, task_names};
+use std::alloc::Global;
+use text_pieces::pieces::Piece::Word;
+use text_pieces::{push, text};
+
+// One more name, behind a prefix.
+fn push_name(alloc: Global, names: &mut Vec<Name>, prefix: &[u8], name: &[u8]) -> Put
+    ensures { OnOk result (names.new.items ≡ names.old.items ++ (prefix.now ++ name.now) ∷ []) }
+{
+    let whole = text!(alloc; Word(prefix), Word(name))?;
+    push(names, Name::new(alloc, whole.as_slice())?)
+}
+
+/// Two names.
+pub fn two_names(alloc: Global, one: &[u8], other: &[u8]) -> Result<List<Name>, NoMemory>
+    ensures { IfOk result (λ names. names ≡ one.now ∷ other.now ∷ []) }
+{
+    let mut names = Vec::new(alloc);
+    push_name(alloc, &mut names, b"", one)?;
+    push_name(alloc, &mut names, b"", other)?;
+    Ok(List::from_vec(names))
+}
+
+/// The states of a task, by their numbers.
+pub fn state_names(alloc: Global) -> Result<List<Name>, NoMemory>
+    ensures { IfOk result (λ names. names ≡ state_names) }
+{
+    let mut names = Vec::new(alloc);
+    push_name(alloc, &mut names, b"", b"RUNNING")?;
+    push_name(alloc, &mut names, b"", b"WAITING")?;
+    push_name(alloc, &mut names, b"", b"READY")?;
+    push_name(alloc, &mut names, b"", b"SUSPENDED")?;
+    Ok(List::from_vec(names))
+}
+
+// Names behind one another.
+fn push_names(alloc: Global, names: &mut Vec<Name>, more: &[Name]) -> Put
+    ensures { OnOk result (names.new.items ≡ names.old.items ++ more.now) }
+{
+    for name in more {
+        push_name(alloc, names, b"", name.bytes())?;
+    }
+    Ok(())
+}
+
+/// What the number of the running task and 1 more stands for, 0 where none runs.
+pub fn running_names(alloc: Global, config: &Config) -> Result<List<Name>, NoMemory>
+    ensures { IfOk result (λ names. names ≡ codes "NO_TASK" ∷ object_names config.now Task) }
+{
+    let tasks = task_names(alloc, config)?;
+    let mut names = Vec::new(alloc);
+    push_name(alloc, &mut names, b"", b"NO_TASK")?;
+    push_names(alloc, &mut names, tasks.items())?;
+    Ok(List::from_vec(names))
+}
+
+// How many of the tasks before this one are extended.
+fn own_before(tasks: &[TaskDecl], end: usize) -> usize
+    requires { end ≤ length tasks.now }
+    ensures is { result ≡ own_before tasks.now end }
+    ensures few { result ≤ end }
+{
+    let mut count = 0;
+    for number in 0..end {
+        if tasks[number].extended {
+            count += 1;
+        }
+    }
+    count
+}
+
+// The place of the first extended task's stack.
+fn first_own(tasks: &[TaskDecl]) -> usize
+    ensures is { result ≡ first_own tasks.now }
+    ensures small { result ≤ 1 }
+{
+    if own_before(tasks, tasks.len()) == tasks.len() {
+        0
+    } else {
+        1
+    }
+}
+
+/// The place of a task's stack among the stacks.
+pub fn stack_number(tasks: &[TaskDecl], task: usize) -> usize
+    requires few { length tasks.now ≤ task_limit }
+    requires known { task < length tasks.now }
+    ensures is { result ≡ stack_number tasks.now task }
+    ensures few { result ≤ task_limit }
+{
+    if tasks[task].extended {
+        first_own(tasks) + own_before(tasks, task)
+    } else {
+        0
+    }
+}
+
+fn push_own(alloc: Global, names: &mut Vec<Name>, tasks: &[TaskDecl]) -> Put
+    ensures { OnOk result (names.new.items ≡ names.old.items
+        ++ map (λ (d : AnyTask). codes "stack_" ++ d.name) (filter (λ (d : AnyTask). d.extended) tasks.now)) }
+{
+    for task in tasks {
+        if task.extended {
+            push_name(alloc, names, b"stack_", task.name.bytes())?;
+        }
+    }
+    Ok(())
+}
+
+fn push_shared(alloc: Global, names: &mut Vec<Name>, tasks: &[TaskDecl]) -> Put
+    ensures { OnOk result (names.new.items ≡ names.old.items ++ cond (first_own tasks.now == 0) [] (codes "shared" ∷ [])) }
+{
+    if first_own(tasks) == 0 {
+        return Ok(());
+    }
+    push_name(alloc, names, b"", b"shared")
+}
+
+// The names of the stacks.
+fn stack_names(alloc: Global, tasks: &[TaskDecl]) -> Result<List<Name>, NoMemory>
+    ensures { IfOk result (λ names. names ≡ stack_names tasks.now) }
+{
+    let mut names = Vec::new(alloc);
+    push_shared(alloc, &mut names, tasks)?;
+    push_own(alloc, &mut names, tasks)?;
+    Ok(List::from_vec(names))
+}
+
+fn push_alarms(alloc: Global, names: &mut Vec<Name>, alarms: &[AlarmDecl]) -> Put
+    ensures { OnOk result (names.new.items ≡ names.old.items ++ map (λ a. a.name) alarms.now) }
+{
+    for alarm in alarms {
+        push_name(alloc, names, b"", alarm.name.bytes())?;
+    }
+    Ok(())
+}
+
+fn alarm_names(alloc: Global, config: &Config) -> Result<List<Name>, NoMemory>
+    ensures { IfOk result (λ names. names ≡ object_names config.now Alarm) }
+{
+    let mut names = Vec::new(alloc);
+    push_alarms(alloc, &mut names, config.alarms.items())?;
+    Ok(List::from_vec(names))
+}
+
+fn push_scheduler(alloc: Global, names: &mut Vec<Name>, exists: bool) -> Put
+    ensures { OnOk result (names.new.items ≡ names.old.items ++ cond exists (codes "RES_SCHEDULER" ∷ []) []) }
+{
+    if exists {
+        push_name(alloc, names, b"", b"RES_SCHEDULER")?;
+    }
+    Ok(())
+}
+
+fn resource_names(alloc: Global, config: &Config) -> Result<List<Name>, NoMemory>
+    ensures { IfOk result (λ names. names ≡ object_names config.now Resource) }
+{
+    let mut names = Vec::new(alloc);
+    push_names(alloc, &mut names, config.resources.items())?;
+    push_scheduler(alloc, &mut names, config.res_scheduler)?;
+    Ok(List::from_vec(names))
+}
+
+fn system_names(alloc: Global) -> Result<List<Name>, NoMemory>
+    ensures { IfOk result (λ names. names ≡ codes "sloth" ∷ []) }
+{
+    let mut names = Vec::new(alloc);
+    push_name(alloc, &mut names, b"", b"sloth")?;
+    Ok(List::from_vec(names))
+}
+
+/// The names of the objects of a kind, in the order of their numbers.
+pub fn object_names(alloc: Global, config: &Config, kind: Kind) -> Result<List<Name>, NoMemory>
+    ensures { IfOk result (λ names. names ≡ object_names config.now kind) }
+{
+    match kind {
+        Kind::Os => system_names(alloc),
+        Kind::Task => task_names(alloc, config),
+        Kind::Stack => stack_names(alloc, config.tasks.items()),
+        Kind::Alarm => alarm_names(alloc, config),
+        Kind::Resource => resource_names(alloc, config),
+    }
+}

@@ -1,0 +1,12 @@
+use Rattle.std.proofs.Common.{◌≡◌, length}
+use Rattle.run_costs.specs.Coming.{AreInAll, unmarked}
+use Rattle.run_costs.proofs.closure.settled_marks.Given as goal
+
+abbrev pub invariant-loop-marks : goal.invariant-loop-marks
+invariant-loop-marks l = record {
+  count : length l.marks.items ≡ length l.config.tasks;
+  within : AreInAll l.config l.app l.load l.marks.items;
+}
+
+abbrev pub decreases-loop-marks : goal.decreases-loop-marks
+decreases-loop-marks l = unmarked l.marks.items

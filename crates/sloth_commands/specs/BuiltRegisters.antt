@@ -1,0 +1,10 @@
+-- The registers that `debug` shows of the tasks of an image that is built.
+use Rattle.sloth_base.specs.declared.app.App.{App}
+use Rattle.sloth_base.specs.declared.config.Config.{Config}
+use Rattle.sloth_base.specs.declared.image.Image.{Image}
+use Rattle.debugger_laws.specs.TaskRegisters.{ShowsRegisters}
+use Rattle.core_commands.specs.Top.{IsBuiltImage}
+
+-- wherever a run of the image finds interrupts open, they are those of the abstract scheduler
+abbrev pub BuiltImagesShowRegisters : Type 0
+BuiltImagesShowRegisters = (config : Config) (app : App) (image : Image) → IsBuiltImage config app image → ShowsRegisters config app image

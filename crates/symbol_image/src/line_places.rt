@@ -1,0 +1,189 @@
+//! Where the lines of a source come from, by its comments.
+ghost use Rattle.std.specs.Prelude.{◌≡◌, ◌<◌, ◌++◌, IfOk, OnOk, length, map, nat_le};
+ghost use Rattle.std.specs.Char.{is_ascii_digit};
+ghost use Rattle.std.specs.List.{list_all};
+ghost use Rattle.text_pieces.specs.Names.{referent};
+ghost use Rattle.symbol_image.specs.LinePlaces.{are_shown, begins_quoted, file_behind, file_number, is_new, is_stated, names_behind, origins_of, place_behind, place_here, quoted, stated_line, stated_name};
+
+use crate::declared_lines::data_lines;
+use crate::fields::{put_bytes, put_text};
+use asm_lines::SourceLine;
+use asm_scopes::closes_body;
+use sloth_base::{List, NoMemory};
+use std::alloc::Global;
+use text_pieces::{Names, after, before, behind, front, has, push, same, value};
+
+/// A line of a file, by the file's number in the table of files, from 2. File 0: the line comes from nowhere else.
+#[derive(Clone, Copy)]
+pub struct Place {
+    pub file: u32,
+    pub line: u32,
+}
+
+/// Nowhere else.
+pub const NO_PLACE: Place = Place { file: 0, line: 0 };
+
+/// Where a source declares its symbols, and where its lines come from: the numbers of the lines that declare symbols, the further files in the table of
+/// files, and the places of the lines.
+#[derive(Drop)]
+pub struct Origins {
+    pub lines: List<u32>,
+    pub files: List<u8>,
+    pub places: List<Place>,
+}
+
+// What stands behind the number of a comment.
+fn quoted(line: &[u8]) -> &[u8]
+    ensures { result.now ≡ quoted line.now }
+{
+    behind(after(line, 6), b' ')
+}
+
+// The name that a comment states.
+fn stated_name(line: &[u8]) -> &[u8]
+    ensures { result.now ≡ stated_name line.now }
+{
+    before(after(quoted(line), 1), b'"')
+}
+
+fn are_digits(text: &[u8]) -> bool
+    ensures { result ≡ list_all is_ascii_digit text.now }
+{
+    text.iter().all(|byte| byte.is_ascii_digit())
+}
+
+// The number that a comment states, up to 2,147,483,647, or 0.
+fn stated_line(line: &[u8]) -> u32
+    ensures { result ≡ stated_line line.now }
+{
+    let digits = before(after(line, 6), b' ');
+    let number = value(digits, 10);
+    if are_digits(digits) && number < 2147483648 {
+        return number as u32;
+    }
+    0
+}
+
+fn all_shown(name: &[u8]) -> bool
+    ensures { result ≡ list_all (λ b. nat_le 32 b) name.now }
+{
+    name.iter().all(|byte| *byte >= 32)
+}
+
+// Whether all bytes of a name, which has one at least, are shown.
+fn are_shown(name: &[u8]) -> bool
+    ensures { result ≡ are_shown name.now }
+{
+    !name.is_empty() && all_shown(name)
+}
+
+// Whether a text begins with a name between quotes.
+fn begins_quoted(text: &[u8]) -> bool
+    ensures { result ≡ begins_quoted text.now }
+{
+    same(front(text, 1), b"\"") && has(after(text, 1), b'"')
+}
+
+// Whether a line is a comment that states a place.
+#[tactic(auto, unfolding(crate::specs::LinePlaces::is_stated))]
+fn is_stated(line: &[u8]) -> bool
+    ensures { result ≡ is_stated line.now }
+{
+    same(front(line, 6), b"#line ")
+        && stated_line(line) != 0
+        && begins_quoted(quoted(line))
+        && are_shown(stated_name(line))
+}
+
+// Whether a line states a name that is not among these.
+fn is_new(names: &Names, line: &[u8]) -> bool
+    ensures { result ≡ is_new names.now line.now }
+{
+    is_stated(line) && !names.has(stated_name(line))
+}
+
+// The names behind a line.
+#[tactic(auto, unfolding(crate::specs::LinePlaces::names_behind))]
+fn names_behind<'t>(names: Names<'t>, line: &'t [u8]) -> Result<Names<'t>, NoMemory>
+    ensures { IfOk result (λ found. found ≡ names_behind names.entry line.now) }
+{
+    if is_new(&names, line) {
+        return names.with(stated_name(line));
+    }
+    Ok(names)
+}
+
+// Appends the file of a line, if it is new, to the table of files.
+#[tactic(auto, unfolding(crate::specs::LinePlaces::file_behind))]
+fn put_file(files: &mut Vec<u8>, names: &Names, line: &[u8]) -> Result<(), NoMemory>
+    ensures { OnOk result (files.new.items ≡ files.old.items ++ file_behind names.now line.now) }
+{
+    if !is_new(names, line) {
+        return Ok(());
+    }
+    put_text(files, stated_name(line))?;
+    put_bytes(files, &[0, 0, 0])
+}
+
+// The number of a file in the table of files.
+fn file_number(names: &Names, name: &[u8]) -> u32
+    ensures { result ≡ file_number names.now name.now }
+{
+    match names.number(name) {
+        Some(place) => (place % 4294967290) as u32 + 2,
+        None => 1,
+    }
+}
+
+// Where a line comes from, where the lines before it leave this place.
+#[tactic(auto, unfolding(crate::specs::LinePlaces::place_here))]
+fn place_here(names: &Names, left: Place, line: &[u8]) -> Place
+    ensures { result ≡ place_here names.now left line.now }
+{
+    if is_stated(line) {
+        return Place {
+            file: file_number(names, stated_name(line)),
+            line: stated_line(line),
+        };
+    }
+    left
+}
+
+// What a line leaves to the next one.
+fn place_behind(here: Place, statement: &SourceLine) -> Place
+    ensures { result ≡ place_behind here statement.now }
+{
+    if closes_body(statement) {
+        return NO_PLACE;
+    }
+    here
+}
+
+/// Where these lines come from, which are these statements.
+pub fn origins_of(
+    alloc: Global,
+    lines: &[&[u8]],
+    statements: &[SourceLine],
+) -> Result<Origins, NoMemory>
+    requires few { length lines.now < 4294967295 }
+    requires same { length statements.now ≡ length lines.now }
+    ensures { IfOk result (λ found. found ≡ origins_of (map referent lines.now) statements.now) }
+{
+    let declared = data_lines(alloc, statements)?;
+    let mut names = Names::new(alloc);
+    let mut files = Vec::new(alloc);
+    let mut places = Vec::new(alloc);
+    let mut left = NO_PLACE;
+    for n in 0..lines.len() {
+        put_file(&mut files, &names, lines[n])?;
+        names = names_behind(names, lines[n])?;
+        let here = place_here(&names, left, lines[n]);
+        push(&mut places, here)?;
+        left = place_behind(here, &statements[n]);
+    }
+    Ok(Origins {
+        lines: List::from_vec(declared),
+        files: List::from_vec(files),
+        places: List::from_vec(places),
+    })
+}
