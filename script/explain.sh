@@ -156,6 +156,16 @@ explain_places() {
     done
 }
 
+# Says on a terminal which file was written, where an application's name stood for it.
+name_output() {
+    case $status:$command in
+    0:run | 0:order | 0:sample) return ;;
+    0:* | 12:report | 2:report) ;;
+    *) return ;;
+    esac
+    [ -z "$base" ] || [ -z "$output" ] || [ "$output" = "$piece" ] || [ ! -t 2 ] || say "the file is $output"
+}
+
 # Says what is to be said of a status.
 explain() {
     case $status:$command in

@@ -25,7 +25,7 @@ function said_of_arrival(code, at,    n, words, text, i, earlier) {
 # What a line of words with one space between lacks.
 function line_fault(text, example, wants, count,    n, words) {
     n = split(text, words, " ")
-    if (text ~ /#/) return ": a comment stands on a line of its own, which begins with #"
+    if (text ~ /#|\/\//) return ": a comment stands on a line of its own, which begins with #"
     if (text ~ /\t/) return ": wanted are " wants ", and here stands a tab"
     if (text ~ /^ /) return ": the line begins with a blank; wanted are " wants
     if (text ~ / $/) return ": a blank stands at the end of the line"

@@ -48,10 +48,19 @@ function read_making(text,    words, n, i) {
     }
 }
 
-function held_line(i,    a, b) {
+function held_line(i,    a, b, width) {
     a = piece_from[i] > from ? piece_from[i] : from; b = piece_to[i] + 1 < to ? piece_to[i] + 1 : to
+    width = place(b) - place(a)
     return sprintf("<rect class=\"h\" x=\"%s\" y=\"%d\" width=\"%.2f\" height=\"2.5\"><title>%s holds %s, %d to %d</title></rect>\n", place(a), middle[piece_task[i]] + 14,
-        place(b) - place(a), piece_task[i], piece_name[i], piece_from[i], piece_to[i])
+        width < 1.5 ? 1.5 : width, piece_task[i], piece_name[i], piece_from[i], piece_to[i])
+}
+
+# Marks of alarms that expire at one tick lie upon each other: each tells of all.
+function mark_of(text) { sub(/<title>.*/, "", text); return text }
+function keep_expiry(text, name,    mark) { mark = mark_of(text); expiring[mark] = expiring[mark] (expiries[mark]++ ? ", " : "") name }
+function tell_expiries(i,    mark) {
+    mark = mark_of(line[i])
+    if (expiries[mark] > 1) sub(/<title>alarm [^ ]+ expires/, "<title>alarms " expiring[mark] " expire", line[i])
 }
 
 function legend_part(x, shape, text) { return "<" shape "/><text x=\"" x "\" y=\"44\">" text "</text>\n" }
@@ -80,10 +89,12 @@ END {
         if (match(line[i], /<title>alarm [0-9]+ expires/)) {
             number = substr(line[i], RSTART + 13, RLENGTH - 21)
             sub(/alarm [0-9]+/, "alarm " alarm[number + 0], line[i])
+            keep_expiry(line[i], alarm[number + 0])
         }
         sub(/>counts /, ">" ENVIRON["TITLE"] ": counts ", line[i])
         if (match(line[i], /<title>.*<\/title>/)) read_making(substr(line[i], RSTART + 7, RLENGTH - 15))
     }
+    for (i = 1; i <= lines; i++) tell_expiries(i)
     for (i = 1; i <= pieces; i++) held_lines = held_lines held_line(i)
     for (i = 1; i <= lines; i++) {
         if (line[i] == "@media screen and (prefers-color-scheme:dark){") print ".h{fill:#7a3fa0}\n.d{fill:none;stroke:#2a7d46;stroke-width:1.5}\n" line[i] "\n.h{fill:#b98ae0}\n.d{stroke:#58b878}"

@@ -108,6 +108,13 @@ function object_of(name) {
 }
 function trimmed(text) { sub(/\r$/, "", text); sub(/#.*/, "", text); gsub(/^[ \t]+|[ \t]+$/, "", text); return text }
 
+# What a label lists, what is held where a way comes to it, and what would be right.
+function label_text(name,    text) {
+    gsub(/ /, ", ", held); gsub(/ /, ", ", listed)
+    text = "the label " name " lists " listed ", and held here " (held == "nothing" ? "is nothing; take" : "is " held "; release")
+    return text " what it " (held == "nothing" ? "lists" : "does not list") ", or write `label " name (held == "nothing" ? "" : ", " held) "`"
+}
+
 # One fault: its code, the thing, and what would be right; the code's own words where this script finds no more.
 function fault(code, at, name, is_first,    key, text, said) {
     key = part == "src" ? cause(code, at, name, is_first) : ""
@@ -122,6 +129,7 @@ function fault(code, at, name, is_first,    key, text, said) {
     if (said != "" && part != "src") text = said
     else text = text (name != "" && name != "frame" && code != "A2" ? " (" name ")" : code == "A2" ? " (" name ")" : "") said
     if ((code, hint_key) in row && hint_key != "") text = text ". " row[code, hint_key]
+    if (code == "V7" && is_first && listed != "") text = label_text(name)
     say(at, "error", (code ~ /^[A-Z]/ ? code " " : "") text)
 }
 
@@ -159,8 +167,8 @@ $1 == "first" { keep($2, "the earlier one") }
 $1 == "from" { from = " from the label " $3 " of line " $2 }
 $1 == "way" && $2 != "-" && (NF > 2 || $2 != line) { keep($NF, "the way here" from ": line" (NF > 2 ? "s" : "") shortened()) }
 $1 == "behind" { keep($2, "the item in front never goes on") }
-$1 == "holds" { keep(line, "held here: " list()) }
-$1 == "lists" { keep(line, "the label " name " lists " list()) }
+$1 == "holds" { held = list(); if (code != "V7") keep(line, "held here: " held) }
+$1 == "lists" { listed = list() }
 $1 == "wants" { keep(line, $2 " was taken last, so it has to be released first") }
 $1 == "task" { task = $2 }
 $1 == "bytes" || $1 == "words" { keep(line, "the " ($1 == "bytes" ? "symbol" : "frame") " has " $2 " " ($2 == 1 ? substr($1, 1, 4) : $1)) }
@@ -177,6 +185,7 @@ END {
     if (code == "O6") for (i = depth; i > 0; i--) say(open_line[i], "note", "the block of " open_name[i] " is open")
     if (open) say(open, "note", "this body has no `end` yet")
     for (i = 1; i <= notes; i++) say(note_line[i], "note", note[i])
-    for (i = 1; i <= others && i <= 20; i++) fault(other_code[i], other_line[i], other_name[i], 0)
-    if (others > 20) print "sloth: and more: ./sloth why " ENVIRON["OIL"] " " ENVIRON["SRC"]
+    most = ENVIRON["MOST"] != "" ? ENVIRON["MOST"] : 20
+    for (i = 1; i <= others && i <= most; i++) fault(other_code[i], other_line[i], other_name[i], 0)
+    if (others > most) print "sloth: and more: ./sloth why " ENVIRON["OIL"] " " ENVIRON["SRC"]
 }

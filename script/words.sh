@@ -223,11 +223,17 @@ FORMS
     fi
     if [ -z "$form" ]; then
         say "the words of \`$command\` are these (./sloth help $command says more):"
-        grep "^./sloth $command [A-Z]" "$root/docs/commands.txt" >&2
-        if [ -n "$is_app" ]; then
-            say "for $1, an application's name, and after it the words but for the files"
-        elif [ $# = 1 ] && [ ! -e "$1" ]; then
-            say "or with an application's name for all files: but there is no $1.oil"
+        app_form=$(grep "^./sloth $command APP" "$root/docs/help.txt")
+        {
+            [ -z "$app_form" ] || printf '%s\n' "$app_form"
+            grep "^./sloth $command [A-Z]" "$root/docs/commands.txt" | grep -v "^./sloth $command APP"
+        } >&2
+        if [ -z "$app_form" ]; then
+            :
+        elif [ -n "$is_app" ]; then
+            say "here $1 is APP: what follows it is missing or does not fit"
+        elif [ $# -gt 0 ] && [ $# -lt 3 ] && [ ! -e "$1" ]; then
+            say "$1 is no application: there is no $1.oil"
         fi
         echo usage
         exit 1
@@ -255,7 +261,7 @@ check_output() {
         ;;
     -)
         case $command in
-        infer | wave | picture) ;;
+        infer | wave | picture | report) ;;
         *) refuse_words "\`$command\` writes bytes that are no text, so \`-\` is none: name a file" ;;
         esac
         piece=$(mktemp) || exit 70

@@ -109,7 +109,7 @@ WRONG = {"oil": [
     ("task Blink, 1", "task Blink, 33", 18, "A6", "33|32 words"),
     ("task Sensor\n  SetEvent Door, Moved\n  TerminateTask\nend\n", "", 1, "A7", "Sensor|task Sensor"),
     ("  sw t0, frame[0]", "  sw t0, frame[1]", 19, "V2", "past the frame"),
-    ("  ReleaseResource Lamp\n", "", 11, "V7", "again|held here: Lamp|release them"),
+    ("  ReleaseResource Lamp\n", "", 11, "V7", "again lists nothing|held here is Lamp|release|`label again, Lamp`"),
     ("  SetEvent Door, Moved\n  TerminateTask", "  SetEvent Door, Moved", 15, "V5", "past its last item|TerminateTask"),
     ("  SetEvent Door, Moved\n", "  GetResource Lamp\n  SetEvent Door, Moved\n", 17, "V10", "ends while a resource is held"),
 ], "arr": [
@@ -118,7 +118,7 @@ WRONG = {"oil": [
     ("600 Sensor", " 600 Sensor", 2, "T1", "begins with a blank"),
     ("600 Sensor", "600 Sensor ", 2, "T1", "blank stands at the end"),
     ("600 Sensor", "600 Sensor # first", 2, "T1", "comment stands on a line of its own"),
-    ("600 Sensor", "600 Sensor // first", 2, "T1", "here stand 4 words|600 Sensor"),
+    ("600 Sensor", "600 Sensor // first", 2, "T1", "begins with #|line of its own"),
     ("600 Sensor", "Sensor 600", 2, "T1", "moment comes first|`600 Sensor`"),
     ("600 Sensor", "0x258 Sensor", 2, "T1", "0x258 is no moment|decimal"),
     ("600 Sensor", "+600 Sensor", 2, "T1", "+600 is no moment"),
@@ -170,7 +170,7 @@ def main():
                 said = run.stderr.replace(f"{folder}/", "")
                 first = said.split("\n")[0]
                 is_right = run.returncode == 2 and any(run.stdout == f"refused {kind} {line} {code}\n" for code in codes.split("|"))
-                is_told = first.startswith(f"door.{kind}:{line}: error: ") and all(it.lower() in said.lower() for it in words.split("|"))
+                is_told = first.startswith(f"door.{kind}:{line}: error: ") and all(it.lower() in first.lower() for it in words.split("|"))
                 bad += not (is_right and is_told)
                 if "-v" in sys.argv or not (is_right and is_told):
                     print(f"{'' if is_right and is_told else 'BAD '}{new.strip()!r}\n  {run.stdout.strip()}\n  {said.strip()}\n  wanted: {line} {codes} {words}")

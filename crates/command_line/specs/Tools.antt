@@ -31,7 +31,7 @@ tool_row tool.Unelf = row (codes "unelf") 1 None None true
 tool_row tool.Infer = row (codes "infer") 2 None None true
 tool_row tool.At = row (codes "at") 2 None (Some (limit.One 999999)) false
 tool_row tool.AtAll = row (codes "at") 2 None (Some (limit.One 999999)) false
-tool_row tool.Losses = row (codes "losses") 2 None (Some (limit.One count_limit)) false
+tool_row tool.Losses = row (codes "losses") 3 None (Some (limit.One count_limit)) false
 tool_row tool.Wave = row (codes "wave") 2 None (Some (limit.One count_limit)) true
 tool_row tool.Picture = row (codes "picture") 2 None (Some (limit.Window count_limit picture_limit)) true
 tool_row tool.Check = row (codes "check") 4 None (Some (limit.One count_limit)) false
@@ -49,6 +49,7 @@ tool_row tool.Orti = row (codes "orti") 2 None None true
 tool_row tool.Labels = row (codes "why") 2 (Some (codes "labels")) None false
 tool_row tool.TraceReason = row (codes "why") 4 None (Some (limit.One count_limit)) false
 tool_row tool.Unused = row (codes "unused") 2 None None false
+tool_row tool.RunResponse = row (codes "response") 4 None (Some (limit.One count_limit)) false
 
 -- the tools
 abbrev pub tools : List Tool
@@ -56,7 +57,7 @@ tools =
     tool.Elf ∷ tool.Unelf ∷ tool.Infer ∷ tool.At ∷ tool.AtAll ∷ tool.Losses ∷ tool.Wave ∷ tool.Picture ∷ tool.Check
     ∷ tool.Bounds ∷ tool.Latency ∷ tool.LowerCounts ∷ tool.Map ∷ tool.Shares ∷ tool.Response ∷ tool.Why
     ∷ tool.TaskBound ∷ tool.TaskResponse ∷ tool.Symbols ∷ tool.Orti ∷ tool.Labels ∷ tool.TraceReason
-    ∷ tool.Unused ∷ []
+    ∷ tool.Unused ∷ tool.RunResponse ∷ []
 
 -- its first word
 abbrev pub tool_word : Tool → List ℕ

@@ -23,7 +23,7 @@ pub enum Tool {
     At,
     /// `at IMG ARR K all`: the same, and the events of the tasks, the counters and the alarms.
     AtAll,
-    /// `losses IMG ARR N`: how many arrivals of each task and counter came in a run of an image file, and how many of them are lost.
+    /// `losses OIL SRC ARR N`: what a run asks of each task and counter, and what of it is lost.
     Losses,
     /// `wave IMG ARR N OUT`: the waves of a run of an image file.
     Wave,
@@ -60,10 +60,12 @@ pub enum Tool {
     TraceReason,
     /// `unused OIL SRC`: the objects, symbols and functions that nothing uses, and the tasks that nothing activates.
     Unused,
+    /// `response OIL SRC LOAD ARR N`: whether a run keeps a load, and the longest responses that are seen in it.
+    RunResponse,
 }
 
 // In the order of their words.
-const TOOLS: [Tool; 23] = [
+const TOOLS: [Tool; 24] = [
     Tool::Elf,
     Tool::Unelf,
     Tool::Infer,
@@ -87,6 +89,7 @@ const TOOLS: [Tool; 23] = [
     Tool::Labels,
     Tool::TraceReason,
     Tool::Unused,
+    Tool::RunResponse,
 ];
 
 // What is taken as a count of a run, as its length, and as a part of it.
@@ -145,7 +148,7 @@ impl Tool {
             Tool::Infer => Row::new("infer", 4, 2, None, None, true),
             Tool::At => Row::new("at", 4, 2, None, COUNT, false),
             Tool::AtAll => Row::new("at", 5, 2, None, COUNT, false),
-            Tool::Losses => Row::new("losses", 4, 2, None, LENGTH, false),
+            Tool::Losses => Row::new("losses", 5, 3, None, LENGTH, false),
             Tool::Wave => Row::new("wave", 5, 2, None, LENGTH, true),
             Tool::Picture => Row::new("picture", 6, 2, None, WINDOW, true),
             Tool::Check => Row::new("check", 6, 4, None, LENGTH, false),
@@ -163,6 +166,7 @@ impl Tool {
             Tool::Labels => Row::new("why", 4, 2, Some("labels"), None, false),
             Tool::TraceReason => Row::new("why", 6, 4, None, LENGTH, false),
             Tool::Unused => Row::new("unused", 3, 2, None, None, false),
+            Tool::RunResponse => Row::new("response", 6, 4, None, LENGTH, false),
         }
     }
 

@@ -17,3 +17,4 @@ pub mod NoTools
 mod InMemoryCalls
 pub mod Declared
 pub mod Shipped
+pub mod HandedOn

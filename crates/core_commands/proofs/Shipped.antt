@@ -1,5 +1,5 @@
 -- What the top call promises, over the system's files and standard output.
-use Rattle.std.proofs.Common.{◌≡◌, ◌≢◌, ◌∙◌, inl, inr, ℕ, List, [], ◌++◌, Option, Some, sym, ap, subst, length, take, drop, append_assoc}
+use Rattle.std.proofs.Common.{◌≡◌, ◌≢◌, ◌∙◌, inl, inr, ℕ, List, [], ◌++◌, Option, Some, sym, ap, subst, length, take, drop, append_assoc, arith}
 use Rattle.std.proofs.lemmas.List.{take-append-drop}
 use Rattle.std.proofs.Math.Seq.{take-append_seam}
 use Rattle.sloth_io.specs.Sink.{Output, longer_bytes}
@@ -32,8 +32,13 @@ taken-is was now accepted part w n h = some (sym n ∙ h ∙ ap (λ (t : Option 
     some : Some accepted ≡ Some part → accepted ≡ part
     some e = cc
 
+-- a count that rose from 0 is not 0
+unrisen : (n : ℕ) → Rose 0 n → n ≡ 0 → ⊥
+unrisen n rose is = omega (arith, rose, is)
+
 module _ (tools : ToolTable) (words : List (List ℕ)) (after : Files) (was now : Output) (accepted given : List ℕ) (answer : Status) (w : was.taken ≡ Some [])
     (none : was.faults ≡ 0) (n : now.taken ≡ Some accepted) (front : IsPrefix given accepted) (passed : answer ≢ status.WriteFault → given ≡ accepted)
+    (handed : now.faults ≡ 0 → given ≡ accepted)
     (in_order : ReadsInOrder words (untold_files 0 0 0 [] [] []) after) where
   ran-by : (wanted : Status) (text : List ℕ) → IsRequired tools wanted words (untold_files 0 0 0 after.reads [] []) after text → IsPutAnswer wanted answer was now text
       → IsProgramRun tools words after given now.faults answer
@@ -47,17 +52,20 @@ module _ (tools : ToolTable) (words : List (List ℕ)) (after : Files) (was now 
         told = inl p.0;
         front = subst (IsPrefix given) is front;
         whole = λ no. passed no ∙ is;
+        handed = λ none_failed. handed none_failed ∙ is;
       }
   ran-by wanted text q (inr p) =
       let is : accepted ≡ p.1.0 = taken-is was now accepted p.1.0 w n (ap (λ (o : Output). o.taken) p.1.3) in
+      let rose : Rose 0 now.faults = subst (λ (k : ℕ). Rose k now.faults) none (counted-put was now text p.1) in
       record {
         wanted = wanted;
         text = text;
         in_order = in_order;
         required = q;
-        told = inr (p.0, subst (λ (k : ℕ). Rose k now.faults) none (counted-put was now text p.1));
+        told = inr (p.0, rose);
         front = front-of given p.1.0 p.1.1 text (subst (IsPrefix given) is front) p.1.2;
         whole = λ no. absurd (no p.0);
+        handed = λ none_failed. absurd (unrisen now.faults rose none_failed);
       }
 
   pub ran : (old : Files) → old ≡ untold_files 0 0 0 [] [] [] → IsTopAnswer tools words (world (call_files old after) was) (world after now) answer

@@ -7,6 +7,7 @@ use Rattle.sloth_io.specs.FileStore.{untold_files}
 use Rattle.core_commands.specs.CommandFiles.{ReadsInOrder}
 use Rattle.core_commands.specs.ToolTables.{ToolTable}
 use Rattle.core_commands.specs.Top.{IsRequired}
+use Rattle.tool_answers.specs.Statuses.{exit_status}
 use Rattle.tool_answers.specs.declared.status.Status.{Status}
 use Rattle.tool_answers.specs.declared.status.Status.TheVariants as status
 
@@ -23,8 +24,18 @@ pub record IsProgramRun (IsToolAnswer : ToolTable) (words : List (List ℕ)) (fi
   pub told : (answer ≡ wanted) ⊎ ((answer ≡ status.WriteFault) × Rose 0 faults)
   pub front : IsPrefix printed text
   pub whole : answer ≢ status.WriteFault → printed ≡ text
+  -- so was it where a file could not be written, if no call of standard output failed
+  pub handed : faults ≡ 0 → printed ≡ text
 
 -- such a run ended with this answer
 abbrev pub HasTopRun : ToolTable → List (List ℕ) → Status → Type 0
 HasTopRun IsToolAnswer words answer =
     (files : Files) × (printed : List ℕ) × (faults : ℕ) × IsProgramRun IsToolAnswer words files printed faults answer
+
+-- a program answered some words, of which its runs say what it did; or it had none: a word was no text, or memory was wanting
+abbrev pub HasGivenRun : (List (List ℕ) → Status → Type 0) → Status → Type 0
+HasGivenRun HasRun answer = ((words : List (List ℕ)) × HasRun words answer) ⊎ ((answer ≡ status.Usage) ⊎ (answer ≡ status.NoMemory))
+
+-- its process ended with the number of such an answer
+abbrev pub IsProcessEnd : (List (List ℕ) → Status → Type 0) → ℕ → Type 0
+IsProcessEnd HasRun code = (answer : Status) × (code ≡ exit_status answer) × HasGivenRun HasRun answer

@@ -1,5 +1,6 @@
-//! How a command ends: its last line, and what the sink holds back.
+//! How a command ends: its last line, and what the sink holds back. Where no call of the sink failed, all is handed on, whatever the status (`handed`).
 ghost use Rattle.std.specs.Prelude.{◌≡◌, ◌≢◌, ◌++◌, [], ◌∷◌};
+ghost use Rattle.sloth_io.specs.Counts.{Stays};
 ghost use Rattle.core_commands.specs.Top.{IsPutAnswer, IsCloseAnswer};
 ghost use Rattle.core_commands.specs.Failures.{IsFailureEnd, last_lines};
 
@@ -12,6 +13,7 @@ use tool_answers::Status;
 pub fn close<S: Sink>(out: &mut S, status: Status) -> Status
     ensures ends { IsCloseAnswer status result (S.seen out.old) (S.seen out.new) }
     ensures passed { result ≢ Status.WriteFault → S.passed_on out.new }
+    ensures handed { Stays (S.seen out.old).faults (S.seen out.new).faults → S.passed_on out.new }
     ensures pieces { S.pieces out.new ≡ S.pieces out.old }
 {
     match out.flush() {
@@ -24,6 +26,7 @@ pub fn close<S: Sink>(out: &mut S, status: Status) -> Status
 pub fn say<S: Sink>(out: &mut S, line: &[u8], status: Status) -> Status
     ensures ends { IsPutAnswer status result (S.seen out.old) (S.seen out.new) line.now }
     ensures passed { result ≢ Status.WriteFault → S.passed_on out.new }
+    ensures handed { Stays (S.seen out.old).faults (S.seen out.new).faults → S.passed_on out.new }
     ensures pieces { S.pieces out.new ≡ S.pieces out.old ++ line.now ∷ [] }
 {
     match out.put(line) {
@@ -36,6 +39,7 @@ pub fn say<S: Sink>(out: &mut S, line: &[u8], status: Status) -> Status
 pub fn finish<S: Sink>(out: &mut S, failure: Failure) -> Status
     ensures ends { IsFailureEnd failure result (S.seen out.old) (S.seen out.new) }
     ensures passed { result ≢ Status.WriteFault → S.passed_on out.new }
+    ensures handed { failure ≢ Failure.Put → Stays (S.seen out.old).faults (S.seen out.new).faults → S.passed_on out.new }
     ensures pieces { S.pieces out.new ≡ S.pieces out.old ++ last_lines failure }
 {
     match failure {

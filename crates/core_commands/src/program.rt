@@ -1,9 +1,10 @@
 //! What a program without tools does with its words: they go to the top call, over the system's files and standard output, and the status is how it ends.
-ghost use Rattle.std.specs.Prelude.{◌≡◌, []};
+ghost use Rattle.std.specs.Prelude.{◌≡◌, ◌⊎◌, [], IfErr};
+ghost use Rattle.std.specs.Process.{exit_status};
 ghost use Rattle.sloth_io.specs.FileStore.{shown_files, untold_files};
 ghost use Rattle.sloth_io.specs.OutSink.{shown_output, accepted_bytes, given_bytes};
 ghost use Rattle.command_line.specs.Command.{words_of};
-ghost use Rattle.core_commands.specs.ProgramRun.{IsProgramRun, HasTopRun};
+ghost use Rattle.core_commands.specs.ProgramRun.{IsProgramRun, IsProcessEnd, HasGivenRun, HasTopRun};
 ghost use Rattle.core_commands.specs.ToolTables.{LacksTools};
 
 use crate::core_top;
@@ -17,7 +18,9 @@ use std::rt::Files;
 use tool_answers::Status;
 
 /// The words without the program's own name, or how the program ends without them: a word that is not UTF-8 is none of a command's.
-pub fn words_given(rt: &(impl Env + AllocGlobal)) -> Result<Vec<String>, Status> {
+pub fn words_given(rt: &(impl Env + AllocGlobal)) -> Result<Vec<String>, Status>
+    ensures { IfErr result (λ status. (status ≡ Status.Usage) ⊎ (status ≡ Status.NoMemory)) }
+{
     let mut words = Vec::new(rt.alloc());
     let args = match env::args(rt) {
         Ok(args) => args,
@@ -56,11 +59,19 @@ pub fn run_words(rt: &(impl Files + Print + AllocGlobal), words: &[String]) -> S
     run_over(rt.alloc(), words, &mut files, &mut out)
 }
 
-/// Runs the command of the program's words, and answers with the number of its status.
-pub fn run_program(rt: &(impl Env + Files + Print + AllocGlobal)) -> ExitCode {
-    let status = match words_given(rt) {
+// Runs the command of the program's words, if they can be had.
+fn answer_given(rt: &(impl Env + Files + Print + AllocGlobal)) -> Status
+    ensures { HasGivenRun (HasTopRun LacksTools) result }
+{
+    match words_given(rt) {
         Ok(words) => run_words(rt, words.as_slice()),
         Err(status) => status,
-    };
-    ExitCode::from(status.code())
+    }
+}
+
+/// Runs the command of the program's words, and answers with the number of its status.
+pub fn run_program(rt: &(impl Env + Files + Print + AllocGlobal)) -> ExitCode
+    ensures { IsProcessEnd (HasTopRun LacksTools) (exit_status result) }
+{
+    ExitCode::from(answer_given(rt).code())
 }

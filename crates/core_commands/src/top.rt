@@ -1,5 +1,6 @@
 //! The commands that build and run, over a store of files and a sink of lines: a program without tools.
 ghost use Rattle.std.specs.Prelude.{◌≢◌, IfOk, IfErr, IfSome, IfNone, OnOk};
+ghost use Rattle.sloth_io.specs.Counts.{Stays};
 ghost use Rattle.sloth_io.specs.Store.{call_files};
 ghost use Rattle.command_line.specs.Command.{words_of, Builds, IsCommand, IsInLimit, IsNoTool, KeepsLimit};
 ghost use Rattle.command_line.specs.Words.{building_of, command_of, run_of};
@@ -104,6 +105,7 @@ fn answer<F: Store, S: Sink>(alloc: Global, words: &[String], files: &mut F, out
     ensures overwrite { HasOverwriteAnswer (words_of words.now)
         (world (call_files (F.seen files.old) (F.seen files.new)) (S.seen out.old)) (world (F.seen files.new) (S.seen out.new)) result }
     ensures passed { result ≢ Status.WriteFault → S.passed_on out.new }
+    ensures handed { Stays (S.seen out.old).faults (S.seen out.new).faults → S.passed_on out.new }
     ensures reads { ReadsInOrder (words_of words.now) (F.seen files.old) (F.seen files.new) }
 {
     let Some(c) = own_command(words) else {
@@ -152,6 +154,7 @@ pub fn core_top<F: Store, S: Sink>(
     ensures overwrite { HasOverwriteAnswer (words_of words.now)
         (world (call_files (F.seen files.old) (F.seen files.new)) (S.seen out.old)) (world (F.seen files.new) (S.seen out.new)) result }
     ensures passed { result ≢ Status.WriteFault → S.passed_on out.new }
+    ensures handed { Stays (S.seen out.old).faults (S.seen out.new).faults → S.passed_on out.new }
     ensures reads { ReadsInOrder (words_of words.now) (F.seen files.old) (F.seen files.new) }
 {
     answer(alloc, words, files, out)

@@ -23,7 +23,7 @@ texts-by P Q f img arr bytes before now answer (inr h) =
       arrivals = h.arrivals;
       meant = h.meant;
       ended = h.ended;
-      passed_on = λ done. f (h.passed_on done);
+      passed_on = λ other. f (h.passed_on other);
     })
 
 answered-by : (P Q : Type 0) → (P → Q) → (d : Debugging) (old new : Files) (bytes : Heard) (before now : Output) (answer : Status)
@@ -33,8 +33,8 @@ answered-by P Q f d old new bytes before now answer (inr h) = inr (h.0, h.1, h.2
 
 pub debug_ran : (d : Debugging) (bytes : Heard) (old new : Files) (before now : Output) (was text given : List ℕ) (P : Type 0) (answer : Status)
     → before ≡ put_output was before.faults → was ≡ [] → now ≡ put_output text now.faults → before.faults ≡ 0 → old ≡ untold_files 0 0 0 [] [] []
-    → IsPrefix given text → (P → given ≡ text) → IsDebugAnswer d old new bytes before now P answer → IsDebugRun d bytes new given now.faults answer
-debug_ran d bytes old new before now was text given P answer begins none shows faultless fresh front passed h =
+    → IsPrefix given text → (P → given ≡ text) → new.writes ≡ [] → IsDebugAnswer d old new bytes before now P answer → IsDebugRun d bytes new given now.faults answer
+debug_ran d bytes old new before now was text given P answer begins none shows faultless fresh front passed unwritten h =
     let first : before ≡ put_output [] 0 = begins ∙ ap (λ (xs : List ℕ). put_output xs before.faults) none ∙ ap (put_output []) faultless in
     let O : Files → Type 0 = λ files. IsDebugAnswer d files new bytes before now (given ≡ text) answer in
     let B : Output → Type 0 = λ out. IsDebugAnswer d (untold_files 0 0 0 [] [] []) new bytes out now (given ≡ text) answer in
@@ -43,4 +43,5 @@ debug_ran d bytes old new before now was text given P answer begins none shows f
       text = text;
       answered = subst N shows (subst B first (subst O fresh (answered-by P (given ≡ text) passed d old new bytes before now answer h)));
       front = front;
+      unwritten = unwritten;
     }

@@ -1,2 +1,3 @@
+pub mod BothRead
 pub mod DebugRan
 pub mod Ending

@@ -9,6 +9,7 @@ use Rattle.debug_session.specs.Input.{Coming}
 use Rattle.debug_ways.specs.Runs.{Run}
 use Rattle.debug_view.specs.ShownRun.{run_of}
 use Rattle.debug_session.specs.Serving.{IsBrokenOff, IsAllAnswered}
+use Rattle.debug_session.specs.Transcripts.{Act}
 use Rattle.debug_session.specs.declared.serving.SessionFault.{SessionFault}
 use Rattle.debug_session.specs.declared.serving.SessionFault.TheVariants as faults
 use Rattle.tool_answers.specs.declared.status.Status.{Status}
@@ -20,15 +21,17 @@ use Rattle.debug_command.specs.declared.inputs.Cause.TheVariants as cause
 
 -- ---- what came
 
--- of an input: what it tells of what comes, where it does, and the bytes that it gave before a call and behind it
+-- of an input: what it tells of what comes, where it does, and the bytes that it gave before a call and behind it; and the transcript before and behind
 pub record Heard : Type 0 where
   pub coming : Option Coming
   pub before : List ℕ
   pub behind : List ℕ
+  pub first : List Act
+  pub last : List Act
 
--- these three together
-abbrev pub heard : Option Coming → (before behind : List ℕ) → Heard
-heard coming before behind = record { coming = coming; before = before; behind = behind }
+-- these five together
+abbrev pub heard : Option Coming → (before behind : List ℕ) → (first last : List Act) → Heard
+heard coming before behind first last = record { coming = coming; before = before; behind = behind; first = first; last = last }
 
 -- ---- no session
 
@@ -67,19 +70,19 @@ end_status (Err faults.NoMemory) = status.NoMemory
 -- A session over a run ended so: all was answered that came; a read failed behind it; a write failed, and a first part of what is due was written; or
 -- memory was wanting behind a first part.
 abbrev pub IsSessionEnd : Run → List (List ℕ) → Heard → (before now : Output) → Status → Type 0
-IsSessionEnd run names bytes before now status.Done = IsAllAnswered run names bytes.coming bytes.before bytes.behind before now
-IsSessionEnd run names bytes before now status.ReadFault = IsBrokenOff run names bytes.coming bytes.before bytes.behind before now faults.Read
-IsSessionEnd run names bytes before now status.WriteFault = IsBrokenOff run names bytes.coming bytes.before bytes.behind before now faults.Write
-IsSessionEnd run names bytes before now status.NoMemory = IsBrokenOff run names bytes.coming bytes.before bytes.behind before now faults.NoMemory
+IsSessionEnd run names bytes before now status.Done = IsAllAnswered run names bytes.coming bytes.before bytes.behind bytes.first bytes.last before now
+IsSessionEnd run names bytes before now status.ReadFault = IsBrokenOff run names bytes.coming bytes.before bytes.behind bytes.first bytes.last before now faults.Read
+IsSessionEnd run names bytes before now status.WriteFault = IsBrokenOff run names bytes.coming bytes.before bytes.behind bytes.first bytes.last before now faults.Write
+IsSessionEnd run names bytes before now status.NoMemory = IsBrokenOff run names bytes.coming bytes.before bytes.behind bytes.first bytes.last before now faults.NoMemory
 IsSessionEnd run names bytes before now _ = ⊥
 
--- a session over the run of the image and the arrivals that two texts mean was served, and what was written handed on
+-- a session over the run of the image and the arrivals that two texts mean was served, and what was written handed on, unless a write broke it off
 pub record IsServed (img arr : List ℕ) (bytes : Heard) (before now : Output) (passed : Type 0) (answer : Status) : Type 0 where
   pub image : Image
   pub arrivals : List Arrival
   pub meant : AreMeant img arr image arrivals
   pub ended : IsSessionEnd (run_of image arrivals) image.tasks bytes before now answer
-  pub passed_on : answer ≡ status.Done → passed
+  pub passed_on : answer ≢ status.WriteFault → passed
 
 -- ---- bytes of it
 

@@ -1,19 +1,19 @@
 //! The command, over a store of files, an input and a sink.
-ghost use Rattle.std.specs.Prelude.{◌≡◌, ◌≢◌, ◌≤◌, OnOk, length};
+ghost use Rattle.std.specs.Prelude.{◌≡◌, ◌≢◌, ◌≤◌, length};
 ghost use Rattle.sloth_base.specs.Arrivals.{AreArrivals};
 ghost use Rattle.sloth_base.specs.ImageRange.{InFormat};
 ghost use Rattle.sloth_base.specs.Limits.{file_limit, task_limit, count_limit};
 ghost use Rattle.sloth_base.specs.Owners.{owners_named};
 ghost use Rattle.sloth_io.specs.Store.{KeepsFiles};
 ghost use Rattle.debug_view.specs.ShownRun.{run_of};
-ghost use Rattle.debug_session.specs.Serving.{HasEnded};
+ghost use Rattle.debug_session.specs.Serving.{HasEnded, IsHandedOn};
 ghost use Rattle.debug_command.specs.DebugAnswers.{IsCloseAnswer, IsLineAnswer, IsSaid, IsSessionEnd, IsTextsAnswer, IsDebugAnswer, end_status, heard};
 ghost use Rattle.debug_command.specs.Words.{debugging_of};
 
 use crate::DebugWords;
 use crate::inputs::{Cause, Meaning, read_meaning, read_texts};
 use command_line::{no_image_line, refusal_line};
-use debug_session::{Input, SessionFault, serve};
+use debug_session::{Input, SessionFault, Transcript, serve};
 use debug_view::Place;
 use debug_ways::{Cursor, Machine};
 use sloth_base::{Arrival, Image, Name, NoMemory};
@@ -62,19 +62,21 @@ fn serve_machine<I: Input, S: Sink, M: Machine>(
     alloc: Global,
     input: &mut I,
     out: &mut S,
+    transcript: &mut Transcript,
     machine: M,
     names: &[Name],
 ) -> Result<(), SessionFault>
     requires start { M.count machine ≡ 0 }
     requires short { (M.run machine).end ≤ count_limit }
     requires few { length names.now ≤ task_limit }
-    ensures ended { HasEnded (M.run machine) names.now (I.coming input.old) (I.given input.old) (I.given input.new) (S.seen out.old) (S.seen out.new) result }
-    ensures passed { OnOk result (S.passed_on out.old → S.passed_on out.new) }
+    ensures ended { HasEnded (M.run machine) names.now (I.coming input.old) (I.given input.old) (I.given input.new)
+        transcript.old.notes.items transcript.new.notes.items (S.seen out.old) (S.seen out.new) result }
+    ensures passed { IsHandedOn result (S.passed_on out.old) (S.passed_on out.new) }
 {
     match Cursor::new(alloc, machine) {
         Ok(cursor) => {
             let mut cursor = cursor;
-            serve(alloc, input, out, &mut cursor, names)
+            serve(alloc, input, out, transcript, &mut cursor, names)
         }
         Err(NoMemory) => Err(SessionFault::NoMemory),
     }
@@ -85,16 +87,18 @@ fn session<I: Input, S: Sink>(
     alloc: Global,
     input: &mut I,
     out: &mut S,
+    transcript: &mut Transcript,
     image: &Image,
     arrivals: &[Arrival],
 ) -> Result<(), SessionFault>
     requires format { InFormat image.now }
     requires arrivals { AreArrivals (owners_named image.now) arrivals.now }
-    ensures ended { HasEnded (run_of image.now arrivals.now) image.now.tasks (I.coming input.old) (I.given input.old) (I.given input.new) (S.seen out.old) (S.seen out.new) result }
-    ensures passed { OnOk result (S.passed_on out.old → S.passed_on out.new) }
+    ensures ended { HasEnded (run_of image.now arrivals.now) image.now.tasks (I.coming input.old) (I.given input.old) (I.given input.new)
+        transcript.old.notes.items transcript.new.notes.items (S.seen out.old) (S.seen out.new) result }
+    ensures passed { IsHandedOn result (S.passed_on out.old) (S.passed_on out.new) }
 {
     match Place::new(alloc, image, arrivals) {
-        Ok(place) => serve_machine(alloc, input, out, place, image.tasks.items()),
+        Ok(place) => serve_machine(alloc, input, out, transcript, place, image.tasks.items()),
         Err(NoMemory) => Err(SessionFault::NoMemory),
     }
 }
@@ -104,16 +108,18 @@ fn flushed_session<I: Input, S: Sink>(
     alloc: Global,
     input: &mut I,
     out: &mut S,
+    transcript: &mut Transcript,
     image: &Image,
     arrivals: &[Arrival],
 ) -> Result<(), SessionFault>
     requires format { InFormat image.now }
     requires arrivals { AreArrivals (owners_named image.now) arrivals.now }
-    ensures ended { HasEnded (run_of image.now arrivals.now) image.now.tasks (I.coming input.old) (I.given input.old) (I.given input.new) (S.seen out.old) (S.seen out.new) result }
-    ensures passed { OnOk result (S.passed_on out.new) }
+    ensures ended { HasEnded (run_of image.now arrivals.now) image.now.tasks (I.coming input.old) (I.given input.old) (I.given input.new)
+        transcript.old.notes.items transcript.new.notes.items (S.seen out.old) (S.seen out.new) result }
+    ensures passed { IsHandedOn result (Unit {0}) (S.passed_on out.new) }
 {
     match out.flush() {
-        Ok(()) => session(alloc, input, out, image, arrivals),
+        Ok(()) => session(alloc, input, out, transcript, image, arrivals),
         Err(_) => Err(SessionFault::Write),
     }
 }
@@ -131,14 +137,27 @@ fn end_status(end: Result<(), SessionFault>) -> Status
 }
 
 // A session over what the two files mean.
-fn served<I: Input, S: Sink>(alloc: Global, input: &mut I, out: &mut S, run: &Meaning) -> Status
+fn served<I: Input, S: Sink>(
+    alloc: Global,
+    input: &mut I,
+    out: &mut S,
+    transcript: &mut Transcript,
+    run: &Meaning,
+) -> Status
     requires format { InFormat run.now.image }
     requires arrivals { AreArrivals (owners_named run.now.image) run.now.arrivals.items }
-    ensures ended { IsSessionEnd (run_of run.now.image run.now.arrivals.items) run.now.image.tasks (heard (I.coming input.old) (I.given input.old) (I.given input.new))
-        (S.seen out.old) (S.seen out.new) result }
-    ensures passed { result ≡ Status.Done → S.passed_on out.new }
+    ensures ended { IsSessionEnd (run_of run.now.image run.now.arrivals.items) run.now.image.tasks
+        (heard (I.coming input.old) (I.given input.old) (I.given input.new) transcript.old.notes.items transcript.new.notes.items) (S.seen out.old) (S.seen out.new) result }
+    ensures passed { result ≢ Status.WriteFault → S.passed_on out.new }
 {
-    let end = flushed_session(alloc, input, out, &run.image, run.arrivals.as_slice());
+    let end = flushed_session(
+        alloc,
+        input,
+        out,
+        transcript,
+        &run.image,
+        run.arrivals.as_slice(),
+    );
     end_status(end)
 }
 
@@ -147,14 +166,17 @@ fn judge<I: Input, S: Sink>(
     alloc: Global,
     input: &mut I,
     out: &mut S,
+    transcript: &mut Transcript,
     img: &[u8],
     arr: &[u8],
 ) -> Status
     requires { length arr.now ≤ file_limit }
-    ensures { IsTextsAnswer img.now arr.now (heard (I.coming input.old) (I.given input.old) (I.given input.new)) (S.seen out.old) (S.seen out.new) (S.passed_on out.new) result }
+    ensures { IsTextsAnswer img.now arr.now
+        (heard (I.coming input.old) (I.given input.old) (I.given input.new) transcript.old.notes.items transcript.new.notes.items)
+        (S.seen out.old) (S.seen out.new) (S.passed_on out.new) result }
 {
     match read_meaning(alloc, img, arr) {
-        Ok(run) => served(alloc, input, out, &run),
+        Ok(run) => served(alloc, input, out, transcript, &run),
         Err(cause) => tell(out, cause),
     }
 }
@@ -165,9 +187,11 @@ pub fn debug<F: Store, I: Input, S: Sink>(
     files: &mut F,
     input: &mut I,
     out: &mut S,
+    transcript: &mut Transcript,
     words: &DebugWords,
 ) -> Status
-    ensures answer { IsDebugAnswer (debugging_of words.now) (F.seen files.old) (F.seen files.new) (heard (I.coming input.old) (I.given input.old) (I.given input.new))
+    ensures answer { IsDebugAnswer (debugging_of words.now) (F.seen files.old) (F.seen files.new)
+        (heard (I.coming input.old) (I.given input.old) (I.given input.new) transcript.old.notes.items transcript.new.notes.items)
         (S.seen out.old) (S.seen out.new) (S.passed_on out.new) result }
     ensures keeps { KeepsFiles (F.seen files.old) (F.seen files.new) }
 {
@@ -176,6 +200,7 @@ pub fn debug<F: Store, I: Input, S: Sink>(
             alloc,
             input,
             out,
+            transcript,
             texts.img.as_slice(),
             texts.arr.as_slice(),
         ),

@@ -7,24 +7,28 @@ ghost use Rattle.debug_command.specs.DebugRun.{IsDebugRun};
 ghost use Rattle.debug_command.specs.Words.{debugging_of};
 
 use crate::{DebugWords, debug};
-use debug_session::Input;
+use debug_session::{Input, Transcript};
 use sloth_io::{FileStore, OutSink};
 use std::alloc::Global;
 use std::rt::Files;
 use tool_answers::Status;
 
-/// Serves a session over files of which nothing was read, none written and nothing said, any input, and standard output to which nothing was put.
+/// Serves a session over files of which nothing was read, none written and nothing said, any input, and standard output to which nothing was put. The transcript tells
+/// in what order the input was asked and replies were handed on.
 pub fn debug_over<R: Files, I: Input, P: Print>(
     alloc: Global,
     files: &mut FileStore<'_, R>,
     input: &mut I,
     out: &mut OutSink<'_, P>,
+    transcript: &mut Transcript,
     words: &DebugWords,
 ) -> Status
     requires files { shown_files files.old ≡ untold_files 0 0 0 [] [] [] }
     requires out { accepted_bytes out.old ≡ [] }
     requires faults { (shown_output out.old).faults ≡ 0 }
-    ensures { IsDebugRun (debugging_of words.now) (heard (I.coming input.old) (I.given input.old) (I.given input.new)) (shown_files files.new) (given_bytes out.new) (shown_output out.new).faults result }
+    ensures { IsDebugRun (debugging_of words.now)
+        (heard (I.coming input.old) (I.given input.old) (I.given input.new) transcript.old.notes.items transcript.new.notes.items)
+        (shown_files files.new) (given_bytes out.new) (shown_output out.new).faults result }
 {
-    debug(alloc, files, input, out, words)
+    debug(alloc, files, input, out, transcript, words)
 }

@@ -1,6 +1,6 @@
 -- One byte of a session after the other.
 use Rattle.std.proofs.Common.{◌≡◌, ◌≤◌, ◌+◌, inl, inr, ◌==◌, ℕ, List, [], ◌∷◌, ◌++◌, length, Option, None, Some, Bool, true, false, if◌then◌else◌, suc, refl, sym, ◌∙◌, ap, arith, append_assoc, append-nil}
-use Rattle.sloth_io.specs.Sink.{Output, output_with}
+use Rattle.sloth_io.specs.Sink.{GainsPart, Output, output_with}
 use Rattle.sloth_io.proofs.Gains.{gains-gains, gains-nil, part-behind}
 use Rattle.debug_session.specs.Input.{Coming, Gives, Ends}
 use Rattle.debug_session.specs.Messages.{Message, Packet, Wrong, Again, Interrupt, messages, message_of}
@@ -10,10 +10,9 @@ use Rattle.debug_session.specs.declared.reading.Place.TheVariants as places
 use Rattle.debug_session.specs.declared.reading.Event.{Event}
 use Rattle.debug_session.specs.declared.reading.Event.TheVariants as events
 use Rattle.debug_ways.specs.Runs.{Run}
-use Rattle.debug_session.specs.declared.serving.SessionFault.{SessionFault}
 use Rattle.debug_session.specs.declared.serving.SessionFault.TheVariants as faults
 use Rattle.debug_session.specs.Sessions.{Session, first_session, behind_message, answer, answers}
-use Rattle.debug_session.specs.Serving.{bytes_answer, session_text, behind_event, event_answer, IsDue, IsRest, IsOwed, IsWhole, IsBroken, IsTooLong, BrokeOff, HasNoAnswer}
+use Rattle.debug_session.specs.Serving.{bytes_answer, session_text, behind_event, event_answer, IsDue, IsRest, IsOwed, IsWhole, IsBroken, IsTooLong, BrokeOff}
 
 -- a message of a session that is not over
 one-answer : (run : Run) (names : List (List ℕ)) (session : Session) (message : Message) (more : List Message) → session.standing.over ≡ false
@@ -214,21 +213,25 @@ due-more run names (Some all) (Some coming) new session next reading further eve
           ∙ ap (λ bytes. written ++ bytes_answer run names session reading bytes) (sym split) ∙ left.4,
     )
 
--- an answer was not written
-pub broke_answering : (run : Run) (names : List (List ℕ)) (all old new : Option Coming) (before now after : Output) (session next : Session) (reading further : Reading) (event : Event) (byte count : ℕ) (fault : SessionFault)
+-- an answer was not written, or not all of it
+pub broke_writing : (run : Run) (names : List (List ℕ)) (all old new : Option Coming) (before now after : Output) (session next : Session) (reading further : Reading) (event : Event) (byte count : ℕ)
     → IsOwed run names all before session reading old count now → IsByte run names old new session next reading further event byte
-    → HasNoAnswer now after (event_answer run names session event further.content) fault → BrokeOff run names all before after fault
-broke_answering run names all old new before now after session next reading further event byte count faults.Read owed is broke = absurd broke
-broke_answering run names all old new before now after session next reading further event byte count faults.Write owed is broke =
+    → GainsPart now after (event_answer run names session event further.content) → BrokeOff run names all before after faults.Write
+broke_writing run names all old new before now after session next reading further event byte count owed is broke =
     let due = due-more run names all old new session next reading further event byte count owed.written is owed.left in
     let text : List ℕ = event_answer run names session event further.content in (
       owed.written ++ (text ++ due.0),
       due.1,
       part-behind before now after owed.written text due.0 (owed.written ++ (text ++ due.0)) owed.taken broke refl,
     )
-broke_answering run names all old new before now after session next reading further event byte count faults.NoMemory owed is broke =
+
+-- memory was wanting for it
+pub broke_wanting : (run : Run) (names : List (List ℕ)) (all old new : Option Coming) (before now : Output) (session next : Session) (reading further : Reading) (event : Event) (byte count : ℕ)
+    → IsOwed run names all before session reading old count now → IsByte run names old new session next reading further event byte
+    → BrokeOff run names all before now faults.NoMemory
+broke_wanting run names all old new before now session next reading further event byte count owed is =
     let due = due-more run names all old new session next reading further event byte count owed.written is owed.left in
-    (owed.written, event_answer run names session event further.content ++ due.0, due.1, broke ∙ owed.taken)
+    (owed.written, event_answer run names session event further.content ++ due.0, due.1, owed.taken)
 
 -- nothing was written
 pub broke_first : (run : Run) (names : List (List ℕ)) (all : Option Coming) (before : Output) → BrokeOff run names all before before faults.NoMemory

@@ -11,3 +11,4 @@ pub mod PacketStanding
 pub mod Giving
 mod NoGivenFields
 pub mod OneReply
+pub mod Transcribed

@@ -7,6 +7,7 @@ pub mod Replies
 pub mod Serving
 pub mod Sessions
 pub mod Texts
+pub mod Transcripts
 pub mod Acknowledging
 pub mod Actions
 pub mod Escapes

@@ -1,5 +1,5 @@
 -- A session over bytes that come.
-use Rattle.std.specs.Prelude.{◌≡◌, ◌≤◌, ◌+◌, ◌⊎◌, ℕ, List, [], ◌++◌, length, Option, None, Some, Result, Ok, Err, true}
+use Rattle.std.specs.Prelude.{◌≡◌, ◌≤◌, ◌+◌, ◌⊎◌, ℕ, List, [], ◌∷◌, ◌++◌, length, Option, None, Some, Result, Ok, Err, true}
 use Rattle.sloth_io.specs.Sink.{Output, output_with, GainsPart}
 use Rattle.debug_session.specs.Input.{Coming}
 use Rattle.debug_session.specs.Messages.{Packet, Wrong, Again, Interrupt, messages}
@@ -10,6 +10,7 @@ use Rattle.debug_ways.specs.Runs.{Run}
 use Rattle.debug_session.specs.declared.serving.SessionFault.{SessionFault}
 use Rattle.debug_session.specs.declared.serving.SessionFault.TheVariants as faults
 use Rattle.debug_session.specs.Sessions.{Session, first_session, behind_message, answer, answers}
+use Rattle.debug_session.specs.Transcripts.{Act, Read, bytes_read, bytes_written}
 
 -- what is written for bytes behind others
 abbrev pub bytes_answer : Run → List (List ℕ) → Session → Reading → List ℕ → List ℕ
@@ -79,38 +80,61 @@ IsAnsweredInPart run names old new before now faults.Write =
 IsAnsweredInPart run names old new before now faults.NoMemory =
     (read part rest : List ℕ) × (new ≡ old ++ read) × (session_text run names read ≡ part ++ rest) × (now ≡ output_with before part)
 
+-- ---- in what order
+
+-- each time that the input was asked for a byte, all that is due for the bytes before had been handed on
+abbrev pub IsPrompt : Run → List (List ℕ) → List Act → Type 0
+IsPrompt run names acts =
+    (before behind : List Act) (bytes : List ℕ) → acts ≡ before ++ Read bytes ∷ behind → bytes_written before ≡ session_text run names (bytes_read before)
+
+-- what a transcript has more: the bytes that an input gave meanwhile and all that was written, each reply handed on before the next byte was asked for
+pub record IsTranscribed (run : Run) (names : List (List ℕ)) (old new : List ℕ) (first last : List Act) (before now : Output) : Type 0 where
+  pub acts : List Act
+  pub noted : last ≡ first ++ acts
+  pub given : new ≡ old ++ bytes_read acts
+  pub taken : now ≡ output_with before (bytes_written acts)
+  pub prompt : IsPrompt run names acts
+
+-- where a session broke off; behind a write that failed stands some first part of one more reply
+abbrev pub IsTranscribedUpTo : Run → List (List ℕ) → (old new : List ℕ) → (first last : List Act) → (before now : Output) → SessionFault → Type 0
+IsTranscribedUpTo run names old new first last before now faults.Read = IsTranscribed run names old new first last before now
+IsTranscribedUpTo run names old new first last before now faults.Write =
+    (mid : Output) × (text : List ℕ) × IsTranscribed run names old new first last before mid × GainsPart mid now text
+IsTranscribedUpTo run names old new first last before now faults.NoMemory = IsTranscribed run names old new first last before now
+
 -- ---- how it ended
 
--- a session over a run broke off so, by what comes and by the bytes that an input gave
-pub record IsBrokenOff (run : Run) (names : List (List ℕ)) (coming : Option Coming) (old new : List ℕ) (before now : Output) (fault : SessionFault) : Type 0 where
+-- a session over a run broke off so, by what comes, by the bytes that an input gave and by the transcript
+pub record IsBrokenOff (run : Run) (names : List (List ℕ)) (coming : Option Coming) (old new : List ℕ) (first last : List Act) (before now : Output) (fault : SessionFault) : Type 0 where
   pub broke : BrokeOff run names coming before now fault
   pub partly : IsAnsweredInPart run names old new before now fault
+  pub transcribed : IsTranscribedUpTo run names old new first last before now fault
 
 -- it did not: all was answered
-pub record IsAllAnswered (run : Run) (names : List (List ℕ)) (coming : Option Coming) (old new : List ℕ) (before now : Output) : Type 0 where
+pub record IsAllAnswered (run : Run) (names : List (List ℕ)) (coming : Option Coming) (old new : List ℕ) (first last : List Act) (before now : Output) : Type 0 where
   pub whole : IsWhole run names coming before now
   pub answered : IsAnswered run names old new before now
+  pub transcribed : IsTranscribed run names old new first last before now
 
 -- one of both
-abbrev pub HasEnded : {T : Type 0} → Run → List (List ℕ) → Option Coming → (old new : List ℕ) → (before now : Output) → Result T SessionFault → Type 0
-HasEnded run names coming old new before now (Ok _) = IsAllAnswered run names coming old new before now
-HasEnded run names coming old new before now (Err fault) = IsBrokenOff run names coming old new before now fault
+abbrev pub HasEnded : {T : Type 0} → Run → List (List ℕ) → Option Coming → (old new : List ℕ) → (first last : List Act) → (before now : Output) → Result T SessionFault → Type 0
+HasEnded run names coming old new first last before now (Ok _) = IsAllAnswered run names coming old new first last before now
+HasEnded run names coming old new first last before now (Err fault) = IsBrokenOff run names coming old new first last before now fault
+
+-- what was put was handed on, if what was put before had been, unless a write broke the session off
+abbrev pub IsHandedOn : {T : Type 0} → Result T SessionFault → (before now : Type 0) → Type 0
+IsHandedOn (Ok _) before now = before → now
+IsHandedOn (Err faults.Read) before now = before → now
+IsHandedOn (Err faults.Write) before now = Unit {0}
+IsHandedOn (Err faults.NoMemory) before now = before → now
 
 -- ---- on the way
 
--- the bytes that an input gave, what was written for them, and what is to be written for more
-pub record HasAnswered (run : Run) (names : List (List ℕ)) (old new : List ℕ) (before now : Output) (session : Session) (reading : Reading) : Type 0 where
-  pub read : List ℕ
-  pub written : List ℕ
-  pub given : new ≡ old ++ read
-  pub taken : now ≡ output_with before written
-  pub answered : (more : List ℕ) → session_text run names (read ++ more) ≡ written ++ bytes_answer run names session reading more
-
--- an answer was not written, or not all of it
-abbrev pub HasNoAnswer : (before now : Output) → List ℕ → SessionFault → Type 0
-HasNoAnswer before now text faults.Read = ⊥
-HasNoAnswer before now text faults.Write = GainsPart before now text
-HasNoAnswer before now text faults.NoMemory = now ≡ before
+-- the transcript so far, and what is to be written for more bytes
+pub record HasAnswered (run : Run) (names : List (List ℕ)) (old new : List ℕ) (first last : List Act) (before now : Output) (session : Session) (reading : Reading) : Type 0 where
+  pub so_far : IsTranscribed run names old new first last before now
+  pub answered : (more : List ℕ) → session_text run names (bytes_read so_far.acts ++ more)
+      ≡ bytes_written so_far.acts ++ bytes_answer run names session reading more
 
 -- Of an input that tells what comes: behind so many bytes this is left, and what is written for it stands behind what was written. Of another: what is
 -- written for any more stands behind that.

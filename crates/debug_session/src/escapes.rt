@@ -1,16 +1,9 @@
 //! Bytes that cannot stand in a packet for themselves.
 ghost use Rattle.std.specs.Prelude.{◌≡◌, ◌++◌, OnOk, IfOk};
-ghost use Rattle.debug_session.specs.Escapes.{is_reserved, turned, escaped, unescaped};
+ghost use Rattle.debug_session.specs.Escapes.{turned, escaped, unescaped};
 
 use sloth_base::NoMemory;
 use std::alloc::Global;
-
-// Whether a byte is reserved.
-fn is_reserved(byte: u8) -> bool
-    ensures { result ≡ is_reserved byte }
-{
-    byte == b'#' || byte == b'$' || byte == b'*' || byte == b'}'
-}
 
 // A byte with its bit 5 the other way.
 fn turned(byte: u8) -> u8
@@ -28,7 +21,7 @@ pub fn push_escaped(out: &mut Vec<u8>, bytes: &[u8]) -> Result<(), NoMemory>
     ensures { OnOk result (out.new.items ≡ out.old.items ++ escaped bytes.now) }
 {
     for byte in bytes {
-        if is_reserved(*byte) {
+        if *byte == b'#' || *byte == b'$' || *byte == b'*' || *byte == b'}' {
             out.extend_from_slice(&[b'}', turned(*byte)])?;
         } else {
             out.extend_from_slice(&[*byte])?;

@@ -2,8 +2,9 @@
 //!
 //! The reply to each request: what the run shows is looked at once (`push_text`), and all else tells of what was seen (`specs/Replies`, `specs/Texts`). A message
 //! and all of them (`specs/Sessions`). `serve`: exactly the answers to the messages among the bytes that the input gave are written, so of an input that
-//! tells its bytes those to these, and where the session breaks off a first part of them, with the cause (`specs/Serving`). Nothing that is sent changes
-//! the run: the clauses `run`. In words: a packet has one reply, which is read back (`laws`). Where steps and continues lead: `debug_ways`.
+//! tells its bytes those to these, and where the session breaks off a first part of them, with the cause (`specs/Serving`). Each reply was handed on before the
+//! next byte was asked for, by a transcript of both ends (`Transcript`, `specs/Transcripts`; `IsPrompt` of `specs/Serving`). Nothing that is sent changes the run: the
+//! clauses `run`. In words: a packet has one reply, which is read back (`laws`). Where steps and continues lead: `debug_ways`.
 //!
 //! Packets of GDB's remote serial protocol (the GDB manual, appendix E, "Remote Protocol"), as bytes and back.
 //!
@@ -37,6 +38,7 @@ pub mod laws;
 pub mod link;
 mod looks;
 pub mod mem_input;
+mod notes;
 pub mod packet_laws;
 pub mod reading;
 mod replies;
@@ -48,6 +50,7 @@ pub mod session;
 mod stops;
 mod texts;
 pub mod threads;
+pub mod transcript;
 mod words;
 pub mod writing;
 
@@ -55,3 +58,4 @@ pub use byte_reader::ByteReader;
 pub use input::Input;
 pub use mem_input::MemInput;
 pub use serving::{SessionFault, serve};
+pub use transcript::Transcript;

@@ -4,7 +4,7 @@ ghost use Rattle.sloth_base.specs.Limits.{task_limit};
 ghost use Rattle.debug_session.specs.Hex.{hex_of};
 ghost use Rattle.debug_session.specs.Texts.{window_text};
 ghost use Rattle.debug_ways.specs.Cursor.{cursor_run};
-ghost use Rattle.debug_session.specs.Replies.{reply_text, has_reply, fixed_text, plain_text, place_text, features_text, help_text, no_goto_text, threads_text};
+ghost use Rattle.debug_session.specs.Replies.{reply_text, has_reply, fixed_text, plain_text, place_text, help_text, no_goto_text, threads_text};
 
 use crate::description::description;
 use crate::hex::push_hex;
@@ -25,13 +25,6 @@ use text_pieces::line;
 use text_pieces::pieces::Piece::{Number, Word};
 use trace_text::stopped_line;
 
-#[tactic(auto, unfolding(crate::specs::Replies::features_text))]
-fn features_text() -> &'static [u8]
-    ensures { result.now ≡ features_text }
-{
-    b"PacketSize=4000;QStartNoAckMode+;swbreak+;hwbreak+;vContSupported+;ReverseStep+;ReverseContinue+;qXfer:features:read+;qXfer:threads:read+"
-}
-
 #[tactic(auto, unfolding(crate::specs::Replies::help_text))]
 fn help_text() -> &'static [u8]
     ensures { result.now ≡ help_text }
@@ -47,6 +40,7 @@ fn no_goto_text() -> &'static [u8]
 }
 
 // The text of a reply in which the run has no part.
+#[tactic(auto, unfolding(crate::specs::Replies::features_text))]
 fn fixed_text(points: &[Point], request: &Request) -> &'static [u8]
     ensures { result.now ≡ fixed_text points.now request.now }
 {
@@ -56,7 +50,8 @@ fn fixed_text(points: &[Point], request: &Request) -> &'static [u8]
             2 => b"E02",
             _ => b"E04",
         },
-        Request::Supported => features_text(),
+        Request::Supported =>
+            b"PacketSize=4000;QStartNoAckMode+;swbreak+;hwbreak+;vContSupported+;ReverseStep+;ReverseContinue+;qXfer:features:read+;qXfer:threads:read+",
         Request::NoAnnex => b"E00",
         Request::ThreadListEnd => b"l",
         Request::Attached => b"1",

@@ -1,14 +1,14 @@
 //! A session over an input and a sink.
-ghost use Rattle.std.specs.Prelude.{◌≡◌, ◌≤◌, ◌++◌, OnOk, IfErr, length};
+ghost use Rattle.std.specs.Prelude.{◌≡◌, ◌≤◌, OnOk, IfOk, length};
 ghost use Rattle.sloth_base.specs.Limits.{task_limit};
-ghost use Rattle.sloth_io.specs.Sink.{output_with};
 ghost use Rattle.debug_session.specs.Reading.{fresh};
 ghost use Rattle.debug_ways.specs.Cursor.{cursor_run};
-ghost use Rattle.debug_session.specs.Serving.{behind_event, event_answer, HasEnded, HasNoAnswer};
+ghost use Rattle.debug_session.specs.Serving.{behind_event, event_answer, HasEnded, IsHandedOn};
 
 use crate::Input;
 use crate::reading::{Event, PacketReader};
 use crate::session::Session;
+use crate::transcript::Transcript;
 use debug_ways::{Cursor, Machine};
 use sloth_base::{Name, NoMemory};
 use sloth_io::Sink;
@@ -24,51 +24,25 @@ pub enum SessionFault {
     NoMemory,
 }
 
-// Puts what is due, and hands it on.
-fn hand_on<S: Sink>(out: &mut S, due: &[u8]) -> Result<(), SessionFault>
-    ensures whole { OnOk result (S.seen out.new ≡ output_with (S.seen out.old) due.now) }
-    ensures broke { IfErr result (λ fault. HasNoAnswer (S.seen out.old) (S.seen out.new) due.now fault) }
-    ensures passed { OnOk result (S.passed_on out.old → S.passed_on out.new) }
-{
-    if due.is_empty() {
-        return Ok(());
-    }
-    match out.put(due) {
-        Ok(()) => {}
-        Err(_) => return Err(SessionFault::Write),
-    }
-    match out.flush() {
-        Ok(()) => Ok(()),
-        Err(_) => Err(SessionFault::Write),
-    }
-}
-
-// Answers what a byte completes.
-fn answer<S: Sink, M: Machine>(
+// What is due for what a byte completes.
+fn due_text<M: Machine>(
     alloc: Global,
     session: &mut Session,
-    out: &mut S,
     cursor: &mut Cursor<M>,
     names: &[Name],
     event: Event,
     content: &[u8],
-) -> Result<(), SessionFault>
+) -> Result<Vec<u8>, NoMemory>
     requires there { session.old.standing.count ≤ (cursor_run M.run cursor.old).end }
     requires few { length names.now ≤ task_limit }
     ensures session { OnOk result (session.new ≡ behind_event (cursor_run M.run cursor.old) names.now session.old event content.now) }
-    ensures text { OnOk result (S.seen out.new
-        ≡ output_with (S.seen out.old) (event_answer (cursor_run M.run cursor.old) names.now session.old event content.now)) }
-    ensures broke { IfErr result (λ fault. HasNoAnswer (S.seen out.old) (S.seen out.new)
-        (event_answer (cursor_run M.run cursor.old) names.now session.old event content.now) fault) }
-    ensures passed { OnOk result (S.passed_on out.old → S.passed_on out.new) }
+    ensures text { IfOk result (λ due. due.items ≡ event_answer (cursor_run M.run cursor.old) names.now session.old event content.now) }
     ensures within { OnOk result (session.new.standing.count ≤ (cursor_run M.run cursor.old).end) }
     ensures run { cursor_run M.run cursor.new ≡ cursor_run M.run cursor.old }
 {
     let mut due = Vec::new(alloc);
-    match session.take(alloc, &mut due, cursor, names, event, content) {
-        Ok(()) => hand_on(out, due.as_slice()),
-        Err(NoMemory) => Err(SessionFault::NoMemory),
-    }
+    session.take(alloc, &mut due, cursor, names, event, content)?;
+    Ok(due)
 }
 
 // Answers what comes behind the bytes that were read: up to 2^64 - 1 further bytes, so that it ends.
@@ -76,14 +50,16 @@ fn serve_on<I: Input, S: Sink, M: Machine>(
     alloc: Global,
     input: &mut I,
     out: &mut S,
+    transcript: &mut Transcript,
     cursor: &mut Cursor<M>,
     names: &[Name],
     reader: &mut PacketReader,
 ) -> Result<(), SessionFault>
     requires fresh { reader.old ≡ fresh }
     requires few { length names.now ≤ task_limit }
-    ensures ended { HasEnded (cursor_run M.run cursor.old) names.now (I.coming input.old) (I.given input.old) (I.given input.new) (S.seen out.old) (S.seen out.new) result }
-    ensures passed { OnOk result (S.passed_on out.old → S.passed_on out.new) }
+    ensures ended { HasEnded (cursor_run M.run cursor.old) names.now (I.coming input.old) (I.given input.old) (I.given input.new)
+        transcript.old.notes.items transcript.new.notes.items (S.seen out.old) (S.seen out.new) result }
+    ensures passed { IsHandedOn result (S.passed_on out.old) (S.passed_on out.new) }
     ensures run { cursor_run M.run cursor.new ≡ cursor_run M.run cursor.old }
 {
     let mut session = Session::new(alloc);
@@ -91,45 +67,43 @@ fn serve_on<I: Input, S: Sink, M: Machine>(
         if session.is_over() {
             return Ok(());
         }
-        let byte = match input.next() {
+        let byte = match transcript.next(input) {
             Ok(Some(byte)) => byte,
             Ok(None) => return Ok(()),
             Err(_) => return Err(SessionFault::Read),
         };
         let event = reader.take(byte);
-        match answer(
-            alloc,
-            &mut session,
-            out,
-            cursor,
-            names,
-            event,
-            reader.content(),
-        ) {
+        let due = match due_text(alloc, &mut session, cursor, names, event, reader.content()) {
+            Ok(due) => due,
+            Err(NoMemory) => return Err(SessionFault::NoMemory),
+        };
+        match transcript.hand_on(out, due.as_slice()) {
             Ok(()) => {}
-            Err(fault) => return Err(fault),
+            Err(_) => return Err(SessionFault::Write),
         }
     }
     Err(SessionFault::Read)
 }
 
-/// Answers what comes, until the session is over or nothing comes any more. Each reply is handed on at once.
+/// Answers what comes, until the session is over or nothing comes any more. Each reply is handed on before the next byte is asked for.
 pub fn serve<I: Input, S: Sink, M: Machine>(
     alloc: Global,
     input: &mut I,
     out: &mut S,
+    transcript: &mut Transcript,
     cursor: &mut Cursor<M>,
     names: &[Name],
 ) -> Result<(), SessionFault>
     requires few { length names.now ≤ task_limit }
-    ensures ended { HasEnded (cursor_run M.run cursor.old) names.now (I.coming input.old) (I.given input.old) (I.given input.new) (S.seen out.old) (S.seen out.new) result }
-    ensures passed { OnOk result (S.passed_on out.old → S.passed_on out.new) }
+    ensures ended { HasEnded (cursor_run M.run cursor.old) names.now (I.coming input.old) (I.given input.old) (I.given input.new)
+        transcript.old.notes.items transcript.new.notes.items (S.seen out.old) (S.seen out.new) result }
+    ensures passed { IsHandedOn result (S.passed_on out.old) (S.passed_on out.new) }
     ensures run { cursor_run M.run cursor.new ≡ cursor_run M.run cursor.old }
 {
     match PacketReader::new(alloc) {
         Ok(reader) => {
             let mut reader = reader;
-            serve_on(alloc, input, out, cursor, names, &mut reader)
+            serve_on(alloc, input, out, transcript, cursor, names, &mut reader)
         }
         Err(_) => Err(SessionFault::NoMemory),
     }

@@ -1,4 +1,4 @@
--- Where the registers of a task stand that does not run: in the chain of contexts below what runs, or where it is to go on behind a wait.
+-- Where the registers of a task stand that does not run: in the chain of contexts below what runs, or where it is to go on from a wait.
 use Rattle.std.specs.Prelude.{ℕ, zero, suc, ◌+◌, ◌-◌, ◌*◌, ◌==◌, ◌&&◌, nat_le, Option, None, Some, Bool, is_some, if◌then◌else◌}
 use Rattle.std.specs.Option.{unwrap_or}
 use Rattle.sloth_base.specs.Arithmetic.{sum32}
@@ -48,23 +48,24 @@ is_whole memory address = is_word memory address && is_word memory (sum32 addres
 abbrev pub whole : Memory → ℕ → Option ℕ
 whole memory address = if is_whole memory address then Some address else None
 
--- a context below, where its task is Active
-abbrev pub preempted : Memory → (task address : ℕ) → Option ℕ
-preempted memory task address = if word_or_zero memory (memory_base + active task) == 1 then whole memory address else None
+-- a context that was found, where its words are there
+abbrev pub whole_found : Option ℕ → Memory → Option ℕ
+whole_found (Some address) memory = whole memory address
+whole_found None memory = None
+
+-- the context of a task in the chain of those below what runs; the chain has a link for each of so many tasks and one for the idle loop
+abbrev pub preempted : Memory → (tasks task : ℕ) → Option ℕ
+preempted memory tasks task = whole_found (link_in memory (tasks + 1) (word_or_zero memory (memory_base + below_word)) task) memory
 
 -- the context that a task goes on from behind a wait; 0 where it has none
 abbrev pub waiting : Memory → ℕ → Option ℕ
 waiting memory task =
     if word_or_zero memory (memory_base + resume task) == 0 then None else whole memory (word_or_zero memory (memory_base + resume task))
 
--- of the one below, or else of the one that it goes on from
-abbrev pub context_by : Option ℕ → Memory → ℕ → Option ℕ
-context_by (Some address) memory task = preempted memory task address
-context_by None memory task = waiting memory task
-
--- where the registers of a task stand; the chain has a link for each of so many tasks and one for the idle loop
+-- where the registers of a task stand: those of an Active one in the chain below what runs, those of any other where it is to go on from a wait
 abbrev pub context_in : Memory → (tasks task : ℕ) → Option ℕ
-context_in memory tasks task = context_by (link_in memory (tasks + 1) (word_or_zero memory (memory_base + below_word)) task) memory task
+context_in memory tasks task =
+    if word_or_zero memory (memory_base + active task) == 1 then preempted memory tasks task else waiting memory task
 
 -- a register in a context: x0, x2 as it is behind it, x5 to x31 and the pc
 abbrev pub context_register : Memory → (context number : ℕ) → Option ℕ

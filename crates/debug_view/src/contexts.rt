@@ -83,16 +83,17 @@ fn whole(bus: &mut SlothBus, address: u32) -> Option<u32>
     }
 }
 
-// A context below, where its task is Active.
-fn preempted(bus: &mut SlothBus, task: u32, address: u32) -> Option<u32>
-    requires { task < task_limit }
-    ensures context { result ≡ preempted bus.old task address }
+// The context of a task in the chain of those below what runs, where it has one there. The chain has a link for each task and one for the idle loop.
+fn preempted(bus: &mut SlothBus, tasks: u32, task: u32) -> Option<u32>
+    requires task { task < task_limit }
+    requires tasks { tasks ≤ task_limit }
+    ensures context { result ≡ preempted bus.old tasks task }
     ensures same { bus.new ≡ bus.old }
 {
-    if word_or_zero(bus, MEMORY_BASE + active(task as u8) as u32) == 1 {
-        whole(bus, address)
-    } else {
-        None
+    let first = word_or_zero(bus, MEMORY_BASE + BELOW_WORD as u32);
+    match link_in(bus, tasks + 1, first, task) {
+        Some(address) => whole(bus, address),
+        None => None,
     }
 }
 
@@ -109,17 +110,17 @@ fn waiting(bus: &mut SlothBus, task: u32) -> Option<u32>
     whole(bus, address)
 }
 
-// Where the registers of a task stand, where they do.
+// Where the registers of a task stand, where they do: those of an Active one below what runs, those of any other where it is to go on from a wait.
 fn context_in(bus: &mut SlothBus, tasks: u32, task: u32) -> Option<u32>
     requires task { task < task_limit }
     requires tasks { tasks ≤ task_limit }
     ensures context { result ≡ context_in bus.old tasks task }
     ensures same { bus.new ≡ bus.old }
 {
-    let first = word_or_zero(bus, MEMORY_BASE + BELOW_WORD as u32);
-    match link_in(bus, tasks + 1, first, task) {
-        Some(address) => preempted(bus, task, address),
-        None => waiting(bus, task),
+    if word_or_zero(bus, MEMORY_BASE + active(task as u8) as u32) == 1 {
+        preempted(bus, tasks, task)
+    } else {
+        waiting(bus, task)
     }
 }
 

@@ -4,5 +4,6 @@ pub mod RightNumbers
 pub mod Table
 pub mod Images
 pub mod Contexts
+pub mod Places
 pub mod TaskRegisters
 pub mod RegisterImages

@@ -27,7 +27,7 @@ pub record HasSystem (config : Config) (memory : Memory) (s : System) : Type 0 w
   pub cycles : (a : ℕ) → a < length config.alarms → word_at memory.ram (alarm_cycle a) ≡ (alarm s a).cycle
 
 -- the first of the stack is the highest of the Active tasks
-first_highest : (b : Build) (s : System) (t : ℕ) (below : List ℕ) → AreActive b s (t ∷ below) → IsHighestActive b.config s t
+pub first_highest : (b : Build) (s : System) (t : ℕ) (below : List ℕ) → AreActive b s (t ∷ below) → IsHighestActive b.config s t
 first_highest b s t below a =
     let h = falling_head b s t below a.falling in
     record {

@@ -3,8 +3,9 @@
 //! Each formula of the file that `orti` writes has, over memory and controller, the value that its attribute is (`images_show`; `specs/RightValues`,
 //! `specs/RightFiles`). The table of the file and the values of formulas: `orti_text` (`OrtiTable`, `Formulas`).
 //!
-//! The registers x5 to x29 that `debug` shows of a task are the scheduler's, and those of the running task and of each preempted one are shown
-//! (`images_show_registers`; `specs/TaskRegisters`). What is shown: `debug_view` (`Registers`, `Contexts`).
+//! The registers x5 to x29 that `debug` shows of a task are the scheduler's: those of the running task, of each preempted one and of each one that waits are
+//! shown, and of a task that has not begun or has ended none is. The pc of each task is where it stands, but that of the running one where a line is taken, and from x2 on
+//! the words of its calls in progress stand in RAM (`images_show_registers`; `specs/TaskRegisters`). What is shown: `debug_view` (`Registers`, `Contexts`).
 #![tactic(auto)]
 
 ghost use Rattle.debugger_laws.specs.RightFiles.{PlannedImagesShow};

@@ -1,6 +1,5 @@
 //! What is held before each item of a body, and where all labels say so.
-ghost use Rattle.std.specs.Prelude.{◌≡◌, ◌<◌, ◌≤◌, ◌+◌, ℕ, length, get_or, None, true, false, IfOk, OnOk};
-ghost use Rattle.sloth_base.specs.Named.{label_of};
+ghost use Rattle.std.specs.Prelude.{◌≡◌, ◌<◌, ◌≤◌, ◌+◌, ℕ, length, get_or, None, true, false, IfOk};
 ghost use Rattle.code_rules.specs.Code.{held_list_at};
 ghost use Rattle.task_verify.specs.Labels.{last_label_below, ArePlaced};
 ghost use Rattle.fault_witnesses.specs.BodyLists.{AreLists, AreAgreed, AreBodyLists};
@@ -45,7 +44,7 @@ fn kept_list(alloc: Global, held: &[u32]) -> Result<KeptList, NoMemory>
 }
 
 // By the last label at each place.
-fn lists_by(alloc: Global, func: &Func, last: &[Option<usize>]) -> Result<Vec<KeptList>, NoMemory>
+fn kept_lists(alloc: Global, func: &Func, last: &[Option<usize>]) -> Result<Vec<KeptList>, NoMemory>
     requires count { length last.now ≡ length func.now.items + 1 }
     requires lasts { (place : ℕ) → place ≤ length func.now.items → get_or last.now place None ≡ last_label_below func.now.labels place (length func.now.labels) }
     ensures { IfOk result (λ rows. AreLists func.now rows.items) }
@@ -117,20 +116,13 @@ fn agreed_places(alloc: Global, func: &Func, rows: &[KeptList]) -> Result<Vec<bo
     Ok(marks)
 }
 
-fn held_lists(alloc: Global, func: &Func) -> Result<Vec<KeptList>, NoMemory>
-    requires { ArePlaced func.now }
-    ensures { IfOk result (λ rows. AreLists func.now rows.items) }
-{
-    let last = last_labels(alloc, func)?;
-    lists_by(alloc, func, &last)
-}
-
 /// The tables of a body.
 pub fn body_lists(alloc: Global, func: &Func) -> Result<BodyLists, NoMemory>
     requires { ArePlaced func.now }
     ensures { IfOk result (AreBodyLists func.now) }
 {
-    let rows = held_lists(alloc, func)?;
+    let last = last_labels(alloc, func)?;
+    let rows = kept_lists(alloc, func, &last)?;
     let marks = agreed_places(alloc, func, &rows)?;
     Ok(BodyLists {
         lists: List::from_vec(rows),

@@ -12,17 +12,9 @@ ghost use Rattle.fault_witnesses.specs.Witnesses.{is_culprit, AreShownCalls};
 use crate::chain_search::{Aim, is_pause, shortest_chain};
 use crate::chains::is_chain;
 use crate::clean_steps::is_own_second_take;
-use crate::{Calls, chain_end, held_at};
+use crate::{Calls, chain_end, held_list};
 use sloth_base::{App, Code, Config, NoMemory, Op};
 use std::alloc::Global;
-
-// What an operation leads to that breaks V9 or V10.
-fn aim_of(code: Code, held: &[u32]) -> Aim {
-    match code {
-        Code::V9 => Aim::Taking(held),
-        _ => Aim::Pause,
-    }
-}
 
 // Whether the operation breaks the rule with these held.
 fn is_culprit(code: Code, held: &[u32], op: Op) -> bool
@@ -36,7 +28,7 @@ fn is_culprit(code: Code, held: &[u32], op: Op) -> bool
 }
 
 // Whether an item of a body breaks the rule with these held.
-fn is_culprit_at(app: &App, code: Code, held: &[u32], body: usize, item: usize) -> bool
+fn is_culprit_item(app: &App, code: Code, held: &[u32], body: usize, item: usize) -> bool
     ensures known { result ≡ true → body < length app.now.funcs }
     ensures inside { result ≡ true → item < length (function app.now body).items }
     ensures culprit { result ≡ true → is_culprit code held.now (operation app.now body item) ≡ true }
@@ -49,18 +41,18 @@ fn is_culprit_at(app: &App, code: Code, held: &[u32], body: usize, item: usize) 
 }
 
 // Whether the calls lead from a function to an item that breaks the rule with these held.
-fn leads_to(app: &App, code: Code, held: &[u32], callee: usize, calls: &Calls) -> bool
+fn reaches_culprit(app: &App, code: Code, held: &[u32], callee: usize, calls: &Calls) -> bool
     ensures chain { result ≡ true → IsChain app.now callee calls.now.links }
     ensures known { result ≡ true → chain_end callee calls.now.links < length app.now.funcs }
     ensures inside { result ≡ true → calls.now.item < length (function app.now (chain_end callee calls.now.links)).items }
     ensures culprit { result ≡ true → is_culprit code held.now (operation app.now (chain_end callee calls.now.links) calls.now.item) ≡ true }
 {
     let end = chain_end(callee, calls.links.items());
-    is_chain(app, callee, calls.links.items()) && is_culprit_at(app, code, held, end, calls.item)
+    is_chain(app, callee, calls.links.items()) && is_culprit_item(app, code, held, end, calls.item)
 }
 
 // The calls, if they lead from the function that the item calls to what breaks the rule.
-fn calls_if(
+fn culprit_calls(
     app: &App,
     code: Code,
     body: usize,
@@ -73,7 +65,7 @@ fn calls_if(
     requires held { held.now ≡ held_list_at (function app.now body) item }
     ensures { AreShownCalls app.now code (place.Item body item) result }
 {
-    if leads_to(app, code, held, callee, &calls) {
+    if reaches_culprit(app, code, held, callee, &calls) {
         Some(calls)
     } else {
         None
@@ -81,7 +73,7 @@ fn calls_if(
 }
 
 // The calls from a function that the item calls.
-fn calls_from(
+fn callee_calls(
     alloc: Global,
     app: &App,
     code: Code,
@@ -94,14 +86,18 @@ fn calls_from(
     requires held { held.now ≡ held_list_at (function app.now body) item }
     ensures { IfOk result (λ calls. AreShownCalls app.now code (place.Item body item) calls) }
 {
-    match shortest_chain(alloc, app, callee, aim_of(code, held))? {
-        Some(calls) => Ok(calls_if(app, code, body, item, callee, held, calls)),
+    let aim = match code {
+        Code::V9 => Aim::Taking(held),
+        _ => Aim::Pause,
+    };
+    match shortest_chain(alloc, app, callee, aim)? {
+        Some(calls) => Ok(culprit_calls(app, code, body, item, callee, held, calls)),
         None => Ok(None),
     }
 }
 
-/// The calls behind V9 and V10, where the item calls a function.
-pub fn calls_of(
+/// The calls behind V9 and V10, where the item calls a function; of other rules none.
+pub fn calls_to_culprit(
     alloc: Global,
     config: &Config,
     app: &App,
@@ -113,10 +109,13 @@ pub fn calls_of(
     requires is_place { IsPlace app.now (place.Item body item) }
     ensures { IfOk result (λ calls. AreShownCalls app.now code (place.Item body item) calls) }
 {
+    if !matches!(code, Code::V9 | Code::V10) {
+        return Ok(None);
+    }
     let func = app.function(body);
     let Some(callee) = func.items.items()[item].op.callee() else {
         return Ok(None);
     };
-    let held = held_at(alloc, func, item)?;
-    calls_from(alloc, app, code, body, item, callee, &held)
+    let held = held_list(alloc, func, item)?;
+    callee_calls(alloc, app, code, body, item, callee, &held)
 }

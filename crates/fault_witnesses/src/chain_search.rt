@@ -1,8 +1,9 @@
 //! The search for the shortest chain of calls: breadth first, items in their order.
-ghost use Rattle.std.specs.Prelude.{◌≡◌};
-ghost use Rattle.call_graph.specs.Rows.{is_pausing, is_pause};
+ghost use Rattle.std.specs.Prelude.{◌≡◌, IfOk, IfSome};
+ghost use Rattle.call_graph.specs.Rows.{is_pause};
+ghost use Rattle.fault_witnesses.specs.CallChains.{IsChain, chain_end};
 
-use crate::chains::is_call;
+use crate::chains::{is_call, leads};
 use crate::clean_steps::is_own_second_take;
 use crate::{Calls, Link};
 use sloth_base::{App, Func, List, NoMemory, Op, Service};
@@ -30,18 +31,12 @@ struct Reached {
     before: usize,
 }
 
-fn is_pausing(service: Service) -> bool
-    ensures { result ≡ is_pausing service }
-{
-    matches!(service, Service::WaitEvent | Service::Schedule)
-}
-
 /// Whether the operation waits or calls Schedule.
 pub fn is_pause(op: Op) -> bool
     ensures { result ≡ is_pause op }
 {
     match op {
-        Op::Serve(call) => is_pausing(call.service),
+        Op::Serve(call) => matches!(call.service, Service::WaitEvent | Service::Schedule),
         _ => false,
     }
 }
@@ -56,7 +51,7 @@ fn is_aim(aim: Aim, op: Op) -> bool {
 }
 
 // The first item of a function that is looked for.
-fn item_aimed_at(aim: Aim, func: &Func) -> Option<usize> {
+fn aimed_item(aim: Aim, func: &Func) -> Option<usize> {
     for (number, item) in func.items.items().iter().enumerate() {
         if is_aim(aim, item.op) {
             return Some(number);
@@ -68,12 +63,8 @@ fn item_aimed_at(aim: Aim, func: &Func) -> Option<usize> {
 fn hit(aim: Aim, number: usize, func: &Func) -> Option<usize> {
     match aim {
         Aim::Function(wanted) => { if wanted == number { Some(0) } else { None } },
-        _ => item_aimed_at(aim, func),
+        _ => aimed_item(aim, func),
     }
-}
-
-fn is_reached(reached: &[Reached], func: usize) -> bool {
-    reached.iter().any(|one| one.func == func)
 }
 
 // What an item calls, if it was not reached.
@@ -81,7 +72,7 @@ fn reach(reached: &mut Vec<Reached>, before: usize, line: u32, op: Op) -> Result
     let Some(func) = op.callee() else {
         return Ok(());
     };
-    if is_reached(reached.as_slice(), func) {
+    if reached.as_slice().iter().any(|one| one.func == func) {
         return Ok(());
     }
     push(reached, Reached { func, line, before })
@@ -95,19 +86,14 @@ fn reach_all(reached: &mut Vec<Reached>, before: usize, func: &Func) -> Result<(
 }
 
 // The calls back to the first, and in their order.
-fn links_to(alloc: Global, reached: &[Reached], last: usize) -> Result<List<Link>, NoMemory> {
+fn links_back(alloc: Global, reached: &[Reached], last: usize) -> Result<List<Link>, NoMemory> {
     let mut back = Vec::new(alloc);
     let mut at = last;
     for _turn in 0..reached.len() {
         if at > 0 && at < reached.len() {
-            push(
-                &mut back,
-                Link {
-                    func: reached[at].func,
-                    line: reached[at].line,
-                },
-            )?;
-            at = reached[at].before;
+            let Reached { func, line, before } = reached[at];
+            push(&mut back, Link { func, line })?;
+            at = before;
         }
     }
     in_order(alloc, &back)
@@ -122,7 +108,7 @@ fn in_order(alloc: Global, back: &[Link]) -> Result<List<Link>, NoMemory> {
 }
 
 // Goes on from each function that was reached.
-fn chain_from(
+fn found_chain(
     alloc: Global,
     app: &App,
     reached: &mut Vec<Reached>,
@@ -135,7 +121,7 @@ fn chain_from(
         let number = reached[turn].func;
         let func = app.function(number);
         if let Some(item) = hit(aim, number, func) {
-            let links = links_to(alloc, reached, turn)?;
+            let links = links_back(alloc, reached, turn)?;
             return Ok(Some(Calls { links, item }));
         }
         reach_all(reached, turn, func)?;
@@ -159,5 +145,31 @@ pub fn shortest_chain(
             before: 0,
         },
     )?;
-    chain_from(alloc, app, &mut reached, aim)
+    found_chain(alloc, app, &mut reached, aim)
+}
+
+// These calls, if they lead from one body to another.
+fn proven_calls(app: &App, start: usize, links: List<Link>, end: usize) -> Option<List<Link>>
+    ensures { IfSome result (λ links. IsChain app.now start links × (chain_end start links ≡ end)) }
+{
+    if leads(app, start, links.items(), end) {
+        Some(links)
+    } else {
+        None
+    }
+}
+
+/// The shortest chain of calls from one body to another, if there is one.
+pub fn calls_between(
+    alloc: Global,
+    app: &App,
+    start: usize,
+    end: usize,
+) -> Result<Option<List<Link>>, NoMemory>
+    ensures { IfOk result (λ found. IfSome found (λ links. IsChain app.now start links × (chain_end start links ≡ end))) }
+{
+    match shortest_chain(alloc, app, start, Aim::Function(end))? {
+        Some(Calls { links, item: _ }) => Ok(proven_calls(app, start, links, end)),
+        None => Ok(None),
+    }
 }

@@ -1,5 +1,5 @@
 //! Chains of calls.
-ghost use Rattle.std.specs.Prelude.{◌≡◌, ◌&&◌, ◌==◌, ◌<◌, length, true};
+ghost use Rattle.std.specs.Prelude.{◌≡◌, ◌&&◌, ◌==◌, ◌<◌, true};
 ghost use Rattle.std.specs.List.{list_any};
 ghost use Rattle.sloth_base.specs.Named.{function};
 ghost use Rattle.sloth_base.specs.declared.app.Item.{Item};
@@ -32,37 +32,29 @@ pub fn is_call(op: Op, func: usize) -> bool
     }
 }
 
-fn is_call_on(item: &Item, func: usize, line: u32) -> bool
+fn is_line_call(item: &Item, func: usize, line: u32) -> bool
     ensures { result ≡ (is_call func item.now.op && (item.now.line == line)) }
 {
     is_call(item.op, func) && item.line == line
 }
 
 // Whether an item on this line calls the function.
-fn calls_on(caller: &Func, func: usize, line: u32) -> bool
+fn has_line_call(caller: &Func, func: usize, line: u32) -> bool
     ensures { result ≡ list_any (λ (item : Item). is_call func item.op && (item.line == line)) caller.now.items }
 {
     caller
         .items
         .items()
         .iter()
-        .any(|item| is_call_on(item, func, line))
+        .any(|item| is_line_call(item, func, line))
 }
 
 // Whether the body with this number makes the call.
-fn makes_call_in(app: &App, caller: usize, link: Link) -> bool
-    requires { caller < length app.now.funcs }
-    ensures { result ≡ true → IsCallOn app.now caller link }
-{
-    calls_on(app.function(caller), link.func, link.line)
-}
-
-// The same of any number.
 fn makes_call(app: &App, caller: usize, link: Link) -> bool
     ensures { result ≡ true → IsCallOn app.now caller link }
 {
     if caller < app.funcs.items().len() {
-        makes_call_in(app, caller, link)
+        has_line_call(app.function(caller), link.func, link.line)
     } else {
         false
     }
@@ -90,4 +82,12 @@ pub fn chain_end(start: usize, links: &[Link]) -> usize
         return start;
     }
     links[links.len() - 1].func
+}
+
+/// Whether these calls lead from one body to another.
+pub fn leads(app: &App, start: usize, links: &[Link], end: usize) -> bool
+    ensures chain { result ≡ true → IsChain app.now start links.now }
+    ensures ends { result ≡ true → chain_end start links.now ≡ end }
+{
+    is_chain(app, start, links) && chain_end(start, links) == end
 }

@@ -1,9 +1,8 @@
 //! Steps from item to item that keep the rules on resources.
-ghost use Rattle.std.specs.Prelude.{◌≡◌, ◌==◌, ◌<◌, ◌+◌, ◌&&◌, not, ℕ, length, true, Decides, IfOk};
+ghost use Rattle.std.specs.Prelude.{◌≡◌, ◌==◌, ◌<◌, ◌+◌, ◌&&◌, ℕ, length, true, Decides, IfOk};
 ghost use Rattle.sloth_base.specs.Named.{item_of};
 ghost use Rattle.std.specs.List.{list_any};
 ghost use Rattle.code_rules.specs.Code.{IsPathStep, held_after, is_in};
-ghost use Rattle.call_graph.specs.Rows.{is_get};
 ghost use Rattle.task_verify.specs.Ways.{HasBodyLabel};
 ghost use Rattle.fault_witnesses.specs.BodyLists.{AreBodyLists, AreLed};
 ghost use Rattle.fault_witnesses.specs.CleanWays.{is_own_second_take, is_orderly, IsCleanStep, way_item};
@@ -14,22 +13,16 @@ use sloth_base::{Func, NoMemory, Op, Service};
 use std::alloc::Global;
 use task_verify::{held_after, is_wrong_release, jump_of, next_of};
 
-fn is_get(service: Service) -> bool
-    ensures { result ≡ is_get service }
-{
-    matches!(service, Service::GetResource)
-}
-
-fn is_one_of(held: &[u32], resource: u32) -> bool
+fn has_number(held: &[u32], resource: u32) -> bool
     ensures { result ≡ list_any (λ taken. taken == resource) held.now }
 {
     held.iter().any(|taken| *taken == resource)
 }
 
-fn is_in(held: &[u32], resource: u32) -> bool
+fn is_taken(held: &[u32], resource: u32) -> bool
     ensures { result ≡ is_in resource held.now }
 {
-    is_one_of(held, resource)
+    has_number(held, resource)
 }
 
 /// Whether it is a service that takes one of these.
@@ -37,7 +30,9 @@ pub fn is_own_second_take(held: &[u32], op: Op) -> bool
     ensures { result ≡ is_own_second_take held.now op }
 {
     match op {
-        Op::Serve(call) => is_get(call.service) && is_in(held, call.object),
+        Op::Serve(call) => {
+            matches!(call.service, Service::GetResource) && is_taken(held, call.object)
+        },
         _ => false,
     }
 }
@@ -58,18 +53,6 @@ fn goes(func: &Func, from: usize, to: usize) -> bool
     from != to && (next_of(func, from) == to || jump_of(func, from) == to)
 }
 
-// Whether the operation is orderly with the first list, and makes the second of it.
-fn leads(alloc: Global, before: &[u32], op: &Op, behind: &[u32]) -> Result<bool, NoMemory>
-    ensures { IfOk result (λ clean. clean ≡ true → (is_orderly before.now op.now ≡ true) × (behind.now ≡ held_after op.now before.now)) }
-{
-    if !is_orderly(before, op) {
-        return Ok(false);
-    }
-    let held = before.to_vec(alloc)?;
-    let held = held_after(held, *op)?;
-    Ok(is_same(&held, behind))
-}
-
 fn is_same(one: &[u32], other: &[u32]) -> bool
     ensures { Decides result (one.now ≡ other.now) }
 {
@@ -84,14 +67,16 @@ fn is_same(one: &[u32], other: &[u32]) -> bool
     true
 }
 
-// The same by the lists that are kept.
-fn leads_by(alloc: Global, before: &KeptList, op: &Op, behind: &KeptList) -> Result<bool, NoMemory>
+// Whether the operation is orderly with the first list, and makes the second of it, where both are kept.
+fn is_led(alloc: Global, before: &KeptList, op: &Op, behind: &KeptList) -> Result<bool, NoMemory>
     ensures { IfOk result (λ clean. clean ≡ true → AreLed before.now op.now behind.now) }
 {
-    if !before.kept || !behind.kept {
+    if !before.kept || !behind.kept || !is_orderly(before.list.items(), op) {
         return Ok(false);
     }
-    leads(alloc, before.list.items(), op, behind.list.items())
+    let held = before.list.items().to_vec(alloc)?;
+    let held = held_after(held, *op)?;
+    Ok(is_same(&held, behind.list.items()))
 }
 
 /// Whether item `from` steps cleanly to item `to`. It may answer no where lists are long.
@@ -115,7 +100,7 @@ pub fn is_clean_step(
     if to >= agreed.len() || !agreed[to] || !goes(func, from, to) {
         return Ok(false);
     }
-    leads_by(alloc, &lists[from], &items[from].op, &lists[to])
+    is_led(alloc, &lists[from], &items[from].op, &lists[to])
 }
 
 /// Whether each of these items steps cleanly to the next.

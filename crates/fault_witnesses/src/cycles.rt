@@ -3,14 +3,14 @@ ghost use Rattle.std.specs.Prelude.{◌≡◌, ◌<◌, length, true, IfOk, IfSo
 ghost use Rattle.fault_witnesses.specs.CallChains.{IsChain, IsCycle, chain_end};
 
 use crate::chain_search::{Aim, shortest_chain};
-use crate::chains::is_chain;
+use crate::chains::leads;
 use crate::{Calls, Link, chain_end};
 use sloth_base::{App, List, NoMemory};
 use std::alloc::Global;
 use text_pieces::push;
 
 // The line of an item of a function, 0 where there is none.
-fn line_of(app: &App, func: usize, item: usize) -> u32 {
+fn item_line(app: &App, func: usize, item: usize) -> u32 {
     if func >= app.funcs.items().len() {
         return 0;
     }
@@ -22,31 +22,17 @@ fn line_of(app: &App, func: usize, item: usize) -> u32 {
     }
 }
 
-// These calls, and behind them that of a function by an item of the last.
-fn links_with(
-    alloc: Global,
-    app: &App,
-    body: usize,
-    links: &[Link],
-    item: usize,
-) -> Result<List<Link>, NoMemory> {
-    let line = line_of(app, chain_end(body, links), item);
-    let mut longer = links.to_vec(alloc)?;
-    push(&mut longer, Link { func: body, line })?;
-    Ok(List::from_vec(longer))
-}
-
 // Whether the calls lead from a function back to it.
 fn closes(app: &App, body: usize, links: &[Link]) -> bool
     ensures some { result ≡ true → 0 < length links.now }
     ensures chain { result ≡ true → IsChain app.now body links.now }
     ensures ends { result ≡ true → chain_end body links.now ≡ body }
 {
-    !links.is_empty() && is_chain(app, body, links) && chain_end(body, links) == body
+    !links.is_empty() && leads(app, body, links, body)
 }
 
 // The calls, if they lead from a function back to it.
-fn cycle_if(app: &App, body: usize, links: List<Link>) -> Option<List<Link>>
+fn proven_cycle(app: &App, body: usize, links: List<Link>) -> Option<List<Link>>
     ensures { IfSome result (λ links. IsCycle app.now body links) }
 {
     if closes(app, body, links.items()) {
@@ -57,7 +43,7 @@ fn cycle_if(app: &App, body: usize, links: List<Link>) -> Option<List<Link>>
 }
 
 // The calls to a body that calls the function, and that call.
-fn cycle_by(
+fn closed_cycle(
     alloc: Global,
     app: &App,
     body: usize,
@@ -65,8 +51,11 @@ fn cycle_by(
 ) -> Result<Option<List<Link>>, NoMemory>
     ensures { IfOk result (λ found. IfSome found (λ links. IsCycle app.now body links)) }
 {
-    let links = links_with(alloc, app, body, calls.links.items(), calls.item)?;
-    Ok(cycle_if(app, body, links))
+    let links = calls.links.items();
+    let line = item_line(app, chain_end(body, links), calls.item);
+    let mut longer = links.to_vec(alloc)?;
+    push(&mut longer, Link { func: body, line })?;
+    Ok(proven_cycle(app, body, List::from_vec(longer)))
 }
 
 /// The shortest chain of calls by which a function calls itself, if there is one: its last call is of the function.
@@ -74,7 +63,7 @@ pub fn cycle_calls(alloc: Global, app: &App, body: usize) -> Result<Option<List<
     ensures { IfOk result (λ found. IfSome found (λ links. IsCycle app.now body links)) }
 {
     match shortest_chain(alloc, app, body, Aim::CallOf(body))? {
-        Some(calls) => cycle_by(alloc, app, body, &calls),
+        Some(calls) => closed_cycle(alloc, app, body, &calls),
         None => Ok(None),
     }
 }

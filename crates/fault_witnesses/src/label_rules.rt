@@ -1,16 +1,16 @@
 //! What is held before an item and behind a label, and V7 at a label.
 ghost use Rattle.std.specs.Prelude.{◌≡◌, ◌<◌, ◌≤◌, ◌+◌, ◌||◌, ◌≢◌, cond, ℕ, length, get_or, true, Some, None, [], is_some, IfOk};
-ghost use Rattle.sloth_base.specs.Named.{label_of, item_of};
+ghost use Rattle.sloth_base.specs.Named.{label_of};
 ghost use Rattle.code_rules.specs.Code.{held_list_at, held_list_fallen_into, held_list_entering, is_entered, is_fallen_into};
 ghost use Rattle.code_rules.specs.WellFormed.{HasOtherList};
-ghost use Rattle.task_verify.specs.Labels.{last_label_below, list_of, ArePlaced};
+ghost use Rattle.task_verify.specs.Labels.{last_label_below, ArePlaced};
 
 use sloth_base::{Func, Label, NoMemory};
 use std::alloc::Global;
 use task_verify::{falls, held_after, held_at_label, is_held, last_labels};
 
 // By the last label at each place.
-fn fallen_by(
+fn fallen_list(
     alloc: Global,
     func: &Func,
     last: &[Option<usize>],
@@ -36,34 +36,20 @@ pub fn held_falling(alloc: Global, func: &Func, place: usize) -> Result<Vec<u32>
     ensures { IfOk result (λ held. held.items ≡ held_list_fallen_into func.now place) }
 {
     let last = last_labels(alloc, func)?;
-    let held = fallen_by(alloc, func, &last, place)?;
-    Ok(held)
-}
-
-fn held_by_last(
-    alloc: Global,
-    func: &Func,
-    last: &[Option<usize>],
-    item: usize,
-) -> Result<Vec<u32>, NoMemory>
-    requires count { length last.now ≡ length func.now.items + 1 }
-    requires lasts { (place : ℕ) → place ≤ length func.now.items → get_or last.now place None ≡ last_label_below func.now.labels place (length func.now.labels) }
-    requires inside { item < length func.now.items }
-    ensures { IfOk result (λ held. held.items ≡ held_list_at func.now item) }
-{
-    let falling = fallen_by(alloc, func, last, item)?;
-    let held = held_at_label(alloc, func, last[item], falling)?;
+    let held = fallen_list(alloc, func, &last, place)?;
     Ok(held)
 }
 
 /// What is held before an item.
-pub fn held_at(alloc: Global, func: &Func, item: usize) -> Result<Vec<u32>, NoMemory>
+pub fn held_list(alloc: Global, func: &Func, item: usize) -> Result<Vec<u32>, NoMemory>
     requires placed { ArePlaced func.now }
     requires inside { item < length func.now.items }
     ensures { IfOk result (λ held. held.items ≡ held_list_at func.now item) }
 {
     let last = last_labels(alloc, func)?;
-    let held = held_by_last(alloc, func, &last, item)?;
+    let falling = fallen_list(alloc, func, &last, item)?;
+    let places = last.as_slice();
+    let held = held_at_label(alloc, func, places[item], falling)?;
     Ok(held)
 }
 

@@ -1,5 +1,5 @@
 //! Places of task code.
-ghost use Rattle.std.specs.Prelude.{◌≡◌, ◌<◌, length, IfSome};
+ghost use Rattle.std.specs.Prelude.{◌<◌, length, IfSome};
 ghost use Rattle.sloth_base.specs.Named.{function};
 ghost use Rattle.fault_witnesses.specs.Places.{IsPlace};
 
@@ -15,7 +15,7 @@ pub enum Place {
 }
 
 // The first item on a line.
-fn item_on(func: &Func, line: u32) -> Option<usize>
+fn item_on_line(func: &Func, line: u32) -> Option<usize>
     ensures { IfSome result (λ i. i < length func.now.items) }
 {
     for (number, item) in func.items.items().iter().enumerate() {
@@ -27,7 +27,7 @@ fn item_on(func: &Func, line: u32) -> Option<usize>
 }
 
 // The first label on a line.
-fn label_on(func: &Func, line: u32) -> Option<usize>
+fn label_on_line(func: &Func, line: u32) -> Option<usize>
     ensures { IfSome result (λ k. k < length func.now.labels) }
 {
     for (number, label) in func.labels.items().iter().enumerate() {
@@ -39,7 +39,7 @@ fn label_on(func: &Func, line: u32) -> Option<usize>
 }
 
 // What stands on a line of a body.
-fn place_in(app: &App, body: usize, line: u32) -> Option<Place>
+fn place_in_body(app: &App, body: usize, line: u32) -> Option<Place>
     requires { body < length app.now.funcs }
     ensures { IfSome result (IsPlace app.now) }
 {
@@ -47,21 +47,21 @@ fn place_in(app: &App, body: usize, line: u32) -> Option<Place>
     if func.line == line {
         return Some(Place::Header(body));
     }
-    if let Some(label) = label_on(func, line) {
+    if let Some(label) = label_on_line(func, line) {
         return Some(Place::Label { body, label });
     }
-    match item_on(func, line) {
+    match item_on_line(func, line) {
         Some(item) => Some(Place::Item { body, item }),
         None => None,
     }
 }
 
 /// What stands on a line of the source, from 1.
-pub fn place_on(app: &App, line: u32) -> Option<Place>
+pub fn place_on_line(app: &App, line: u32) -> Option<Place>
     ensures { IfSome result (IsPlace app.now) }
 {
     for body in 0..app.funcs.items().len() {
-        if let Some(place) = place_in(app, body, line) {
+        if let Some(place) = place_in_body(app, body, line) {
             return Some(place);
         }
     }

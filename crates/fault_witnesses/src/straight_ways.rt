@@ -1,8 +1,8 @@
 //! Ways in the order of the text, from the last label in front.
-ghost use Rattle.std.specs.Prelude.{◌≡◌, ◌<◌, ◌≤◌, ◌+◌, ◌-◌, ℕ, length, get_or, true, Some, None, IfOk, IfSome};
+ghost use Rattle.std.specs.Prelude.{◌≡◌, ◌<◌, ◌≤◌, ◌+◌, ◌-◌, ℕ, length, get_or, true, Some, None, IfOk};
 ghost use Rattle.sloth_base.specs.Named.{label_of};
 ghost use Rattle.task_verify.specs.Labels.{last_label_below, ArePlaced};
-ghost use Rattle.fault_witnesses.specs.CleanWays.{IsCleanStep, IsWayFromLabel, IsShownWay, way_item};
+ghost use Rattle.fault_witnesses.specs.CleanWays.{IsCleanStep, IsShownWay, way_item};
 
 use crate::{Way, is_orderly};
 use sloth_base::{Func, Item, List, NoMemory};
@@ -51,7 +51,7 @@ fn is_straight(
 }
 
 // The items from one up to another one.
-fn items_from(
+fn items_between(
     alloc: Global,
     items: &[Item],
     first: usize,
@@ -69,7 +69,7 @@ fn items_from(
     Ok(way)
 }
 
-fn way_by(
+fn labelled_way(
     alloc: Global,
     func: &Func,
     last: &[Option<usize>],
@@ -87,7 +87,7 @@ fn way_by(
         return Ok(None);
     }
     let first = func.labels.items()[label].item as usize;
-    let way = items_from(alloc, func.items.items(), first, goal)?;
+    let way = items_between(alloc, func.items.items(), first, goal)?;
     Ok(Some(Way {
         label: Some(label),
         items: List::from_vec(way),
@@ -125,6 +125,6 @@ pub fn straight_way(alloc: Global, func: &Func, goal: usize) -> Result<Option<Wa
     ensures { IfOk result (IsShownWay func.now goal) }
 {
     let last = last_labels(alloc, func)?;
-    let way = way_by(alloc, func, &last, goal)?;
+    let way = labelled_way(alloc, func, &last, goal)?;
     Ok(way)
 }

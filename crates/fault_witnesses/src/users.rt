@@ -1,17 +1,14 @@
 //! The task that lacks what an item uses (V12).
-ghost use Rattle.std.specs.Prelude.{◌≡◌, ◌<◌, ◌==◌, ◌⊎◌, ◌&&◌, not, ℕ, length, true, false, get_or, Some, IfOk, IfSome};
+ghost use Rattle.std.specs.Prelude.{◌≡◌, ◌<◌, ◌==◌, ◌⊎◌, ◌&&◌, length, true, false, Some, IfOk, IfSome};
 ghost use Rattle.std.specs.List.{list_any};
-ghost use Rattle.sloth_base.specs.ConfigRange.{no_event};
-ghost use Rattle.sloth_base.specs.Named.{operation, function, IsBodyOf};
+ghost use Rattle.sloth_base.specs.Named.{function, IsBodyOf};
 ghost use Rattle.code_rules.specs.Code.{is_in};
 ghost use Rattle.task_verify.specs.Uses.{lacks};
-ghost use Rattle.fault_witnesses.specs.Witnesses.{lacks_used, is_lacking, names_task, LeadsFromTask, IsLackedEvent, IsUser};
-ghost use Rattle.fault_witnesses.specs.CallChains.{IsChain, chain_end};
+ghost use Rattle.fault_witnesses.specs.Witnesses.{lacks_used, is_lacking, names_task, IsLackedEvent, IsUser};
 
-use crate::chain_search::{Aim, shortest_chain};
-use crate::chains::is_chain;
-use crate::{Calls, Link, chain_end};
-use sloth_base::{App, Call, Config, Func, List, NoMemory, Op, ResId, Service, TaskDecl};
+use crate::Link;
+use crate::chain_search::calls_between;
+use sloth_base::{App, Call, Code, Config, Func, List, NoMemory, Op, ResId, Service, TaskDecl};
 use std::alloc::Global;
 
 /// A task that lacks what an item uses, with an event that it lacks; and the calls from its body to that of the item.
@@ -49,10 +46,10 @@ fn lacks_used(config: &Config, task: usize, call: Call) -> bool
 {
     let named = call.object as usize;
     match call.service {
-        Service::GetResource => !lists(&config.tasks.items()[task], call.object),
-        Service::ReleaseResource => !lists(&config.tasks.items()[task], call.object),
-        Service::ClearEvent => lacks(config, task, call.mask),
-        Service::WaitEvent => lacks(config, task, call.mask),
+        Service::GetResource | Service::ReleaseResource => {
+            !lists(&config.tasks.items()[task], call.object)
+        },
+        Service::ClearEvent | Service::WaitEvent => lacks(config, task, call.mask),
         Service::SetEvent => task == named && lacks(config, task, call.mask),
         Service::GetEvent => task == named && !config.tasks.items()[task].extended,
         _ => false,
@@ -98,7 +95,7 @@ fn event_lacked(config: &Config, task: usize, events: &[usize]) -> Option<usize>
     None
 }
 
-fn belongs_to(func: &Func, task: usize) -> bool
+fn is_task_body(func: &Func, task: usize) -> bool
     ensures { result ≡ true → func.now.task ≡ Some task }
 {
     match func.task {
@@ -108,154 +105,18 @@ fn belongs_to(func: &Func, task: usize) -> bool
 }
 
 // The body of a task.
-fn body_of(app: &App, task: usize) -> Option<usize>
+fn task_body(app: &App, task: usize) -> Option<usize>
     ensures { IfSome result (λ b. IsBodyOf app.now task b) }
 {
     for number in 0..app.funcs.items().len() {
-        if belongs_to(app.function(number), task) {
+        if is_task_body(app.function(number), task) {
             return Some(number);
         }
     }
     None
 }
 
-// Whether a task whose body this is reaches the item by these calls, and lacks what it uses.
-fn leads(app: &App, start: usize, links: &[Link], body: usize) -> bool
-    ensures chain { result ≡ true → IsChain app.now start links.now }
-    ensures end { result ≡ true → chain_end start links.now ≡ body }
-{
-    is_chain(app, start, links) && chain_end(start, links) == body
-}
-
-// The task as a user of the item by these calls, if they lead to it.
-fn user_from(
-    config: &Config,
-    app: &App,
-    body: usize,
-    item: usize,
-    task: usize,
-    events: &[usize],
-    start: usize,
-    links: List<Link>,
-) -> Option<User>
-    requires task { task < length config.now.tasks }
-    requires lacking { is_lacking config.now task (operation app.now body item) ≡ true }
-    requires unnamed { names_task (operation app.now body item) ≡ false }
-    requires begins { IsBodyOf app.now task start }
-    ensures { IfSome result (IsUser config.now app.now body item) }
-{
-    if !leads(app, start, links.items(), body) {
-        return None;
-    }
-    let event = event_lacked(config, task, events);
-    Some(User {
-        task,
-        body: start,
-        event,
-        links,
-    })
-}
-
-// The same by the shortest chain of calls from the task's body.
-fn user_through(
-    alloc: Global,
-    config: &Config,
-    app: &App,
-    body: usize,
-    item: usize,
-    task: usize,
-    events: &[usize],
-    start: usize,
-) -> Result<Option<User>, NoMemory>
-    requires task { task < length config.now.tasks }
-    requires lacking { is_lacking config.now task (operation app.now body item) ≡ true }
-    requires unnamed { names_task (operation app.now body item) ≡ false }
-    requires begins { IsBodyOf app.now task start }
-    ensures { IfOk result (λ user. IfSome user (IsUser config.now app.now body item)) }
-{
-    match shortest_chain(alloc, app, start, Aim::Function(body))? {
-        Some(Calls { links, item: _ }) => {
-            Ok(user_from(config, app, body, item, task, events, start, links))
-        },
-        None => Ok(None),
-    }
-}
-
-// Whether the item uses what the task lacks, and does not name it.
-fn is_lacked_by(config: &Config, app: &App, body: usize, item: usize, task: usize) -> bool
-    requires task { task < length config.now.tasks }
-    requires known { body < length app.now.funcs }
-    requires inside { item < length (function app.now body).items }
-    ensures lacking { result ≡ true → is_lacking config.now task (operation app.now body item) ≡ true }
-    ensures unnamed { result ≡ true → names_task (operation app.now body item) ≡ false }
-{
-    let op = &app.function(body).items.items()[item].op;
-    !names_task(*op) && is_lacking(config, task, *op)
-}
-
-// The task as a user of the item that does not name it.
-fn user_by(
-    alloc: Global,
-    config: &Config,
-    app: &App,
-    body: usize,
-    item: usize,
-    task: usize,
-    events: &[usize],
-) -> Result<Option<User>, NoMemory>
-    requires task { task < length config.now.tasks }
-    requires known { body < length app.now.funcs }
-    requires inside { item < length (function app.now body).items }
-    ensures { IfOk result (λ user. IfSome user (IsUser config.now app.now body item)) }
-{
-    if !is_lacked_by(config, app, body, item, task) {
-        return Ok(None);
-    }
-    match body_of(app, task) {
-        Some(start) => user_through(alloc, config, app, body, item, task, events, start),
-        None => Ok(None),
-    }
-}
-
-// Whether the item names a task, and uses what this one lacks.
-fn is_lacking_named(config: &Config, app: &App, body: usize, item: usize, task: usize) -> bool
-    requires task { task < length config.now.tasks }
-    requires known { body < length app.now.funcs }
-    requires inside { item < length (function app.now body).items }
-    ensures lacking { result ≡ true → is_lacking config.now task (operation app.now body item) ≡ true }
-    ensures named { result ≡ true → names_task (operation app.now body item) ≡ true }
-{
-    let op = &app.function(body).items.items()[item].op;
-    names_task(*op) && is_lacking(config, task, *op)
-}
-
-// The task that the item itself names.
-fn named_user(
-    alloc: Global,
-    config: &Config,
-    app: &App,
-    body: usize,
-    item: usize,
-    task: usize,
-    events: &[usize],
-) -> Option<User>
-    requires task { task < length config.now.tasks }
-    requires known { body < length app.now.funcs }
-    requires inside { item < length (function app.now body).items }
-    ensures { IfSome result (IsUser config.now app.now body item) }
-{
-    if !is_lacking_named(config, app, body, item, task) {
-        return None;
-    }
-    let event = event_lacked(config, task, events);
-    Some(User {
-        task,
-        body,
-        event,
-        links: List::from_vec(Vec::new(alloc)),
-    })
-}
-
+// The task as a user of the item, if it is one: the item names it, or it reaches the item.
 fn one_user(
     alloc: Global,
     config: &Config,
@@ -270,10 +131,32 @@ fn one_user(
     requires inside { item < length (function app.now body).items }
     ensures { IfOk result (λ user. IfSome user (IsUser config.now app.now body item)) }
 {
-    if let Some(user) = named_user(alloc, config, app, body, item, task, events) {
-        return Ok(Some(user));
+    let func = app.function(body);
+    if !is_lacking(config, task, func.op(item)) {
+        return Ok(None);
     }
-    user_by(alloc, config, app, body, item, task, events)
+    let event = event_lacked(config, task, events);
+    if names_task(func.op(item)) {
+        let links = List::from_vec(Vec::new(alloc));
+        return Ok(Some(User {
+            task,
+            body,
+            event,
+            links,
+        }));
+    }
+    let Some(start) = task_body(app, task) else {
+        return Ok(None);
+    };
+    match calls_between(alloc, app, start, body)? {
+        Some(links) => Ok(Some(User {
+            task,
+            body: start,
+            event,
+            links,
+        })),
+        None => Ok(None),
+    }
 }
 
 // The one with fewer calls, the first where they have as many.
@@ -293,11 +176,12 @@ fn nearer(first: Option<User>, second: Option<User>) -> Option<User>
     }
 }
 
-/// The task that lacks what an item uses: of the tasks that reach it by the fewest calls the first.
-pub fn user_of(
+/// The task that lacks what an item uses (V12): of the tasks that reach it by the fewest calls the first; of other rules none.
+pub fn lacking_user(
     alloc: Global,
     config: &Config,
     app: &App,
+    code: Code,
     body: usize,
     item: usize,
     events: &[usize],
@@ -306,6 +190,9 @@ pub fn user_of(
     requires inside { item < length (function app.now body).items }
     ensures { IfOk result (λ user. IfSome user (IsUser config.now app.now body item)) }
 {
+    if !matches!(code, Code::V12) {
+        return Ok(None);
+    }
     let mut best = None;
     for task in 0..config.tasks.items().len() {
         let user = one_user(alloc, config, app, body, item, task, events)?;

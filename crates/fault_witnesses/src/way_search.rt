@@ -18,10 +18,6 @@ struct Visited {
     before: usize,
 }
 
-fn is_marked(marks: &[bool], at: usize) -> bool {
-    at >= marks.len() || marks[at]
-}
-
 fn mark(marks: &mut [bool], at: usize) {
     if at < marks.len() {
         marks[at] = true;
@@ -42,39 +38,11 @@ fn visit(
     requires labels { (i : ℕ) → i < length func.now.items → HasBodyLabel func.now (item_of func.now i).op }
     requires tables { AreBodyLists func.now tables.now }
 {
-    if is_marked(marks, item) || !is_clean_step(alloc, func, tables, from, item)? {
+    if item >= marks.len() || marks[item] || !is_clean_step(alloc, func, tables, from, item)? {
         return Ok(());
     }
     mark(marks, item);
     push(visits, Visited { item, before })
-}
-
-// The lower and the greater of two items.
-fn lower_first(one: usize, other: usize) -> (usize, usize) {
-    if one < other {
-        (one, other)
-    } else {
-        (other, one)
-    }
-}
-
-// Reaches what an item goes on or jumps to.
-fn visit_nexts(
-    alloc: Global,
-    func: &Func,
-    tables: &BodyLists,
-    marks: &mut [bool],
-    visits: &mut Vec<Visited>,
-    before: usize,
-    from: usize,
-) -> Result<(), NoMemory>
-    requires inside { from < length func.now.items }
-    requires labels { (i : ℕ) → i < length func.now.items → HasBodyLabel func.now (item_of func.now i).op }
-    requires tables { AreBodyLists func.now tables.now }
-{
-    let nexts = lower_first(next_of(func, from), jump_of(func, from));
-    visit(alloc, func, tables, marks, visits, before, from, nexts.0)?;
-    visit(alloc, func, tables, marks, visits, before, from, nexts.1)
 }
 
 // The items back to the first one, and in their order.
@@ -120,28 +88,30 @@ fn search(
         if item == goal {
             return Ok(Some(turn));
         }
-        visit_nexts(alloc, func, tables, marks, visits, turn, item)?;
+        let next = next_of(func, item);
+        let jump = jump_of(func, item);
+        visit(
+            alloc,
+            func,
+            tables,
+            marks,
+            visits,
+            turn,
+            item,
+            next.min(jump),
+        )?;
+        visit(
+            alloc,
+            func,
+            tables,
+            marks,
+            visits,
+            turn,
+            item,
+            next.max(jump),
+        )?;
     }
     Ok(None)
-}
-
-// The way from the first item, where none but that is marked.
-fn way_by_marks(
-    alloc: Global,
-    func: &Func,
-    tables: &BodyLists,
-    marks: &mut [bool],
-    goal: usize,
-) -> Result<Vec<usize>, NoMemory>
-    requires labels { (i : ℕ) → i < length func.now.items → HasBodyLabel func.now (item_of func.now i).op }
-    requires tables { AreBodyLists func.now tables.now }
-{
-    let mut visits = Vec::new(alloc);
-    push(&mut visits, Visited { item: 0, before: 0 })?;
-    match search(alloc, func, tables, marks, &mut visits, goal)? {
-        Some(turn) => way_back(alloc, &visits, turn),
-        None => Ok(Vec::new(alloc)),
-    }
 }
 
 /// The shortest way of clean steps from the first item of a body to another one, of several the one of the lower items; no items, where none is found.
@@ -156,5 +126,10 @@ pub fn shortest_way(
 {
     let mut marks = all_marked(alloc, func.items.items().len(), false)?;
     mark(&mut marks, 0);
-    way_by_marks(alloc, func, tables, &mut marks, goal)
+    let mut visits = Vec::new(alloc);
+    push(&mut visits, Visited { item: 0, before: 0 })?;
+    match search(alloc, func, tables, &mut marks, &mut visits, goal)? {
+        Some(turn) => way_back(alloc, &visits, turn),
+        None => Ok(Vec::new(alloc)),
+    }
 }

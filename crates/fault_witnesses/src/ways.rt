@@ -57,7 +57,7 @@ fn is_way_from_begin(
     are_clean_steps(alloc, func, tables, way)
 }
 
-fn way_with(
+fn checked_way(
     alloc: Global,
     func: &Func,
     tables: &BodyLists,
@@ -80,12 +80,12 @@ fn way_with(
 }
 
 /// A way of clean steps to an item: the shortest one from the begin of the body, else one from the last label in front, in the order of the text.
-pub fn way_to(alloc: Global, func: &Func, goal: usize) -> Result<Option<Way>, NoMemory>
+pub fn clean_way(alloc: Global, func: &Func, goal: usize) -> Result<Option<Way>, NoMemory>
     requires placed { ArePlaced func.now }
     requires labels { (i : ℕ) → i < length func.now.items → HasBodyLabel func.now (item_of func.now i).op }
     requires inside { goal < length func.now.items }
     ensures { IfOk result (IsShownWay func.now goal) }
 {
     let tables = body_lists(alloc, func)?;
-    way_with(alloc, func, &tables, goal)
+    checked_way(alloc, func, &tables, goal)
 }

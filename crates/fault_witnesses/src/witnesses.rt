@@ -6,12 +6,12 @@ ghost use Rattle.code_rules.specs.AppRange.{AppInRange};
 ghost use Rattle.call_graph.specs.Ranks.{RanksOf};
 ghost use Rattle.fault_witnesses.specs.declared.places.Place.TheVariants as place;
 ghost use Rattle.fault_witnesses.specs.Places.{IsPlace, IsPlaceOfFault};
-ghost use Rattle.fault_witnesses.specs.Witnesses.{IsShownWayTo, IsBehind, IsShownBehind, AreShownCalls, IsShownUser, IsWitness};
+ghost use Rattle.fault_witnesses.specs.Witnesses.{IsShownWayTo, IsBehind, IsShownBehind, IsWitness};
 
 use crate::breaches::{place_at_fault, stands_behind};
-use crate::calls_behind::calls_of;
-use crate::users::user_of;
-use crate::ways::way_to;
+use crate::calls_behind::calls_to_culprit;
+use crate::users::lacking_user;
+use crate::ways::clean_way;
 use crate::{Calls, Place, User, Way, label_before};
 use call_graph::Ranks;
 use sloth_base::{App, Code, Config, Func, NoMemory, Refusal};
@@ -40,25 +40,6 @@ fn shows_way(code: Code) -> bool {
     )
 }
 
-fn is_path_rule(code: Code) -> bool {
-    matches!(code, Code::V5 | Code::V6)
-}
-
-// The way to an item.
-fn way_to_item(
-    alloc: Global,
-    config: &Config,
-    app: &App,
-    body: usize,
-    item: usize,
-) -> Result<Option<Way>, NoMemory>
-    requires in_range { AppInRange config.now app.now }
-    requires is_place { IsPlace app.now (place.Item body item) }
-    ensures { IfOk result (λ way. IsShownWayTo app.now (place.Item body item) way) }
-{
-    way_to(alloc, app.function(body), item)
-}
-
 // The way to the item in front of a label, unless another label stands between.
 fn way_to_label(
     alloc: Global,
@@ -76,11 +57,11 @@ fn way_to_label(
     if place == 0 || label_before(func, label).is_some() {
         return Ok(None);
     }
-    way_to(alloc, func, place - 1)
+    clean_way(alloc, func, place - 1)
 }
 
 // The item in front, where it is reached and never goes on, and nothing reaches this one.
-fn behind_in(alloc: Global, func: &Func, item: usize) -> Result<Option<usize>, NoMemory>
+fn item_in_front(alloc: Global, func: &Func, item: usize) -> Result<Option<usize>, NoMemory>
     requires labels { (i : ℕ) → i < length func.now.items → HasBodyLabel func.now (item_of func.now i).op }
     requires inside { item < length func.now.items }
     ensures { IfOk result (λ behind. IfSome behind (IsBehind func.now item)) }
@@ -92,23 +73,6 @@ fn behind_in(alloc: Global, func: &Func, item: usize) -> Result<Option<usize>, N
         return Ok(Some(item - 1));
     }
     Ok(None)
-}
-
-fn behind_of(
-    alloc: Global,
-    config: &Config,
-    app: &App,
-    body: usize,
-    item: usize,
-) -> Result<Option<usize>, NoMemory>
-    requires in_range { AppInRange config.now app.now }
-    requires is_place { IsPlace app.now (place.Item body item) }
-    ensures { IfOk result (λ behind. IsShownBehind app.now (place.Item body item) behind) }
-{
-    match behind_in(alloc, app.function(body), item)? {
-        Some(behind) => Ok(Some(behind)),
-        None => Ok(None),
-    }
 }
 
 // What is shown of an item by the way.
@@ -132,8 +96,9 @@ fn item_way(
     ensures way { IfOk result (λ found. IsShownWayTo app.now (place.Item body item) found.way) }
     ensures behind { IfOk result (λ found. IsShownBehind app.now (place.Item body item) found.behind) }
 {
-    if is_path_rule(code) {
-        let behind = behind_of(alloc, config, app, body, item)?;
+    let func = app.function(body);
+    if matches!(code, Code::V5 | Code::V6) {
+        let behind = item_in_front(alloc, func, item)?;
         if behind.is_some() {
             return Ok(ItemWay { way: None, behind });
         }
@@ -144,45 +109,8 @@ fn item_way(
             behind: None,
         });
     }
-    let way = way_to_item(alloc, config, app, body, item)?;
+    let way = clean_way(alloc, func, item)?;
     Ok(ItemWay { way, behind: None })
-}
-
-// What is shown of an item by calls.
-#[derive(Drop)]
-struct ItemCalls {
-    calls: Option<Calls>,
-    user: Option<User>,
-}
-
-fn item_calls(
-    alloc: Global,
-    config: &Config,
-    app: &App,
-    code: Code,
-    body: usize,
-    item: usize,
-    events: &[usize],
-) -> Result<ItemCalls, NoMemory>
-    requires in_range { AppInRange config.now app.now }
-    requires is_place { IsPlace app.now (place.Item body item) }
-    ensures calls { IfOk result (λ found. AreShownCalls app.now code (place.Item body item) found.calls) }
-    ensures user { IfOk result (λ found. IsShownUser config.now app.now (place.Item body item) found.user) }
-{
-    match code {
-        Code::V9 | Code::V10 => {
-            let calls = calls_of(alloc, config, app, code, body, item)?;
-            Ok(ItemCalls { calls, user: None })
-        },
-        Code::V12 => {
-            let user = user_of(alloc, config, app, body, item, events)?;
-            Ok(ItemCalls { calls: None, user })
-        },
-        _ => Ok(ItemCalls {
-            calls: None,
-            user: None,
-        }),
-    }
 }
 
 // What is shown of a fault at an item.
@@ -199,16 +127,10 @@ fn item_witness(
     requires place { IsPlaceOfFault config.now app.now refusal (place.Item body item) }
     ensures { IfOk result (IsWitness config.now app.now refusal) }
 {
-    let ItemWay { way, behind } = item_way(alloc, config, app, refusal.code, body, item)?;
-    let ItemCalls { calls, user } = item_calls(
-        alloc,
-        config,
-        app,
-        refusal.code,
-        body,
-        item,
-        events,
-    )?;
+    let code = refusal.code;
+    let ItemWay { way, behind } = item_way(alloc, config, app, code, body, item)?;
+    let calls = calls_to_culprit(alloc, config, app, code, body, item)?;
+    let user = lacking_user(alloc, config, app, code, body, item, events)?;
     Ok(Witness {
         place: Place::Item { body, item },
         way,
@@ -218,31 +140,8 @@ fn item_witness(
     })
 }
 
-// What is shown of V7 at a label.
-fn label_witness(
-    alloc: Global,
-    config: &Config,
-    app: &App,
-    refusal: Refusal,
-    body: usize,
-    label: usize,
-) -> Result<Witness, NoMemory>
-    requires in_range { AppInRange config.now app.now }
-    requires place { IsPlaceOfFault config.now app.now refusal (place.Label body label) }
-    ensures { IfOk result (IsWitness config.now app.now refusal) }
-{
-    let way = way_to_label(alloc, config, app, body, label)?;
-    Ok(Witness {
-        place: Place::Label { body, label },
-        way,
-        behind: None,
-        calls: None,
-        user: None,
-    })
-}
-
 // What is shown of a fault at a place.
-fn witness_at(
+fn place_witness(
     alloc: Global,
     config: &Config,
     app: &App,
@@ -262,7 +161,16 @@ fn witness_at(
             calls: None,
             user: None,
         }),
-        Place::Label { body, label } => label_witness(alloc, config, app, refusal, body, label),
+        Place::Label { body, label } => {
+            let way = way_to_label(alloc, config, app, body, label)?;
+            Ok(Witness {
+                place,
+                way,
+                behind: None,
+                calls: None,
+                user: None,
+            })
+        },
         Place::Item { body, item } => {
             item_witness(alloc, config, app, refusal, body, item, events)
         },
@@ -270,7 +178,7 @@ fn witness_at(
 }
 
 /// What is shown of a fault of V2 to V12; `events` are those that the statement on its line names, in their order.
-pub fn witness_of(
+pub fn fault_witness(
     alloc: Global,
     config: &Config,
     app: &App,
@@ -284,7 +192,7 @@ pub fn witness_of(
 {
     match place_at_fault(alloc, config, app, ranks, refusal)? {
         Some(place) => {
-            let found = witness_at(alloc, config, app, refusal, place, events)?;
+            let found = place_witness(alloc, config, app, refusal, place, events)?;
             Ok(Some(found))
         },
         None => Ok(None),

@@ -14,7 +14,7 @@ use call_graph::Ranks;
 use sloth_base::{App, Code, Config, List, NoMemory, Refusal};
 use sloth_source::Ranked;
 use std::alloc::Global;
-use why_text::{fault_of, ranked_of};
+use why_text::{ranked_texts, told_fault};
 
 /// What is said of the lists of labels.
 #[derive(Drop)]
@@ -69,7 +69,7 @@ fn broken_rule(
     if is_list_rule(refusal.code) {
         return Ok(None);
     }
-    match fault_of(alloc, src, config, app, ranks, refusal)? {
+    match told_fault(alloc, src, config, app, ranks, refusal)? {
         Some(behind) => {
             let text = rule_lines(alloc, refusal, behind.items())?;
             Ok(Some(List::from_vec(text)))
@@ -144,7 +144,7 @@ fn reason_for(alloc: Global, oil: &[u8], src: &[u8]) -> Result<Option<List<u8>>,
     requires src { length src.now < 4294967295 }
     ensures { IfOk result (λ found. IfSome found (HasReason oil.now src.now)) }
 {
-    match ranked_of(alloc, oil, src)? {
+    match ranked_texts(alloc, oil, src)? {
         Some(Ranked { config, app, ranks }) => reason_of(alloc, src, &config, &app, &ranks),
         None => Ok(None),
     }

@@ -12,7 +12,7 @@ use Rattle.osek_scheduler.specs.declared.state.TaskState.TheVariants as mode
 use Rattle.sloth_inspect.specs.States.{state_in}
 use Rattle.orti_text.specs.ByState.{ValuesByState, formula_of_state}
 use Rattle.orti_text.specs.Formulas.{Formula, value}
-use Rattle.orti_text.specs.Values.{by_state, byte, word}
+use Rattle.orti_text.specs.Values.{byte, word}
 
 -- ---- places
 

@@ -1,6 +1,6 @@
 -- The text of a formula is read as this formula.
-use Rattle.std.proofs.Common.{◌≡◌, ◌∙◌, ℕ, zero, suc, ◌+◌, ◌<◌, ◌≤◌, ◌^◌, ◌==◌, Bool, true, false, ◌&&◌, cond, max, List, [], ◌∷◌, ◌++◌, Some, None, append_assoc, arith, drop, length, refl, sym, ap, take, subst}
-use Rattle.std.specs.Prelude.{codes, decimal, Option, Ok}
+use Rattle.std.proofs.Common.{◌≡◌, ◌∙◌, ℕ, zero, suc, ◌<◌, ◌≤◌, ◌^◌, ◌==◌, Bool, true, false, cond, List, [], ◌∷◌, ◌++◌, Some, None, append_assoc, arith, drop, length, refl, sym, ap, take}
+use Rattle.std.specs.Prelude.{codes, decimal, Option}
 use Rattle.std.specs.Char.{is_ascii_digit}
 use Rattle.std.specs.Int.{byte_at, bytes_high_first, to_be_bytes, w32}
 use Rattle.std.specs.List.{list_all, prefix_len}
@@ -9,13 +9,13 @@ use Rattle.std.proofs.lemmas.Fmt.{decimal_nonempty}
 use Rattle.std.proofs.lemmas.Nat.{from_be_bytes-to_be_bytes_4}
 use Rattle.std.proofs.Math.Seq.{take-append_seam, drop-append_seam}
 use Rattle.hex.proofs.HexLemmas.{decode_of-encode_lower, length-encode_with}
-use Rattle.hex.specs.Hex.{IsBytes, decode_of, encode_lower, lower_digits}
+use Rattle.hex.specs.Hex.{IsBytes, decode_of, lower_digits}
 use Rattle.text_pieces.specs.Digits.{value_from}
 use Rattle.text_pieces.proofs.Cuts.{run_length, stops}
 use Rattle.trace_text.specs.MarkWords.{word_text}
 use Rattle.trace_text.proofs.Digits.{writes}
 use Rattle.orti_text.specs.FormulaReading.{EndsFormula, EndsNumber, FormulasReadBack, HasNumbers, Reading, after_word, depth_of, number_of_bytes, read_choice, read_equal, read_formula, or_else, read_brackets, read_decimal, read_hex, read_number, read_operand, read_place, read_whole, ◌>>=◌}
-use Rattle.orti_text.specs.Formulas.{Formula, Number, Hex, Word, Byte, Equal, Choice, hex_text, in_brackets, operand, text}
+use Rattle.orti_text.specs.Formulas.{Formula, Number, Hex, Word, Byte, Equal, Choice, in_brackets, operand, text}
 
 -- ---- numbers
 

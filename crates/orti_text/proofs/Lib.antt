@@ -7,3 +7,5 @@ mod FormulaReading
 mod NamesApart
 mod Pairs
 mod TableReading
+mod OwnTables
+mod Digits

@@ -35,7 +35,7 @@ widened false u l w h = h
 begins_continues : (b : ℕ) → begins_word b ≡ true → continues_word b ≡ true
 begins_continues b h = widened (is_in_range 48 57 b) (is_in_range 65 90 b) (is_in_range 97 122 b) (b == 95) h
 
-word_continues : (name : List ℕ) → IsWord name → list_all continues_word name ≡ true
+pub word_continues : (name : List ℕ) → IsWord name → list_all continues_word name ≡ true
 word_continues [] h = absurd h
 word_continues (b ∷ rest) h =
     let first = begins_continues b h.0 in let others = list_all-from_AllPass continues_word rest h.1 in rw (first, others) refl

@@ -8,7 +8,7 @@ use Rattle.sloth_region.specs.declared.map.Map.{Map}
 use Rattle.std.specs.List.{flat_map}
 use Rattle.stack_bounds.specs.Bounds.{AreBounds}
 use Rattle.mem_map.specs.Planned.{IsPlanned}
-use Rattle.mem_map.proofs.OnePlan.{AreAlike, one_plan}
+use Rattle.mem_map.proofs.OnePlan.{one_plan}
 use Rattle.sloth_source.proofs.Unique.{one_meaning}
 use Rattle.map_text.proofs.OneText.{same_bounds}
 use Rattle.mem_map.specs.StackParts.{no_extent}

@@ -1,14 +1,14 @@
 -- The text of a table is read as this table.
-use Rattle.std.proofs.Common.{◌≡◌, ◌∙◌, ℕ, zero, suc, ◌+◌, ◌<◌, ◌≤◌, ◌==◌, Bool, true, false, cond, List, [], ◌∷◌, ◌++◌, Some, None, append_assoc, append-nil, arith, length, length-append, refl, sym, ap, subst}
+use Rattle.std.proofs.Common.{◌≡◌, ◌∙◌, ℕ, zero, suc, ◌+◌, ◌≤◌, ◌==◌, Bool, true, false, cond, List, [], ◌∷◌, ◌++◌, Some, None, append_assoc, append-nil, arith, length, length-append, refl, sym, ap}
 use Rattle.std.specs.Prelude.{bytes_eq, codes, decimal, Option}
 use Rattle.std.specs.List.{AllByRecursion, find, flat_map}
 use Rattle.std.proofs.lemmas.Bool.{eq-eqb}
-use Rattle.text_pieces.specs.Bytes.{before, behind, is_byte_of}
+use Rattle.text_pieces.specs.Bytes.{before, behind}
 use Rattle.text_pieces.proofs.Cuts.{before_is, behind_is}
-use Rattle.orti_text.specs.FormulaReading.{Reading, after_word, or_else, read_formula, ◌>>=◌}
-use Rattle.orti_text.specs.Formulas.{Formula, text}
-use Rattle.orti_text.specs.TableReading.{AreValues, IsAttribute, IsKind, IsMeaning, IsObject, IsTable, IsValue, Lacks, TablesReadBack, at_end, depth_limit, one_more, read_all, read_attribute, read_before, read_file, read_kind, read_many, read_meaning, read_names, read_number_line, read_object, read_objects, read_value, read_values, read_word}
-use Rattle.orti_text.specs.Tables.{Meaning, Whole, Plain, OneOf, Attribute, Kind, Value, Expression, Literal, Named, Object, Table, attribute_text, head_text, kind_text, meaning_text, number_line, number_lines, object_text, table_text, value_line, value_text}
+use Rattle.orti_text.specs.FormulaReading.{Reading, after_word, or_else, ◌>>=◌}
+use Rattle.orti_text.specs.Formulas.{Formula}
+use Rattle.orti_text.specs.TableReading.{AreValues, IsAttribute, IsKind, IsMeaning, IsObject, IsValue, Lacks, TablesReadBack, at_end, depth_limit, one_more, read_all, read_attribute, read_before, read_file, read_kind, read_many, read_meaning, read_number_line, read_object, read_objects, read_value, read_values, read_word}
+use Rattle.orti_text.specs.Tables.{Meaning, Whole, Plain, OneOf, Attribute, Kind, Value, Expression, Literal, Named, Object, Table, attribute_text, head_text, kind_text, meaning_text, number_line, number_lines, object_text, value_line, value_text}
 use Rattle.orti_text.proofs.FormulaReading.{formulas_read_back}
 
 -- ---- readers

@@ -1,5 +1,5 @@
 -- What the command `orti` writes.
-use Rattle.std.specs.Prelude.{ℕ, ◌≡◌, List}
+use Rattle.std.specs.Prelude.{ℕ, ◌≡◌, List, Some}
 use Rattle.sloth_base.specs.declared.app.App.{App}
 use Rattle.sloth_base.specs.declared.config.Config.{Config}
 use Rattle.sloth_base.specs.declared.places.Bounds.{Bounds}
@@ -9,6 +9,7 @@ use Rattle.stack_bounds.specs.Bounds.{AreBounds}
 use Rattle.mem_map.specs.Planned.{IsPlanned}
 use Rattle.sloth_source.specs.Texts.{AreAccepted}
 use Rattle.orti_text.specs.OrtiTable.{orti_table}
+use Rattle.orti_text.specs.TableReading.{read_file}
 use Rattle.orti_text.specs.Tables.{table_text}
 
 -- this is the file of the map that is planned for task code
@@ -30,3 +31,7 @@ pub record IsOrtiText (oil src text : List ℕ) : Type 0 where
 -- texts have one file at most
 abbrev pub OneText : Type 0
 OneText = (oil src one other : List ℕ) → IsOrtiText oil src one → IsOrtiText oil src other → one ≡ other
+
+-- the file is read as the table that it is the text of
+abbrev pub FilesReadBack : Type 0
+FilesReadBack = (oil src text : List ℕ) (h : IsOrtiText oil src text) → read_file text ≡ Some (orti_table h.config h.has_table.plan)

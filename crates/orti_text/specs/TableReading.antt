@@ -1,9 +1,8 @@
 -- Files, read from text.
-use Rattle.std.specs.Prelude.{ℕ, zero, suc, ◌+◌, ◌≡◌, ◌≤◌, ◌==◌, ⊤, Bool, true, false, cond, List, [], ◌∷◌, ◌++◌, bytes_eq, codes, decimal, length, Option, Some, None}
+use Rattle.std.specs.Prelude.{ℕ, zero, suc, ◌+◌, ◌≡◌, ◌≤◌, ◌==◌, ⊤, true, false, cond, List, [], ◌∷◌, ◌++◌, bytes_eq, codes, decimal, length, Option, Some, None}
 use Rattle.std.specs.List.{AllByRecursion, find}
 use Rattle.text_pieces.specs.Bytes.{before, behind, is_byte_of}
 use Rattle.orti_text.specs.FormulaReading.{HasNumbers, Reading, after_word, depth_of, or_else, read_formula, ◌>>=◌}
-use Rattle.orti_text.specs.Formulas.{Formula}
 use Rattle.orti_text.specs.Tables.{Meaning, Whole, Plain, OneOf, Attribute, Kind, Value, Expression, Literal, Named, Object, Table, head_text, table_text}
 
 -- ---- readers

@@ -4,8 +4,8 @@ ghost use Rattle.sloth_base.specs.Limits.{alarm_limit, task_limit};
 ghost use Rattle.sloth_base.specs.MemoryMap.{controller_bytes};
 ghost use Rattle.sloth_region.specs.Layout.{active, alarm_cycle, alarm_left, enabled_byte, pending_byte};
 ghost use Rattle.orti_text.specs.Formulas as Formula;
-ghost use Rattle.orti_text.specs.Formulas.{Choice, Equal, hex_text, in_brackets, text};
-ghost use Rattle.orti_text.specs.Values.{activations_formula, by_line, byte, entered_formula, is_one, state_formula, wait_formula, where_in_use, word};
+ghost use Rattle.orti_text.specs.Formulas.{Equal, hex_text, in_brackets, text};
+ghost use Rattle.orti_text.specs.Values.{activations_formula, byte, entered_formula, is_one, state_formula, wait_formula, where_in_use, word};
 
 use crate::Text;
 use sloth_base::{CONTROLLER_BASE, MEMORY_BASE};
@@ -78,33 +78,14 @@ fn where_equal<'x>(
     choice(alloc, test.as_slice(), then, otherwise)
 }
 
-// One of two numbers by whether the line of a task is pending, as an operand.
-fn by_pending(alloc: Global, task: u8, ready: u32, suspended: u32) -> Text
-    requires { task < task_limit }
+// An operand where a byte of the controller is 1, else another; as an operand.
+fn by_byte<'x>(alloc: Global, offset: u32, one: &'x [u8], other: &'x [u8]) -> Text
+    requires { offset < controller_bytes }
     ensures { IfOk result (λ bytes. bytes.items
-        ≡ in_brackets (text (Choice (is_one (byte (pending_byte task))) (Formula.Number ready) (Formula.Number suspended)))) }
+        ≡ in_brackets (in_brackets (text (is_one (byte offset))) ++ codes " ? " ++ one.now ++ codes " : " ++ other.now)) }
 {
-    let read = byte(alloc, pending_byte(task) as u32)?;
-    let ready = number(alloc, ready)?;
-    let suspended = number(alloc, suspended)?;
-    let whole = where_equal(
-        alloc,
-        read.as_slice(),
-        1,
-        ready.as_slice(),
-        suspended.as_slice(),
-    )?;
-    in_brackets(alloc, whole.as_slice())
-}
-
-// An operand where the line of a task is enabled, else another; as an operand.
-fn by_enabled<'x>(alloc: Global, task: u8, enabled: &'x [u8], waiting: &'x [u8]) -> Text
-    requires { task < task_limit }
-    ensures { IfOk result (λ bytes. bytes.items
-        ≡ in_brackets (in_brackets (text (is_one (byte (enabled_byte task)))) ++ codes " ? " ++ enabled.now ++ codes " : " ++ waiting.now)) }
-{
-    let read = byte(alloc, enabled_byte(task) as u32)?;
-    let whole = where_equal(alloc, read.as_slice(), 1, enabled, waiting)?;
+    let read = byte(alloc, offset)?;
+    let whole = where_equal(alloc, read.as_slice(), 1, one, other)?;
     in_brackets(alloc, whole.as_slice())
 }
 
@@ -118,16 +99,23 @@ fn by_active<'x>(alloc: Global, task: u8, entered: &'x [u8], otherwise: &'x [u8]
     where_equal(alloc, read.as_slice(), 1, entered, otherwise)
 }
 
-// One of two numbers where a task is Ready or Suspended, 1 where it is Waiting, and an operand where it is Active.
-fn by_state(alloc: Global, task: u8, entered: &[u8], ready: u32, suspended: u32) -> Text
+// One of two operands where a task is Ready or Suspended, 1 where it is Waiting, and a third where it is Active.
+fn by_state<'x>(
+    alloc: Global,
+    task: u8,
+    entered: &'x [u8],
+    ready: &'x [u8],
+    suspended: &'x [u8],
+) -> Text
     requires { task < task_limit }
     ensures { IfOk result (λ bytes. bytes.items
         ≡ in_brackets (text (is_one (word (active task)))) ++ codes " ? " ++ entered.now ++ codes " : "
-        ++ in_brackets (text (by_line task (Formula.Number ready) (Formula.Number suspended) (Formula.Number 1)))) }
+        ++ in_brackets (in_brackets (text (is_one (byte (enabled_byte task)))) ++ codes " ? "
+        ++ in_brackets (in_brackets (text (is_one (byte (pending_byte task)))) ++ codes " ? " ++ ready.now ++ codes " : " ++ suspended.now)
+        ++ codes " : " ++ decimal 1)) }
 {
-    let pending = by_pending(alloc, task, ready, suspended)?;
-    let waiting = number(alloc, 1)?;
-    let enabled = by_enabled(alloc, task, pending.as_slice(), waiting.as_slice())?;
+    let pending = by_byte(alloc, pending_byte(task) as u32, ready, suspended)?;
+    let enabled = by_byte(alloc, enabled_byte(task) as u32, pending.as_slice(), b"1")?;
     by_active(alloc, task, entered, enabled.as_slice())
 }
 
@@ -137,17 +125,9 @@ pub fn state(alloc: Global, task: u8) -> Text
     ensures { IfOk result (λ bytes. bytes.items ≡ text (state_formula task)) }
 {
     let cur = word(alloc, CUR as u32)?;
-    let running = number(alloc, 0)?;
-    let preempted = number(alloc, 2)?;
-    let of_active = where_equal(
-        alloc,
-        cur.as_slice(),
-        u32::from(task) + 1,
-        running.as_slice(),
-        preempted.as_slice(),
-    )?;
-    let of_active = in_brackets(alloc, of_active.as_slice())?;
-    by_state(alloc, task, of_active.as_slice(), 2, 3)
+    let active = where_equal(alloc, cur.as_slice(), u32::from(task) + 1, b"0", b"2")?;
+    let entered = in_brackets(alloc, active.as_slice())?;
+    by_state(alloc, task, entered.as_slice(), b"2", b"3")
 }
 
 /// How often a task is activated: 0 or 1.
@@ -155,40 +135,38 @@ pub fn activations(alloc: Global, task: u8) -> Text
     requires { task < task_limit }
     ensures { IfOk result (λ bytes. bytes.items ≡ text (activations_formula task)) }
 {
-    let once = number(alloc, 1)?;
-    by_state(alloc, task, once.as_slice(), 1, 0)
+    by_state(alloc, task, b"1", b"1", b"0")
 }
 
 /// Whether a task is Active.
+#[tactic(auto, using(crate::proofs::Digits::zero_text, crate::proofs::Digits::one_text))]
 pub fn entered(alloc: Global, task: u8) -> Text
     requires { task < task_limit }
     ensures { IfOk result (λ bytes. bytes.items ≡ text (entered_formula task)) }
 {
-    let yes = number(alloc, 1)?;
-    let no = number(alloc, 0)?;
-    by_active(alloc, task, yes.as_slice(), no.as_slice())
+    by_active(alloc, task, b"1", b"0")
 }
 
 /// The events that a task waits for.
+#[tactic(auto, using(crate::proofs::Digits::zero_text))]
 pub fn wait_mask(alloc: Global, task: u8) -> Text
     requires { task < task_limit }
     ensures { IfOk result (λ bytes. bytes.items ≡ text (wait_formula task)) }
 {
-    let none = number(alloc, 0)?;
     let mask = word(alloc, wait(task) as u32)?;
-    let enabled = by_enabled(alloc, task, none.as_slice(), mask.as_slice())?;
-    by_active(alloc, task, none.as_slice(), enabled.as_slice())
+    let enabled = by_byte(alloc, enabled_byte(task) as u32, b"0", mask.as_slice())?;
+    by_active(alloc, task, b"0", enabled.as_slice())
 }
 
 // An operand where an alarm is in use, else 0.
+#[tactic(auto, using(crate::proofs::Digits::zero_text))]
 fn where_in_use(alloc: Global, alarm: u8, used: &[u8]) -> Text
     requires { alarm < alarm_limit }
     ensures { IfOk result (λ bytes. bytes.items
         ≡ in_brackets (text (Equal (word (alarm_left alarm)) (Formula.Number 0))) ++ codes " ? " ++ decimal 0 ++ codes " : " ++ used.now) }
 {
     let left = word(alloc, alarm_left(alarm) as u32)?;
-    let none = number(alloc, 0)?;
-    where_equal(alloc, left.as_slice(), 0, none.as_slice(), used)
+    where_equal(alloc, left.as_slice(), 0, b"0", used)
 }
 
 /// The cycle of an alarm that is in use.
@@ -201,10 +179,10 @@ pub fn cycle(alloc: Global, alarm: u8) -> Text
 }
 
 /// Whether an alarm is in use.
+#[tactic(auto, using(crate::proofs::Digits::one_text))]
 pub fn is_running(alloc: Global, alarm: u8) -> Text
     requires { alarm < alarm_limit }
     ensures { IfOk result (λ bytes. bytes.items ≡ text (where_in_use alarm (Formula.Number 1))) }
 {
-    let running = number(alloc, 1)?;
-    where_in_use(alloc, alarm, running.as_slice())
+    where_in_use(alloc, alarm, b"1")
 }

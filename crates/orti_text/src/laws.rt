@@ -2,7 +2,7 @@
 ghost use Rattle.orti_text.specs.ByState.{ValuesByState};
 ghost use Rattle.orti_text.specs.FileNames.{NamesDiffer};
 ghost use Rattle.orti_text.specs.FormulaReading.{FormulasReadBack};
-ghost use Rattle.orti_text.specs.OrtiText.{OneText};
+ghost use Rattle.orti_text.specs.OrtiText.{FilesReadBack, OneText};
 ghost use Rattle.orti_text.specs.Places.{FormulasAreReadable};
 ghost use Rattle.orti_text.specs.TableReading.{TablesReadBack};
 
@@ -29,6 +29,11 @@ pub fn formulas_read_back()
 /// The text of a table is read as this table, and as no other.
 pub fn tables_read_back()
     ensures { TablesReadBack }
+{}
+
+/// The file of accepted texts is read as its table.
+pub fn files_read_back()
+    ensures { FilesReadBack }
 {}
 
 /// Names are identifiers of C, and those of a kind differ.

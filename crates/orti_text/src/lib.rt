@@ -2,8 +2,8 @@
 //!
 //! `orti_text` gives the file of the map that is planned for what the texts mean, or the first refusal. Texts have one file (`one_text`). A formula by
 //! state has the value of the one of four that memory and controller show of the task (`values_by_state`). Each formula of the file reads words and bytes
-//! that are there (`formulas_are_readable`). The text of a formula is read as this formula, and that of a table as this table
-//! (`formulas_read_back`, `tables_read_back`). Names are identifiers of C, and those of a kind differ (`names_differ`).
+//! that are there (`formulas_are_readable`). The text of a formula is read as this formula, that of a table as this table, and the file of accepted texts as its
+//! table (`formulas_read_back`, `tables_read_back`, `files_read_back`). Names are identifiers of C, and those of a kind differ (`names_differ`).
 //!
 //! Formulas, their values and their texts: `specs/Formulas`; read from text: `specs/FormulaReading`; a file as a table, and its text: `specs/Tables`, `specs/TableReading`; names: `specs/FileNames`. Which
 //! kinds and attributes there are: `specs/Attributes`; the value of each: `specs/Values`; all of it: `specs/OrtiTable`, `specs/OrtiText`. What the service

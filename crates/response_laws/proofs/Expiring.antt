@@ -78,7 +78,7 @@ opened_at (d ∷ ds) zero lt = refl
 opened_at (d ∷ ds) (suc i) lt = opened_at ds i (omega (arith, lt))
 
 module _ (config : Config) (app : App) (a : ℕ) (inside : a < length config.alarms) where
-  abbrev decl : AlarmDecl
+  abbrev pub decl : AlarmDecl
   decl = alarm_declaration config a
 
   -- each expiry is a tick
@@ -110,16 +110,16 @@ module _ (config : Config) (app : App) (a : ℕ) (inside : a < length config.ala
             ((leaves_alarm config app a inside x.stamped.event x.found x.next (λ _ _ _ h. unset h.at.frame.func h.at.frame.item) k.0.step).1 off) rest
 
     -- it keeps its cycle; where it does not start with the system, it is not in use
-    record Stands (s : System) : Type 0 where
-      cycle : (alarm s a).cycle ≡ decl.cycle
-      unused : decl.time ≡ 0 → (alarm s a).left ≡ 0
+    pub record Stands (s : System) : Type 0 where
+      pub cycle : (alarm s a).cycle ≡ decl.cycle
+      pub unused : decl.time ≡ 0 → (alarm s a).left ≡ 0
 
-    opens : Stands (opening config app)
+    pub opens : Stands (opening config app)
     opens =
         let is = opened_at config.alarms a inside in
         record { cycle = ap (λ (k : Alarm). k.cycle) is; unused = λ none. ap (λ (k : Alarm). k.left) is ∙ none }
 
-    stands_on : (e : Event) (s next : System) → OsekStep config app e s next → Stands s → Stands next
+    pub stands_on : (e : Event) (s next : System) → OsekStep config app e s next → Stands s → Stands next
     stands_on e s next step h = by (cases_Bool (is_number decl.counter (ticking_counter e)))
       where
         ticked : alarm next a ≡ alarm_behind true (alarm s a) → Stands next

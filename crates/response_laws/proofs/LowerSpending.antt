@@ -57,7 +57,7 @@ sum_of_one (suc n) r f none = by (cases_eq n r) (sum_of_one n r f (λ t lt. none
     by (inr other) again = let here = none n (omega arith) other in omega (arith, here, again)
 
 -- a number passes, or none does
-some_or_none : (n : ℕ) (test : ℕ → Bool) → ((t : ℕ) × (t < n) × (test t ≡ true)) ⊎ ((t : ℕ) → t < n → test t ≡ false)
+pub some_or_none : (n : ℕ) (test : ℕ → Bool) → ((t : ℕ) × (t < n) × (test t ≡ true)) ⊎ ((t : ℕ) → t < n → test t ≡ false)
 some_or_none zero test = inr (λ t lt. absurd (omega (arith, lt)))
 some_or_none (suc n) test = by (cases_Bool (test n)) (some_or_none n test)
   where
@@ -281,7 +281,7 @@ module _ (config : Config) (app : App) (h : ℕ) where
       by false le = (refl, omega (arith, le))
 
   module _ (size : ItemSizes) (longest : ℕ) (most : AreAtMost size longest) where
-    few_begun : (t : ℕ) (x : Stage) → begun size t x ≤ longest
+    pub few_begun : (t : ℕ) (x : Stage) → begun size t x ≤ longest
     few_begun t x = by (task x.found t).owed (task x.found t).frames
       where
         by : (b : Bool) (fs : _) → cond b 0 (next_size size fs) ≤ longest

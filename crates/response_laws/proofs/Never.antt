@@ -1,12 +1,11 @@
 -- Tasks that do not come are Suspended all along, in a run whose arrivals keep a load.
 use Rattle.std.proofs.Common.{◌≡◌, ◌+◌, ◌-◌, ◌<◌, ◌≤◌, ℕ, zero, suc, ◌⊎◌, length, ◌==◌, ◌&&◌, ◌||◌, List, [], ◌∷◌, Bool, true, false, cond, map, get_or, Option, Some, None, refl, sym, ap, ◌∙◌, subst, arith, inl, inr}
 use Rattle.std.specs.List.{AllByRecursion}
-use Rattle.std.proofs.lemmas.Bool.{true≢false, eqb-true, cases_Bool, cases_eq, cases_lt, cond_both}
+use Rattle.std.proofs.lemmas.Bool.{true≢false, eqb-true, cases_Bool, cases_eq, cases_lt}
 use Rattle.std.proofs.lemmas.List.{get_or_past}
 use Rattle.std.proofs.lemmas.List.Sums.{sum_by-cons}
 use Rattle.sloth_base.specs.Options.{is_number}
 use Rattle.sloth_base.specs.declared.config.Config.{Config}
-use Rattle.sloth_base.specs.declared.config.AlarmDecl.{AlarmDecl}
 use Rattle.sloth_base.specs.declared.config.CounterDecl.{CounterDecl}
 use Rattle.sloth_base.specs.declared.app.App.{App}
 use Rattle.sloth_base.specs.declared.app.Op.{Op}
@@ -16,7 +15,7 @@ use Rattle.sloth_base.specs.declared.event.Stamped.{Stamped}
 use Rattle.sloth_base.specs.declared.service.Service.{Service}
 use Rattle.sloth_base.specs.declared.service.Service.TheVariants as service
 use Rattle.sloth_base.specs.Events.{admitted_line}
-use Rattle.sloth_base.specs.Named.{declaration, counter_declaration, undeclared_alarm, alarm_declaration, operation}
+use Rattle.sloth_base.specs.Named.{declaration, counter_declaration, alarm_declaration, operation}
 use Rattle.sloth_base.specs.Owners.{counter_line}
 use Rattle.sloth_base.specs.ServiceCodes.{is_service}
 use Rattle.load_text.specs.declared.entry.Entry.{Entry}
@@ -25,7 +24,7 @@ use Rattle.osek_scheduler.specs.declared.state.Alarm.{Alarm}
 use Rattle.osek_scheduler.specs.State.{Frame, Task, System, no_counter, sleeping_task, task, counter, alarm, opening}
 use Rattle.osek_scheduler.specs.Priority.{IsNextTick}
 use Rattle.osek_scheduler.specs.InTime.{admits_at, arrivals_at}
-use Rattle.osek_scheduler.specs.Services.{with_left, acted_state, alarm_ticked_state, alarms_ticked_state, counted_on_state, ServiceOutcome}
+use Rattle.osek_scheduler.specs.Services.{counted_on_state, ticked_state, ServiceOutcome}
 use Rattle.osek_scheduler.specs.Steps.{OsekStep, IsServiceStep}
 use Rattle.osek_scheduler.specs.Valid.{IsValid}
 use Rattle.osek_scheduler.proofs.Facts.{Facts, facts}
@@ -47,14 +46,14 @@ use Rattle.response_laws.specs.Ticks.{activates}
 use Rattle.response_laws.specs.Turns.{ticking_counter}
 use Rattle.response_laws.specs.Walked.{standing}
 use Rattle.response_laws.specs.Never.{Arrives, IsComing, IsUsed, AreClosed, NoneComes, OthersNeverCome}
-use Rattle.response_laws.proofs.AlarmSteps.{one_other, Calm, Leaves_it, leaves_alarm}
+use Rattle.response_laws.proofs.AlarmSteps.{Calm, Leaves_it, leaves_alarm}
 use Rattle.response_laws.proofs.Arriving.{few_at}
 use Rattle.response_laws.proofs.Awake.{active_comes}
 use Rattle.response_laws.proofs.Expiring.{opened_at}
 use Rattle.response_laws.proofs.Linked.{Known, Linked, stages_linked, stages_known}
 use Rattle.response_laws.proofs.Steps.{active_declared, balance}
-use Rattle.response_laws.proofs.Suspended.{IsSuspended, awake, not_started, served_asleep, acted_asleep, active_other}
-use Rattle.response_laws.proofs.Ticks.{alarm_kept}
+use Rattle.response_laws.proofs.Suspended.{IsSuspended, awake, not_started, served_asleep, active_other}
+use Rattle.response_laws.proofs.Unmade.{ExpiresOne, woken}
 use Rattle.response_laws.proofs.Uncounted.{itself}
 
 some_none : (d : ℕ) → (Some d ≡ None) → ⊥
@@ -64,7 +63,7 @@ no_frames : (frame : Frame) (outer : List Frame) → ([] ≡ frame ∷ outer) �
 no_frames frame outer e = cc
 
 -- a counter is so as the system starts
-undue_at : (ds : List CounterDecl) (c : ℕ) → (get_or (map (λ _. no_counter) ds) c no_counter).due ≡ false
+pub undue_at : (ds : List CounterDecl) (c : ℕ) → (get_or (map (λ _. no_counter) ds) c no_counter).due ≡ false
 undue_at [] c = refl
 undue_at (d ∷ ds) zero = refl
 undue_at (d ∷ ds) (suc c) = undue_at ds c
@@ -73,40 +72,6 @@ undue_at (d ∷ ds) (suc c) = undue_at ds c
 off : (b : Bool) → (b ≡ true → ⊥) → b ≡ false
 off true refuted = absurd (refuted refl)
 off false refuted = refl
-
--- ---- the alarms of a tick
-
--- a Suspended task stays so where no alarm of the counter that activates it is running
-module _ (config : Config) (t c : ℕ) where
-  abbrev Idle : (first : ℕ) → List AlarmDecl → System → Type 0
-  Idle first ds x =
-      (i : ℕ) → i < length ds → ((get_or ds i undeclared_alarm).counter == c) ≡ true → activates t (get_or ds i undeclared_alarm).action ≡ true → (alarm x (first + i)).left ≡ 0
-
-  unexpired : (first : ℕ) (ds : List AlarmDecl) (x : System) → Idle first ds x → IsSuspended (task x t) → IsSuspended (task (alarms_ticked_state c first ds x) t)
-  unexpired first [] x idle asleep = asleep
-  unexpired first (d ∷ ds) x idle asleep = unexpired (first + 1) ds ticked further (cond_both (d.counter == c) (alarm_ticked_state d.action first x) x Asleep here (λ _. asleep))
-    where
-      Asleep : System → Type 0
-      Asleep y = IsSuspended (task y t)
-
-      ticked : System
-      ticked = cond (d.counter == c) (alarm_ticked_state d.action first x) x
-
-      further : Idle (first + 1) ds ticked
-      further i lt mine makes =
-          let at : first + suc i ≡ first + 1 + i = omega arith in
-          let same = one_other (first + 1 + i) c first d x (λ e. omega (arith, e)) in
-          ap (λ (k : Alarm). k.left) same ∙ subst (λ n. (alarm x n).left ≡ 0) at (idle (suc i) (omega (arith, lt)) mine makes)
-
-      here : (d.counter == c) ≡ true → Asleep (alarm_ticked_state d.action first x)
-      here mine = by (activates t d.action) refl
-        where
-          by : (b : Bool) → activates t d.action ≡ b → Asleep (alarm_ticked_state d.action first x)
-          by false out = alarm_kept t IsSuspended (activates t) (acted_asleep config t) d.action first x out asleep
-          by true makes =
-              let zero : first + 0 ≡ first = omega arith in
-              let left : (alarm x first).left ≡ 0 = subst (λ n. (alarm x n).left ≡ 0) zero (idle 0 (omega arith) mine makes) in
-              subst (λ b. Asleep (cond b (acted_state d.action (with_left first (alarm x first).cycle x)) (with_left first ((alarm x first).left - 1) x))) (sym (ap (λ n. n == 1) left)) asleep
 
 module _ (config : Config) (app : App) (load : List Entry) (comes : ℕ → Bool) (closed : AreClosed config app load comes) where
   -- the event admits no line that does not arrive
@@ -156,15 +121,21 @@ module _ (config : Config) (app : App) (load : List Entry) (comes : ℕ → Bool
               ∙ sym (ap (is_making t) h.at.next)
               ∙ called u served answer h (is_making t) (λ at reach is. other (closed.named u t at declared (caller u served answer h) reach is))
 
-      idle : (c : ℕ) → IsNextTick config s c → Idle config t c 0 config.alarms (counted_on_state c (counter_declaration config c).max s)
-      idle c due i lt mine makes =
-          let at : i ≡ 0 + i = omega arith in
-          subst (λ n. (alarm s n).left ≡ 0) at (none.unused i lt (λ used. other (closed.expires i t lt declared arrives makes used)))
+      -- no alarm that activates it expires
+      sleeps_on : (c : ℕ) → IsNextTick config s c → IsSuspended (task (ticked_state config c s) t)
+      sleeps_on c due = by (woken config t c 0 config.alarms (counted_on_state c (counter_declaration config c).max s) (none.asleep t never))
         where
-          arrives : Arrives load (counter_line (alarm_declaration config i).counter)
-          arrives said =
-              let same = eqb-true (alarm_declaration config i).counter c mine in
-              true≢false (sym due.due ∙ none.undue c (subst (λ n. distance load (counter_line n) ≡ None) same said))
+          by : IsSuspended (task (ticked_state config c s) t) ⊎ ExpiresOne config t c 0 config.alarms (counted_on_state c (counter_declaration config c).max s)
+              → IsSuspended (task (ticked_state config c s) t)
+          by (inl still) = still
+          by (inr (i, lt, mine, makes, one)) =
+              let at : 0 + i ≡ i = omega arith in
+              let left : (alarm s i).left ≡ 1 = subst (λ n. (alarm s n).left ≡ 1) at one in
+              let zero = none.unused i lt (λ used. other (closed.expires i t lt declared arrives makes used)) in
+              absurd (omega (arith, left, zero))
+            where
+              arrives : Arrives load (counter_line (alarm_declaration config i).counter)
+              arrives said = true≢false (sym due.due ∙ none.undue c (subst (λ n. distance load (counter_line n) ≡ None) mine said))
 
       stays : (e : Event) (next : System) → OsekStep config app e s next → IsOfLoad e → IsSuspended (task next t)
       stays e next step of_load =
@@ -176,7 +147,7 @@ module _ (config : Config) (app : App) (load : List Entry) (comes : ℕ → Bool
             enters = λ ready. absurd (awake (task s t).state ready (none.asleep t never));
             works = λ new same _. same ∙ none.asleep t never;
             serves = λ u served answer h _. serves u served answer h;
-            ticks = λ c due. unexpired config t c 0 config.alarms (counted_on_state c (counter_declaration config c).max s) (idle c due) (none.asleep t never);
+            ticks = λ c due. sleeps_on c due;
           })
           e next step of_load
 
@@ -262,7 +233,7 @@ module _ (config : Config) (app : App) (load : List Entry) (comes : ℕ → Bool
 -- ---- what is admitted
 
 -- nothing arrives that the load leaves out
-none_arrives : (load : List Entry) (k line : ℕ) → distance load line ≡ None → (arrivals : List Arrival) → KeepDistances load arrivals → arrivals_at k line arrivals ≡ 0
+pub none_arrives : (load : List Entry) (k line : ℕ) → distance load line ≡ None → (arrivals : List Arrival) → KeepDistances load arrivals → arrivals_at k line arrivals ≡ 0
 none_arrives load k line said [] keep = refl
 none_arrives load k line said (a ∷ arrivals) keep = by (a.line == line) refl (none_arrives load k line said arrivals keep.2)
   where
@@ -274,7 +245,7 @@ none_arrives load k line said (a ∷ arrivals) keep = by (a.line == line) refl (
         omega (arith, more, rest, here)
 
 -- an event admits a line only at a moment that has an admission of it
-none_admitted : (line : ℕ) (events : List Stamped) → ((k : ℕ) → admits_at k line events ≡ 0) → AllByRecursion (λ (e : Stamped). is_number line (admitted_line e.event) ≡ false) events
+pub none_admitted : (line : ℕ) (events : List Stamped) → ((k : ℕ) → admits_at k line events ≡ 0) → AllByRecursion (λ (e : Stamped). is_number line (admitted_line e.event) ≡ false) events
 none_admitted line [] none = tt
 none_admitted line (e ∷ events) none = (
   off (is_number line (admitted_line e.event))

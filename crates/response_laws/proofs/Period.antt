@@ -108,7 +108,7 @@ module _ (config : Config) (app : App) where
       let same = ap (ready_count again t) l.1 in
       omega (arith, rest, here, same)
 
-  ticks_balance : (c : ℕ) (at : ℕ) (s : System) (xs : List Stage) → Linked at s xs → AllByRecursion (Known config app) xs
+  pub ticks_balance : (c : ℕ) (at : ℕ) (s : System) (xs : List Stage) → Linked at s xs → AllByRecursion (Known config app) xs
       → count (at_tick c) xs + due_count c (last_state s xs) ≤ count (at_admission (counter_line c)) xs + due_count c s
   ticks_balance c at s [] l k = omega arith
   ticks_balance c at s (x ∷ xs) l k =

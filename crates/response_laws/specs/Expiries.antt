@@ -1,29 +1,27 @@
 -- How often the alarms of a counter expire within so many of its ticks, and so may make a task Ready or set its events.
-use Rattle.std.specs.Prelude.{ℕ, ◌+◌, ◌-◌, ◌/◌, ◌≤◌, ◌≡◌, ◌==◌, ◌&&◌, ◌||◌, ltb, min, cond, List, [], ◌∷◌, Bool, false}
+use Rattle.std.specs.Prelude.{ℕ, ◌+◌, ◌-◌, ◌/◌, ◌≤◌, ◌≡◌, ◌==◌, ◌&&◌, ltb, min, cond, List, [], ◌∷◌, Bool, false}
 use Rattle.sloth_base.specs.declared.config.Action.{Action}
 use Rattle.sloth_base.specs.declared.config.AlarmDecl.{AlarmDecl}
 use Rattle.sloth_base.specs.declared.config.Config.{Config}
 use Rattle.sloth_base.specs.declared.app.App.{App}
 use Rattle.sloth_base.specs.declared.app.Op.{Op}
-use Rattle.sloth_base.specs.declared.app.Op.TheVariants as op
 use Rattle.sloth_base.specs.declared.event.Stamped.{Stamped}
 use Rattle.sloth_base.specs.declared.service.Service.TheVariants as service
 use Rattle.sloth_base.specs.Named.{operation}
 use Rattle.sloth_base.specs.Owners.{counter_line}
-use Rattle.sloth_base.specs.ServiceCodes.{is_service}
 use Rattle.code_rules.specs.WellFormed.{WellFormed}
 use Rattle.osek_scheduler.specs.Runs.{OsekRun}
 use Rattle.run_counts.specs.Stages.{run_stages}
 use Rattle.response_laws.specs.Demand.{Start}
 use Rattle.response_laws.specs.Loaded.{HasAlarms}
 use Rattle.response_laws.specs.Ticks.{activates, sets_events}
+use Rattle.response_laws.specs.Made.{calls_either}
 
 -- ---- one alarm
 
 -- the operation sets alarm a
 abbrev pub sets_alarm : (a : ℕ) → Op → Bool
-sets_alarm a (op.Serve call) = (is_service call.service service.SetRelAlarm || is_service call.service service.SetAbsAlarm) && (call.object == a)
-sets_alarm a _ = false
+sets_alarm a o = calls_either service.SetRelAlarm service.SetAbsAlarm a o
 
 -- where an alarm is not marked, no item sets it
 abbrev pub MarksAlarms : App → (ℕ → Bool) → Type 0

@@ -20,3 +20,5 @@ pub mod Settings
 pub mod SoundRuns
 pub mod Admissions
 pub mod Never
+pub mod Expected
+pub mod Ticking

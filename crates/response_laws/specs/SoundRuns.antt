@@ -1,5 +1,5 @@
 -- Response times of the runs of an image.
-use Rattle.std.specs.Prelude.{ℕ, ◌+◌, ◌<◌, ◌≤◌, ◌≡◌, ◌⊎◌, List, ◌∷◌, ◌++◌, Bool, true, false, length, IfSome, Some}
+use Rattle.std.specs.Prelude.{ℕ, ◌+◌, ◌<◌, ◌≤◌, ◌≡◌, ◌⊎◌, List, Bool, true, false, length}
 use Rattle.sloth_base.specs.declared.config.Config.{Config}
 use Rattle.sloth_base.specs.declared.app.App.{App}
 use Rattle.sloth_base.specs.declared.event.Arrival.{Arrival}
@@ -18,8 +18,7 @@ use Rattle.run_counts.specs.Counts.{AreCounts}
 use Rattle.sim_induction.specs.Paced.{AreStretchesWithin, InPace}
 use Rattle.sim_induction.specs.Sound.{AreComing, Sound, events_of}
 use Rattle.sim_induction.specs.Weighed.{Weighed}
-use Rattle.run_counts.specs.Stages.{Stage, own, run_stages}
-use Rattle.run_counts.specs.Rounds.{opens_round, round_of, total}
+use Rattle.run_counts.specs.Stages.{own, run_stages}
 use Rattle.response_laws.specs.Sums.{is_over}
 use Rattle.walk_sums.specs.Rounds.{IsClean}
 use Rattle.response_laws.specs.Walked.{FirstRoundsSum, LaterRoundsSum}
@@ -35,6 +34,7 @@ use Rattle.response_laws.specs.CodeStarts.{FitsStarts}
 use Rattle.response_laws.specs.Expiries.{MarksAlarms, HasExpiries}
 use Rattle.response_laws.specs.Loaded.{HasArrivals, IsStartFor}
 use Rattle.response_laws.specs.Response.{EntersOnce, IsCounted, LastsWithin, RespondsWithin}
+use Rattle.response_laws.specs.Ticking.{HasRoomForTicks, TicksWithin}
 
 -- the most instructions of an item
 abbrev pub item_instructions : ℕ
@@ -114,3 +114,13 @@ ImagesRespondByCode = (config : Config) (app : App) (image : Image) (weights : L
     → FitsRounds config app weights load comes h cuts costs → FitsStarts config app longest late weights load cuts comes h once starts start
     → ((i : ℕ) → i < starts → IsCodeStart config is_set load late (longest + late) h r once boot costs (start i))
     → RespondsWithin config app n (longest + late) h r boot (events_of image arrivals n)
+
+-- ---- ticks
+
+-- In every run of such an image whose arrivals keep a load, a tick ends a stretch above counts that have room for ticks after the arrival of its counter; if the
+-- run has so many instructions, and an item and a stretch.
+abbrev pub ImagesTickInTime : Type 0
+ImagesTickInTime = (config : Config) (app : App) (image : Image) (weights : List BodyWeights) (load : List Entry) (arrivals : List Arrival) (n late longest counts : ℕ)
+    → WellFormed config app → Sound config app image → Weighed config app image → InPace config app image → AreCounts app weights → IsLongestItem app longest
+    → AreComing (owners_in config) arrivals → NoStretchIsAbove config app late → HasDistances load → KeepDistances load arrivals
+    → HasRoomForTicks config load longest late counts → TicksWithin n (longest + late) (counts + late) (events_of image arrivals n)

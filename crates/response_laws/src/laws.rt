@@ -10,10 +10,12 @@ ghost use Rattle.response_laws.specs.Expiries.{TicksMakeAsAlarmsExpire};
 ghost use Rattle.response_laws.specs.Settings.{CleanTasksHaveSettings};
 ghost use Rattle.response_laws.specs.Response.{RespondsInTime};
 ghost use Rattle.response_laws.specs.Admissions.{AdmissionsFindSuspended};
+ghost use Rattle.response_laws.specs.Expected.{ExpectedExpiriesFindSuspended};
 ghost use Rattle.response_laws.specs.Loaded.{RespondsUnderLoad};
 ghost use Rattle.response_laws.specs.Shares.{LowerTasksSpendOneItem};
 ghost use Rattle.response_laws.specs.CodeStarts.{CodeFitsStarts};
-ghost use Rattle.response_laws.specs.SoundRuns.{ImagesRespond, ImagesRespondByCode};
+ghost use Rattle.response_laws.specs.SoundRuns.{ImagesRespond, ImagesRespondByCode, ImagesTickInTime};
+ghost use Rattle.response_laws.specs.Ticking.{TicksEndInTime, ArrivalsAreServed};
 
 /// Of arrivals that keep a load, at most as many of a line fall into a window of counts as distances fill it.
 pub fn arrivals_are_few()
@@ -99,10 +101,32 @@ pub fn images_respond_by_code()
     ensures { ImagesRespondByCode }
 {}
 
+/// In every run whose arrivals keep a load, a tick ends soon after the arrival of its counter: a stretch above counts that have room for an item, and for all ticks
+/// whose counters arrive within them and what stands around them.
+pub fn ticks_end_in_time()
+    ensures { TicksEndInTime }
+{}
+
+/// In every run whose arrivals keep a load, each arrival of a counter finds it not due, where ticks end within the distance of its arrivals.
+pub fn arrivals_are_served()
+    ensures { ArrivalsAreServed }
+{}
+
+/// In every run of an image whose builder promises that its runs are sound, weighed and in pace, ticks end so.
+pub fn images_tick_in_time()
+    ensures { ImagesTickInTime }
+{}
+
 /// In every run whose arrivals keep a load, each arrival of a task that responds within their distance, and that nothing else makes Ready, finds it Suspended:
 /// where an event that is no arrival follows, or the run has so many instructions more as the response asks for, or the distance is that much more.
 pub fn admissions_find_suspended()
     ensures { AdmissionsFindSuspended }
+{}
+
+/// In every run whose arrivals keep a load, each expiry of the only alarm that makes a task Ready finds it Suspended, where the task responds within a cycle of
+/// the alarm, or that expires once.
+pub fn expected_expiries_find_suspended()
+    ensures { ExpectedExpiriesFindSuspended }
 {}
 
 /// In every run of well-formed task code whose arrivals keep a load, a task stays Suspended that neither starts with the system nor arrives, that no task which comes

@@ -28,6 +28,11 @@
 //! - A task that nothing but its arrivals makes Ready (`specs/Made`), and that responds within their distance, is Suspended where the next one is admitted, so none
 //!   is lost (`admissions_find_suspended`; `specs/Admissions`): until it has left each event ends within its response, however long the run is
 //!   (`PendsWithin` of `specs/Response`).
+//! - A task that one alarm alone makes Ready, set by no item, is Suspended where that expires, if it responds within the alarm's cycle or that expires once
+//!   (`expected_expiries_find_suspended`; `specs/Expected`): between two expiries the counter arrives as often as the cycle says.
+//! - While a counter is due nothing but admissions and ticks comes, and all tasks together spend no more than one item that is begun. So ticks end as soon after the
+//!   arrivals of their counters as counts that have room for both (`ticks_end_in_time`; `specs/Ticking`); where that is within the distance of a counter's arrivals,
+//!   each finds it not due (`arrivals_are_served`).
 //!
 //! What a task has begun of an item in front of an entry or a tick that preempts it is of its own counts, and within the item's weight. In a busy period that
 //! holds of lower tasks' sections too; besides them lower tasks spend one item at most (`lower_tasks_spend_one_item`; `specs/Shares`). Stages, rounds and own

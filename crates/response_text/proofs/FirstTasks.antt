@@ -1,12 +1,13 @@
--- The lines of the first tasks.
-use Rattle.std.proofs.Common.{◌≡◌, ◌+◌, ◌<◌, ◌||◌, ℕ, zero, suc, List, [], ◌++◌, refl, ap, ◌∙◌, arith}
+-- The lines of the first tasks and counters.
+use Rattle.std.proofs.Common.{◌≡◌, ◌+◌, ◌<◌, ◌||◌, ℕ, zero, suc, List, [], ◌++◌, Option, refl, sym, ap, ◌∙◌, arith}
+use Rattle.std.proofs.lemmas.List.{append_assoc, append-nil}
 use Rattle.std.proofs.Math.Numerals.{add-one}
 use Rattle.sloth_base.specs.declared.config.Config.{Config}
 use Rattle.sloth_base.specs.declared.app.App.{App}
 use Rattle.load_text.specs.declared.entry.Entry.{Entry}
 use Rattle.load_text.specs.Loads.{deadline}
 use Rattle.response_text.specs.declared.told.Response.{Response}
-use Rattle.response_text.specs.Lines.{is_open, response_at, response_line, response_lines, has_open}
+use Rattle.response_text.specs.Lines.{is_open, response_at, response_line, response_lines, counter_row, counter_rows, has_open}
 
 pub no_lines : (config : Config) (app : App) (load : List Entry) (responses : List Response) → response_lines config app load responses 0 ≡ []
 unfolding response_lines
@@ -16,6 +17,23 @@ pub one_line_more : (config : Config) (app : App) (load : List Entry) (responses
     → response_lines config app load responses (t + 1) ≡ response_lines config app load responses t ++ response_line config app load t (response_at responses t)
 unfolding response_lines
 one_line_more config app load responses t = ap (response_lines config app load responses) (add-one t)
+
+no_counter_rows : (config : Config) (load : List Entry) (n : Option ℕ) → counter_rows config load n 0 ≡ []
+unfolding counter_rows
+no_counter_rows config load n = refl
+
+one_row_more : (config : Config) (load : List Entry) (n : Option ℕ) (c : ℕ) → counter_rows config load n (c + 1) ≡ counter_rows config load n c ++ counter_row config load n c
+unfolding counter_rows
+one_row_more config load n c = ap (counter_rows config load n) (add-one c)
+
+pub rows_begun : (config : Config) (load : List Entry) (n : Option ℕ) (text : List ℕ) → text ≡ text ++ counter_rows config load n 0
+rows_begun config load n text = sym (append-nil text) ∙ ap (λ l. text ++ l) (sym (no_counter_rows config load n))
+
+pub rows_longer : (config : Config) (load : List Entry) (n : Option ℕ) (c : ℕ) (old text next : List ℕ) → text ≡ old ++ counter_rows config load n c
+    → next ≡ text ++ counter_row config load n c → next ≡ old ++ counter_rows config load n (c + 1)
+rows_longer config load n c old text next is e =
+    e ∙ (ap (λ l. l ++ counter_row config load n c) is
+    ∙ (append_assoc old (counter_rows config load n c) (counter_row config load n c) ∙ ap (λ l. old ++ l) (sym (one_row_more config load n c))))
 
 pub one_more_open : (load : List Entry) (responses : List Response) (t : ℕ)
     → has_open load responses (t + 1) ≡ (has_open load responses t || is_open (response_at responses t) (deadline load t))

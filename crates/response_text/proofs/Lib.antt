@@ -1,6 +1,7 @@
 pub mod FirstTasks
 mod PartLines
-mod Keeping
+mod Expecting
+pub mod Keeping
 pub mod OneText
 pub mod Refused
 mod Unread

@@ -8,12 +8,14 @@ use Rattle.run_windows.specs.declared.costs.Costs.{Costs}
 use Rattle.run_windows.specs.RunWindows.{IsRunBound}
 use Rattle.run_windows.specs.Demand.{IsDemand}
 use Rattle.run_windows.proofs.OneLeast.{one_least}
+use Rattle.run_responses.specs.TickWindows.{IsTickNumber}
 use Rattle.run_windows.proofs.OneBound.{one_demand}
+use Rattle.run_responses.proofs.TickBounds.{one_tick_number}
 use Rattle.run_costs.specs.declared.record.RunCosts.{RunCosts}
 use Rattle.run_costs.proofs.OneCosts.{one_record}
 use Rattle.response_text.specs.declared.told.Told.{Told}
 use Rattle.response_text.specs.declared.told.Response.{Response}
-use Rattle.response_text.specs.Lines.{response_at, response_lines, demand_line, has_open}
+use Rattle.response_text.specs.Lines.{response_at, response_lines, counter_rows, demand_line, has_open}
 use Rattle.response_text.specs.ResponseText.{IsTaskResponse, AreResponses, told_of, HasResponses, HasLoadResponses, OneText}
 use Rattle.response_text.proofs.FirstTasks.{same_lines, same_open}
 
@@ -28,24 +30,30 @@ one_response longest late costs t one other a b =
     ap E (a.comes ∙ sym b.comes) ∙ (ap F anywhere ∙ ap G behind)
 
 module _ (config : Config) (app : App) (load : List Entry) where
-  -- the same is told of the same responses and demand
-  same_told : (one other : List Response) (p q : Option ℕ) → ((t : ℕ) → t < length config.tasks → response_at one t ≡ response_at other t) → p ≡ q
-      → told_of config app load one p ≡ told_of config app load other q
-  same_told one other p q each e =
+  -- the same is told of the same responses, ticks and demand
+  same_told : (one other : List Response) (m n p q : Option ℕ) → ((t : ℕ) → t < length config.tasks → response_at one t ≡ response_at other t) → m ≡ n → p ≡ q
+      → told_of config app load one m p ≡ told_of config app load other n q
+  same_told one other m n p q each ticks e =
       let count = length config.tasks in
-      ap (λ l. record { text = l ++ demand_line p; is_open = has_open load one count }) (same_lines config app load one other count each)
-      ∙ (ap (λ d. record { text = response_lines config app load other count ++ demand_line d; is_open = has_open load one count }) e
-      ∙ ap (λ b. record { text = response_lines config app load other count ++ demand_line q; is_open = b }) (same_open load one other count each))
+      ap (λ l. told_by l m p (has_open load one count)) (same_lines config app load one other count each)
+      ∙ (ap (λ v. told_by (response_lines config app load other count) v p (has_open load one count)) ticks
+      ∙ (ap (λ d. told_by (response_lines config app load other count) n d (has_open load one count)) e
+      ∙ ap (λ b. told_by (response_lines config app load other count) n q b) (same_open load one other count each)))
+    where
+      told_by : List ℕ → Option ℕ → Option ℕ → Bool → Told
+      told_by l v d b = record { text = (l ++ counter_rows config load v (length config.counters)) ++ demand_line d; is_open = b }
 
   one_told : (one other : Told) → HasResponses config app load one → HasResponses config app load other → one ≡ other
   one_told one other a b =
       let costs : a.costs ≡ b.costs = one_record config app load a.costs b.costs a.are_costs b.are_costs in
       let there : AreResponses a.costs.longest a.costs.late a.costs.costs (length config.tasks) b.responses =
       subst (λ (c : RunCosts). AreResponses c.longest c.late c.costs (length config.tasks) b.responses) (sym costs) b.are_responses in
+      let tick : IsTickNumber a.costs.longest a.costs.late a.costs.costs b.tick = subst (λ (c : RunCosts). IsTickNumber c.longest c.late c.costs b.tick) (sym costs) b.is_tick in
       let demand : IsDemand a.costs.costs b.demand = subst (λ (c : RunCosts). IsDemand c.costs b.demand) (sym costs) b.is_demand in
       a.is
-      ∙ (same_told a.responses b.responses a.demand b.demand
+      ∙ (same_told a.responses b.responses a.tick b.tick a.demand b.demand
       (λ t lt. one_response a.costs.longest a.costs.late a.costs.costs t (response_at a.responses t) (response_at b.responses t) (a.are_responses.each t lt) (there.each t lt))
+      (one_tick_number a.costs.longest a.costs.late a.costs.costs a.tick b.tick a.is_tick tick)
       (one_demand a.costs.costs a.demand b.demand a.is_demand demand) ∙ sym b.is)
 
 one_for : (config : Config) (app : App) (load : List ℕ) (one other : Told) → HasLoadResponses config app load one → HasLoadResponses config app load other → one ≡ other

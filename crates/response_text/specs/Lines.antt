@@ -1,11 +1,14 @@
 -- The lines of responses.
-use Rattle.std.specs.Prelude.{ℕ, zero, suc, ◌==◌, ◌&&◌, ◌||◌, not, leb, Bool, false, cond, List, [], ◌++◌, codes, decimal, get_or, Option, Some, None}
+use Rattle.std.specs.Prelude.{ℕ, zero, suc, ◌*◌, ◌==◌, ◌&&◌, ◌||◌, not, leb, Bool, false, cond, List, [], ◌++◌, codes, decimal, get_or, position, is_some, Option, Some, None}
 use Rattle.sloth_base.specs.declared.config.Config.{Config}
 use Rattle.sloth_base.specs.declared.app.App.{App}
-use Rattle.sloth_base.specs.Named.{declaration}
+use Rattle.sloth_base.specs.declared.config.AlarmDecl.{AlarmDecl}
+use Rattle.sloth_base.specs.declared.service.Service.TheVariants as service
+use Rattle.sloth_base.specs.Named.{declaration, counter_declaration, alarm_declaration}
+use Rattle.sloth_base.specs.Owners.{counter_line}
 use Rattle.load_text.specs.declared.entry.Entry.{Entry}
 use Rattle.load_text.specs.Loads.{distance, deadline}
-use Rattle.response_laws.specs.Made.{is_made_by_arrivals}
+use Rattle.response_laws.specs.Made.{are_called, is_activating, is_made_by_arrivals, is_made_by_one_alarm}
 use Rattle.response_text.specs.declared.told.Response.{Response}
 
 -- ---- a response
@@ -59,19 +62,45 @@ abbrev pub is_open : Response → (deadline : Option ℕ) → Bool
 is_open r (Some limit) = not (is_met r limit || is_met_behind r limit)
 is_open r None = false
 
--- ---- a line
+-- ---- activations that are not lost
 
 -- Each arrival finds the task Suspended: nothing else makes it, and it has left before the next one comes.
 abbrev pub keeps_arrivals : Config → App → List Entry → (t : ℕ) → (number : Option ℕ) → Bool
 keeps_arrivals config app load t n = is_made_by_arrivals config app t && is_within_limit n (distance load t)
 
+-- an alarm with this cycle expires once, or the number is at most that of so many distances
+abbrev pub is_within_cycle : (number distance : Option ℕ) → (cycle : ℕ) → Bool
+is_within_cycle n (Some d) cycle = (cycle == 0) || is_within n (cycle * d)
+is_within_cycle n None cycle = false
+
+-- alarm a starts with the system, no item sets it, and it expires once, or so seldom
+abbrev pub is_spaced : App → List Entry → (a : ℕ) → AlarmDecl → (number : Option ℕ) → Bool
+is_spaced app load a d n =
+    not (d.time == 0) && (not (are_called service.SetRelAlarm service.SetAbsAlarm a app.funcs) && is_within_cycle n (distance load (counter_line d.counter)) d.cycle)
+
+-- there is such an alarm
+abbrev pub has_spaced : Config → App → List Entry → (alarm number : Option ℕ) → Bool
+has_spaced config app load (Some a) n = is_spaced app load a (alarm_declaration config a) n
+has_spaced config app load None n = false
+
+-- Each expiry of the only alarm that makes the task finds it Suspended: it has no arrivals, and it has left before the alarm expires again.
+abbrev pub keeps_expiries : Config → App → List Entry → (t : ℕ) → (number : Option ℕ) → Bool
+keeps_expiries config app load t n =
+    is_made_by_one_alarm config app t && (not (is_some (distance load t)) && has_spaced config app load (position (is_activating t) config.alarms) n)
+
+-- no activation of the task is lost
+abbrev pub is_lossless : Config → App → List Entry → (t : ℕ) → (number : Option ℕ) → Bool
+is_lossless config app load t n = keeps_arrivals config app load t n || keeps_expiries config app load t n
+
+-- ---- a line
+
 abbrev pub lossless_words : (kept : Bool) → List ℕ
 lossless_words kept = cond kept (codes " lossless") []
 
--- what stands behind the name of a task: its response, whether that is within its deadline, and whether it keeps its arrivals
+-- what stands behind the name of a task: its response, whether that is within its deadline, and whether no activation of it is lost
 abbrev pub task_words : Config → App → List Entry → (t : ℕ) → Response → List ℕ
 task_words config app load t r =
-    (response_words r ++ deadline_words r (deadline load t)) ++ lossless_words (keeps_arrivals config app load t r.anywhere)
+    (response_words r ++ deadline_words r (deadline load t)) ++ lossless_words (is_lossless config app load t r.anywhere)
 
 -- what stands in the place of a task that is not there
 abbrev pub no_response : Response
@@ -90,6 +119,25 @@ unfoldable pub response_lines : Config → App → List Entry → List Response 
 response_lines config app load responses zero = []
 response_lines config app load responses (suc t) =
     response_lines config app load responses t ++ response_line config app load t (response_at responses t)
+
+-- a tick has ended so many counts after the arrival of its counter; it never comes where that has no distance
+abbrev pub tick_words : (distance number : Option ℕ) → List ℕ
+tick_words (Some d) (Some n) = codes " " ++ decimal n
+tick_words (Some d) None = codes " none load"
+tick_words None n = codes " never"
+
+-- what stands behind the name of a counter; no arrival of it is lost where ticks end before the next one
+abbrev pub counter_words : (distance number : Option ℕ) → List ℕ
+counter_words d n = tick_words d n ++ lossless_words (is_within_limit n d)
+
+-- the line of a counter
+unfoldable pub counter_row : Config → List Entry → (number : Option ℕ) → (c : ℕ) → List ℕ
+counter_row config load n c = ((codes "tick " ++ (counter_declaration config c).name) ++ counter_words (distance load (counter_line c)) n) ++ codes "\n"
+
+-- the lines of the first counters, so many of them
+unfoldable pub counter_rows : Config → List Entry → (number : Option ℕ) → (count : ℕ) → List ℕ
+counter_rows config load n zero = []
+counter_rows config load n (suc c) = counter_rows config load n c ++ counter_row config load n c
 
 -- the line of the demand
 abbrev pub demand_line : Option ℕ → List ℕ

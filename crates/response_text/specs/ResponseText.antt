@@ -1,10 +1,11 @@
 -- What the command `response` tells.
-use Rattle.std.specs.Prelude.{ℕ, ◌+◌, ◌<◌, ◌≡◌, Bool, true, false, List, ◌++◌, length, Option, Some}
+use Rattle.std.specs.Prelude.{ℕ, ◌+◌, ◌<◌, ◌≤◌, ◌≡◌, Bool, true, false, List, ◌++◌, length, Option, Some}
 use Rattle.sloth_base.specs.declared.config.Config.{Config}
 use Rattle.sloth_base.specs.declared.app.App.{App}
 use Rattle.sloth_base.specs.declared.event.Arrival.{Arrival}
 use Rattle.sloth_base.specs.declared.image.Image.{Image}
-use Rattle.sloth_base.specs.Owners.{owners_in}
+use Rattle.sloth_base.specs.Named.{alarm_declaration}
+use Rattle.sloth_base.specs.Owners.{counter_line, owners_in}
 use Rattle.sloth_source.specs.Texts.{AreAccepted}
 use Rattle.load_text.specs.declared.entry.Entry.{Entry}
 use Rattle.load_text.specs.Loads.{distance, KeepDistances}
@@ -16,16 +17,20 @@ use Rattle.run_windows.specs.declared.costs.Costs.{Costs}
 use Rattle.run_windows.specs.Costs.{comes}
 use Rattle.run_windows.specs.RunWindows.{IsRunResponse}
 use Rattle.run_windows.specs.Demand.{IsDemand}
+use Rattle.run_responses.specs.TickWindows.{IsTickNumber}
 use Rattle.response_laws.specs.SoundRuns.{KeepsWork}
 use Rattle.response_laws.specs.Response.{RespondsWithin}
 use Rattle.response_laws.specs.Admissions.{FindSuspended}
+use Rattle.response_laws.specs.Expected.{ExpiriesFindSuspended}
+use Rattle.response_laws.specs.Ticks.{activates}
+use Rattle.response_laws.specs.Ticking.{TicksWithin, ArrivalsFindUndue}
 use Rattle.run_costs.specs.declared.record.RunCosts.{RunCosts}
 use Rattle.run_costs.specs.RunRecord.{IsRunRecord}
 use Rattle.run_responses.specs.Meeting.{AreCutTasks}
 use Rattle.response_text.specs.declared.told.Told.{Told}
 use Rattle.response_text.specs.declared.told.Response.{Response}
 use Rattle.response_text.specs.Inputs.{IsLoadOf}
-use Rattle.response_text.specs.Lines.{keeps_arrivals, response_at, response_lines, demand_line, has_open}
+use Rattle.response_text.specs.Lines.{keeps_arrivals, keeps_expiries, response_at, response_lines, counter_rows, demand_line, has_open}
 
 -- ---- numbers
 
@@ -40,11 +45,11 @@ pub record AreResponses (longest late : ℕ) (costs : Costs) (count : ℕ) (resp
   pub count_is : length responses ≡ count
   pub each : (t : ℕ) → t < count → IsTaskResponse longest late costs t (response_at responses t)
 
--- the lines of these responses and this demand, and whether a deadline is open
-abbrev pub told_of : Config → App → List Entry → List Response → (demand : Option ℕ) → Told
-told_of config app load responses demand =
+-- the lines of these responses, this number of ticks and this demand, and whether a deadline is open
+abbrev pub told_of : Config → App → List Entry → List Response → (tick demand : Option ℕ) → Told
+told_of config app load responses tick demand =
     record {
-      text = response_lines config app load responses (length config.tasks) ++ demand_line demand;
+      text = (response_lines config app load responses (length config.tasks) ++ counter_rows config load tick (length config.counters)) ++ demand_line demand;
       is_open = has_open load responses (length config.tasks);
     }
 
@@ -58,7 +63,7 @@ ImageKeepsNumbers config app image load longest late boot number =
     → AreCutTasks config app cuts → KeepsWork config load cuts (run_stages config app (events_of image arrivals n)) → h < length config.tasks → number h ≡ Some r
     → RespondsWithin config app n (longest + late) h r boot (events_of image arrivals n)
 
--- In every such run each arrival of a task whose line says that it is lossless finds it Suspended, so none is lost: where an event that is no arrival
+-- In every such run each arrival of a task whose line says that it is lossless, and which has arrivals, finds it Suspended, so none is lost: where an event that is no arrival
 -- follows, or the run has an item and a stretch more, or the distance is that much above the number.
 abbrev pub ImageLosesNone : Config → App → Image → List Entry → (longest late : ℕ) → (number : ℕ → Option ℕ) → Type 0
 ImageLosesNone config app image load longest late number =
@@ -67,30 +72,57 @@ ImageLosesNone config app image load longest late number =
     → distance load t ≡ Some d → keeps_arrivals config app load t (number t) ≡ true
     → FindSuspended config app n (longest + late) t r d (events_of image arrivals n)
 
+-- In every such run each expiry of the only alarm that activates a task finds it Suspended, where its line says that it is lossless and it has no arrivals: so none
+-- is lost, however long the run is.
+abbrev pub ImageKeepsExpiries : Config → App → Image → List Entry → (number : ℕ → Option ℕ) → Type 0
+ImageKeepsExpiries config app image load number =
+    (arrivals : List Arrival) (n t a : ℕ) (cuts : ℕ → Bool) → AreComing (owners_in config) arrivals → KeepDistances load arrivals
+    → AreCutTasks config app cuts → KeepsWork config load cuts (run_stages config app (events_of image arrivals n)) → t < length config.tasks
+    → keeps_expiries config app load t (number t) ≡ true → a < length config.alarms → activates t (alarm_declaration config a).action ≡ true
+    → ExpiriesFindSuspended config app t a (events_of image arrivals n)
+
+-- In every such run, whether or not it keeps the `work` lines, a tick has ended so many counts after each arrival of its counter, if the run has so many
+-- instructions, an item and a stretch.
+abbrev pub ImageKeepsTicks : Config → Image → List Entry → (longest late : ℕ) → (tick : Option ℕ) → Type 0
+ImageKeepsTicks config image load longest late tick =
+    (arrivals : List Arrival) (n r : ℕ) → AreComing (owners_in config) arrivals → KeepDistances load arrivals → tick ≡ Some r
+    → TicksWithin n (longest + late) r (events_of image arrivals n)
+
+-- Where that number is at most the distance of a counter's arrivals, each of them finds the counter not due, so none is lost, if the run has an item and a stretch more.
+abbrev pub ImageServesArrivals : Config → App → Image → List Entry → (longest late : ℕ) → (tick : Option ℕ) → Type 0
+ImageServesArrivals config app image load longest late tick =
+    (arrivals : List Arrival) (n r c d : ℕ) → AreComing (owners_in config) arrivals → KeepDistances load arrivals → tick ≡ Some r
+    → distance load (counter_line c) ≡ Some d → r ≤ d → ArrivalsFindUndue config app n (longest + late) c (events_of image arrivals n)
+
 -- what an image keeps
-pub record KeepsResponses (config : Config) (app : App) (load : List Entry) (longest late : ℕ) (responses : List Response) (image : Image) : Type 0 where
+pub record KeepsResponses (config : Config) (app : App) (load : List Entry) (longest late : ℕ) (responses : List Response) (tick : Option ℕ) (image : Image) : Type 0 where
   pub anywhere : ImageKeepsNumbers config app image load longest late true (λ t. (response_at responses t).anywhere)
   pub behind : ImageKeepsNumbers config app image load longest late false (λ t. (response_at responses t).behind)
   pub lossless : ImageLosesNone config app image load longest late (λ t. (response_at responses t).anywhere)
+  pub expiries : ImageKeepsExpiries config app image load (λ t. (response_at responses t).anywhere)
+  pub ticks : ImageKeepsTicks config image load longest late tick
+  pub served : ImageServesArrivals config app image load longest late tick
 
 -- each image does whose builder promises that its runs are sound, weighed and in pace
-abbrev pub RunsKeepResponses : Config → App → List Entry → (longest late : ℕ) → List Response → Type 0
-RunsKeepResponses config app load longest late responses =
-    (image : Image) → Sound config app image → Weighed config app image → InPace config app image → KeepsResponses config app load longest late responses image
+abbrev pub RunsKeepResponses : Config → App → List Entry → (longest late : ℕ) → List Response → (tick : Option ℕ) → Type 0
+RunsKeepResponses config app load longest late responses tick =
+    (image : Image) → Sound config app image → Weighed config app image → InPace config app image → KeepsResponses config app load longest late responses tick image
 
 -- ---- what is told
 
--- This is told of the responses of all tasks, by the costs of the task code under the load, its longest item and its longest stretch, and of the load's demand;
+-- This is told of the responses of all tasks and of ticks, by the costs of the task code under the load, its longest item and its longest stretch, and of the load's demand;
 -- and runs keep it.
 pub record HasResponses (config : Config) (app : App) (load : List Entry) (told : Told) : Type 0 where
   pub costs : RunCosts
   pub are_costs : IsRunRecord config app load costs
   pub responses : List Response
   pub are_responses : AreResponses costs.longest costs.late costs.costs (length config.tasks) responses
+  pub tick : Option ℕ
+  pub is_tick : IsTickNumber costs.longest costs.late costs.costs tick
   pub demand : Option ℕ
   pub is_demand : IsDemand costs.costs demand
-  pub kept : RunsKeepResponses config app load costs.longest costs.late responses
-  pub is : told ≡ told_of config app load responses demand
+  pub kept : RunsKeepResponses config app load costs.longest costs.late responses tick
+  pub is : told ≡ told_of config app load responses tick demand
 
 -- the text is a load for the configuration, and this is told of it
 pub record HasLoadResponses (config : Config) (app : App) (text : List ℕ) (told : Told) : Type 0 where

@@ -1,14 +1,14 @@
 //! The lines of responses.
 ghost use Rattle.std.specs.Prelude.{◌≡◌, ◌<◌, ◌≤◌, ◌++◌, [], cond, length, codes, decimal, OnOk, IfOk};
-ghost use Rattle.sloth_base.specs.Limits.{task_limit};
-ghost use Rattle.load_text.specs.Loads.{deadline, distance};
-ghost use Rattle.response_text.specs.Lines.{number_words, is_never, made_words, response_words, is_within, is_within_limit, is_met, is_met_behind, verdict_word, deadline_words, is_open, keeps_arrivals, lossless_words, task_words, response_at, response_line, response_lines, demand_line, has_open};
+ghost use Rattle.sloth_base.specs.ConfigRange.{InRange};
+ghost use Rattle.load_text.specs.Loads.{deadline};
+ghost use Rattle.response_text.specs.Lines.{number_words, is_never, made_words, response_words, is_met, is_met_behind, verdict_word, deadline_words, is_open, lossless_words, task_words, response_at, response_line, response_lines, tick_words, counter_words, counter_row, counter_rows, demand_line, has_open};
 
-use crate::made::is_made_by_arrivals;
+use crate::lossless::{is_lossless, is_within, is_within_limit};
 use crate::told::Response;
 use itoa::Buffer;
 use load_text::{Entry, deadline_of, distance_of};
-use sloth_base::{App, Config, NoMemory};
+use sloth_base::{App, Config, FIRST_COUNTER_LINE, NoMemory};
 use std::alloc::Global;
 
 /// A word, and a number behind it.
@@ -45,7 +45,8 @@ fn is_never(number: Option<u32>) -> bool
     }
 }
 
-fn push_made(text: &mut Vec<u8>, number: Option<u32>) -> Result<(), NoMemory>
+/// Such a number, of a task that may never be made.
+pub fn push_made(text: &mut Vec<u8>, number: Option<u32>) -> Result<(), NoMemory>
     ensures { OnOk result (text.new.items ≡ text.old.items ++ made_words number) }
 {
     if is_never(number) {
@@ -78,24 +79,6 @@ fn push_response(text: &mut Vec<u8>, response: Response) -> Result<(), NoMemory>
 }
 
 // ---- deadlines
-
-fn is_within(number: Option<u32>, limit: u32) -> bool
-    ensures { result ≡ is_within number limit }
-{
-    match number {
-        Some(counts) => counts <= limit,
-        None => false,
-    }
-}
-
-fn is_within_limit(number: Option<u32>, limit: Option<u32>) -> bool
-    ensures { result ≡ is_within_limit number limit }
-{
-    match limit {
-        Some(limit) => is_within(number, limit),
-        None => false,
-    }
-}
 
 fn is_met(response: Response, limit: u32) -> bool
     ensures { result ≡ is_met response limit }
@@ -150,7 +133,7 @@ fn push_deadline(
 
 // ---- a line
 
-// That a task keeps its arrivals, where it does.
+// That nothing is lost of a task or a counter, where it is so.
 fn push_lossless(text: &mut Vec<u8>, kept: bool) -> Result<(), NoMemory>
     ensures { OnOk result (text.new.items ≡ text.old.items ++ lossless_words kept) }
 {
@@ -158,21 +141,6 @@ fn push_lossless(text: &mut Vec<u8>, kept: bool) -> Result<(), NoMemory>
         text.extend_from_slice(b" lossless")?;
     }
     Ok(())
-}
-
-// Whether each arrival of a task finds it Suspended: nothing else makes it Ready, and its response is at most their distance.
-fn keeps_arrivals(
-    config: &Config,
-    app: &App,
-    load: &[Entry],
-    task: u32,
-    number: Option<u32>,
-) -> bool
-    requires few { length config.now.tasks ≤ task_limit }
-    requires there { task < length config.now.tasks }
-    ensures { result ≡ keeps_arrivals config.now app.now load.now task number }
-{
-    is_made_by_arrivals(config, app, task) && is_within_limit(number, distance_of(load, task as u8))
 }
 
 // What stands behind the name of a task.
@@ -184,13 +152,13 @@ fn push_words(
     task: u32,
     response: Response,
 ) -> Result<(), NoMemory>
-    requires few { length config.now.tasks ≤ task_limit }
+    requires in_range { InRange config.now }
     requires there { task < length config.now.tasks }
     ensures { OnOk result (text.new.items ≡ text.old.items ++ task_words config.now app.now load.now task response) }
 {
     push_response(text, response)?;
     push_deadline(text, response, deadline_of(load, task as u8))?;
-    let kept = keeps_arrivals(config, app, load, task, response.anywhere);
+    let kept = is_lossless(config, app, load, task, response.anywhere);
     push_lossless(text, kept)?;
     Ok(())
 }
@@ -219,7 +187,7 @@ pub fn push_line(
     task: u32,
     response: Response,
 ) -> Result<(), NoMemory>
-    requires few { length config.now.tasks ≤ task_limit }
+    requires in_range { InRange config.now }
     requires there { task < length config.now.tasks }
     ensures { OnOk result (text.new.items ≡ text.old.items ++ response_line config.now app.now load.now task response) }
 {
@@ -237,7 +205,7 @@ pub fn response_lines(
     load: &[Entry],
     responses: &[Response],
 ) -> Result<Vec<u8>, NoMemory>
-    requires few { length config.now.tasks ≤ task_limit }
+    requires in_range { InRange config.now }
     ensures { IfOk result (λ text. text.items ≡ response_lines config.now app.now load.now responses.now (length config.now.tasks)) }
 {
     let mut text = Vec::new(alloc);
@@ -252,6 +220,80 @@ pub fn response_lines(
         )?;
     }
     Ok(text)
+}
+
+// ---- ticks
+
+fn push_tick_words(
+    text: &mut Vec<u8>,
+    distance: Option<u32>,
+    tick: Option<u32>,
+) -> Result<(), NoMemory>
+    ensures { OnOk result (text.new.items ≡ text.old.items ++ tick_words distance tick) }
+{
+    match distance {
+        Some(_) => match tick {
+            Some(counts) => push_counts(text, b" ", counts),
+            None => {
+                text.extend_from_slice(b" none load")?;
+                Ok(())
+            }
+        },
+        None => {
+            text.extend_from_slice(b" never")?;
+            Ok(())
+        }
+    }
+}
+
+// What stands behind the name of a counter.
+fn push_counter_words(
+    text: &mut Vec<u8>,
+    distance: Option<u32>,
+    tick: Option<u32>,
+) -> Result<(), NoMemory>
+    ensures { OnOk result (text.new.items ≡ text.old.items ++ counter_words distance tick) }
+{
+    push_tick_words(text, distance, tick)?;
+    push_lossless(text, is_within_limit(tick, distance))?;
+    Ok(())
+}
+
+// The line of a counter.
+#[tactic(auto, unfolding(crate::specs::Lines::counter_row))]
+fn push_counter_row(
+    text: &mut Vec<u8>,
+    config: &Config,
+    load: &[Entry],
+    tick: Option<u32>,
+    counter: u32,
+) -> Result<(), NoMemory>
+    requires in_range { InRange config.now }
+    requires there { counter < length config.now.counters }
+    ensures { OnOk result (text.new.items ≡ text.old.items ++ counter_row config.now load.now tick counter) }
+{
+    let distance = distance_of(load, FIRST_COUNTER_LINE + counter as u8);
+    text.extend_from_slice(b"tick ")?;
+    text.extend_from_slice(config.counters.items()[counter as usize].name.bytes())?;
+    push_counter_words(text, distance, tick)?;
+    text.extend_from_slice(b"\n")?;
+    Ok(())
+}
+
+/// The lines of all counters.
+pub fn push_counter_rows(
+    text: &mut Vec<u8>,
+    config: &Config,
+    load: &[Entry],
+    tick: Option<u32>,
+) -> Result<(), NoMemory>
+    requires { InRange config.now }
+    ensures { OnOk result (text.new.items ≡ text.old.items ++ counter_rows config.now load.now tick (length config.now.counters)) }
+{
+    for counter in 0..config.counters.items().len() as u32 {
+        push_counter_row(text, config, load, tick, counter)?;
+    }
+    Ok(())
 }
 
 /// The line of the demand, at the end.

@@ -1,43 +1,58 @@
-//! Tasks that nothing but their arrivals makes Ready.
-ghost use Rattle.std.specs.Prelude.{◌≡◌, ◌<◌, length};
+//! Tasks that nothing but their arrivals makes Ready, or one alarm.
+ghost use Rattle.std.specs.Prelude.{◌≡◌, ◌<◌, ◌==◌, length, count_by, position};
 ghost use Rattle.std.specs.List.{list_any};
 ghost use Rattle.sloth_base.specs.Named.{declaration};
-ghost use Rattle.response_laws.specs.Made.{is_making, makes, has_maker, is_named, is_activating, is_plain, is_made_by_arrivals};
+ghost use Rattle.sloth_base.specs.declared.service.Service.TheVariants as service;
+ghost use Rattle.response_laws.specs.Made.{calls_either, is_call_for, has_call, are_called, is_activating, is_plain, is_made_from_outside, is_made_by_arrivals, is_made_by_one_alarm};
 ghost use Rattle.response_laws.specs.Ticks.{activates};
 
 use sloth_base::{Action, AlarmDecl, App, Config, Func, Item, Op, Service, TaskDecl};
 
-// Whether an operation activates the task, or chains it.
-fn is_making(task: u32, op: Op) -> bool
-    ensures { result ≡ is_making task op }
+// Whether an operation is a call of one of two services for an object.
+fn calls_either(one: Service, other: Service, object: u32, op: Op) -> bool
+    ensures { result ≡ calls_either one other object op }
 {
     match op {
         Op::Serve(call) => {
-            (call.service.code() == Service::ActivateTask.code()
-                || call.service.code() == Service::ChainTask.code())
-                && call.object == task
+            (call.service.code() == one.code() || call.service.code() == other.code())
+                && call.object == object
         }
         _ => false,
     }
 }
 
-fn makes(task: u32, item: &Item) -> bool
-    ensures { result ≡ makes task item.now }
+fn is_call_for(one: Service, other: Service, object: u32, item: &Item) -> bool
+    ensures { result ≡ is_call_for one other object item.now }
 {
-    is_making(task, item.op)
+    calls_either(one, other, object, item.op)
 }
 
-fn has_maker(task: u32, func: &Func) -> bool
-    ensures { result ≡ has_maker task func.now }
+fn has_call(one: Service, other: Service, object: u32, func: &Func) -> bool
+    ensures { result ≡ has_call one other object func.now }
 {
-    func.items.items().iter().any(|item| makes(task, item))
+    func.items
+        .items()
+        .iter()
+        .any(|item| is_call_for(one, other, object, item))
 }
 
-// Whether some body has an item that does.
-fn is_named(task: u32, funcs: &[Func]) -> bool
-    ensures { result ≡ is_named task funcs.now }
+// Whether some body has an item that is.
+fn are_called(one: Service, other: Service, object: u32, funcs: &[Func]) -> bool
+    ensures { result ≡ are_called one other object funcs.now }
 {
-    funcs.iter().any(|func| has_maker(task, func))
+    funcs.iter().any(|func| has_call(one, other, object, func))
+}
+
+/// Whether an item sets an alarm.
+pub fn is_set(app: &App, alarm: u32) -> bool
+    ensures { result ≡ are_called service.SetRelAlarm service.SetAbsAlarm alarm app.now.funcs }
+{
+    are_called(
+        Service::SetRelAlarm,
+        Service::SetAbsAlarm,
+        alarm,
+        app.funcs.items(),
+    )
 }
 
 fn activates(task: u32, action: Action) -> bool
@@ -68,11 +83,50 @@ fn is_plain(task: &TaskDecl) -> bool
     !task.extended && !task.autostart
 }
 
+// Whether just one does.
+fn is_activated_once(task: u32, alarms: &[AlarmDecl]) -> bool
+    ensures { result ≡ (count_by (is_activating task) alarms.now == 1) }
+{
+    alarms
+        .iter()
+        .filter(|alarm| activates(task, alarm.action))
+        .count()
+        == 1
+}
+
+/// The first alarm that activates the task.
+pub fn activating_alarm(task: u32, alarms: &[AlarmDecl]) -> Option<usize>
+    ensures { result ≡ position (is_activating task) alarms.now }
+{
+    alarms.iter().position(|alarm| is_activating(task, alarm))
+}
+
+// Whether nothing but its arrivals and alarms makes a task Ready.
+fn is_made_from_outside(config: &Config, app: &App, task: u32) -> bool
+    requires { task < length config.now.tasks }
+    ensures { result ≡ is_made_from_outside config.now app.now task }
+{
+    is_plain(&config.tasks.items()[task as usize])
+        && !are_called(
+            Service::ActivateTask,
+            Service::ChainTask,
+            task,
+            app.funcs.items(),
+        )
+}
+
 /// Whether nothing but its arrivals makes a task Ready.
 pub fn is_made_by_arrivals(config: &Config, app: &App, task: u32) -> bool
     requires { task < length config.now.tasks }
     ensures { result ≡ is_made_by_arrivals config.now app.now task }
 {
-    is_plain(&config.tasks.items()[task as usize])
-        && (!is_named(task, app.funcs.items()) && !is_activated(task, config.alarms.items()))
+    is_made_from_outside(config, app, task) && !is_activated(task, config.alarms.items())
+}
+
+/// Whether nothing but its arrivals and just one alarm does.
+pub fn is_made_by_one_alarm(config: &Config, app: &App, task: u32) -> bool
+    requires { task < length config.now.tasks }
+    ensures { result ≡ is_made_by_one_alarm config.now app.now task }
+{
+    is_made_from_outside(config, app, task) && is_activated_once(task, config.alarms.items())
 }

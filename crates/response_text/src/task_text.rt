@@ -1,6 +1,6 @@
 //! The lines of one task's response, from the texts.
 ghost use Rattle.std.specs.Prelude.{◌≡◌, ◌<◌, ◌≤◌, true, false, length, IfOk, IfErr};
-ghost use Rattle.sloth_base.specs.Limits.{task_limit};
+ghost use Rattle.sloth_base.specs.ConfigRange.{InRange};
 ghost use Rattle.least_fault.specs.Order.{ErrorIs};
 ghost use Rattle.call_graph.specs.Ranks.{RanksOf};
 ghost use Rattle.load_text.specs.LoadText.{LoadFault};
@@ -79,7 +79,7 @@ fn task_lines(
     response: Response,
     parts: &[u8],
 ) -> Result<Told, NoMemory>
-    requires few { length config.now.tasks ≤ task_limit }
+    requires in_range { InRange config.now }
     requires there { task < length config.now.tasks }
     ensures { IfOk result (λ told. told ≡ task_lines config.now app.now load.now task response parts.now) }
 {
@@ -101,7 +101,7 @@ fn told_by(
     found: &RunCosts,
     task: u32,
 ) -> Result<Told, NoMemory>
-    requires few { length config.now.tasks ≤ task_limit }
+    requires in_range { InRange config.now }
     requires there { task < length config.now.tasks }
     requires costs { IsRunRecord config.now app.now load.now found.now }
     ensures { IfOk result (λ told. HasParts config.now app.now load.now task told) }

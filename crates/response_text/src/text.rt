@@ -1,6 +1,6 @@
 //! The lines of responses, from the texts.
 ghost use Rattle.std.specs.Prelude.{◌≡◌, ◌<◌, ◌≤◌, length, IfOk, IfErr};
-ghost use Rattle.sloth_base.specs.Limits.{task_limit};
+ghost use Rattle.sloth_base.specs.ConfigRange.{InRange};
 ghost use Rattle.sloth_base.specs.DeclaredNames.{task_names, counter_names};
 ghost use Rattle.sloth_base.specs.Owners.{owners_in};
 ghost use Rattle.least_fault.specs.Order.{ErrorIs};
@@ -16,11 +16,12 @@ ghost use Rattle.response_text.specs.ResponseText.{IsTaskResponse, AreResponses,
 
 use crate::Told;
 use crate::inputs::load_of;
-use crate::lines::{has_open, push_demand, response_lines};
+use crate::lines::{has_open, push_counter_rows, push_demand, response_lines};
 use crate::told::Response;
 use call_graph::Ranks;
 use load_text::Entry;
 use run_costs::{RunCosts, run_costs};
+use run_responses::tick_number;
 use run_windows::level::comes;
 use run_windows::longest::number_of;
 use run_windows::{Costs, Longest, demand, longest_window};
@@ -59,8 +60,8 @@ fn response(
     Ok(response_of(is_made, anywhere, behind))
 }
 
-// Those of all tasks.
-fn responses(
+/// Those of all tasks, by costs that runs keep, with the longest item and the longest stretch.
+pub fn responses(
     alloc: Global,
     longest: u32,
     late: u32,
@@ -77,19 +78,21 @@ fn responses(
     Ok(responses)
 }
 
-// The lines of responses and a demand.
+// The lines of responses, ticks and a demand.
 fn told_of(
     alloc: Global,
     config: &Config,
     app: &App,
     load: &[Entry],
     responses: &[Response],
+    tick: Option<u32>,
     demand: Option<u32>,
 ) -> Result<Told, NoMemory>
-    requires few { length config.now.tasks ≤ task_limit }
-    ensures { IfOk result (λ told. told ≡ told_of config.now app.now load.now responses.now demand) }
+    requires in_range { InRange config.now }
+    ensures { IfOk result (λ told. told ≡ told_of config.now app.now load.now responses.now tick demand) }
 {
     let mut text = response_lines(alloc, config, app, load, responses)?;
+    push_counter_rows(&mut text, config, load, tick)?;
     push_demand(&mut text, demand)?;
     Ok(Told {
         text: List::from_vec(text),
@@ -111,8 +114,9 @@ fn told_by(
     ensures { IfOk result (λ told. HasResponses config.now app.now load.now told) }
 {
     let responses = responses(alloc, found.longest, found.late, &found.costs)?;
+    let tick = tick_number(alloc, found.longest, found.late, &found.costs)?;
     let demand = demand(alloc, &found.costs)?;
-    told_of(alloc, config, app, load, &responses, demand)
+    told_of(alloc, config, app, load, &responses, tick, demand)
 }
 
 // Those of task code that keeps all rules.

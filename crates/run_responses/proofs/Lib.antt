@@ -10,3 +10,5 @@ pub mod StartLists
 pub mod Windows
 pub mod Fronts
 pub mod Meeting
+pub mod TickBounds
+pub mod TickTimes

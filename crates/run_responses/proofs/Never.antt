@@ -1,5 +1,5 @@
 -- A task that never comes responds within any number, since nothing makes it Ready.
-use Rattle.std.proofs.Common.{◌≡◌, ◌∙◌, ℕ, List, ◌∷◌, ◌++◌, Bool, false, refl, sym, ap, subst}
+use Rattle.std.proofs.Common.{◌≡◌, ◌∙◌, ℕ, List, ◌∷◌, ◌++◌, Bool, false, ap, subst}
 use Rattle.std.specs.List.{AllByRecursion}
 use Rattle.sloth_base.specs.declared.config.Config.{Config}
 use Rattle.sloth_base.specs.declared.app.App.{App}
@@ -12,7 +12,7 @@ use Rattle.osek_scheduler.specs.State.{System, task, opening}
 use Rattle.osek_scheduler.specs.InTime.{InTime}
 use Rattle.osek_scheduler.specs.Runs.{AreStepsTo, OsekRun}
 use Rattle.osek_blocking.specs.Blocking.{MakesReady}
-use Rattle.run_counts.specs.Stages.{Stage, stage, stages, state_behind, run_stages}
+use Rattle.run_counts.specs.Stages.{Stage, stage, stages, state_behind}
 use Rattle.response_laws.specs.Never.{AreClosed, NoneComes}
 use Rattle.response_laws.specs.Response.{RespondsWithin}
 use Rattle.response_laws.proofs.Linked.{last_state, last_end, each_append, stages-append, leads_to, behind_is}

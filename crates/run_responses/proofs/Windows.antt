@@ -71,7 +71,7 @@ module _ (config : Config) (load : List Entry) (longest late : ℕ) (costs : Cos
 
 -- ---- arrivals
 
-arrivals_same : (counts : ℕ) (o : Option ℕ) → filling counts o ≡ arrivals counts o
+pub arrivals_same : (counts : ℕ) (o : Option ℕ) → filling counts o ≡ arrivals counts o
 arrivals_same counts None = refl
 arrivals_same counts (Some d) = refl
 

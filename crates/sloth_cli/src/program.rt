@@ -1,17 +1,18 @@
 //! What the program does with its words: those of `debug` have a session, all others go to the top call, over the system's files, standard input and standard output,
 //! and the status is how it ends.
 ghost use Rattle.std.specs.Prelude.{◌≡◌, []};
+ghost use Rattle.std.specs.Process.{exit_status};
 ghost use Rattle.sloth_io.specs.FileStore.{shown_files, untold_files};
 ghost use Rattle.sloth_io.specs.OutSink.{shown_output, accepted_bytes, given_bytes};
 ghost use Rattle.command_line.specs.Command.{words_of};
-ghost use Rattle.core_commands.specs.ProgramRun.{IsProgramRun};
+ghost use Rattle.core_commands.specs.ProgramRun.{IsProgramRun, IsProcessEnd, HasGivenRun};
 ghost use Rattle.sloth_commands.specs.ToolFiles.{IsToolAnswer};
 ghost use Rattle.sloth_cli.specs.ProgramRun.{HasProgramRun};
 
 use crate::sloth_top;
 use core_commands::words_given;
 use debug_command::{debug_over, debug_words};
-use debug_session::ByteReader;
+use debug_session::{ByteReader, Transcript};
 use sloth_io::{FileStore, OutSink};
 use std::alloc::Global;
 use std::env::Env;
@@ -43,17 +44,33 @@ pub fn run_words(rt: &(impl Files + Print + Input + AllocGlobal), words: &[Strin
     match debug_words(words) {
         Some(asked) => {
             let mut input = ByteReader::new(rt.reader());
-            debug_over(rt.alloc(), &mut files, &mut input, &mut out, &asked)
+            let mut transcript = Transcript::new();
+            debug_over(
+                rt.alloc(),
+                &mut files,
+                &mut input,
+                &mut out,
+                &mut transcript,
+                &asked,
+            )
         }
         None => run_over(rt.alloc(), words, &mut files, &mut out),
     }
 }
 
-/// Runs the command of the program's words, and answers with the number of its status.
-pub fn run_program(rt: &(impl Env + Files + Print + Input + AllocGlobal)) -> ExitCode {
-    let status = match words_given(rt) {
+// Runs the command of the program's words, if they can be had.
+fn answer_given(rt: &(impl Env + Files + Print + Input + AllocGlobal)) -> Status
+    ensures { HasGivenRun HasProgramRun result }
+{
+    match words_given(rt) {
         Ok(words) => run_words(rt, words.as_slice()),
         Err(status) => status,
-    };
-    ExitCode::from(status.code())
+    }
+}
+
+/// Runs the command of the program's words, and answers with the number of its status.
+pub fn run_program(rt: &(impl Env + Files + Print + Input + AllocGlobal)) -> ExitCode
+    ensures { IsProcessEnd HasProgramRun (exit_status result) }
+{
+    ExitCode::from(answer_given(rt).code())
 }

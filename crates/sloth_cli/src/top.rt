@@ -1,5 +1,6 @@
 //! The program, over a store of files and a sink of lines.
 ghost use Rattle.std.specs.Prelude.{◌≢◌, IfSome, IfNone};
+ghost use Rattle.sloth_io.specs.Counts.{Stays};
 ghost use Rattle.sloth_io.specs.Store.{call_files};
 ghost use Rattle.command_line.specs.Command.{words_of, IsCommand, NoTool, Uses};
 ghost use Rattle.command_line.specs.Words.{use_of};
@@ -10,7 +11,7 @@ ghost use Rattle.core_commands.specs.SampleAnswers.{HasSampleRefusedAnswer, HasS
 ghost use Rattle.sloth_commands.specs.BuiltFormulas.{BuiltFilesAreRight};
 ghost use Rattle.sloth_commands.specs.BuiltRegisters.{BuiltImagesShowRegisters};
 ghost use Rattle.sloth_commands.specs.BuiltResponses.{BuiltRunsKeepResponses};
-ghost use Rattle.sloth_commands.specs.BuiltRuns.{BuiltRunsAreChecked, BuiltRunsKeepBlockingBounds};
+ghost use Rattle.sloth_commands.specs.BuiltRuns.{BuiltRunsAreChecked, BuiltRunsHaveRequests, BuiltRunsKeepBlockingBounds};
 ghost use Rattle.sloth_commands.specs.ToolAnswers.{HasToolAnswer, HasToolDoneAnswer};
 ghost use Rattle.sloth_commands.specs.ToolFiles.{IsToolAnswer};
 ghost use Rattle.sloth_commands.specs.ToolLines.{HasToolLines};
@@ -49,6 +50,7 @@ fn answer<F: Store, S: Sink>(alloc: Global, words: &[String], files: &mut F, out
     ensures overwrite { HasOverwriteAnswer (words_of words.now)
         (world (call_files (F.seen files.old) (F.seen files.new)) (S.seen out.old)) (world (F.seen files.new) (S.seen out.new)) result }
     ensures passed { result ≢ Status.WriteFault → S.passed_on out.new }
+    ensures handed { Stays (S.seen out.old).faults (S.seen out.new).faults → S.passed_on out.new }
     ensures reads { ReadsInOrder (words_of words.now) (F.seen files.old) (F.seen files.new) }
     ensures lines { HasToolLines (words_of words.now)
         (world (call_files (F.seen files.old) (F.seen files.new)) (S.seen out.old)) (world (F.seen files.new) (S.seen out.new))
@@ -102,6 +104,7 @@ pub fn sloth_top<F: Store, S: Sink>(
     ensures overwrite { HasOverwriteAnswer (words_of words.now)
         (world (call_files (F.seen files.old) (F.seen files.new)) (S.seen out.old)) (world (F.seen files.new) (S.seen out.new)) result }
     ensures passed { result ≢ Status.WriteFault → S.passed_on out.new }
+    ensures handed { Stays (S.seen out.old).faults (S.seen out.new).faults → S.passed_on out.new }
     ensures reads { ReadsInOrder (words_of words.now) (F.seen files.old) (F.seen files.new) }
     ensures lines { HasToolLines (words_of words.now)
         (world (call_files (F.seen files.old) (F.seen files.new)) (S.seen out.old)) (world (F.seen files.new) (S.seen out.new))
@@ -111,6 +114,7 @@ pub fn sloth_top<F: Store, S: Sink>(
     ensures checked { BuiltRunsAreChecked }
     ensures formulas { BuiltFilesAreRight }
     ensures registers { BuiltImagesShowRegisters }
+    ensures requests { BuiltRunsHaveRequests }
 {
     answer(alloc, words, files, out)
 }

@@ -5,6 +5,7 @@ use Rattle.sloth_base.specs.declared.image.Image.{Image}
 use Rattle.debugger_laws.specs.TaskRegisters.{ShowsRegisters}
 use Rattle.core_commands.specs.Top.{IsBuiltImage}
 
--- wherever a run of the image finds interrupts open, they are those of the abstract scheduler
+-- wherever a run of the image finds interrupts open, they are those of the abstract scheduler, by the map by which each piece of the image stands
 abbrev pub BuiltImagesShowRegisters : Type 0
-BuiltImagesShowRegisters = (config : Config) (app : App) (image : Image) → IsBuiltImage config app image → ShowsRegisters config app image
+BuiltImagesShowRegisters =
+    (config : Config) (app : App) (image : Image) → (built : IsBuiltImage config app image) → ShowsRegisters config app image built.planned.by_map.map

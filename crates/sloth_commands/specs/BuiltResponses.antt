@@ -18,9 +18,10 @@ pub record TellsKept (config : Config) (app : App) (image : Image) (text : List 
   pub longest : ℕ
   pub late : ℕ
   pub responses : List Response
+  pub tick : Option ℕ
   pub demand : Option ℕ
-  pub is : told ≡ told_of config app load responses demand
-  pub kept : KeepsResponses config app load longest late responses image
+  pub is : told ≡ told_of config app load responses tick demand
+  pub kept : KeepsResponses config app load longest late responses tick image
 
 -- an image that is built keeps what is told of its texts
 abbrev pub BuiltRunsKeepResponses : Type 0

@@ -2,7 +2,7 @@
 ghost use Rattle.sloth_commands.specs.BuiltFormulas.{BuiltFilesAreRight};
 ghost use Rattle.sloth_commands.specs.BuiltRegisters.{BuiltImagesShowRegisters};
 ghost use Rattle.sloth_commands.specs.BuiltResponses.{BuiltRunsKeepResponses};
-ghost use Rattle.sloth_commands.specs.BuiltRuns.{BuiltRunsAreChecked, BuiltRunsKeepBlockingBounds};
+ghost use Rattle.sloth_commands.specs.BuiltRuns.{BuiltRunsAreChecked, BuiltRunsHaveRequests, BuiltRunsKeepBlockingBounds};
 ghost use Rattle.sloth_commands.specs.CheckedRuns.{SoundRunsAreChecked};
 ghost use Rattle.sloth_commands.specs.PrintedMap.{PrintsMapOfImage};
 
@@ -43,4 +43,9 @@ pub fn built_files_are_right()
 /// Wherever a run of an image that is built finds interrupts open, the registers that `debug` shows of its tasks are those of the abstract scheduler.
 pub fn built_images_show_registers()
     ensures { BuiltImagesShowRegisters }
+{}
+
+/// Every run of an image that is built asks of tasks and counters what `losses` counts, by the states of the abstract scheduler.
+pub fn built_runs_have_requests()
+    ensures { BuiltRunsHaveRequests }
 {}

@@ -10,6 +10,7 @@
 //! response times that `response` tells of its texts (`built_runs_keep_responses`; `specs/BuiltResponses`). And the map that `map`
 //! prints of texts is that by which each piece of their image stands (`prints_map_of_image`; `specs/PrintedMap`). The formulas that `orti` writes are right wherever
 //! interrupts are open (`built_files_are_right`; `specs/BuiltFormulas`), and so are the registers of tasks that `debug` shows (`built_images_show_registers`; `specs/BuiltRegisters`).
+//! What each run asks of tasks and counters, and loses, is what `losses` counts (`built_runs_have_requests`; `specs/BuiltRuns`).
 //!
 //! What the top call promises of tools: `specs/ToolFiles` (`IsToolAnswer`, the table of tools that the definitions of `core_commands` take), `specs/ToolAnswers`,
 //! `specs/ToolLines`. What a tool answers: `tool_commands` (`Answers`). The other commands: `core_commands`.

@@ -60,3 +60,10 @@ pub record IsSymbolFile (oil src name file : List ℕ) : Type 0 where
 abbrev pub OneSymbolFile : Type 0
 OneSymbolFile =
     (oil src name one other : List ℕ) (h : IsSymbolFile oil src name one) (k : IsSymbolFile oil src name other) → h.image ≡ k.image → one ≡ other
+
+-- The file of texts fits each image that is built of them: each symbol and each line has the address where that image has the piece or the item. The bytes
+-- that it loads are those of the image that it was made from.
+abbrev pub FitsEachImage : Type 0
+FitsEachImage =
+    (oil src name file : List ℕ) (h : IsSymbolFile oil src name file) (image : Image) (built : IsBuilt h.config h.app image)
+    → file ≡ symbol_file (parts_of name (source_origins src) h.config h.app built.planned.by_map.map h.image.memory)

@@ -4,12 +4,17 @@ ghost use Rattle.symbol_build.specs.SourceFiles.{FilesSaySource};
 ghost use Rattle.symbol_build.specs.SourceRows.{SourceLinesAreRows};
 ghost use Rattle.symbol_build.specs.StandingSections.{NamesStand, SectionsStand};
 ghost use Rattle.symbol_build.specs.StandingSymbols.{SymbolsStand};
-ghost use Rattle.symbol_build.specs.SymbolFiles.{OneSymbolFile};
+ghost use Rattle.symbol_build.specs.SymbolFiles.{FitsEachImage, OneSymbolFile};
 ghost use Rattle.symbol_build.specs.SymbolNames.{LocalNamesDiffer};
 
 /// Texts have one file for each image.
 pub fn one_symbol_file()
     ensures { OneSymbolFile }
+{}
+
+/// The file of texts fits each image that is built of them.
+pub fn fits_each_image()
+    ensures { FitsEachImage }
 {}
 
 /// No two local symbols of a planned map have one name.

@@ -12,7 +12,7 @@ reads_image tool.Unelf = false
 reads_image tool.Infer = false
 reads_image tool.At = true
 reads_image tool.AtAll = true
-reads_image tool.Losses = true
+reads_image tool.Losses = false
 reads_image tool.Wave = true
 reads_image tool.Picture = true
 reads_image tool.Check = false
@@ -30,6 +30,7 @@ reads_image tool.Orti = false
 reads_image tool.Labels = false
 reads_image tool.TraceReason = false
 reads_image tool.Unused = false
+reads_image tool.RunResponse = false
 
 -- these bytes are an image's
 abbrev pub HasImage : List ℕ → Type 0

@@ -4,8 +4,6 @@ pub mod BoundsAnswers
 pub mod CheckAnswers
 pub mod ElfAnswers
 pub mod InferAnswers
-pub mod LossesAnswers
-pub mod LossesLines
 pub mod MapAnswers
 pub mod ResponseAnswers
 pub mod SharesAnswers

@@ -21,7 +21,6 @@ use Rattle.tool_commands.proofs.BoundsAnswers.{BoundsSays, LatencySays, LowerCou
 use Rattle.tool_commands.proofs.CheckAnswers.{one_check}
 use Rattle.tool_commands.proofs.ElfAnswers.{Wrote, elf-one, elf-view, unelf-one}
 use Rattle.tool_commands.proofs.InferAnswers.{infer-one}
-use Rattle.tool_commands.proofs.LossesAnswers.{losses-one, losses-image}
 use Rattle.tool_commands.proofs.MapAnswers.{MapSays, one_map}
 use Rattle.tool_commands.proofs.OrtiAnswers.{one_orti}
 use Rattle.tool_commands.proofs.ResponseAnswers.{one_response_answer}
@@ -38,7 +37,7 @@ one_answer tool.Unelf counts names inputs a b d p q = unelf-one (input inputs 0)
 one_answer tool.Infer counts names inputs a b d p q = infer-one (input inputs 0) (input inputs 1) a b p q
 one_answer tool.At counts names inputs a b d p q = at-one (input inputs 0) (input inputs 1) (number_of counts) a b p q
 one_answer tool.AtAll counts names inputs a b d p q = all-one (input inputs 0) (input inputs 1) (number_of counts) a b p q
-one_answer tool.Losses counts names inputs a b d p q = losses-one (input inputs 0) (input inputs 1) (number_of counts) a b p q
+one_answer tool.Losses counts names inputs a b d p q = absurd (false≢true d)
 one_answer tool.Wave counts names inputs a b d p q =
     let n = number_of counts in run-one (Waves n) (input inputs 0) (input inputs 1) n (one_waves n) a b p q
 one_answer tool.Picture counts names inputs a b d p q =
@@ -63,6 +62,7 @@ one_answer tool.Why counts names inputs a b d p q = absurd (false≢true d)
 one_answer tool.TaskBound counts names inputs a b d p q = absurd (false≢true d)
 one_answer tool.Labels counts names inputs a b d p q = absurd (false≢true d)
 one_answer tool.TraceReason counts names inputs a b d p q = absurd (false≢true d)
+one_answer tool.RunResponse counts names inputs a b d p q = absurd (false≢true d)
 one_answer tool.Unused counts names inputs a b d p q =
     let oil = input inputs 0 in let src = input inputs 1 in one_source oil src (UnusedSays oil src) (one_unused oil src) a b p q
 
@@ -91,6 +91,7 @@ reads-one tool.Orti h = omega arith
 reads-one tool.Labels h = omega arith
 reads-one tool.TraceReason h = omega arith
 reads-one tool.Unused h = omega arith
+reads-one tool.RunResponse h = omega arith
 
 -- only a tool that reads an image file says that it is none, by its first fault
 pub no-image : (t : Tool) (counts : Option Counts) (names inputs : List (List ℕ)) (fault : ImageFault)
@@ -101,7 +102,7 @@ no-image tool.Unelf counts names inputs fault h = absurd h
 no-image tool.Infer counts names inputs fault h = absurd h
 no-image tool.At counts names inputs fault h = (refl, h)
 no-image tool.AtAll counts names inputs fault h = (refl, h)
-no-image tool.Losses counts names inputs fault h = (refl, h)
+no-image tool.Losses counts names inputs fault h = absurd h
 no-image tool.Wave counts names inputs fault h = (refl, h)
 no-image tool.Picture counts names inputs fault h = (refl, h)
 no-image tool.Check counts names inputs fault h = absurd h
@@ -119,6 +120,7 @@ no-image tool.Orti counts names inputs fault h = absurd h
 no-image tool.Labels counts names inputs fault h = absurd h
 no-image tool.TraceReason counts names inputs fault h = absurd h
 no-image tool.Unused counts names inputs fault h = absurd h
+no-image tool.RunResponse counts names inputs fault h = absurd h
 
 -- what an answer says of the image file that is read
 pub image-or-fault : (t : Tool) (counts : Option Counts) (names inputs : List (List ℕ)) (a : ToolAnswer) → IsTrue (reads_image t)
@@ -134,7 +136,7 @@ image-or-fault tool.Unelf counts names inputs a reads h = absurd (false≢true r
 image-or-fault tool.Infer counts names inputs a reads h = absurd (false≢true reads)
 image-or-fault tool.At counts names inputs a reads h = at-image (input inputs 0) (input inputs 1) (number_of counts) a h
 image-or-fault tool.AtAll counts names inputs a reads h = all-image (input inputs 0) (input inputs 1) (number_of counts) a h
-image-or-fault tool.Losses counts names inputs a reads h = losses-image (input inputs 0) (input inputs 1) (number_of counts) a h
+image-or-fault tool.Losses counts names inputs a reads h = absurd (false≢true reads)
 image-or-fault tool.Wave counts names inputs a reads h =
     let n = number_of counts in run-image (Waves n) (input inputs 0) (input inputs 1) n (one_waves n) a h
 image-or-fault tool.Picture counts names inputs a reads h =
@@ -154,3 +156,4 @@ image-or-fault tool.Orti counts names inputs a reads h = absurd (false≢true re
 image-or-fault tool.Labels counts names inputs a reads h = absurd (false≢true reads)
 image-or-fault tool.TraceReason counts names inputs a reads h = absurd (false≢true reads)
 image-or-fault tool.Unused counts names inputs a reads h = absurd (false≢true reads)
+image-or-fault tool.RunResponse counts names inputs a reads h = absurd (false≢true reads)

@@ -7,7 +7,9 @@ use Rattle.response_text.specs.ResponseText.{IsResponseText}
 use Rattle.response_text.specs.TaskText.{IsTaskText}
 use Rattle.response_text.proofs.OneText.{one_text}
 use Rattle.response_text.proofs.Refused.{not_refused, one_way}
-use Rattle.tool_commands.specs.ResponseAnswers.{IsResponseAnswer, IsTaskResponseAnswer, response_answer}
+use Rattle.run_load.specs.declared.lines.ToldRun.{ToldRun}
+use Rattle.run_load.specs.RunText.{IsRunText}
+use Rattle.tool_commands.specs.ResponseAnswers.{IsResponseAnswer, IsTaskResponseAnswer, IsRunResponseAnswer, response_answer, run_answer}
 use Rattle.tool_answers.specs.declared.answer.ToolAnswer.{ToolAnswer}
 use Rattle.tool_answers.specs.declared.answer.ToolAnswer.TheVariants as answer
 use Rattle.tool_commands.proofs.ElfAnswers.{same-outcome}
@@ -86,3 +88,12 @@ task_told_answer oil src load name told h = by told.is_open h
         → IsTaskResponseAnswer oil src load name (response_answer (record { text = told.text; is_open = late }))
     by true is = is
     by false is = (is, refl)
+
+-- and of a run
+pub run_told_answer : (oil src load arr : List ℕ) (n : ℕ) (told : ToldRun) → IsRunText oil src load arr n told → IsRunResponseAnswer oil src load arr n (run_answer told)
+run_told_answer oil src load arr n told h = by told.keeps h
+  where
+    by : (keeps : Bool) → IsRunText oil src load arr n (record { text = told.text; keeps = keeps })
+        → IsRunResponseAnswer oil src load arr n (run_answer (record { text = told.text; keeps = keeps }))
+    by true is = (is, refl)
+    by false is = is

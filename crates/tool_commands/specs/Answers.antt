@@ -17,7 +17,7 @@ use Rattle.tool_commands.specs.WhyAnswers.{IsWhyAnswer, IsTaskBoundAnswer}
 use Rattle.tool_commands.specs.LabelsAnswers.{IsLabelsAnswer}
 use Rattle.tool_commands.specs.TraceReasons.{IsTraceReasonAnswer}
 use Rattle.tool_commands.specs.UnusedAnswers.{IsUnusedAnswer}
-use Rattle.tool_commands.specs.ResponseAnswers.{IsResponseAnswer, IsTaskResponseAnswer}
+use Rattle.tool_commands.specs.ResponseAnswers.{IsResponseAnswer, IsTaskResponseAnswer, IsRunResponseAnswer}
 use Rattle.tool_commands.specs.OrtiAnswers.{IsOrtiAnswer}
 use Rattle.tool_commands.specs.PictureAnswers.{IsPictureAnswer}
 use Rattle.tool_commands.specs.SymbolsAnswers.{IsSymbolsAnswer}
@@ -35,7 +35,8 @@ IsAnswer tool.Unelf counts names inputs answer = IsUnelfAnswer (input inputs 0) 
 IsAnswer tool.Infer counts names inputs answer = IsInferAnswer (input inputs 0) (input inputs 1) answer
 IsAnswer tool.At counts names inputs answer = IsAtAnswer (input inputs 0) (input inputs 1) (number_of counts) answer
 IsAnswer tool.AtAll counts names inputs answer = IsAtAllAnswer (input inputs 0) (input inputs 1) (number_of counts) answer
-IsAnswer tool.Losses counts names inputs answer = IsLossesAnswer (input inputs 0) (input inputs 1) (number_of counts) answer
+IsAnswer tool.Losses counts names inputs answer =
+    IsLossesAnswer (input inputs 0) (input inputs 1) (input inputs 2) (number_of counts) answer
 IsAnswer tool.Wave counts names inputs answer = IsWaveAnswer (input inputs 0) (input inputs 1) (number_of counts) answer
 IsAnswer tool.Picture counts names inputs answer = IsPictureAnswer (input inputs 0) (input inputs 1) (window_of counts) answer
 IsAnswer tool.Check counts names inputs answer =
@@ -56,16 +57,19 @@ IsAnswer tool.Labels counts names inputs answer = IsLabelsAnswer (input inputs 0
 IsAnswer tool.TraceReason counts names inputs answer =
     IsTraceReasonAnswer (input inputs 0) (input inputs 1) (input inputs 2) (input inputs 3) (number_of counts) answer
 IsAnswer tool.Unused counts names inputs answer = IsUnusedAnswer (input inputs 0) (input inputs 1) answer
+IsAnswer tool.RunResponse counts names inputs answer =
+    IsRunResponseAnswer (input inputs 0) (input inputs 1) (input inputs 2) (input inputs 3) (number_of counts) answer
 
 -- Its answer is determined by what it reads. Of those that are not, the text is: a reason, of several that are true, of a refusal (`why`), of lists at labels
--- and of a text of events; a walk, of several of the greatest time, of a blocking time, and a start of a response; the file of `symbols`, by the image too.
+-- and of a text of events; a walk, of several of the greatest time, of a blocking time, and a start of a response; the file of `symbols`, the text of `losses` and the
+-- run of `response`, by the image too.
 abbrev pub is_determined : Tool → Bool
 is_determined tool.Elf = true
 is_determined tool.Unelf = true
 is_determined tool.Infer = true
 is_determined tool.At = true
 is_determined tool.AtAll = true
-is_determined tool.Losses = true
+is_determined tool.Losses = false
 is_determined tool.Wave = true
 is_determined tool.Picture = true
 is_determined tool.Check = true
@@ -83,6 +87,7 @@ is_determined tool.Orti = true
 is_determined tool.Labels = false
 is_determined tool.TraceReason = false
 is_determined tool.Unused = true
+is_determined tool.RunResponse = false
 
 -- files have one answer of such a tool
 abbrev pub OneAnswer : Type 0

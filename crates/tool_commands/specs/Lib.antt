@@ -6,7 +6,6 @@ pub mod ElfAnswers
 pub mod InferAnswers
 pub mod Lines
 pub mod LossesAnswers
-pub mod LossesText
 pub mod MapAnswers
 pub mod ResponseAnswers
 pub mod SharesAnswers

@@ -4,6 +4,9 @@ use Rattle.response_text.specs.declared.told.Told.{Told}
 use Rattle.response_text.specs.Inputs.{IsRefusal}
 use Rattle.response_text.specs.ResponseText.{IsResponseText}
 use Rattle.response_text.specs.TaskText.{IsTaskText}
+use Rattle.run_load.specs.declared.lines.ToldRun.{ToldRun}
+use Rattle.run_load.specs.RunText as run
+use Rattle.run_load.specs.RunText.{IsRunText}
 use Rattle.tool_answers.specs.declared.answer.ToolAnswer.{ToolAnswer}
 use Rattle.tool_answers.specs.declared.answer.ToolAnswer.TheVariants as answer
 
@@ -38,3 +41,21 @@ IsTaskResponseAnswer oil src load name (answer.Explained kind lines) = ⊥
 -- the answer that says what is told
 abbrev pub response_answer : Told → ToolAnswer
 response_answer told = cond told.is_open (answer.OpenDeadline told.text) (answer.Done (record { file = []; text = told.text }))
+
+-- `response` of a run: its lines, where it keeps the load; those of one that does not; or the first refusal of the four texts
+abbrev pub IsRunResponseAnswer : (oil src load arr : List ℕ) → ℕ → ToolAnswer → Type 0
+IsRunResponseAnswer oil src load arr n (answer.Done outcome) =
+    IsRunText oil src load arr n (record { text = outcome.text; keeps = true }) × (outcome.file ≡ [])
+IsRunResponseAnswer oil src load arr n (answer.OpenDeadline lines) = IsRunText oil src load arr n (record { text = lines; keeps = false })
+IsRunResponseAnswer oil src load arr n (answer.Refused refusal) = run.IsRefusal oil src load arr refusal
+IsRunResponseAnswer oil src load arr n (answer.Stopped pc stop) = ⊥
+IsRunResponseAnswer oil src load arr n (answer.NotAnImage fault) = ⊥
+IsRunResponseAnswer oil src load arr n (answer.NotAnElf fault) = ⊥
+IsRunResponseAnswer oil src load arr n (answer.BadTrace fault) = ⊥
+IsRunResponseAnswer oil src load arr n answer.NoHolds = ⊥
+IsRunResponseAnswer oil src load arr n (answer.Explained kind lines) = ⊥
+IsRunResponseAnswer oil src load arr n answer.NoTask = ⊥
+
+-- what is told of a run, as an answer
+abbrev pub run_answer : ToldRun → ToolAnswer
+run_answer told = cond told.keeps (answer.Done (record { file = []; text = told.text })) (answer.OpenDeadline told.text)

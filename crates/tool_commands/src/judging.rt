@@ -15,7 +15,7 @@ use crate::losses_command::losses;
 use crate::map_command::map;
 use crate::orti_command::orti;
 use crate::picture_command::picture;
-use crate::response_command::{response, task_response};
+use crate::response_command::{response, run_response, task_response};
 use crate::shares_command::shares;
 use crate::symbols_command::symbols;
 use crate::trace_reason_command::trace_reason;
@@ -70,6 +70,7 @@ pub fn judge(
             alloc,
             inputs[0].items(),
             inputs[1].items(),
+            inputs[2].items(),
             number_of(counts),
         ),
         Tool::Wave => wave(
@@ -134,5 +135,13 @@ pub fn judge(
             number_of(counts),
         ),
         Tool::Unused => unused(alloc, inputs[0].items(), inputs[1].items()),
+        Tool::RunResponse => run_response(
+            alloc,
+            inputs[0].items(),
+            inputs[1].items(),
+            inputs[2].items(),
+            inputs[3].items(),
+            number_of(counts),
+        ),
     }
 }

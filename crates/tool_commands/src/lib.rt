@@ -1,12 +1,12 @@
 //! The commands that read files, judge what they hold, and end with one answer: `elf`, `unelf`, `infer`, `check`, `at` alone and with `all`, `losses`, `wave`, `picture`,
 //! `bounds` alone and with `latency` or `counts`, `map`, `shares`, `unused`, `response`, `symbols`, `orti`, `why`.
 //!
-//! The files have exactly the answer that one table of all such commands says, and have one at most (`judge`, `one_answer`), but for `symbols`, whose
-//! file is one for each image (`symbol_build`), `why`, as one refusal may have several true witnesses, and `response` of one task, which may tell of any of
+//! The files have exactly the answer that one table of all such commands says, and have one at most (`judge`, `one_answer`), but for `symbols` and `losses`, whose
+//! file or text is one for each image (`symbol_build`, `losses_text`), `why`, as one refusal may have several true witnesses, and `response` of one task, which may tell of any of
 //! the longest windows. The table:
 //! `specs/Answers`, with a row for each in `specs/ElfAnswers`, `specs/InferAnswers`, `specs/AtAnswers`, `specs/AtAllAnswers`, `specs/LossesAnswers`, `specs/BoundsAnswers`, `specs/MapAnswers`,
 //! `specs/WaveAnswers`, `specs/PictureAnswers`, `specs/SymbolsAnswers`, `specs/OrtiAnswers`, `specs/SharesAnswers`, `specs/ResponseAnswers`, `specs/UnusedAnswers`, `specs/WhyAnswers`, `specs/LabelsAnswers`, `specs/TraceReasons`; what some of them share: `specs/SourceAnswers` (`bounds`, `map` and `shares`), `specs/RunAnswers` (`wave` and
-//! `picture`); `specs/Lines`. The lines of task states: `specs/StatesText`; of a whole system: `run_samples`; of arrivals: `specs/LossesText`. Words: `command_line` (`Tools`); the answer of `check`: `tool_answers`
+//! `picture`); `specs/Lines`. The lines of task states: `specs/StatesText`; of a whole system: `run_samples`. Words: `command_line` (`Tools`); the answer of `check`: `tool_answers`
 //! (`CheckAnswers`).
 #![tactic(auto)]
 
@@ -21,7 +21,6 @@ mod labels_command;
 pub mod laws;
 pub mod lines;
 mod losses_command;
-mod losses_lines;
 mod map_command;
 mod orti_command;
 mod picture_command;

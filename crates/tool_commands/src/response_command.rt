@@ -1,9 +1,11 @@
 //! The command `response`.
 ghost use Rattle.std.specs.Prelude.{◌≡◌, ◌≤◌, IfOk, length};
 ghost use Rattle.sloth_base.specs.Limits.{file_limit};
-ghost use Rattle.tool_commands.specs.ResponseAnswers.{IsResponseAnswer, IsTaskResponseAnswer, response_answer};
+ghost use Rattle.sloth_base.specs.Limits.{count_limit};
+ghost use Rattle.tool_commands.specs.ResponseAnswers.{IsResponseAnswer, IsTaskResponseAnswer, IsRunResponseAnswer, response_answer, run_answer};
 
 use response_text::{Told, response_parts, response_text};
+use run_load::{ToldRun, run_text};
 use sloth_base::{BuildError, List, NoMemory};
 use std::alloc::Global;
 use tool_answers::{Outcome, ToolAnswer};
@@ -54,6 +56,45 @@ pub fn task_response(
     match response_parts(alloc, oil, src, load, name) {
         Ok(Some(told)) => Ok(answer_of(alloc, told)),
         Ok(None) => Ok(ToolAnswer::NoTask),
+        Err(BuildError::Refused(refusal)) => Ok(ToolAnswer::Refused(refusal)),
+        Err(BuildError::Memory) => Err(NoMemory),
+    }
+}
+
+// What is told of a run, as an answer.
+fn run_answer(alloc: Global, told: ToldRun) -> ToolAnswer
+    ensures { result ≡ run_answer told }
+{
+    let ToldRun { text, keeps } = told;
+    if !keeps {
+        return ToolAnswer::OpenDeadline(text);
+    }
+    ToolAnswer::Done(Outcome {
+        file: List::from_vec(Vec::new(alloc)),
+        text,
+    })
+}
+
+#[tactic(auto, using(crate::proofs::ResponseAnswers::run_told_answer))]
+/// Whether a run of n instructions of two texts, with the arrivals of the last one, keeps the load of the third, and the longest responses that are seen in
+/// it; or the first refusal.
+pub fn run_response(
+    alloc: Global,
+    oil: &[u8],
+    src: &[u8],
+    load: &[u8],
+    arr: &[u8],
+    n: u32,
+) -> Result<ToolAnswer, NoMemory>
+    requires oil { length oil.now ≤ file_limit }
+    requires src { length src.now ≤ file_limit }
+    requires load { length load.now ≤ file_limit }
+    requires arr { length arr.now ≤ file_limit }
+    requires few { n ≤ count_limit }
+    ensures { IfOk result (λ answer. IsRunResponseAnswer oil.now src.now load.now arr.now n answer) }
+{
+    match run_text(alloc, oil, src, load, arr, n) {
+        Ok(told) => Ok(run_answer(alloc, told)),
         Err(BuildError::Refused(refusal)) => Ok(ToolAnswer::Refused(refusal)),
         Err(BuildError::Memory) => Err(NoMemory),
     }

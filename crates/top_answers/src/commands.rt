@@ -5,7 +5,7 @@ use crate::rows::Piece::{Address, Number, Text};
 use crate::rows::{Rows, shown};
 use crate::texts::{LONGEST, Texts, add, append, number_before, push, refill};
 use debug_command::{debug, debug_words};
-use debug_session::MemInput;
+use debug_session::{MemInput, Transcript};
 use sloth_base::{List, Name, NoMemory};
 use sloth_cli::{Status, sloth_top};
 use sloth_io::{MemFile, MemSink, MemStore};
@@ -71,7 +71,8 @@ fn top(alloc: Global, words: &[String], files: &mut MemStore, out: &mut MemSink)
     let mut bytes = Vec::new(alloc);
     append(&mut bytes, files.file("oil").unwrap_or(b""));
     let mut input = MemInput::new(bytes.as_slice(), false);
-    debug(alloc, files, &mut input, out, &asked)
+    let mut transcript = Transcript::new();
+    debug(alloc, files, &mut input, out, &mut transcript, &asked)
 }
 
 impl Outcome {

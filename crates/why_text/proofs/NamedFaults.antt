@@ -14,7 +14,7 @@ use Rattle.stage_faults.specs.declared.notes.Note.{Note}
 use Rattle.stage_faults.specs.Told.{IsTold, TellSame, Rise, AreInOrder, note_order}
 use Rattle.stage_faults.proofs.Telling.{none_told, told_left, told_right, told_cases}
 use Rattle.stage_faults.proofs.Places.{one_note, same_line, same_code_at, tell_on, tell_permuted}
-use Rattle.why_text.specs.NamedFaults.{is_at, StandsAt, AddsGroup, AddsSome, NamesAll}
+use Rattle.why_text.specs.NamedFaults.{is_same_place, StandsAt, AddsGroup, AddsSome, NamesAll}
 
 own_of : (f : Bool) → not f ≡ true → f ≡ false
 own_of true e = absurd (true≢false (sym e))

@@ -7,11 +7,11 @@ use Rattle.stage_faults.specs.declared.notes.Note.{Note}
 use Rattle.stage_faults.specs.Told.{TellSame, note_order}
 
 -- a fault stands where another does, and follows from none
-abbrev pub is_at : Note → Note → Bool
-is_at fault note = (note_order note == note_order fault) && not note.follows
+abbrev pub is_same_place : Note → Note → Bool
+is_same_place fault note = (note_order note == note_order fault) && not note.follows
 
 abbrev pub StandsAt : Note → Note → Type 0
-StandsAt fault note = is_at fault note ≡ true
+StandsAt fault note = is_same_place fault note ≡ true
 
 -- The new ones are the old ones, and behind them at least one that stands where the fault does, and no other.
 pub record AddsGroup (fault : Note) (old new : List Note) : Type 0 where

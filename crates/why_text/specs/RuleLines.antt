@@ -141,9 +141,9 @@ target_lines config f None = []
 target_lines config f (Some k) = name_line (label_of f k).name ++ list_line config (codes "lists") (label_of f k).holds
 
 -- the resource of an operation
-abbrev pub object_of : Op → ℕ
-object_of (op.Serve call) = call.object
-object_of _ = 0
+abbrev pub op_object : Op → ℕ
+op_object (op.Serve call) = call.object
+op_object _ = 0
 
 -- V8: the last one taken, if there is one
 abbrev pub last_lines : Config → List ℕ → List ℕ
@@ -151,24 +151,24 @@ last_lines config [] = []
 last_lines config (r ∷ held) = word_line (codes "wants") (resource_name config (get_or (r ∷ held) (length held) 0))
 
 abbrev pub release_lines : Config → List ℕ → Op → List ℕ
-release_lines config held o = name_line (resource_name config (object_of o)) ++ last_lines config held
+release_lines config held o = name_line (resource_name config (op_object o)) ++ last_lines config held
 
 -- what an operation calls
-abbrev pub callee_of : Op → ℕ
-callee_of (op.Invoke g) = g
-callee_of _ = 0
+abbrev pub op_callee : Op → ℕ
+op_callee (op.Invoke g) = g
+op_callee _ = 0
 
 -- the item that the calls lead to
 abbrev pub culprit_item : App → Op → Calls → Item
-culprit_item app o calls = item_of (function app (chain_end (callee_of o) calls.links)) calls.item
+culprit_item app o calls = item_of (function app (chain_end (op_callee o) calls.links)) calls.item
 
 abbrev pub called_lines : App → Item → Calls → List ℕ
-called_lines app item calls = calls_line app (function app (callee_of item.op)).name item.line calls.links (Some (culprit_item app item.op calls))
+called_lines app item calls = calls_line app (function app (op_callee item.op)).name item.line calls.links (Some (culprit_item app item.op calls))
 
 -- V9: the resource that is taken twice, and the calls that take it
 abbrev pub taken_lines : Config → App → Item → Option Calls → List ℕ
-taken_lines config app item None = name_line (resource_name config (object_of item.op))
-taken_lines config app item (Some calls) = name_line (resource_name config (object_of (culprit_item app item.op calls).op)) ++ called_lines app item calls
+taken_lines config app item None = name_line (resource_name config (op_object item.op))
+taken_lines config app item (Some calls) = name_line (resource_name config (op_object (culprit_item app item.op calls).op)) ++ called_lines app item calls
 
 -- V10
 abbrev pub left_lines : App → Item → Option Calls → List ℕ
@@ -191,7 +191,7 @@ event_lines config (Some e) = name_line (get_or config.events e no_event).name
 
 -- what the task lacks
 abbrev pub lacked_lines : Config → Op → Option ℕ → List ℕ
-lacked_lines config o event = cond (is_of_resource o) (name_line (resource_name config (object_of o))) (event_lines config event)
+lacked_lines config o event = cond (is_of_resource o) (name_line (resource_name config (op_object o))) (event_lines config event)
 
 -- the calls from the task's body, if there are any
 abbrev pub user_calls : App → ℕ → List Link → List ℕ

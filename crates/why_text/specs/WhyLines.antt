@@ -1,5 +1,5 @@
 -- The answer of the command `why`.
-use Rattle.std.specs.Prelude.{ℕ, ◌≡◌, ◌<◌, ◌≤◌, ◌⊎◌, List, [], length, Option, Some, None}
+use Rattle.std.specs.Prelude.{ℕ, ◌≡◌, ◌<◌, ◌≤◌, ◌⊎◌, List, [], length}
 use Rattle.sloth_base.specs.declared.config.Config.{Config}
 use Rattle.sloth_base.specs.declared.app.App.{App}
 use Rattle.sloth_base.specs.declared.refusal.Code.{Code}
@@ -91,36 +91,36 @@ abbrev pub TellsNames : (oil src : List ℕ) → List ℕ → Type 0
 TellsNames oil src lines = (config : Config) → OilText oil config → TellsNamesFor config src lines
 
 -- what explains a refusal, by its code
-abbrev pub cause_of : Code → Cause
-cause_of code.O7 = cause.OilName
-cause_of code.O8 = cause.OilName
-cause_of code.O9 = cause.OilName
-cause_of code.O10 = cause.OilName
-cause_of code.O11 = cause.OilName
-cause_of code.O12 = cause.OilName
-cause_of code.O13 = cause.OilName
-cause_of code.O14 = cause.OilName
-cause_of code.O15 = cause.OilName
-cause_of code.A1 = cause.SourceForm
-cause_of code.A2 = cause.SourceForm
-cause_of code.A3 = cause.SourceForm
-cause_of code.A4 = cause.SourceForm
-cause_of code.A5 = cause.SourceName
-cause_of code.A6 = cause.SourceName
-cause_of code.A7 = cause.SourceName
-cause_of code.V1 = cause.Cycle
-cause_of code.V2 = cause.Rule
-cause_of code.V3 = cause.Rule
-cause_of code.V4 = cause.Rule
-cause_of code.V5 = cause.Rule
-cause_of code.V6 = cause.Rule
-cause_of code.V7 = cause.Rule
-cause_of code.V8 = cause.Rule
-cause_of code.V9 = cause.Rule
-cause_of code.V10 = cause.Rule
-cause_of code.V11 = cause.Rule
-cause_of code.V12 = cause.Rule
-cause_of _ = cause.Nothing
+abbrev pub code_cause : Code → Cause
+code_cause code.O7 = cause.OilName
+code_cause code.O8 = cause.OilName
+code_cause code.O9 = cause.OilName
+code_cause code.O10 = cause.OilName
+code_cause code.O11 = cause.OilName
+code_cause code.O12 = cause.OilName
+code_cause code.O13 = cause.OilName
+code_cause code.O14 = cause.OilName
+code_cause code.O15 = cause.OilName
+code_cause code.A1 = cause.SourceForm
+code_cause code.A2 = cause.SourceForm
+code_cause code.A3 = cause.SourceForm
+code_cause code.A4 = cause.SourceForm
+code_cause code.A5 = cause.SourceName
+code_cause code.A6 = cause.SourceName
+code_cause code.A7 = cause.SourceName
+code_cause code.V1 = cause.Cycle
+code_cause code.V2 = cause.Rule
+code_cause code.V3 = cause.Rule
+code_cause code.V4 = cause.Rule
+code_cause code.V5 = cause.Rule
+code_cause code.V6 = cause.Rule
+code_cause code.V7 = cause.Rule
+code_cause code.V8 = cause.Rule
+code_cause code.V9 = cause.Rule
+code_cause code.V10 = cause.Rule
+code_cause code.V11 = cause.Rule
+code_cause code.V12 = cause.Rule
+code_cause _ = cause.Nothing
 
 -- the most bytes of the lines of a cycle or of a fault of task code; where they are more, none is told
 abbrev pub lines_limit : ℕ
@@ -137,16 +137,11 @@ AreLinesBy cause.Rule oil src r lines = (lines ≡ []) ⊎ (TellsFault oil src r
 
 -- what the lines behind a refusal are
 abbrev pub AreWhyLines : (oil src : List ℕ) → Refusal → List ℕ → Type 0
-AreWhyLines oil src r lines = AreLinesBy (cause_of r.code) oil src r lines
+AreWhyLines oil src r lines = AreLinesBy (code_cause r.code) oil src r lines
 
 -- the texts are accepted
 abbrev pub AreAcceptedTexts : (oil src : List ℕ) → Type 0
 AreAcceptedTexts oil src = (config : Config) × (app : App) × AreAccepted oil src config app
-
--- the first refusal of the texts, if they are not accepted
-abbrev pub IsVerdict : (oil src : List ℕ) → Option Refusal → Type 0
-IsVerdict oil src None = AreAcceptedTexts oil src
-IsVerdict oil src (Some refusal) = FirstRefusal oil src refusal
 
 -- the texts are accepted, or have this first refusal with these lines behind it
 abbrev pub IsWhy : (oil src : List ℕ) → Why → Type 0

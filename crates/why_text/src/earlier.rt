@@ -6,7 +6,7 @@ use stage_faults::Position;
 use text_pieces::same;
 
 // The line of the first object of this kind and name.
-fn declared_on(objects: &[OilObject], kind: &[u8], name: &[u8]) -> Option<u32> {
+fn declaration_line(objects: &[OilObject], kind: &[u8], name: &[u8]) -> Option<u32> {
     for object in objects {
         if declares(object, kind, name) {
             return Some(object.line);
@@ -15,7 +15,7 @@ fn declared_on(objects: &[OilObject], kind: &[u8], name: &[u8]) -> Option<u32> {
     None
 }
 
-fn system_on(objects: &[OilObject]) -> Option<u32> {
+fn system_line(objects: &[OilObject]) -> Option<u32> {
     for object in objects {
         if is_of_kind(object, b"OS") {
             return Some(object.line);
@@ -38,18 +38,14 @@ fn other_kind(object: &OilObject) -> &'static [u8] {
 // The line of the first of these objects that an object doubles.
 fn doubled_line(front: &[OilObject], object: &OilObject) -> Option<u32> {
     if is_of_kind(object, b"OS") {
-        return system_on(front);
+        return system_line(front);
     }
     let name = object.name.bytes();
-    let first = declared_on(front, object.kind.bytes(), name);
+    let first = declaration_line(front, object.kind.bytes(), name);
     if first.is_some() {
         return first;
     }
-    declared_on(front, other_kind(object), name)
-}
-
-fn is_same_use(earlier: &OilAttr, attr: &OilAttr) -> bool {
-    earlier.depth == attr.depth && same(earlier.name.bytes(), attr.name.bytes())
+    declaration_line(front, other_kind(object), name)
 }
 
 // The line of the first use of an attribute's name in its block.
@@ -58,11 +54,15 @@ fn used_line(attrs: &[OilAttr], number: usize) -> Option<u32> {
         return None;
     }
     let attr = &attrs[number];
+    let name = attr.name.bytes();
     let mut first = None;
     for earlier in &attrs[..number] {
         if earlier.depth < attr.depth {
             first = None;
-        } else if first.is_none() && is_same_use(earlier, attr) {
+        } else if first.is_none()
+            && earlier.depth == attr.depth
+            && same(earlier.name.bytes(), name)
+        {
             first = Some(earlier.line);
         }
     }

@@ -8,7 +8,7 @@ ghost use Rattle.call_graph.specs.Ranks.{RanksOf};
 ghost use Rattle.sloth_source.specs.OilText.{OilText};
 ghost use Rattle.sloth_source.specs.SourceText.{HasApp};
 ghost use Rattle.sloth_source.specs.RankedTexts.{HasRanks};
-ghost use Rattle.why_text.specs.WhyLines.{TellsFault, TellsNames, TellsCycle, IsCycleLine, IsCycleOn, HasCycleIn, HasWitnessLines, cause_of, lines_limit, AreLinesBy, AreWhyLines};
+ghost use Rattle.why_text.specs.WhyLines.{TellsFault, TellsNames, TellsCycle, IsCycleOn, HasCycleIn, HasWitnessLines, code_cause, lines_limit, AreLinesBy, AreWhyLines};
 
 use crate::meaning::oil_text;
 use crate::named_events::named_events;
@@ -17,7 +17,7 @@ use crate::rule_lines::{cycle_line, witness_lines};
 use asm_lines::{SourceLine, read};
 use asm_parse::parse_app;
 use call_graph::Ranks;
-use fault_witnesses::{cycle_calls, witness_of};
+use fault_witnesses::{cycle_calls, fault_witness};
 use sloth_base::{App, BuildError, Code, Config, List, NoMemory, Refusal};
 use sloth_source::{Ranked, read_config, read_ranked};
 use std::alloc::Global;
@@ -31,7 +31,7 @@ fn no_lines(alloc: Global) -> List<u8>
 // ---- names
 
 // The configuration of a text, if it has one.
-fn config_of(alloc: Global, oil: &[u8]) -> Result<Option<Config>, NoMemory>
+fn text_config(alloc: Global, oil: &[u8]) -> Result<Option<Config>, NoMemory>
     requires { length oil.now < 4294967295 }
     ensures means { IfOk result (λ found. IfSome found (OilText oil.now)) }
     ensures none { IfOk result (λ found. IfNone found ((config : Config) → OilText oil.now config → ⊥)) }
@@ -50,7 +50,7 @@ fn name_lines(alloc: Global, oil: &[u8], src: &[u8], refusal: Refusal) -> Result
     requires src { length src.now < 4294967295 }
     ensures { IfOk result (TellsNames oil.now src.now) }
 {
-    match config_of(alloc, oil)? {
+    match text_config(alloc, oil)? {
         Some(config) => names_text(alloc, &config, src, refusal),
         None => Ok(no_lines(alloc)),
     }
@@ -59,7 +59,7 @@ fn name_lines(alloc: Global, oil: &[u8], src: &[u8], refusal: Refusal) -> Result
 // ---- cycles of calls
 
 // The number of a body whose header stands on this line.
-fn body_on(app: &App, line: u32) -> Option<usize>
+fn body_on_line(app: &App, line: u32) -> Option<usize>
     ensures known { IfSome result (λ b. b < length app.now.funcs) }
     ensures line { IfSome result (λ b. line ≡ (function app.now b).line) }
 {
@@ -71,10 +71,13 @@ fn body_on(app: &App, line: u32) -> Option<usize>
     None
 }
 
-// The line of a cycle, if there is one.
-fn cycle_text(alloc: Global, app: &App, body: usize) -> Result<Option<List<u8>>, NoMemory>
-    ensures { IfOk result (λ found. IfSome found (λ lines. IsCycleLine app.now body lines)) }
+// The line of a cycle of calls of the body with this header, if there is one.
+fn cycle_on_line(alloc: Global, app: &App, line: u32) -> Result<Option<List<u8>>, NoMemory>
+    ensures { IfOk result (λ found. IfSome found (λ lines. IsCycleOn app.now line lines)) }
 {
+    let Some(body) = body_on_line(app, line) else {
+        return Ok(None);
+    };
     match cycle_calls(alloc, app, body)? {
         Some(links) => {
             let text = cycle_line(alloc, app, body, links.items())?;
@@ -84,17 +87,8 @@ fn cycle_text(alloc: Global, app: &App, body: usize) -> Result<Option<List<u8>>,
     }
 }
 
-fn cycle_on(alloc: Global, app: &App, line: u32) -> Result<Option<List<u8>>, NoMemory>
-    ensures { IfOk result (λ found. IfSome found (λ lines. IsCycleOn app.now line lines)) }
-{
-    match body_on(app, line) {
-        Some(body) => cycle_text(alloc, app, body),
-        None => Ok(None),
-    }
-}
-
 // The task code of a text, if it has any.
-fn app_of(alloc: Global, config: &Config, src: &[u8]) -> Result<Option<App>, NoMemory>
+fn text_app(alloc: Global, config: &Config, src: &[u8]) -> Result<Option<App>, NoMemory>
     requires src { length src.now < 4294967295 }
     requires config { InRange config.now }
     ensures { IfOk result (λ found. IfSome found (HasApp src.now config.now)) }
@@ -106,7 +100,7 @@ fn app_of(alloc: Global, config: &Config, src: &[u8]) -> Result<Option<App>, NoM
     }
 }
 
-fn cycle_of(
+fn source_cycle(
     alloc: Global,
     src: &[u8],
     config: &Config,
@@ -116,13 +110,13 @@ fn cycle_of(
     requires config { InRange config.now }
     ensures { IfOk result (λ found. IfSome found (λ lines. HasCycleIn src.now config.now line lines)) }
 {
-    match app_of(alloc, config, src)? {
-        Some(app) => cycle_on(alloc, &app, line),
+    match text_app(alloc, config, src)? {
+        Some(app) => cycle_on_line(alloc, &app, line),
         None => Ok(None),
     }
 }
 
-fn cycle_for(
+fn refusal_cycle(
     alloc: Global,
     oil: &[u8],
     src: &[u8],
@@ -132,8 +126,8 @@ fn cycle_for(
     requires src { length src.now < 4294967295 }
     ensures { IfOk result (λ found. IfSome found (TellsCycle oil.now src.now refusal)) }
 {
-    match config_of(alloc, oil)? {
-        Some(config) => cycle_of(alloc, src, &config, refusal.line),
+    match text_config(alloc, oil)? {
+        Some(config) => source_cycle(alloc, src, &config, refusal.line),
         None => Ok(None),
     }
 }
@@ -141,7 +135,7 @@ fn cycle_for(
 // ---- rules of task code
 
 // What the lines of a text are, if none is at fault.
-fn lines_of(alloc: Global, src: &[u8]) -> Result<List<SourceLine>, NoMemory>
+fn text_lines(alloc: Global, src: &[u8]) -> Result<List<SourceLine>, NoMemory>
     requires { length src.now < 4294967295 }
 {
     match read(alloc, src) {
@@ -152,7 +146,7 @@ fn lines_of(alloc: Global, src: &[u8]) -> Result<List<SourceLine>, NoMemory>
 }
 
 // What is shown of a fault, in these lines.
-fn fault_text(
+fn shown_fault(
     alloc: Global,
     config: &Config,
     app: &App,
@@ -165,7 +159,7 @@ fn fault_text(
     ensures { IfOk result (λ found. IfSome found (λ text. HasWitnessLines config.now app.now refusal text)) }
 {
     let events = named_events(alloc, config, lines, refusal.line)?;
-    match witness_of(alloc, config, app, ranks, refusal, &events)? {
+    match fault_witness(alloc, config, app, ranks, refusal, &events)? {
         Some(witness) => {
             let text = witness_lines(alloc, config, app, refusal, &witness)?;
             Ok(Some(List::from_vec(text)))
@@ -175,7 +169,7 @@ fn fault_text(
 }
 
 /// The lines that tell a fault of this task code of V2 to V12, of at most 4,294,967,294 bytes of source.
-pub fn fault_of(
+pub fn told_fault(
     alloc: Global,
     src: &[u8],
     config: &Config,
@@ -188,12 +182,12 @@ pub fn fault_of(
     requires belong { RanksOf app.now ranks.now }
     ensures { IfOk result (λ found. IfSome found (λ text. HasWitnessLines config.now app.now refusal text)) }
 {
-    let lines = lines_of(alloc, src)?;
-    fault_text(alloc, config, app, ranks, lines.items(), refusal)
+    let lines = text_lines(alloc, src)?;
+    shown_fault(alloc, config, app, ranks, lines.items(), refusal)
 }
 
 /// What both texts mean, of at most 4,294,967,294 bytes each, if no rule up to V1 is broken.
-pub fn ranked_of(alloc: Global, oil: &[u8], src: &[u8]) -> Result<Option<Ranked>, NoMemory>
+pub fn ranked_texts(alloc: Global, oil: &[u8], src: &[u8]) -> Result<Option<Ranked>, NoMemory>
     requires oil { length oil.now < 4294967295 }
     requires src { length src.now < 4294967295 }
     ensures has_ranks { IfOk result (λ found. IfSome found (λ ranked. HasRanks oil.now src.now ranked.config ranked.app)) }
@@ -207,7 +201,7 @@ pub fn ranked_of(alloc: Global, oil: &[u8], src: &[u8]) -> Result<Option<Ranked>
     }
 }
 
-fn fault_for(
+fn refusal_fault(
     alloc: Global,
     oil: &[u8],
     src: &[u8],
@@ -217,9 +211,9 @@ fn fault_for(
     requires src { length src.now < 4294967295 }
     ensures { IfOk result (λ found. IfSome found (TellsFault oil.now src.now refusal)) }
 {
-    match ranked_of(alloc, oil, src)? {
+    match ranked_texts(alloc, oil, src)? {
         Some(Ranked { config, app, ranks }) => {
-            fault_of(alloc, src, &config, &app, &ranks, refusal)
+            told_fault(alloc, src, &config, &app, &ranks, refusal)
         },
         None => Ok(None),
     }
@@ -241,8 +235,8 @@ enum Cause {
     Rule,
 }
 
-fn cause_of(code: Code) -> Cause
-    ensures { result ≡ cause_of code }
+fn code_cause(code: Code) -> Cause
+    ensures { result ≡ code_cause code }
 {
     match code {
         Code::O7 | Code::O8 | Code::O9 | Code::O10 | Code::O11 => Cause::OilName,
@@ -271,36 +265,8 @@ fn few_lines(alloc: Global, found: Option<List<u8>>) -> List<u8>
     }
 }
 
-fn cycle_lines(
-    alloc: Global,
-    oil: &[u8],
-    src: &[u8],
-    refusal: Refusal,
-) -> Result<List<u8>, NoMemory>
-    requires oil { length oil.now < 4294967295 }
-    requires src { length src.now < 4294967295 }
-    ensures { IfOk result (λ lines. (lines ≡ []) ⊎ (TellsCycle oil.now src.now refusal lines × (length lines ≤ lines_limit))) }
-{
-    let found = cycle_for(alloc, oil, src, refusal)?;
-    Ok(few_lines(alloc, found))
-}
-
-fn fault_lines(
-    alloc: Global,
-    oil: &[u8],
-    src: &[u8],
-    refusal: Refusal,
-) -> Result<List<u8>, NoMemory>
-    requires oil { length oil.now < 4294967295 }
-    requires src { length src.now < 4294967295 }
-    ensures { IfOk result (λ lines. (lines ≡ []) ⊎ (TellsFault oil.now src.now refusal lines × (length lines ≤ lines_limit))) }
-{
-    let found = fault_for(alloc, oil, src, refusal)?;
-    Ok(few_lines(alloc, found))
-}
-
 // The lines behind a refusal that is explained so.
-fn lines_by(
+fn cause_lines(
     alloc: Global,
     cause: Cause,
     oil: &[u8],
@@ -315,8 +281,14 @@ fn lines_by(
         Cause::OilName => oil_text(alloc, oil, refusal),
         Cause::SourceForm => forms_text(alloc, src, refusal),
         Cause::SourceName => name_lines(alloc, oil, src, refusal),
-        Cause::Cycle => cycle_lines(alloc, oil, src, refusal),
-        Cause::Rule => fault_lines(alloc, oil, src, refusal),
+        Cause::Cycle => {
+            let cycle = refusal_cycle(alloc, oil, src, refusal)?;
+            Ok(few_lines(alloc, cycle))
+        },
+        Cause::Rule => {
+            let fault = refusal_fault(alloc, oil, src, refusal)?;
+            Ok(few_lines(alloc, fault))
+        },
         Cause::Nothing => Ok(no_lines(alloc)),
     }
 }
@@ -332,5 +304,5 @@ pub fn lines_behind(
     requires src { length src.now < 4294967295 }
     ensures { IfOk result (AreWhyLines oil.now src.now refusal) }
 {
-    lines_by(alloc, cause_of(refusal.code), oil, src, refusal)
+    cause_lines(alloc, code_cause(refusal.code), oil, src, refusal)
 }

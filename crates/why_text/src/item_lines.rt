@@ -1,7 +1,7 @@
 //! The lines of an item that breaks a rule.
 ghost use Rattle.std.specs.Prelude.{◌≡◌, ◌++◌, ◌<◌, codes, length, Some, OnOk};
 ghost use Rattle.sloth_base.specs.Named.{function, item_of};
-ghost use Rattle.why_text.specs.RuleLines.{name_line, number_line, symbol_lines, size_lines, jump_name_lines, falls_out, run_out_lines, target_lines, object_of, last_lines, release_lines, callee_of, culprit_item, called_lines, taken_lines, left_lines, is_of_resource, event_lines, lacked_lines, user_calls, user_lines};
+ghost use Rattle.why_text.specs.RuleLines.{name_line, number_line, symbol_lines, size_lines, falls_out, run_out_lines, target_lines, op_object, last_lines, release_lines, op_callee, culprit_item, called_lines, taken_lines, left_lines, is_of_resource, lacked_lines, user_calls, user_lines};
 
 use crate::call_lines::push_calls;
 use crate::numbered::{
@@ -42,20 +42,11 @@ pub fn push_size(text: &mut Vec<u8>, app: &App, func: &Func, op: Op) -> Result<(
     }
 }
 
-fn push_jump_name(text: &mut Vec<u8>, func: &Func, label: Option<u32>) -> Result<(), NoMemory>
-    ensures { OnOk result (text.new.items ≡ text.old.items ++ jump_name_lines func.now label) }
-{
-    match label {
-        Some(label) => push_name(text, label_name(func, label as usize)),
-        None => Ok(()),
-    }
-}
-
 fn falls_out(func: &Func, item: usize) -> bool
     requires { item < length func.now.items }
     ensures { result ≡ falls_out func.now item }
 {
-    falls(item_op(func, item)) && func.items.items().len() <= item + 1
+    falls(func.op(item)) && func.items.items().len() <= item + 1
 }
 
 /// V5: the label behind the last item.
@@ -66,21 +57,10 @@ pub fn push_run_out(text: &mut Vec<u8>, func: &Func, item: usize) -> Result<(), 
     if falls_out(func, item) {
         return Ok(());
     }
-    push_jump_name(text, func, way(item_op(func, item)))
-}
-
-fn push_label(
-    alloc: Global,
-    text: &mut Vec<u8>,
-    config: &Config,
-    func: &Func,
-    label: usize,
-) -> Result<(), NoMemory>
-    ensures { OnOk result (text.new.items ≡ text.old.items ++ target_lines config.now func.now (Some label)) }
-{
-    push_name(text, label_name(func, label))?;
-    let holds = held_by(alloc, label_holds(func, label))?;
-    push_list_line(text, config, b"lists", &holds)
+    match way(func.op(item)) {
+        Some(label) => push_name(text, label_name(func, label as usize)),
+        None => Ok(()),
+    }
 }
 
 /// V7: a label, and its list.
@@ -94,13 +74,17 @@ pub fn push_target(
     ensures { OnOk result (text.new.items ≡ text.old.items ++ target_lines config.now func.now label) }
 {
     match label {
-        Some(label) => push_label(alloc, text, config, func, label),
+        Some(label) => {
+            push_name(text, label_name(func, label))?;
+            let holds = held_by(alloc, label_holds(func, label))?;
+            push_list_line(text, config, b"lists", &holds)
+        },
         None => Ok(()),
     }
 }
 
-fn object_of(op: Op) -> u32
-    ensures { result ≡ object_of op }
+fn op_object(op: Op) -> u32
+    ensures { result ≡ op_object op }
 {
     match op {
         Op::Serve(call) => call.object,
@@ -126,12 +110,12 @@ pub fn push_release(
 ) -> Result<(), NoMemory>
     ensures { OnOk result (text.new.items ≡ text.old.items ++ release_lines config.now held.now op) }
 {
-    push_name(text, resource_name(config, object_of(op)))?;
+    push_name(text, resource_name(config, op_object(op)))?;
     push_last(text, config, held)
 }
 
-fn callee_of(op: Op) -> usize
-    ensures { result ≡ callee_of op }
+fn op_callee(op: Op) -> usize
+    ensures { result ≡ op_callee op }
 {
     match op {
         Op::Invoke { func } => func.0 as usize,
@@ -157,37 +141,17 @@ fn item_of_func(app: &App, func: usize, item: usize) -> Item
 fn culprit_item(app: &App, op: Op, calls: &Calls) -> Item
     ensures { result ≡ culprit_item app.now op calls.now }
 {
-    let end = chain_end(callee_of(op), calls.links.items());
+    let end = chain_end(op_callee(op), calls.links.items());
     item_of_func(app, end, calls.item)
 }
 
 fn push_called(text: &mut Vec<u8>, app: &App, item: &Item, calls: &Calls) -> Result<(), NoMemory>
     ensures { OnOk result (text.new.items ≡ text.old.items ++ called_lines app.now item.now calls.now) }
 {
-    let name = func_name(app, callee_of(item.op));
+    let name = func_name(app, op_callee(item.op));
     let culprit = culprit_item(app, item.op, calls);
-    push_calls(
-        text,
-        app,
-        name,
-        item.line,
-        calls.links.items(),
-        Some(culprit),
-    )
-}
-
-fn push_taken_by(
-    text: &mut Vec<u8>,
-    config: &Config,
-    app: &App,
-    item: &Item,
-    calls: &Calls,
-) -> Result<(), NoMemory>
-    ensures { OnOk result (text.new.items ≡ text.old.items ++ taken_lines config.now app.now item.now (Some calls.now)) }
-{
-    let culprit = culprit_item(app, item.op, calls);
-    push_name(text, resource_name(config, object_of(culprit.op)))?;
-    push_called(text, app, item, calls)
+    let links = calls.links.items();
+    push_calls(text, app, name, item.line, links, Some(culprit))
 }
 
 /// V9: the resource that is taken twice, and the calls that take it.
@@ -201,8 +165,12 @@ pub fn push_taken(
     ensures { OnOk result (text.new.items ≡ text.old.items ++ taken_lines config.now app.now item.now calls.now) }
 {
     match calls {
-        Some(calls) => push_taken_by(text, config, app, item, calls),
-        None => push_name(text, resource_name(config, object_of(item.op))),
+        Some(calls) => {
+            let culprit = culprit_item(app, item.op, calls);
+            push_name(text, resource_name(config, op_object(culprit.op)))?;
+            push_called(text, app, item, calls)
+        },
+        None => push_name(text, resource_name(config, op_object(item.op))),
     }
 }
 
@@ -233,15 +201,6 @@ fn is_of_resource(op: Op) -> bool
     }
 }
 
-fn push_event(text: &mut Vec<u8>, config: &Config, event: Option<usize>) -> Result<(), NoMemory>
-    ensures { OnOk result (text.new.items ≡ text.old.items ++ event_lines config.now event) }
-{
-    match event {
-        Some(event) => push_name(text, event_name(config, event)),
-        None => Ok(()),
-    }
-}
-
 fn push_lacked(
     text: &mut Vec<u8>,
     config: &Config,
@@ -251,9 +210,12 @@ fn push_lacked(
     ensures { OnOk result (text.new.items ≡ text.old.items ++ lacked_lines config.now op.now event) }
 {
     if is_of_resource(*op) {
-        return push_name(text, resource_name(config, object_of(*op)));
+        return push_name(text, resource_name(config, op_object(*op)));
     }
-    push_event(text, config, event)
+    match event {
+        Some(event) => push_name(text, event_name(config, event)),
+        None => Ok(()),
+    }
 }
 
 fn push_user_calls(
@@ -267,28 +229,8 @@ fn push_user_calls(
     if links.is_empty() {
         return Ok(());
     }
-    push_calls(
-        text,
-        app,
-        func_name(app, body),
-        func_line(app, body),
-        links,
-        None,
-    )
-}
-
-fn push_user_of(
-    text: &mut Vec<u8>,
-    config: &Config,
-    app: &App,
-    op: &Op,
-    user: &User,
-) -> Result<(), NoMemory>
-    ensures { OnOk result (text.new.items ≡ text.old.items ++ user_lines config.now app.now op.now (Some user.now)) }
-{
-    push_line(text, b"task", config.task_name(user.task))?;
-    push_lacked(text, config, op, user.event)?;
-    push_user_calls(text, app, user.body, user.links.items())
+    let line = func_line(app, body);
+    push_calls(text, app, func_name(app, body), line, links, None)
 }
 
 /// V12: the task, what it lacks, and the calls from its body.
@@ -302,7 +244,11 @@ pub fn push_user(
     ensures { OnOk result (text.new.items ≡ text.old.items ++ user_lines config.now app.now op.now user.now) }
 {
     match user {
-        Some(user) => push_user_of(text, config, app, op, user),
+        Some(user) => {
+            push_line(text, b"task", config.task_name(user.task))?;
+            push_lacked(text, config, op, user.event)?;
+            push_user_calls(text, app, user.body, user.links.items())
+        },
         None => Ok(()),
     }
 }

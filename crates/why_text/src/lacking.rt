@@ -1,10 +1,11 @@
 //! The attributes that objects lack (O11).
 
+use crate::oil_names::named_note;
 use oil_parse::{OilAttr, OilObject};
 use oil_rules::{first_block, is_used_in};
 use oil_table::{Place, block_place, first_use, is_of_kind, is_used};
 use sloth_base::{Code, NoMemory};
-use stage_faults::{Note, Position};
+use stage_faults::Note;
 use text_pieces::push;
 
 fn add_unless<'t>(
@@ -16,17 +17,7 @@ fn add_unless<'t>(
     if is_there {
         return Ok(());
     }
-    push(
-        named,
-        Note {
-            line,
-            code: Code::O11,
-            name,
-            first: None,
-            follows: false,
-            position: Position::of(0),
-        },
-    )
+    push(named, named_note(line, Code::O11, name, None))
 }
 
 fn own_lacking<'t>(
@@ -73,13 +64,7 @@ fn lacking_behind<'t>(
     }
 }
 
-fn alarm_lacking<'t>(named: &mut Vec<Note<'t>>, object: &OilObject) -> Result<(), NoMemory> {
-    own_lacking(named, object, &[b"COUNTER", b"ACTION"])?;
-    lacking_behind(named, object, b"AUTOSTART")?;
-    lacking_behind(named, object, b"ACTION")
-}
-
-fn lacking_in<'t>(named: &mut Vec<Note<'t>>, object: &OilObject) -> Result<(), NoMemory> {
+fn object_lacking<'t>(named: &mut Vec<Note<'t>>, object: &OilObject) -> Result<(), NoMemory> {
     if is_of_kind(object, b"TASK") {
         return own_lacking(
             named,
@@ -91,7 +76,9 @@ fn lacking_in<'t>(named: &mut Vec<Note<'t>>, object: &OilObject) -> Result<(), N
         return own_lacking(named, object, &[b"MAXALLOWEDVALUE"]);
     }
     if is_of_kind(object, b"ALARM") {
-        return alarm_lacking(named, object);
+        own_lacking(named, object, &[b"COUNTER", b"ACTION"])?;
+        lacking_behind(named, object, b"AUTOSTART")?;
+        return lacking_behind(named, object, b"ACTION");
     }
     Ok(())
 }
@@ -99,7 +86,7 @@ fn lacking_in<'t>(named: &mut Vec<Note<'t>>, object: &OilObject) -> Result<(), N
 /// Each attribute that these objects lack.
 pub fn add_lacking<'t>(named: &mut Vec<Note<'t>>, objects: &[OilObject]) -> Result<(), NoMemory> {
     for object in objects {
-        lacking_in(named, object)?;
+        object_lacking(named, object)?;
     }
     Ok(())
 }

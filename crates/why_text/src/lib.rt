@@ -23,7 +23,7 @@ mod rule_lines;
 mod way_lines;
 pub mod why;
 
-pub use explaining::{fault_of, ranked_of};
+pub use explaining::{ranked_texts, told_fault};
 pub use numbered::{label_line, label_name};
 pub use way_lines::{push_list_line, push_way_line};
 pub use why::{Why, explain};

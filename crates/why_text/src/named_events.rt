@@ -15,15 +15,8 @@ fn event_names<'t>(alloc: Global, config: &'t Config) -> Result<Names<'t>, NoMem
     Ok(names)
 }
 
-// The number of the event that the operand at this place names.
-fn event_at(names: &Names, mnemonic: Mnemonic, place: usize, operand: &Operand) -> Option<usize> {
-    match (kind_of(mnemonic, place), written(operand)) {
-        (Kind::Event, Some(name)) => names.number(name),
-        _ => None,
-    }
-}
-
-fn events_of(
+// The events that these operands name.
+fn operand_events(
     alloc: Global,
     names: &Names,
     mnemonic: Mnemonic,
@@ -31,21 +24,13 @@ fn events_of(
 ) -> Result<Vec<usize>, NoMemory> {
     let mut events = Vec::new(alloc);
     for (place, operand) in operands.iter().enumerate() {
-        if let Some(event) = event_at(names, mnemonic, place, operand) {
-            push(&mut events, event)?;
+        if let (Kind::Event, Some(name)) = (kind_of(mnemonic, place), written(operand)) {
+            if let Some(event) = names.number(name) {
+                push(&mut events, event)?;
+            }
         }
     }
     Ok(events)
-}
-
-fn events_on(alloc: Global, config: &Config, line: &SourceLine) -> Result<Vec<usize>, NoMemory> {
-    let names = event_names(alloc, config)?;
-    match line {
-        SourceLine::Statement { mnemonic, operands } => {
-            events_of(alloc, &names, *mnemonic, operands.items())
-        },
-        _ => Ok(Vec::new(alloc)),
-    }
 }
 
 /// The numbers of the events that the statement on a line names, in its order; lines are counted from 1.
@@ -59,5 +44,11 @@ pub fn named_events(
     if number == 0 || number > lines.len() {
         return Ok(Vec::new(alloc));
     }
-    events_on(alloc, config, &lines[number - 1])
+    match &lines[number - 1] {
+        SourceLine::Statement { mnemonic, operands } => {
+            let names = event_names(alloc, config)?;
+            operand_events(alloc, &names, *mnemonic, operands.items())
+        },
+        _ => Ok(Vec::new(alloc)),
+    }
 }

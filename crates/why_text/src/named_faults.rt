@@ -3,7 +3,7 @@ ghost use Rattle.std.specs.Prelude.{◌≡◌, ◌==◌, ◌&&◌, ◌||◌, ℕ
 ghost use Rattle.std.specs.List.{list_any};
 ghost use Rattle.std.specs.List.Sorted.{IsNonDecreasingBy};
 ghost use Rattle.stage_faults.specs.Told.{note_order, AreInOrder};
-ghost use Rattle.why_text.specs.NamedFaults.{is_at, is_key, apart_with, first_of_each, AddsGroup, NamesAll, AreKeys, StandApart};
+ghost use Rattle.why_text.specs.NamedFaults.{is_same_place, is_key, apart_with, first_of_each, AddsGroup, NamesAll, AreKeys, StandApart};
 
 use indexmap::IndexSet;
 use oil_table::insert;
@@ -15,7 +15,7 @@ use text_pieces::push;
 // ---- groups
 
 // Of faults in order those at a place.
-fn group_at<'n, 't>(named: &'n [Note<'t>], place: u64) -> &'n [Note<'t>] {
+fn place_group<'n, 't>(named: &'n [Note<'t>], place: u64) -> &'n [Note<'t>] {
     let from = named.partition_point(|note| order(note) < place);
     let to = named.partition_point(|note| order(note) <= place);
     if from <= to && to <= named.len() {
@@ -25,8 +25,8 @@ fn group_at<'n, 't>(named: &'n [Note<'t>], place: u64) -> &'n [Note<'t>] {
     }
 }
 
-fn is_at(fault: &Note, note: &Note) -> bool
-    ensures { result ≡ is_at fault.now note.now }
+fn is_same_place(fault: &Note, note: &Note) -> bool
+    ensures { result ≡ is_same_place fault.now note.now }
 {
     order(note) == order(fault) && !note.follows
 }
@@ -42,7 +42,7 @@ fn push_group<'t>(
 {
     let mut found = false;
     for note in group {
-        if is_at(fault, note) {
+        if is_same_place(fault, note) {
             push(list, *note)?;
             found = true;
         }
@@ -63,7 +63,7 @@ fn grouped<'t>(
 {
     let mut list = Vec::new(alloc);
     for fault in faults {
-        push_group(&mut list, fault, group_at(named, order(fault)))?;
+        push_group(&mut list, fault, place_group(named, order(fault)))?;
     }
     Ok(list)
 }

@@ -1,5 +1,5 @@
 //! The lines behind a refusal of names and forms: the name that it concerns, and each fault of its stage.
-ghost use Rattle.std.specs.Prelude.{◌≡◌, ◌<◌, ◌^◌, ◌++◌, [], length, IsTrue, IfOk, IfErr, IfSome, OnOk};
+ghost use Rattle.std.specs.Prelude.{◌≡◌, ◌<◌, ◌^◌, ◌++◌, length, IsTrue, IfOk, IfErr, IfSome, OnOk};
 ghost use Rattle.sloth_base.specs.declared.refusal.Part.TheVariants.{Src};
 ghost use Rattle.least_fault.specs.Order.{ErrorIs};
 ghost use Rattle.asm_lines.specs.Faults.{source_lines, SourceLinesFault};
@@ -8,7 +8,7 @@ ghost use Rattle.why_text.specs.NameLines.{first_lines, is_word, HasName, IsName
 ghost use Rattle.why_text.specs.WhyLines.{TellsForms, TellsNamesFor};
 
 use crate::among_lines::{is_word, push_told};
-use crate::oil_names::is_of;
+use crate::oil_names::is_refusal_fault;
 use crate::pieces::{push_name, push_number_line};
 use asm_lines::{SourceLine, read};
 use asm_scopes::bodies_of;
@@ -43,7 +43,7 @@ fn name_text(alloc: Global, note: &Note) -> Result<Vec<u8>, NoMemory>
 pub fn refusal_name(alloc: Global, notes: &[Note], refusal: Refusal) -> Result<Vec<u8>, NoMemory>
     ensures { IfOk result (λ text. IsNamed text.items) }
 {
-    if notes.is_empty() || !is_of(&notes[0], refusal) || !is_word(notes[0].name) {
+    if notes.is_empty() || !is_refusal_fault(&notes[0], refusal) || !is_word(notes[0].name) {
         return Ok(Vec::new(alloc));
     }
     let text = name_text(alloc, &notes[0])?;
@@ -70,7 +70,7 @@ pub fn forms_text(alloc: Global, src: &[u8], refusal: Refusal) -> Result<List<u8
     source_text(alloc, &mut notes, refusal)
 }
 
-fn names_in(
+fn names_lines(
     alloc: Global,
     config: &Config,
     lines: &[SourceLine],
@@ -96,7 +96,7 @@ fn names_read(
     ensures refused { IfErr result (ErrorIs (SourceLinesFault src.now)) }
 {
     let lines = read(alloc, src)?;
-    let text = names_in(alloc, config, lines.items(), refusal)?;
+    let text = names_lines(alloc, config, lines.items(), refusal)?;
     Ok(text)
 }
 

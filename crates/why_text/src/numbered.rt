@@ -1,6 +1,6 @@
 //! Things of task code by their numbers.
-ghost use Rattle.std.specs.Prelude.{◌≡◌, ◌==◌, [], cond, codes, get_or};
-ghost use Rattle.sloth_base.specs.ConfigRange.{scheduler_number, no_event};
+ghost use Rattle.std.specs.Prelude.{◌≡◌, ◌==◌, [], get_or};
+ghost use Rattle.sloth_base.specs.ConfigRange.{no_event};
 ghost use Rattle.sloth_base.specs.Named.{function, item_of, label_of, no_symbol, symbol_size};
 ghost use Rattle.why_text.specs.RuleLines.{resource_name};
 

@@ -5,13 +5,25 @@ use crate::lacking::add_lacking;
 use crate::priorities::add_priorities;
 use oil_parse::{OilObject, OilTree};
 use sloth_base::{Code, NoMemory, Refusal};
-use stage_faults::Note;
+use stage_faults::{Note, Position};
 use std::alloc::Global;
 use text_pieces::push;
 
 /// Whether the fault is that of the refusal.
-pub fn is_of(note: &Note, refusal: Refusal) -> bool {
+pub fn is_refusal_fault(note: &Note, refusal: Refusal) -> bool {
     note.line == refusal.line && note.code as u8 == refusal.code as u8
+}
+
+/// A fault of these parts.
+pub fn named_note<'t>(line: u32, code: Code, name: &'t [u8], first: Option<u32>) -> Note<'t> {
+    Note {
+        line,
+        code,
+        name,
+        first,
+        follows: false,
+        position: Position::of(0),
+    }
 }
 
 fn add_named<'t>(named: &mut Vec<Note<'t>>, notes: &[Note<'t>]) -> Result<(), NoMemory> {
@@ -28,18 +40,13 @@ fn place_in_tree(note: &Note) -> u64 {
     (note.position.object as u64) << 32 | note.position.attribute as u64
 }
 
-fn put_in_tree_order(named: &mut Vec<Note>) -> Result<(), NoMemory> {
-    named.sort_by_key(|note| place_in_tree(note))?;
-    Ok(())
-}
-
 // The line of the earlier thing, where the refusal is O9.
 fn add_first(named: &mut [Note], objects: &[OilObject], refusal: Refusal) {
     if !matches!(refusal.code, Code::O9) {
         return;
     }
     for number in 0..named.len() {
-        if is_of(&named[number], refusal) {
+        if is_refusal_fault(&named[number], refusal) {
             named[number].first = earlier_line(objects, named[number].position);
             return;
         }
@@ -58,7 +65,7 @@ pub fn oil_names<'t>(
     add_named(&mut named, notes)?;
     add_lacking(&mut named, objects)?;
     add_priorities(alloc, &mut named, objects)?;
-    put_in_tree_order(&mut named)?;
+    named.sort_by_key(|note| place_in_tree(note))?;
     add_first(&mut named, objects, refusal);
     Ok(named)
 }

@@ -1,11 +1,11 @@
 //! The lines behind a refusal of task code.
-ghost use Rattle.std.specs.Prelude.{◌≡◌, ◌++◌, ◌<◌, ◌&&◌, ℕ, cond, codes, length, not, Some, OnOk, IfOk};
-ghost use Rattle.sloth_base.specs.Named.{function, label_of, item_of};
+ghost use Rattle.std.specs.Prelude.{◌≡◌, ◌++◌, ◌<◌, ◌&&◌, length, Some, OnOk, IfOk};
+ghost use Rattle.sloth_base.specs.Named.{function};
 ghost use Rattle.code_rules.specs.AppRange.{AppInRange};
-ghost use Rattle.code_rules.specs.Code.{held_list_at, held_list_entering};
+ghost use Rattle.code_rules.specs.Code.{held_list_at};
 ghost use Rattle.task_verify.specs.Labels.{ArePlaced};
 ghost use Rattle.fault_witnesses.specs.Places.{IsPlace};
-ghost use Rattle.why_text.specs.RuleLines.{own_lines, is_of_held, held_lines, item_lines, lists_at_begin, start_lines, entry_lines, list_line, entered_lines, label_lines, place_lines, witness_lines, cycle_line};
+ghost use Rattle.why_text.specs.RuleLines.{own_lines, is_of_held, held_lines, item_lines, lists_at_begin, entry_lines, entered_lines, place_lines, witness_lines, cycle_line};
 
 use crate::call_lines::push_calls;
 use crate::item_lines::{
@@ -14,8 +14,8 @@ use crate::item_lines::{
 use crate::numbered::{func_line, func_name};
 use crate::pieces::push_name;
 use crate::push_list_line;
-use crate::way_lines::{push_behind, push_from, push_shown_way, push_way};
-use fault_witnesses::{Link, Place, Way, Witness, held_at, held_entering, label_before};
+use crate::way_lines::{push_front, push_shown_way, push_start, push_way};
+use fault_witnesses::{Link, Place, Way, Witness, held_entering, held_list, label_before};
 use sloth_base::{App, Code, Config, Func, NoMemory, Refusal};
 use std::alloc::Global;
 use task_verify::way;
@@ -86,27 +86,6 @@ fn push_held(
     Ok(())
 }
 
-fn push_item_with(
-    alloc: Global,
-    text: &mut Vec<u8>,
-    config: &Config,
-    app: &App,
-    func: &Func,
-    number: usize,
-    held: &[u32],
-    code: Code,
-    witness: &Witness,
-) -> Result<(), NoMemory>
-    requires inside { number < length func.now.items }
-    requires held { held.now ≡ held_list_at func.now number }
-    ensures { OnOk result (text.new.items ≡ text.old.items ++ item_lines config.now app.now func.now number code witness.now) }
-{
-    push_shown_way(text, func, &witness.way)?;
-    push_behind(text, func, witness.behind)?;
-    push_held(text, config, func, number, held, code)?;
-    push_own(alloc, text, config, app, func, number, held, code, witness)
-}
-
 fn push_item(
     alloc: Global,
     text: &mut Vec<u8>,
@@ -121,8 +100,11 @@ fn push_item(
     requires inside { number < length func.now.items }
     ensures { OnOk result (text.new.items ≡ text.old.items ++ item_lines config.now app.now func.now number code witness.now) }
 {
-    let held = held_at(alloc, func, number)?;
-    push_item_with(alloc, text, config, app, func, number, &held, code, witness)
+    push_shown_way(text, func, &witness.way)?;
+    push_front(text, func, witness.behind)?;
+    let held = held_list(alloc, func, number)?;
+    push_held(text, config, func, number, &held, code)?;
+    push_own(alloc, text, config, app, func, number, &held, code, witness)
 }
 
 fn lists_at_begin(func: &Func, label: usize) -> bool
@@ -131,15 +113,6 @@ fn lists_at_begin(func: &Func, label: usize) -> bool
 {
     let label = &func.labels.items()[label];
     label.item == 0 && !label.holds.items().is_empty()
-}
-
-fn push_before(text: &mut Vec<u8>, func: &Func, before: Option<usize>) -> Result<(), NoMemory>
-    ensures { OnOk result (text.new.items ≡ text.old.items ++ start_lines func.now before) }
-{
-    match before {
-        Some(label) => push_from(text, func, label),
-        None => Ok(()),
-    }
 }
 
 fn push_entry(
@@ -154,27 +127,10 @@ fn push_entry(
     match way {
         Some(way) => push_way(text, func, way),
         None => {
-            push_before(text, func, label_before(func, label))?;
+            push_start(text, func, label_before(func, label))?;
             line!(text; Word(b"way -\n"))
         },
     }
-}
-
-fn push_entering(
-    alloc: Global,
-    text: &mut Vec<u8>,
-    config: &Config,
-    func: &Func,
-    label: usize,
-    way: &Option<Way>,
-) -> Result<(), NoMemory>
-    requires placed { ArePlaced func.now }
-    requires inside { label < length func.now.labels }
-    ensures { OnOk result (text.new.items ≡ text.old.items ++ (entry_lines func.now label way.now ++ list_line config.now (codes "holds") (held_list_entering func.now label))) }
-{
-    push_entry(text, func, label, way)?;
-    let held = held_entering(alloc, func, label)?;
-    push_list_line(text, config, b"holds", &held)
 }
 
 fn push_entered(
@@ -192,23 +148,9 @@ fn push_entered(
     if lists_at_begin(func, label) {
         return line!(text; Word(b"way -\nholds -\n"));
     }
-    push_entering(alloc, text, config, func, label, way)
-}
-
-fn push_label(
-    alloc: Global,
-    text: &mut Vec<u8>,
-    config: &Config,
-    func: &Func,
-    label: usize,
-    way: &Option<Way>,
-) -> Result<(), NoMemory>
-    requires placed { ArePlaced func.now }
-    requires inside { label < length func.now.labels }
-    ensures { OnOk result (text.new.items ≡ text.old.items ++ label_lines config.now func.now label way.now) }
-{
-    push_entered(alloc, text, config, func, label, way)?;
-    push_target(alloc, text, config, func, Some(label))
+    push_entry(text, func, label, way)?;
+    let held = held_entering(alloc, func, label)?;
+    push_list_line(text, config, b"holds", &held)
 }
 
 fn push_place(
@@ -227,7 +169,8 @@ fn push_place(
         Place::Header(body) => push_name(text, func_name(app, body)),
         Place::Label { body, label } => {
             let func = app.function(body);
-            push_label(alloc, text, config, func, label, &witness.way)
+            push_entered(alloc, text, config, func, label, &witness.way)?;
+            push_target(alloc, text, config, func, Some(label))
         },
         Place::Item { body, item } => {
             let func = app.function(body);
@@ -263,13 +206,7 @@ pub fn cycle_line(
     ensures { IfOk result (λ text. text.items ≡ cycle_line app.now body links.now) }
 {
     let mut text = Vec::new(alloc);
-    push_calls(
-        &mut text,
-        app,
-        func_name(app, body),
-        func_line(app, body),
-        links,
-        None,
-    )?;
+    let line = func_line(app, body);
+    push_calls(&mut text, app, func_name(app, body), line, links, None)?;
     Ok(text)
 }

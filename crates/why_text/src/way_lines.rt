@@ -1,12 +1,12 @@
 //! The lines of ways and of what is held.
-ghost use Rattle.std.specs.Prelude.{◌≡◌, ◌++◌, [], OnOk};
-ghost use Rattle.why_text.specs.RuleLines.{item_words, start_line, start_lines, way_line, way_lines, shown_way_lines, resource_words, list_words, list_line, behind_lines};
+ghost use Rattle.std.specs.Prelude.{◌≡◌, ◌++◌, OnOk};
+ghost use Rattle.why_text.specs.RuleLines.{item_words, start_lines, way_line, way_lines, shown_way_lines, resource_words, list_words, list_line, behind_lines};
 
 use crate::numbered::{item_line, resource_name};
 use crate::pieces::push_number_line;
 use crate::{label_line, label_name};
 use fault_witnesses::Way;
-use sloth_base::{Config, Func, NoMemory, ResId};
+use sloth_base::{Config, Func, NoMemory};
 use text_pieces::line;
 use text_pieces::pieces::Piece::{Number, Word};
 
@@ -20,21 +20,15 @@ fn push_items(text: &mut Vec<u8>, func: &Func, items: &[usize]) -> Result<(), No
     Ok(())
 }
 
-/// The line `from`: the label that a way starts behind.
-pub fn push_from(text: &mut Vec<u8>, func: &Func, label: usize) -> Result<(), NoMemory>
-    ensures { OnOk result (text.new.items ≡ text.old.items ++ start_line func.now label) }
-{
-    let line = label_line(func, label);
-    line!(text; Word(b"from "), Number(line), Word(b" "), Word(label_name(func, label)), Word(b"\n"))
-}
-
-fn push_start(text: &mut Vec<u8>, func: &Func, label: Option<usize>) -> Result<(), NoMemory>
+/// The line `from`: the label that a way starts behind, if it does not start where the body begins.
+pub fn push_start(text: &mut Vec<u8>, func: &Func, label: Option<usize>) -> Result<(), NoMemory>
     ensures { OnOk result (text.new.items ≡ text.old.items ++ start_lines func.now label) }
 {
-    match label {
-        Some(label) => push_from(text, func, label),
-        None => Ok(()),
-    }
+    let Some(label) = label else {
+        return Ok(());
+    };
+    let line = label_line(func, label);
+    line!(text; Word(b"from "), Number(line), Word(b" "), Word(label_name(func, label)), Word(b"\n"))
 }
 
 /// The line of a way's items.
@@ -65,7 +59,7 @@ pub fn push_shown_way(text: &mut Vec<u8>, func: &Func, way: &Option<Way>) -> Res
 }
 
 /// The item in front, if there is one.
-pub fn push_behind(text: &mut Vec<u8>, func: &Func, item: Option<usize>) -> Result<(), NoMemory>
+pub fn push_front(text: &mut Vec<u8>, func: &Func, item: Option<usize>) -> Result<(), NoMemory>
     ensures { OnOk result (text.new.items ≡ text.old.items ++ behind_lines func.now item) }
 {
     match item {

@@ -11,6 +11,7 @@ use Rattle.core_commands.proofs.Causes.{finished, answered, usage-ends}
 use Rattle.core_commands.proofs.Complete.{no-tool, usage-of-put}
 use Rattle.core_commands.proofs.NoTools.{lacking-ends, lacking-reads, lacks-faults}
 use Rattle.core_commands.proofs.OwnOutput.{own-by-words}
+use Rattle.core_commands.proofs.HandedOn.{failure-stays, performed-stays}
 use Rattle.core_commands.proofs.top.answer.Goals as goal
 
 pub returns-in_default-clause-answers : goal.returns-in_default-clause-answers
@@ -93,3 +94,18 @@ returns-in-Ok-clause-reads g c =
     let kept = c.overwrites_input.ensures.kept c.if-overwrites_input.false in
     let P : Files → Type 0 = λ old. AreFirstDelivered old (g.F.Store.seen c.obey.new.files) (inputs_of (command_of c.in-Some.c)) in
     inl (command_of c.in-Some.c, c.in-Some.ensures.some, subst P kept c.obey.ensures.reads)
+
+pub returns-in-Err-clause-handed : goal.returns-in-Err-clause-handed
+returns-in-Err-clause-handed g c stays =
+    let new = g.F.Store.seen c.obey.new.files in
+    let old = world (call_files (g.F.Store.seen c.overwrites_input.new.files) new) (g.S.Sink.seen c.args.out.now) in
+    let of =
+    failure-stays LacksTools c.in-Err.failure (command_of c.in-Some.c) old new (g.S.Sink.seen c.obey.new.out) (g.S.Sink.seen c.finish.new.out) c.finish.result
+    c.in-Err.ensures.err c.finish.ensures.ends stays in
+    c.finish.ensures.handed of.0 of.1
+
+pub returns-in-Ok-clause-handed : goal.returns-in-Ok-clause-handed
+returns-in-Ok-clause-handed g c stays =
+    let new = g.F.Store.seen c.obey.new.files in
+    let old = world (call_files (g.F.Store.seen c.overwrites_input.new.files) new) (g.S.Sink.seen c.args.out.now) in
+    c.close.ensures.handed (performed-stays LacksTools c.in-Ok.status (command_of c.in-Some.c) old new (g.S.Sink.seen c.obey.new.out) (g.S.Sink.seen c.close.new.out) c.in-Ok.ensures.done stays)

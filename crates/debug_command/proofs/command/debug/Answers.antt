@@ -6,7 +6,8 @@ pub returns-in-Ok-clause-answer : goal.returns-in-Ok-clause-answer
 returns-in-Ok-clause-answer g c =
     let img = c.in-Ok.texts.img.items in
     let arr = c.in-Ok.texts.arr.items in
-    let bytes = heard (g.I.Input.coming c.args.input.now) (g.I.Input.given c.args.input.now) (g.I.Input.given c.judge.new.input) in
+    let bytes = heard (g.I.Input.coming c.args.input.now) (g.I.Input.given c.args.input.now) (g.I.Input.given c.judge.new.input)
+    c.args.transcript.now.notes.items c.judge.new.transcript.notes.items in
     let before = g.S.Sink.seen c.args.out.now in
     let now = g.S.Sink.seen c.judge.new.out in
     let passed = g.S.Sink.passed_on c.judge.new.out in

@@ -17,15 +17,17 @@ returns c =
     subst (λ n. AreResponses costs.longest costs.late costs.costs n c.in_ok-responses.responses.items) c.requires.costs.count c.in_ok-responses.ensures in
     let all : AreResponses costs.longest costs.late costs.costs (length config.tasks) responses =
     subst (λ (l : List Response). AreResponses costs.longest costs.late costs.costs (length config.tasks) l) (sym c.deref.ensures.value) held in
-    let made : (told : Told) → told ≡ told_of config app load responses c.in_ok-demand.demand → HasResponses config app load told =
+    let made : (told : Told) → told ≡ told_of config app load responses c.in_ok-tick.tick c.in_ok-demand.demand → HasResponses config app load told =
     λ told is. record {
       costs = costs;
       are_costs = c.requires.costs;
       responses = responses;
       are_responses = all;
+      tick = c.in_ok-tick.tick;
+      is_tick = c.in_ok-tick.ensures;
       demand = c.in_ok-demand.demand;
       is_demand = c.in_ok-demand.ensures;
-      kept = runs_keep config app load c.requires.well_formed c.requires.in_load costs c.requires.costs responses all;
+      kept = runs_keep config app load c.requires.well_formed c.requires.in_load costs c.requires.costs responses all c.in_ok-tick.tick c.in_ok-tick.ensures;
       is = is;
     } in
     IfOk-weaker _ _ _ (λ told is. made _ is) c.told_of.ensures

@@ -13,6 +13,7 @@ use Rattle.core_commands.proofs.Causes.{finished, answered, usage-ends}
 use Rattle.core_commands.proofs.Complete.{usage-of-put}
 use Rattle.core_commands.proofs.NoTools.{answered-anyway}
 use Rattle.core_commands.proofs.OwnOutput.{own-by-words}
+use Rattle.core_commands.proofs.HandedOn.{failure-stays, performed-stays}
 use Rattle.sloth_commands.proofs.ToolCauses.{no-image-file}
 use Rattle.sloth_commands.proofs.ToolLines.{closed-lines, finished-lines, usage-lines}
 use Rattle.sloth_cli.proofs.top.answer.Goals as goal
@@ -107,3 +108,18 @@ returns-in-Ok-clause-lines g c =
     (g.S.Sink.pieces c.args.out.now) (g.S.Sink.pieces c.use_tool.new.out) (use_of c.in-Some.tool) in
     closed-lines c.in-Ok.status _ (use_of c.in-Some.tool) _ _ _ _ _ _ _ c.close.result c.in-Some.ensures.some (subst P kept c.in-Ok.ensures.lines) c.close.ensures.ends
     c.close.ensures.pieces
+
+pub returns-in-Err-clause-handed : goal.returns-in-Err-clause-handed
+returns-in-Err-clause-handed g c stays =
+    let new = g.F.Store.seen c.use_tool.new.files in
+    let old = world (call_files (g.F.Store.seen c.is_tool_input.new.files) new) (g.S.Sink.seen c.args.out.now) in
+    let of =
+    failure-stays IsToolAnswer c.in-Err.failure (Uses (use_of c.in-Some.tool)) old new (g.S.Sink.seen c.use_tool.new.out) (g.S.Sink.seen c.finish.new.out) c.finish.result
+    c.in-Err.ensures.err c.finish.ensures.ends stays in
+    c.finish.ensures.handed of.0 of.1
+
+pub returns-in-Ok-clause-handed : goal.returns-in-Ok-clause-handed
+returns-in-Ok-clause-handed g c stays =
+    let new = g.F.Store.seen c.use_tool.new.files in
+    let old = world (call_files (g.F.Store.seen c.is_tool_input.new.files) new) (g.S.Sink.seen c.args.out.now) in
+    c.close.ensures.handed (performed-stays IsToolAnswer c.in-Ok.status (Uses (use_of c.in-Some.tool)) old new (g.S.Sink.seen c.use_tool.new.out) (g.S.Sink.seen c.close.new.out) c.in-Ok.ensures.done stays)

@@ -4,7 +4,7 @@ use Rattle.core_commands.proofs.SampleComplete.{tells-sample-refused, tells-samp
 use Rattle.sloth_commands.proofs.BuiltFormulas.{built-files-are-right}
 use Rattle.sloth_commands.proofs.BuiltRegisters.{built-images-show-registers}
 use Rattle.sloth_commands.proofs.BuiltResponses.{built-keep-responses}
-use Rattle.sloth_commands.proofs.BuiltRuns.{built-are-checked, built-keep-bounds}
+use Rattle.sloth_commands.proofs.BuiltRuns.{built-are-checked, built-have-requests, built-keep-bounds}
 use Rattle.sloth_commands.proofs.ToolComplete.{knows-image, tells-tool, tells-tool-done}
 use Rattle.sloth_commands.specs.ToolFiles.{IsToolAnswer}
 use Rattle.sloth_cli.proofs.top.sloth_top.Goals as goal
@@ -59,3 +59,6 @@ returns-clause-formulas g c = built-files-are-right
 
 pub returns-clause-registers : goal.returns-clause-registers
 returns-clause-registers g c = built-images-show-registers
+
+pub returns-clause-requests : goal.returns-clause-requests
+returns-clause-requests g c = built-have-requests

@@ -6,4 +6,4 @@ use Rattle.why_text.proofs.explaining.lines_behind.Goals as goal
 
 pub returns : goal.returns
 returns c =
-    subst (λ (cause : Cause). IfOk c.lines_by.result (AreLinesBy cause c.args.oil.now c.args.src.now c.args.refusal)) c.cause_of.ensures c.lines_by.ensures
+    subst (λ (cause : Cause). IfOk c.cause_lines.result (AreLinesBy cause c.args.oil.now c.args.src.now c.args.refusal)) c.code_cause.ensures c.cause_lines.ensures

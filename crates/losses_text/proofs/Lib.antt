@@ -1,0 +1,5 @@
+pub mod Along
+mod Expiries
+mod Following
+mod ReadTexts
+mod RequestLines

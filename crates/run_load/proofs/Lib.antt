@@ -1,0 +1,10 @@
+mod Above
+mod Keeping
+mod KeptWork
+mod LineNumbers
+mod Reading
+mod SeenLines
+mod SeenWithin
+mod Telling
+mod Unread
+mod Watching

@@ -1,0 +1,6 @@
+pub mod RunLines
+pub mod RunText
+pub mod Seen
+pub mod Soon
+pub mod Watched
+pub mod Work

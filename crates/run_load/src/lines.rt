@@ -1,0 +1,247 @@
+//! The lines of a run beside its load.
+ghost use Rattle.std.specs.Prelude.{List as Items};
+ghost use Rattle.std.specs.Prelude.{◌≡◌, ◌<◌, ◌++◌, ℕ, Some, true, false, length, IfOk, OnOk};
+ghost use Rattle.sloth_base.specs.Named.{declaration, counter_declaration};
+ghost use Rattle.code_rules.specs.WellFormed.{WellFormed};
+ghost use Rattle.load_text.specs.Loads.{work};
+ghost use Rattle.response_text.specs.Lines.{number_words, made_words};
+ghost use Rattle.run_load.specs.RunLines.{owner_name, gap_words, arrivals_line, work_line, told_words, seen_line, seen_lines, cuts_of, told_run};
+ghost use Rattle.run_load.specs.Seen.{longest_seen};
+ghost use Rattle.run_load.specs.Soon.{line_at};
+ghost use Rattle.run_load.specs.Work.{above_limit, above_among};
+
+use crate::seen::longest;
+use crate::soon::{EarlyArrival, first_soon, line_at};
+use crate::watch::watch;
+use crate::work::{Excess, earlier, first_above};
+use load_text::{Entry, distance_of, work_of};
+use response_text::lines::{push_made, push_number, response_at};
+use response_text::told::Response;
+use run_windows::{Costs, task};
+use sloth_base::{App, Arrival, Config, FIRST_COUNTER_LINE, List, NoMemory, Stamped};
+use std::alloc::Global;
+use text_pieces::line;
+use text_pieces::pieces::Piece::{Count, Number, Sum, Word};
+
+/// The lines, and whether the run keeps the load.
+#[derive(Drop)]
+pub struct ToldRun {
+    pub text: List<u8>,
+    pub keeps: bool,
+}
+
+/// The events of a run, and what it ran.
+#[derive(Clone, Copy)]
+pub struct LoadRun<'a> {
+    pub config: &'a Config,
+    pub app: &'a App,
+    pub load: &'a [Entry],
+    pub costs: &'a Costs,
+    pub events: &'a [Stamped],
+}
+
+fn task_name(config: &Config, task: usize) -> &[u8]
+    ensures { result.now ≡ (declaration config.now task).name }
+{
+    match config.tasks.items().get(task) {
+        Some(task) => task.name.bytes(),
+        None => b"",
+    }
+}
+
+fn counter_name(config: &Config, counter: usize) -> &[u8]
+    ensures { result.now ≡ (counter_declaration config.now counter).name }
+{
+    match config.counters.items().get(counter) {
+        Some(counter) => counter.name.bytes(),
+        None => b"",
+    }
+}
+
+fn owner_name(config: &Config, line: u8) -> &[u8]
+    ensures { result.now ≡ owner_name config.now line }
+{
+    if line >= FIRST_COUNTER_LINE {
+        counter_name(config, usize::from(line - FIRST_COUNTER_LINE))
+    } else {
+        task_name(config, usize::from(line))
+    }
+}
+
+fn push_gap(text: &mut Vec<u8>, distance: Option<u32>, gap: u32) -> Result<(), NoMemory>
+    ensures { OnOk result (text.new.items ≡ text.old.items ++ gap_words distance gap) }
+{
+    match distance {
+        Some(counts) => line!(text; Word(b" "), Number(gap), Word(b" "), Number(counts)),
+        None => line!(text; Word(b" never")),
+    }
+}
+
+// The line of the first arrival that comes too soon.
+fn push_soon(
+    text: &mut Vec<u8>,
+    config: &Config,
+    load: &[Entry],
+    number: usize,
+    soon: &EarlyArrival,
+) -> Result<(), NoMemory>
+    ensures { (arr : Items ℕ) → number ≡ line_at arr soon.now.place → OnOk result (text.new.items ≡ text.old.items ++ arrivals_line config.now load.now arr (Some soon.now)) }
+{
+    line!(text; Word(b"arrival "), Count(number), Word(b" "), Word(owner_name(config, soon.line)))?;
+    push_gap(text, distance_of(load, soon.line), soon.gap)?;
+    line!(text; Word(b"\n"))
+}
+
+// Whether arrivals keep the distances, or the first that does not.
+fn push_arrivals(
+    alloc: Global,
+    text: &mut Vec<u8>,
+    config: &Config,
+    load: &[Entry],
+    arr: &[u8],
+    found: &Option<EarlyArrival>,
+) -> Result<(), NoMemory>
+    ensures { OnOk result (text.new.items ≡ text.old.items ++ arrivals_line config.now load.now arr.now found.now) }
+{
+    match found {
+        Some(soon) => {
+            let number = line_at(alloc, arr, soon.place)?;
+            push_soon(text, config, load, number, soon)
+        }
+        None => line!(text; Word(b"arrivals keep\n")),
+    }
+}
+
+// Whether rounds keep the work, or the first that does not.
+fn push_work(text: &mut Vec<u8>, config: &Config, found: &Option<Excess>) -> Result<(), NoMemory>
+    ensures { OnOk result (text.new.items ≡ text.old.items ++ work_line config.now found.now) }
+{
+    match found {
+        Some(above) => {
+            let name = task_name(config, above.task as usize);
+            line!(text; Word(b"work "), Word(name), Word(b" "), Number(above.at), Word(b" "), Sum(above.own), Word(b" "), Number(above.limit), Word(b"\n"))
+        }
+        None => line!(text; Word(b"work keeps\n")),
+    }
+}
+
+fn push_told(text: &mut Vec<u8>, response: Response) -> Result<(), NoMemory>
+    ensures { OnOk result (text.new.items ≡ text.old.items ++ told_words response.comes (number_words response.anywhere)) }
+{
+    if response.comes {
+        return push_number(text, response.anywhere);
+    }
+    line!(text; Word(b" never"))
+}
+
+fn push_told_behind(text: &mut Vec<u8>, response: Response) -> Result<(), NoMemory>
+    ensures { OnOk result (text.new.items ≡ text.old.items ++ told_words response.comes (made_words response.behind)) }
+{
+    if response.comes {
+        return push_made(text, response.behind);
+    }
+    line!(text; Word(b" never"))
+}
+
+fn push_seen(
+    text: &mut Vec<u8>,
+    config: &Config,
+    task: u32,
+    response: Response,
+    all: u64,
+    behind: u64,
+) -> Result<(), NoMemory>
+    ensures { OnOk result (text.new.items ≡ text.old.items ++ seen_line config.now task response all behind) }
+{
+    line!(text; Word(task_name(config, task as usize)), Word(b" "), Sum(u128::from(all)), Word(b" of"))?;
+    push_told(text, response)?;
+    line!(text; Word(b" behind "), Sum(u128::from(behind)), Word(b" of"))?;
+    push_told_behind(text, response)?;
+    line!(text; Word(b"\n"))
+}
+
+// What is seen of a task.
+#[derive(Clone, Copy)]
+struct TaskRun {
+    all: u64,
+    behind: u64,
+    above: Option<Excess>,
+}
+
+fn task_run(alloc: Global, run: &LoadRun, task: u32, cuts: bool) -> Result<TaskRun, NoMemory>
+    requires well_formed { WellFormed run.now.config.now run.now.app.now }
+    requires declared { task < length run.now.config.now.tasks }
+    ensures all { IfOk result (λ t. t.all ≡ longest_seen run.now.config.now run.now.app.now task true run.now.events.now) }
+    ensures behind { IfOk result (λ t. t.behind ≡ longest_seen run.now.config.now run.now.app.now task false run.now.events.now) }
+    ensures above { IfOk result (λ t. t.above ≡ above_limit run.now.config.now run.now.app.now cuts task run.now.events.now (work run.now.load.now task)) }
+{
+    let watched = watch(alloc, run.config, run.app, run.events, task)?;
+    let above = match work_of(run.load, task as u8) {
+        Some(limit) => first_above(cuts, task, limit, &watched),
+        None => None,
+    };
+    Ok(TaskRun {
+        all: longest(task, true, &watched),
+        behind: longest(task, false, &watched),
+        above,
+    })
+}
+
+fn cuts_of(costs: &Costs, t: usize) -> bool
+    ensures { result ≡ cuts_of costs.now t }
+{
+    task(costs, t).is_cut
+}
+
+// What is seen of all tasks: their lines, and the first round above its work.
+struct Seen {
+    text: Vec<u8>,
+    above: Option<Excess>,
+}
+
+impl Drop for Seen {
+    fn drop(self) {
+        let Seen { text: _, above: _ } = self;
+    }
+}
+
+fn seen_tasks(alloc: Global, run: &LoadRun, responses: &[Response]) -> Result<Seen, NoMemory>
+    requires well_formed { WellFormed run.now.config.now run.now.app.now }
+    ensures text { IfOk result (λ seen. seen.text.items ≡ seen_lines run.now.config.now run.now.app.now run.now.events.now responses.now (length run.now.config.now.tasks)) }
+    ensures above { IfOk result (λ seen. seen.above
+        ≡ above_among run.now.config.now run.now.app.now run.now.load.now (cuts_of run.now.costs.now) run.now.events.now (length run.now.config.now.tasks)) }
+{
+    let mut text = Vec::new(alloc);
+    let mut above = None;
+    for task in 0..run.config.tasks.items().len() as u32 {
+        let cuts = cuts_of(run.costs, task as usize);
+        let seen = task_run(alloc, run, task, cuts)?;
+        let response = response_at(responses, task);
+        push_seen(&mut text, run.config, task, response, seen.all, seen.behind)?;
+        above = earlier(above, seen.above);
+    }
+    Ok(Seen { text, above })
+}
+
+/// The lines of a run with these arrivals, whose text is given too, beside the responses of its tasks.
+pub fn told_run(
+    alloc: Global,
+    run: &LoadRun,
+    arr: &[u8],
+    arrivals: &[Arrival],
+    responses: &[Response],
+) -> Result<ToldRun, NoMemory>
+    requires well_formed { WellFormed run.now.config.now run.now.app.now }
+    ensures { IfOk result (λ told. told ≡ told_run run.now.config.now run.now.app.now run.now.load.now run.now.costs.now arr.now arrivals.now run.now.events.now responses.now) }
+{
+    let soon = first_soon(run.load, arrivals);
+    let seen = seen_tasks(alloc, run, responses)?;
+    let mut text = Vec::new(alloc);
+    push_arrivals(alloc, &mut text, run.config, run.load, arr, &soon)?;
+    push_work(&mut text, run.config, &seen.above)?;
+    text.extend_from_slice(&seen.text)?;
+    Ok(ToldRun {
+        text: List::from_vec(text),
+        keeps: soon.is_none() && seen.above.is_none(),
+    })
+}

@@ -1,0 +1,120 @@
+//! How soon ticks have ended behind the arrivals of their counters.
+ghost use Rattle.std.specs.Prelude.{◌≡◌, cond, true, false, length, IfOk};
+ghost use Rattle.run_windows.specs.Costs.{comes};
+ghost use Rattle.run_responses.specs.TickWindows.{tick_costs, longest_service, tick_window, IsTickBound, greater_number, IsTickNumber};
+
+use run_windows::bounds::{bound, room};
+use run_windows::level::comes;
+use run_windows::window::Window;
+use run_windows::{Costs, Made, Start, TaskCosts};
+use sloth_base::{COUNT_LIMIT, List, NoMemory};
+use std::alloc::Global;
+
+// The costs of counters alone.
+fn tick_costs(alloc: Global, costs: &Costs) -> Result<Costs, NoMemory>
+    ensures { IfOk result (λ ticks. ticks ≡ tick_costs costs.now) }
+{
+    let counters = costs.counters.items().to_vec(alloc)?;
+    Ok(Costs {
+        tasks: List::from_vec(Vec::new(alloc)),
+        comes: List::from_vec(Vec::new(alloc)),
+        counters: List::from_vec(counters),
+        alarms: List::from_vec(Vec::new(alloc)),
+        makings: List::from_vec(Vec::new(alloc)),
+        services: List::from_vec(Vec::new(alloc)),
+        levels: List::from_vec(Vec::new(alloc)),
+    })
+}
+
+// The longest service that a task reaches, if it comes.
+fn reached_service(costs: &Costs, k: usize, task: &TaskCosts) -> u32
+    ensures { result ≡ cond (comes costs.now k) task.now.service 0 }
+{
+    if comes(costs, k) { task.service } else { 0 }
+}
+
+// The longest service that a task which comes reaches.
+fn longest_service(costs: &Costs) -> u32
+    ensures { result ≡ longest_service costs.now 0 costs.now.tasks }
+{
+    let mut most: u32 = 0;
+    for (k, task) in costs.tasks.items().iter().enumerate() {
+        most = most.max(reached_service(costs, k, task));
+    }
+    most
+}
+
+// The counts in front of a window.
+fn tick_front(longest: u32, late: u32, costs: &Costs, opens: bool) -> u64
+    ensures { result ≡ (tick_window longest late costs.now opens).front }
+{
+    let service = if opens { 0 } else { longest_service(costs) };
+    let stretches = u64::from(late) + u64::from(late);
+    let items = u64::from(longest) + u64::from(longest);
+    items + stretches + u64::from(service)
+}
+
+// The bound of a window, with the costs of counters alone.
+fn tick_bound(
+    longest: u32,
+    late: u32,
+    costs: &Costs,
+    ticks: &Costs,
+    opens: bool,
+    numbers: &mut [Made],
+) -> Option<u32>
+    requires ticks { ticks.now ≡ tick_costs costs.now }
+    requires count { length numbers.old ≡ 0 }
+    ensures bound { IsTickBound longest late costs.now opens result }
+    ensures count { length numbers.new ≡ 0 }
+{
+    let front = tick_front(longest, late, costs, opens);
+    if front > u64::from(COUNT_LIMIT) {
+        return None;
+    }
+    let window = Window {
+        target: None,
+        start: Start::Free,
+        front: front as u32,
+        span: None,
+    };
+    bound(ticks, &window, COUNT_LIMIT, numbers)
+}
+
+fn greater_number(
+    longest: u32,
+    late: u32,
+    opening: Option<u32>,
+    serving: Option<u32>,
+) -> Option<u32>
+    ensures { result ≡ greater_number longest late opening serving }
+{
+    match opening {
+        Some(opening) => match serving {
+            Some(serving) => {
+                let one = opening.saturating_sub(longest).saturating_sub(late);
+                let other = serving.saturating_sub(longest).saturating_sub(late);
+                Some(one.max(other.saturating_sub(late)))
+            }
+            None => None,
+        },
+        None => None,
+    }
+}
+
+/// Within how many counts of an arrival of its counter a tick has ended, in runs that keep these costs: the greater number of two windows. None where one has
+/// more than 1,000,000 counts.
+pub fn tick_number(
+    alloc: Global,
+    longest: u32,
+    late: u32,
+    costs: &Costs,
+) -> Result<Option<u32>, NoMemory>
+    ensures { IfOk result (λ told. IsTickNumber longest late costs.now told) }
+{
+    let ticks = tick_costs(alloc, costs)?;
+    let mut numbers = room(alloc, 0)?;
+    let opening = tick_bound(longest, late, costs, &ticks, true, &mut numbers);
+    let serving = tick_bound(longest, late, costs, &ticks, false, &mut numbers);
+    Ok(greater_number(longest, late, opening, serving))
+}
