@@ -1,5 +1,5 @@
 -- Where a task and its calls stand, by the relation.
-use Rattle.std.proofs.Common.{◌≡◌, inl, inr, ◌⊎◌, ⊎_elim, ℕ, ◌+◌, ◌*◌, ◌<◌, ◌≤◌, List, [], ◌∷◌, length, true, sym, ◌∙◌, ap, subst, arith}
+use Rattle.std.proofs.Common.{◌≡◌, inl, inr, ◌⊎◌, ⊎_elim, ℕ, ◌+◌, ◌*◌, ◌<◌, ◌≤◌, List, [], ◌∷◌, length, true, false, sym, ◌∙◌, ap, subst, arith}
 use Rattle.sloth_base.specs.Named.{function, operation}
 use Rattle.sloth_base.specs.declared.app.Call.{Call}
 use Rattle.sloth_base.specs.declared.app.Op.{Op}
@@ -84,22 +84,22 @@ module _ (b : Build) (ram : List ℕ) (t : ℕ) (own : Task) (th : Thread) (plac
       let serves = a.is in
       inr ((λ callee is. (let e = sym serves ∙ is in cc)), (λ is. (let e = sym serves ∙ is in cc)))
 
-  calls_in_return : (frame : Frame) (outer : List Frame) (caller : Frame) (rest : List Frame) → operation b.app frame.func frame.item ≡ op.Return
+  calls_in_return : (frame : Frame) (outer : List Frame) (caller : Frame) (rest : List Frame) → own.owed ≡ false → operation b.app frame.func frame.item ≡ op.Return
       → outer ≡ caller ∷ rest
       → ((th.pc ≡ item_address b.places frame.func frame.item + 4) × AreFrames b ram frame outer place (b.top t))
       ⊎ ((th.pc ≡ item_address b.places frame.func frame.item + 8) × AreFrames b ram caller rest place (b.top t))
       → HasCallsHere frame outer
-  calls_in_return frame outer caller rest is called_by (inl h) =
+  calls_in_return frame outer caller rest free is called_by (inl h) =
       let at = h.0 in
       inl (inr ((λ callee calls. (let e = sym is ∙ calls in cc)), (λ same. omega (arith, at))), calls b ram frame outer place (b.top t) h.1)
-  calls_in_return frame outer caller rest is called_by (inr h) =
-      inr (inr (caller, rest, is, called_by, h.0, calls b ram caller rest place (b.top t) h.1))
+  calls_in_return frame outer caller rest free is called_by (inr h) =
+      inr (free, inr (caller, rest, is, called_by, h.0, calls b ram caller rest place (b.top t) h.1))
 
   calls_in_call : (frame : Frame) (outer : List Frame) → IsCalling b ram (b.top t) own frame outer th place → HasCallsHere frame outer
   calls_in_call frame outer c =
       let some = c.some in
       let at = c.pc in
-      inr (inl (c.callee, c.is, omega (arith, some, at), calls b ram frame outer (place + 4 + 4 * (function b.app c.callee).frame_words) (b.top t) c.frames))
+      inr (c.free, inl (c.callee, c.is, omega (arith, some, at), calls b ram frame outer (place + 4 + 4 * (function b.app c.callee).frame_words) (b.top t) c.frames))
 
   calls_here : (frame : Frame) (outer : List Frame)
       → (IsStanding b ram (b.top t) own frame outer th place ⊎ (IsOwing b ram t own frame outer th place
@@ -108,7 +108,7 @@ module _ (b : Build) (ram : List ℕ) (t : ℕ) (own : Task) (th : Thread) (plac
   calls_here frame outer (inl h) = inl (outside_by_standing frame h.here, calls b ram frame outer place (b.top t) h.frames)
   calls_here frame outer (inr (inl h)) = inl (inl h.owes, calls b ram frame outer place (b.top t) h.frames)
   calls_here frame outer (inr (inr (inl h))) = calls_in_call frame outer h
-  calls_here frame outer (inr (inr (inr h))) = calls_in_return frame outer h.caller h.rest h.is h.called_by h.here
+  calls_here frame outer (inr (inr (inr h))) = calls_in_return frame outer h.caller h.rest h.free h.is h.called_by h.here
 
   pub calls_at : (frame : Frame) (outer : List Frame) → IsPosition b ram t own th place → own.frames ≡ frame ∷ outer → HasCallsHere frame outer
   calls_at frame outer h begun =

@@ -1,5 +1,5 @@
 -- The registers that `debug` shows of tasks, wherever interrupts are open.
-use Rattle.std.specs.Prelude.{ℕ, ◌+◌, ◌-◌, ◌*◌, ◌<◌, ◌≤◌, ◌≡◌, ◌≢◌, ◌⊎◌, List, [], ◌∷◌, Some, None, true, filter, length, map, slice_index}
+use Rattle.std.specs.Prelude.{ℕ, ◌+◌, ◌-◌, ◌*◌, ◌<◌, ◌≤◌, ◌≡◌, ◌≢◌, ◌⊎◌, List, [], ◌∷◌, Some, None, true, false, filter, length, map, slice_index}
 use Rattle.sloth_base.specs.Machine.{State}
 use Rattle.sloth_base.specs.MemoryMap.{memory_base, vectors_base}
 use Rattle.sloth_base.specs.Named.{function, operation}
@@ -65,10 +65,10 @@ IsOutsideCall app places own frame pc =
 abbrev pub HasCalls : App → Places → List ℕ → Task → Frame → List Frame → (pc place top : ℕ) → Type 0
 HasCalls app places ram own frame outer pc place top =
     (IsOutsideCall app places own frame pc × AreCalls app places ram frame outer place top)
-    ⊎ (((callee : ℕ) × (operation app frame.func frame.item ≡ op.Invoke callee) × (item_address places frame.func frame.item < pc)
+    ⊎ ((own.owed ≡ false) × (((callee : ℕ) × (operation app frame.func frame.item ≡ op.Invoke callee) × (item_address places frame.func frame.item < pc)
     × AreCalls app places ram frame outer (place + 4 + 4 * (function app callee).frame_words) top)
     ⊎ ((caller : Frame) × (rest : List Frame) × (operation app frame.func frame.item ≡ op.Return) × (outer ≡ caller ∷ rest)
-    × (pc ≡ item_address places frame.func frame.item + 8) × AreCalls app places ram caller rest place top))
+    × (pc ≡ item_address places frame.func frame.item + 8) × AreCalls app places ram caller rest place top)))
 
 -- The registers of each task, whose thread has its number and 2 more, by the map of the image; and its calls in progress, in the RAM of the machine as it is now.
 pub record AreTaskRegisters (config : Config) (app : App) (m : Map) (now : State) (run : Run) (count : ℕ) (s : System) : Type 0 where
