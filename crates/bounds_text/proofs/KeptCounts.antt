@@ -30,7 +30,7 @@ use Rattle.run_counts.specs.Spending.{NoSumIsAbove, NoneIsLower}
 use Rattle.run_counts.proofs.Counted.{counts_weigh}
 use Rattle.run_counts.proofs.Spending.{spends_on_lower, spends_nothing}
 use Rattle.bounds_text.specs.Latency.{heaviest_ending, longest_item}
-use Rattle.bounds_text.specs.LowerCounts.{heaviest_in, heaviest, behind_item, lower_counts, count_lines, RunsKeepCounts, HasLowerCounts}
+use Rattle.bounds_text.specs.LowerCounts.{heaviest_item, heaviest, behind_item, lower_counts, count_lines, RunsKeepCounts, HasLowerCounts}
 
 -- ---- the heaviest item
 
@@ -45,14 +45,14 @@ at_most_greatest (suc n) size i lt = by (cases_lt i n) (at_most_greatest n size 
         omega (arith, same)
 
 -- of a table of rows of numbers none is above the greatest
-none_above : (A : Type 0) (row : A → List ℕ) (d : A) (rows : List A) → row d ≡ [] → (f i : ℕ) → get_or (row (get_or rows f d)) i 0 ≤ max_below (length rows) (λ g. heaviest_in (row (get_or rows g d)))
+none_above : (A : Type 0) (row : A → List ℕ) (d : A) (rows : List A) → row d ≡ [] → (f i : ℕ) → get_or (row (get_or rows f d)) i 0 ≤ max_below (length rows) (λ g. heaviest_item (row (get_or rows g d)))
 none_above A row d rows empty f i = by (cases_lt f (length rows)) (cases_lt i (length (row (get_or rows f d))))
   where
     by : (f < length rows) ⊎ (length rows ≤ f) → (i < length (row (get_or rows f d))) ⊎ (length (row (get_or rows f d)) ≤ i)
-        → get_or (row (get_or rows f d)) i 0 ≤ max_below (length rows) (λ g. heaviest_in (row (get_or rows g d)))
+        → get_or (row (get_or rows f d)) i 0 ≤ max_below (length rows) (λ g. heaviest_item (row (get_or rows g d)))
     by (inl known) (inl inside) =
         let item = at_most_greatest (length (row (get_or rows f d))) (λ j. get_or (row (get_or rows f d)) j 0) i inside in
-        let body = at_most_greatest (length rows) (λ g. heaviest_in (row (get_or rows g d))) f known in
+        let body = at_most_greatest (length rows) (λ g. heaviest_item (row (get_or rows g d))) f known in
         omega (arith, item, body)
     by (inl known) (inr past) = let none = get_or_past (row (get_or rows f d)) i 0 past in omega (arith, none)
     by (inr past) inside =

@@ -35,7 +35,7 @@ use Rattle.run_counts.proofs.Stretches.{stretches_within}
 use Rattle.bounds_text.specs.Bounds.{AreToldBounds, is_below}
 use Rattle.bounds_text.specs.Stretches.{running_counts}
 use Rattle.bounds_text.specs.BoundsText.{bound_lines}
-use Rattle.bounds_text.specs.Latency.{IsHighestTask, heaviest_ending, longest_item, taken_counts, told_of, tick_lines, last_line, RunsKeepLatency, IsShortTick, RunsKeepTicks, HasLatency}
+use Rattle.bounds_text.specs.Latency.{IsHighestTask, heaviest_ending, longest_item, taken_counts, lower_sum, tick_lines, last_line, RunsKeepLatency, IsShortTick, RunsKeepTicks, HasLatency}
 use Rattle.bounds_text.specs.LowerCounts.{heaviest}
 use Rattle.bounds_text.proofs.Keeping.{runs-keep-all}
 use Rattle.bounds_text.proofs.KeptCounts.{at_most_greatest, none_heavier, none_ends_heavier, none_longer, none_below, sums_within}
@@ -90,7 +90,7 @@ module _ (config : Config) (app : App) (weights : List BodyWeights) where
       omega (arith, le, entry)
 
   -- what lower tasks take
-  takes : (table : List (List Sum)) (h counts : ℕ) → h < length config.tasks → AreAllSums config app weights table → told_of config weights table h ≡ sum.Counts counts
+  takes : (table : List (List Sum)) (h counts : ℕ) → h < length config.tasks → AreAllSums config app weights table → lower_sum config weights table h ≡ sum.Counts counts
       → TakesWithin config app weights h (taken_counts (any_below (length config.tasks) (is_below config.tasks (task_at config.tasks h).priority)) (heaviest_ending weights) counts)
       ⊎ (NoneIsLower config h × (taken_counts (any_below (length config.tasks) (is_below config.tasks (task_at config.tasks h).priority)) (heaviest_ending weights) counts ≡ 0))
   takes table h counts there are told = by (cases_Bool (any_below (length config.tasks) (is_below config.tasks (task_at config.tasks h).priority)))

@@ -8,6 +8,5 @@ pub mod OneLatency
 mod CountLines
 pub mod OneLowerCounts
 mod Told
-mod ShownWays
 pub mod OneTold
 pub mod KeptTold

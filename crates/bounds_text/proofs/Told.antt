@@ -19,7 +19,7 @@ use Rattle.walk_sums.specs.Sections.{AreToldSums, greatest_of}
 use Rattle.walk_sums.proofs.Counting.{any_is, none_is}
 use Rattle.walk_sums.proofs.Greatest.{greatest_told}
 use Rattle.walk_sums.proofs.ItemSums.{section_size}
-use Rattle.bounds_text.specs.Bounds.{IsTold, is_below, bound_by, bound_of}
+use Rattle.bounds_text.specs.Bounds.{IsTold, is_below, sum_bound, blocking_bound}
 
 module _ (config : Config) (app : App) (w : Facts config app) (h : ℕ) where
   -- the sum of a section for h is its size
@@ -44,7 +44,7 @@ module _ (config : Config) (app : App) (w : Facts config app) (h : ℕ) where
       g.attained
 
   -- what is told by a greatest sum, where some task is lower
-  told_by : (t : ℕ) → IsLower config h t → (s : Sum) → IsToldSum (IsSectionFor config app h) (item_weights app) s → IsTold config app h (bound_by s)
+  told_by : (t : ℕ) → IsLower config h t → (s : Sum) → IsToldSum (IsSectionFor config app h) (item_weights app) s → IsTold config app h (sum_bound s)
   told_by t low (sum.Counts n) g =
       let small = g.1 in
       let e : suc n ≡ n + 1 = omega arith in
@@ -74,12 +74,12 @@ told_none config app h e =
     (lowest (λ t low. true≢false (sym (lt-ltb (static_priority config t) (static_priority config h) low.1) ∙ none_is (length config.tasks) (is_below config.tasks (static_priority config h)) e t low.0)), omega arith)
 
 -- what is told of task h
-pub told_of : (config : Config) (app : App) (h : ℕ) (sums : List Sum) → WellFormed config app → AreToldSums config app (item_weights app) h sums
-    → IsTold config app h (bound_of config.tasks sums h)
-told_of config app h sums well are = by (any_below (length config.tasks) (is_below config.tasks (static_priority config h))) refl
+pub bound_is_told : (config : Config) (app : App) (h : ℕ) (sums : List Sum) → WellFormed config app → AreToldSums config app (item_weights app) h sums
+    → IsTold config app h (blocking_bound config.tasks sums h)
+bound_is_told config app h sums well are = by (any_below (length config.tasks) (is_below config.tasks (static_priority config h))) refl
   where
     by : (b : Bool) → any_below (length config.tasks) (is_below config.tasks (static_priority config h)) ≡ b
-        → IsTold config app h (cond b (bound_by (greatest_of sums (length sums))) (bound.Items 0))
+        → IsTold config app h (cond b (sum_bound (greatest_of sums (length sums))) (bound.Items 0))
     by true e =
         let low = some_lower config h e in
         told_by config app (facts config app well) h low.0 low.1 (greatest_of sums (length sums)) (greatest_told config app (item_weights app) h sums are)

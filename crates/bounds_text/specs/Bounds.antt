@@ -30,11 +30,11 @@ abbrev pub is_below : List TaskDecl → (priority t : ℕ) → Bool
 is_below tasks priority t = ltb (task_at tasks t).priority priority
 
 -- by the greatest size of the sections of lower tasks
-abbrev pub bound_by : Sum → Bound
-bound_by (sum.Counts size) = told size
-bound_by sum.Huge = bound.Huge
-bound_by sum.Endless = bound.Endless
+abbrev pub sum_bound : Sum → Bound
+sum_bound (sum.Counts size) = told size
+sum_bound sum.Huge = bound.Huge
+sum_bound sum.Endless = bound.Endless
 
 -- the bound of task t, from the sums of the sections of all tasks for it
-abbrev pub bound_of : List TaskDecl → List Sum → (t : ℕ) → Bound
-bound_of tasks sums t = cond (any_below (length tasks) (is_below tasks (task_at tasks t).priority)) (bound_by (greatest_of sums (length sums))) (bound.Items 0)
+abbrev pub blocking_bound : List TaskDecl → List Sum → (t : ℕ) → Bound
+blocking_bound tasks sums t = cond (any_below (length tasks) (is_below tasks (task_at tasks t).priority)) (sum_bound (greatest_of sums (length sums))) (bound.Items 0)

@@ -37,7 +37,7 @@ use Rattle.bounds_text.specs.Stretches.{running_counts}
 use Rattle.bounds_text.specs.declared.latency.Parts.{Parts}
 use Rattle.bounds_text.specs.BoundsText.{bound_lines}
 use Rattle.bounds_text.specs.KeptRuns.{RunsKeepAll}
-use Rattle.bounds_text.specs.LowerCounts.{heaviest_in, heaviest, lower_counts}
+use Rattle.bounds_text.specs.LowerCounts.{heaviest_item, heaviest, lower_counts}
 
 -- this is the task of highest priority, if there is a task
 abbrev pub IsHighestTask : Config → Option ℕ → Type 0
@@ -48,11 +48,11 @@ IsHighestTask config (Some h) = (h < length config.tasks) × IsHighest config h
 
 -- the heaviest item of all bodies with which its task may leave
 abbrev pub heaviest_ending : (weights : List BodyWeights) → ℕ
-heaviest_ending weights = max_below (length weights) (λ f. heaviest_in (get_or weights f no_weights).ending)
+heaviest_ending weights = max_below (length weights) (λ f. heaviest_item (get_or weights f no_weights).ending)
 
 -- the instructions of the longest item
 abbrev pub longest_item : (lengths : List (List ℕ)) → ℕ
-longest_item lengths = max_below (length lengths) (λ f. heaviest_in (get_or lengths f []))
+longest_item lengths = max_below (length lengths) (λ f. heaviest_item (get_or lengths f []))
 
 -- What lower tasks take in front of an entry: nothing where there are none; else what is told of them, or an item with which one leaves.
 abbrev pub taken_counts : (some : Bool) → (leaving counts : ℕ) → ℕ
@@ -60,8 +60,8 @@ taken_counts some leaving counts = cond some (max counts leaving) 0
 
 -- the parts of the latency of task h: the most counts of a stretch behind boot, of an item with which a task leaves, the longest item, the task's entry, and
 -- whether some task is lower
-abbrev pub parts_of : Config → App → (lengths : List (List ℕ)) → (weights : List BodyWeights) → (h : ℕ) → Parts
-parts_of config app lengths weights h = record {
+abbrev pub latency_parts : Config → App → (lengths : List (List ℕ)) → (weights : List BodyWeights) → (h : ℕ) → Parts
+latency_parts config app lengths weights h = record {
   running = running_counts config app (heaviest_ending weights);
   leaving = heaviest_ending weights;
   longest = longest_item lengths;
@@ -95,13 +95,13 @@ unfoldable pub latency_line : Config → Parts → Sum → (h : ℕ) → List �
 latency_line config parts told h = (((declaration config h).name ++ codes " latency") ++ latency_text parts told) ++ codes "\n"
 
 -- what is told of the tasks lower than h
-abbrev pub told_of : Config → (weights : List BodyWeights) → (table : List (List Sum)) → (h : ℕ) → Sum
-told_of config weights table h = lower_counts config.tasks (heaviest weights) (get_or table h []) h
+abbrev pub lower_sum : Config → (weights : List BodyWeights) → (table : List (List Sum)) → (h : ℕ) → Sum
+lower_sum config weights table h = lower_counts config.tasks (heaviest weights) (get_or table h []) h
 
 -- that of the task of highest priority, if there is a task
 abbrev pub last_line : Config → App → (lengths : List (List ℕ)) → (weights : List BodyWeights) → (table : List (List Sum)) → Option ℕ → List ℕ
 last_line config app lengths weights table None = []
-last_line config app lengths weights table (Some h) = latency_line config (parts_of config app lengths weights h) (told_of config weights table h) h
+last_line config app lengths weights table (Some h) = latency_line config (latency_parts config app lengths weights h) (lower_sum config weights table h) h
 
 -- these are the lines of these bounds, those of the ticks of all counters, and then that of the latency of the task of highest priority
 pub record AreAllLines (config : Config) (app : App) (bounds : List Bound) (lengths : List (List ℕ)) (weights : List BodyWeights) (table : List (List Sum)) (text : List ℕ) : Type 0 where
@@ -126,8 +126,8 @@ abbrev pub RunsKeepLatency : Config → App → (lengths : List (List ℕ)) → 
 RunsKeepLatency config app lengths weights table None = Unit {0}
 RunsKeepLatency config app lengths weights table (Some h) =
     (image : Image) (arrivals : List Arrival) (n : ℕ) → Sound config app image → InPace config app image → Weighed config app image → AreComing (owners_in config) arrivals
-    → (counts : ℕ) → told_of config weights table h ≡ sum.Counts counts
-    → EntersWithin config app h (latency_counts (parts_of config app lengths weights h) counts) (parts_of config app lengths weights h) n (events_of image arrivals n)
+    → (counts : ℕ) → lower_sum config weights table h ≡ sum.Counts counts
+    → EntersWithin config app h (latency_counts (latency_parts config app lengths weights h) counts) (latency_parts config app lengths weights h) n (events_of image arrivals n)
 
 -- no tick takes more counts than its line tells
 abbrev pub IsShortTick : Config → Stamped → Type 0

@@ -26,12 +26,12 @@ use Rattle.bounds_text.specs.KeptRuns.{WaitsForCounts}
 -- ---- counts
 
 -- the heaviest of these items of a body, behind which their task goes on
-abbrev pub heaviest_in : (going : List ℕ) → ℕ
-heaviest_in going = max_below (length going) (λ i. get_or going i 0)
+abbrev pub heaviest_item : (going : List ℕ) → ℕ
+heaviest_item going = max_below (length going) (λ i. get_or going i 0)
 
 -- that of all bodies
 abbrev pub heaviest : (weights : List BodyWeights) → ℕ
-heaviest weights = max_below (length weights) (λ f. heaviest_in (get_or weights f no_weights).going)
+heaviest weights = max_below (length weights) (λ f. heaviest_item (get_or weights f no_weights).going)
 
 -- a sum behind an item of this weight
 abbrev pub behind_item : (weight : ℕ) → Sum → Sum

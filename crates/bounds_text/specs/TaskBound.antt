@@ -1,5 +1,5 @@
 -- What the command `why` tells of one task: its bound, and of what that is made.
-use Rattle.std.specs.Prelude.{ℕ, suc, ◌<◌, ◌≡◌, List, [], ◌∷◌, ◌++◌, length, get_or, codes, decimal, Option, Some, None}
+use Rattle.std.specs.Prelude.{ℕ, ◌<◌, ◌≡◌, List, [], ◌∷◌, ◌++◌, get_or, codes, decimal, Option, Some, None}
 use Rattle.sloth_base.specs.declared.config.Config.{Config}
 use Rattle.sloth_base.specs.declared.app.App.{App}
 use Rattle.sloth_base.specs.Named.{function, item_of, declaration}
@@ -11,7 +11,7 @@ use Rattle.bounds_text.specs.Bounds.{AreToldBounds}
 use Rattle.bounds_text.specs.BoundsText.{bound_line}
 use Rattle.walk_sums.specs.declared.standing.Point.{Point}
 use Rattle.section_ways.specs.declared.ways.Way.{Way}
-use Rattle.section_ways.specs.SectionWays.{IsSectionWay, IsCycleWay}
+use Rattle.section_ways.specs.ShownWays.{IsShown}
 
 -- ---- lines
 
@@ -41,13 +41,6 @@ way_word bound.Endless = codes "cycle"
 way_word _ = codes "way"
 
 -- ---- what is told
-
--- What is shown of a bound of task h, if anything: of a bound in items a section of one item less, so a greatest one; of one without limit a cycle.
-abbrev pub IsShown : Config → App → (h : ℕ) → Bound → Option Way → Type 0
-IsShown config app h b None = Unit {0}
-IsShown config app h (bound.Items n) (Some way) = IsSectionWay config app h way.task way.points × (suc (length way.points) ≡ n)
-IsShown config app h bound.Huge (Some way) = ⊥
-IsShown config app h bound.Endless (Some way) = IsCycleWay config app h way.task way.points
 
 -- these are the lines of the bound of task h and of what it is made
 pub record HasBoundLines (config : Config) (app : App) (h : ℕ) (text : List ℕ) : Type 0 where

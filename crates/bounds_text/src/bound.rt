@@ -6,7 +6,7 @@ ghost use Rattle.call_graph.specs.Reached.{any_below};
 ghost use Rattle.walk_sums.specs.Weights.{item_weights};
 ghost use Rattle.walk_sums.specs.Sections.{AreToldSums, AreAllSums};
 ghost use Rattle.bounds_text.specs.Kept.{RunsKeepTold};
-ghost use Rattle.bounds_text.specs.Bounds.{IsTold, AreToldBounds, is_below, bound_by, bound_of};
+ghost use Rattle.bounds_text.specs.Bounds.{IsTold, AreToldBounds, is_below, sum_bound, blocking_bound};
 
 pub use bound_rules::Bound;
 use bound_rules::told;
@@ -15,7 +15,7 @@ use sloth_base::{App, Config, List, NoMemory, TaskDecl};
 use std::alloc::Global;
 use task_verify::Verified;
 use text_pieces::push;
-use walk_sums::{Sum, Walks, greatest_of, item_weights, known_code};
+use walk_sums::{Sum, Walks, greatest_sum, item_weights, known_code};
 
 /// Whether the task is lower than this priority.
 fn is_below(tasks: &[TaskDecl], priority: u32, task: usize) -> bool
@@ -37,8 +37,8 @@ pub fn has_lower(tasks: &[TaskDecl], priority: u32) -> bool
 }
 
 /// The bound by the greatest size of the sections of lower tasks.
-fn bound_by(greatest: Sum) -> Bound
-    ensures { result ≡ bound_by greatest }
+fn sum_bound(greatest: Sum) -> Bound
+    ensures { result ≡ sum_bound greatest }
 {
     match greatest {
         Sum::Counts(size) => told(size),
@@ -48,29 +48,29 @@ fn bound_by(greatest: Sum) -> Bound
 }
 
 /// The bound of a task, from the sums of the sections of all tasks for it.
-fn bound_of(tasks: &[TaskDecl], sums: &[Sum], task: usize) -> Bound
+fn blocking_bound(tasks: &[TaskDecl], sums: &[Sum], task: usize) -> Bound
     requires { task < length tasks.now }
-    ensures { result ≡ bound_of tasks.now sums.now task }
+    ensures { result ≡ blocking_bound tasks.now sums.now task }
 {
     if has_lower(tasks, tasks[task].priority) {
-        bound_by(greatest_of(sums))
+        sum_bound(greatest_sum(sums))
     } else {
         Bound::Items(0)
     }
 }
 
 /// The same, where that is well-formed task code.
-fn bound_in(config: &Config, app: &App, sums: &[Sum], task: usize) -> Bound
+fn proven_bound(config: &Config, app: &App, sums: &[Sum], task: usize) -> Bound
     requires well_formed { WellFormed config.now app.now }
     requires inside { task < length config.now.tasks }
     requires sums { AreToldSums config.now app.now (item_weights app.now) task sums.now }
     ensures { IsTold config.now app.now task result }
 {
-    bound_of(config.tasks.items(), sums, task)
+    blocking_bound(config.tasks.items(), sums, task)
 }
 
 /// The bounds of all tasks.
-fn bounds_by(
+fn proven_bounds(
     alloc: Global,
     config: &Config,
     app: &App,
@@ -84,7 +84,7 @@ fn bounds_by(
     for task in 0..config.tasks.items().len() {
         push(
             &mut bounds,
-            bound_in(config, app, table[task].items(), task),
+            proven_bound(config, app, table[task].items(), task),
         )?;
     }
     Ok(bounds)
@@ -97,7 +97,7 @@ pub fn walked_bounds(walks: &Walks) -> Result<Vec<Bound>, NoMemory>
     let app = walks.app();
     let weights = item_weights(walks.alloc(), app)?;
     let table = walks.section_sums(&weights)?;
-    let bounds = bounds_by(walks.alloc(), walks.config(), app, &table)?;
+    let bounds = proven_bounds(walks.alloc(), walks.config(), app, &table)?;
     Ok(bounds)
 }
 

@@ -22,9 +22,9 @@ pub fn highest_among(tasks: &[TaskDecl]) -> Option<usize>
     Some(highest)
 }
 
-/// The latency: so many counts may pass from an arrival behind boot to the end of the entry, ticks left out. They are those of the stretch that is running,
-/// what lower tasks take, and the entry behind the longest item.
-pub fn latency_of(running: u32, lower: u32, longest: u32, entry: u32) -> u64
+/// The latency: so many counts may pass from an arrival behind boot to the end of the entry, ticks left out. They are
+/// those of the stretch that is running, what lower tasks take, and the entry behind the longest item.
+pub fn weighed_latency(running: u32, lower: u32, longest: u32, entry: u32) -> u64
     ensures { result ≡ weighed_latency running lower longest entry }
 {
     u64::from(running) + u64::from(lower) + (u64::from(longest) + u64::from(entry))

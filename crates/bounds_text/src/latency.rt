@@ -11,12 +11,14 @@ ghost use Rattle.walk_sums.specs.Weights.{AreWeights};
 ghost use Rattle.run_counts.specs.Counts.{AreCountsBy};
 ghost use Rattle.bounds_text.specs.Bounds.{AreToldBounds};
 ghost use Rattle.bounds_text.specs.BoundsText.{AreTellable};
-ghost use Rattle.bounds_text.specs.LowerCounts.{heaviest_in};
-ghost use Rattle.bounds_text.specs.Latency.{IsHighestTask, heaviest_ending, longest_item, taken_counts, parts_of, latency_text, latency_line, told_of, tick_line, tick_lines, last_line, AreAllLines, HasLatency, IsLatencyText};
+ghost use Rattle.bounds_text.specs.LowerCounts.{heaviest_item};
+ghost use Rattle.bounds_text.specs.Latency.{IsHighestTask, heaviest_ending, longest_item, taken_counts, latency_parts};
+ghost use Rattle.bounds_text.specs.Latency.{latency_text, latency_line, lower_sum, tick_line, tick_lines, last_line};
+ghost use Rattle.bounds_text.specs.Latency.{AreAllLines, HasLatency, IsLatencyText};
 
 use crate::bound::{Bound, has_lower, walked_bounds};
-use crate::entry_latency::{highest_among, latency_of};
-use crate::lower_counts::{heaviest, heaviest_in, lower_counts};
+use crate::entry_latency::{highest_among, weighed_latency};
+use crate::lower_counts::{heaviest, heaviest_item, lower_counts};
 use crate::stretches::enter_counts;
 use crate::{bound_lines, running_counts};
 use bound_rules::{BodyWeights, weights_at};
@@ -47,7 +49,7 @@ pub fn heaviest_ending(weights: &[BodyWeights]) -> u32
 {
     let mut most = 0;
     for body in 0..weights.len() {
-        most = heaviest_in(weights_at(weights, body).ending.items()).max(most);
+        most = heaviest_item(weights_at(weights, body).ending.items()).max(most);
     }
     most
 }
@@ -58,7 +60,7 @@ pub fn longest_item(lengths: &ItemLengths) -> u32
 {
     let mut most = 0;
     for body in 0..lengths.bodies.items().len() {
-        most = heaviest_in(lengths.bodies.items()[body].items()).max(most);
+        most = heaviest_item(lengths.bodies.items()[body].items()).max(most);
     }
     most
 }
@@ -86,7 +88,7 @@ pub struct Parts {
 }
 
 // Those of a task.
-fn parts_of(
+fn latency_parts(
     config: &Config,
     app: &App,
     lengths: &ItemLengths,
@@ -97,7 +99,7 @@ fn parts_of(
     requires bodies { (t : ℕ) → t < length config.now.tasks → HasTaskBody app.now.funcs t }
     requires frames { All (λ func. func.frame_words ≤ frame_limit) app.now.funcs }
     requires in_range { InRange config.now }
-    ensures { result ≡ parts_of config.now app.now lengths.now.bodies weights.now task }
+    ensures { result ≡ latency_parts config.now app.now lengths.now.bodies weights.now task }
 {
     let leaving = heaviest_ending(weights);
     let tasks = config.tasks.items();
@@ -117,7 +119,7 @@ fn latency_text(alloc: Global, parts: &Parts, told: Sum) -> Result<Vec<u8>, NoMe
     match told {
         Sum::Counts(counts) => {
             let lower = taken_counts(parts.some, parts.leaving, counts);
-            let latency = latency_of(parts.running, lower, parts.longest, parts.entry);
+            let latency = weighed_latency(parts.running, lower, parts.longest, parts.entry);
             text!(alloc; Word(b" "), Piece::Sum(u128::from(latency)))
         },
         Sum::Huge => text!(alloc; Word(b" huge")),
@@ -145,10 +147,10 @@ fn latency_line(
 }
 
 // What is told of the tasks lower than this one.
-fn told_of(config: &Config, weights: &[BodyWeights], table: &[List<Sum>], task: usize) -> Sum
+fn lower_sum(config: &Config, weights: &[BodyWeights], table: &[List<Sum>], task: usize) -> Sum
     requires there { task < length config.now.tasks }
     requires same { length table.now ≡ length config.now.tasks }
-    ensures { result ≡ told_of config.now weights.now table.now task }
+    ensures { result ≡ lower_sum config.now weights.now table.now task }
 {
     lower_counts(
         config.tasks.items(),
@@ -173,13 +175,14 @@ fn last_line(
     requires bodies { (t : ℕ) → t < length config.now.tasks → HasTaskBody app.now.funcs t }
     requires frames { All (λ func. func.frame_words ≤ frame_limit) app.now.funcs }
     requires in_range { InRange config.now }
-    ensures { IfOk result (λ line. line.items ≡ last_line config.now app.now lengths.now.bodies weights.now table.now highest) }
+    ensures { IfOk result (λ line. line.items ≡
+        last_line config.now app.now lengths.now.bodies weights.now table.now highest) }
 {
     match highest {
         None => Ok(Vec::new(alloc)),
         Some(task) => {
-            let parts = parts_of(config, app, lengths, weights, task);
-            let told = told_of(config, weights, table, task);
+            let parts = latency_parts(config, app, lengths, weights, task);
+            let told = lower_sum(config, weights, table, task);
             latency_line(alloc, config, &parts, told, task)
         }
     }
@@ -224,7 +227,8 @@ fn all_lines(
     requires same { length bounds.now ≡ length config.now.tasks }
     requires tellable { AreTellable bounds.now }
     requires rows { length table.now ≡ length config.now.tasks }
-    ensures { IfOk result (λ text. AreAllLines config.now app.now bounds.now lengths.now.bodies weights.now table.now text.items) }
+    ensures { IfOk result (λ text. AreAllLines config.now app.now bounds.now lengths.now.bodies weights.now table.now
+        text.items) }
 {
     let highest = highest_task(config);
     let mut text = bound_lines(alloc, config.tasks.items(), bounds)?;
@@ -280,9 +284,10 @@ fn checked_latency(alloc: Global, verified: &Verified, ranks: &Ranks) -> Result<
     Ok(text)
 }
 
-/// The lines of the bounds of all tasks, of the ticks of all counters, and of the latency of the task of highest priority, of texts of at most 4,294,967,294
-/// bytes; or the first refusal (O1 to O15, A1 to A7, V1 to V12). The latency is a number of instructions, for an arrival behind boot; what ticks on the
-/// way add is left out. Without a task it has no line.
+/// The lines of the bounds of all tasks, of the ticks of all counters, and of the latency of the task of highest
+/// priority, of texts of at most 4,294,967,294 bytes; or the first refusal (O1 to O15, A1 to A7, V1 to V12). The
+/// latency is a number of instructions, for an arrival behind boot; what ticks on the way add is left out. Without a
+/// task it has no line.
 pub fn latency_lines(alloc: Global, oil: &[u8], src: &[u8]) -> Result<Vec<u8>, BuildError>
     requires oil { length oil.now < 4294967295 }
     requires src { length src.now < 4294967295 }

@@ -1,34 +1,41 @@
-//! The lines of the command `bounds`, without and with `latency` or `counts`, from the texts of a configuration and its task source.
+//! The lines of the command `bounds`, without and with `latency` or `counts`, from the texts of a configuration and its
+//! task source.
 //!
-//! The lines of the bounds of accepted texts, with `latency` those of all counters and the task of highest priority, or their first refusal (`bounds_text`,
-//! `latency::latency_lines`). In every sound run of an image of the task code each task of which a number is told waits for at most so many items and
-//! 200 counts for each. The lines with `counts` tell the sums of sections in counts (`lower_counts::lower_count_lines`). In every run of an image whose builder
-//! promises `Sound` and `InPace` lower tasks spend at most so many counts; if `Weighed` too, from an arrival behind boot the task of the last line is entered,
-//! where the run has a stretch more, within its latency and the ticks' counts, each with the longest item; no tick takes more than its line says. Texts have
-//! one list of lines of each kind (`one_text`, `one_latency_text`, `one_lower_counts_text`). Definitions: `specs/BoundsText`, ticks and latency
-//! `specs/Latency`, counts `specs/LowerCounts`, what bounds promise of runs `specs/KeptRuns`. Sums: `walk_sums`
-//! (`Sections`); what runs spend, and the latency: `run_counts` (`Spending`, `Latency`).
+//! The lines of the bounds of accepted texts, with `latency` those of all counters and the task of highest priority, or
+//! their first refusal (`bounds_text`, `latency::latency_lines`). In every sound run of an image of the task code each
+//! task of which a number is told waits for at most so many items and 200 counts for each. The lines with `counts` tell
+//! the sums of sections in counts (`lower_counts::lower_count_lines`). In every run of an image whose builder promises
+//! `Sound` and `InPace` lower tasks spend at most so many counts; if `Weighed` too, from an arrival behind boot the
+//! task of the last line is entered, where the run has a stretch more, within its latency and the ticks' counts, each
+//! with the longest item; no tick takes more than its line says. Texts have one list of lines of each kind (`one_text`,
+//! `one_latency_text`, `one_lower_counts_text`). Definitions: `specs/BoundsText`, ticks and latency `specs/Latency`,
+//! counts `specs/LowerCounts`, what bounds promise of runs `specs/KeptRuns`. Sums: `walk_sums` (`Sections`); what runs
+//! spend, and the latency: `run_counts` (`Spending`, `Latency`).
 //!
-//! The lines of `why` for one task (`task_bound::task_bound_text`, `specs/TaskBound`): that of its bound; behind one above 1 a lower task and the lines of a section
-//! of as many items less one, so a greatest one; behind one without limit those of a cycle within a section. Where no such way was found, which is not proved
-//! never to be, the first line stands alone. Ways: `section_ways`.
+//! The lines of `why` for one task (`task_bound::task_bound_text`, `specs/TaskBound`): that of its bound; behind one
+//! above 1 a lower task and the lines of a section of as many items less one, so a greatest one; behind one without
+//! limit those of a cycle within a section. Where no such way was found, which is not proved never to be, the first
+//! line stands alone. Ways: `section_ways`.
 //!
-//! Blocking bounds: how much work of lower tasks may stand between a task's becoming Ready and its entry; and the latency of the task of highest
-//! priority.
+//! Blocking bounds: how much work of lower tasks may stand between a task's becoming Ready and its entry; and the
+//! latency of the task of highest priority.
 //!
-//! Of well-formed task code `bounds` tells exactly (clause `exact`): the bound of each task up to 1,000,000; that it is above that and sections have
-//! a greatest size; or that they have none. In every run of the abstract scheduler each task of which a number is told waits for at most so many
-//! items (clause `kept`). What is told: `specs/Bounds`; what that promises: `specs/Kept`.
+//! Of well-formed task code `bounds` tells exactly (clause `exact`): the bound of each task up to 1,000,000; that it is
+//! above that and sections have a greatest size; or that they have none. In every run of the abstract scheduler each
+//! task of which a number is told waits for at most so many items (clause `kept`). What is told: `specs/Bounds`; what
+//! that promises: `specs/Kept`.
 //!
-//! A task of highest priority, or that there is no task (`highest_among`, `specs/Highest`); the counts of its latency by those of its parts
-//! (`latency_of`), and the most counts of a stretch behind boot (`running_counts`, `specs/Stretches`). Sizes: `walk_sums`; bounds: `raised_sections`
-//! (`Sections`); the latency: `run_counts` (`Latency`); paths of entries and ticks: `code_lengths` (`LongestPaths`).
+//! A task of highest priority, or that there is no task (`highest_among`, `specs/Highest`); the counts of its latency
+//! by those of its parts (`weighed_latency`), and the most counts of a stretch behind boot (`running_counts`,
+//! `specs/Stretches`). Sizes: `walk_sums`; bounds: `raised_sections` (`Sections`); the latency: `run_counts`
+//! (`Latency`); paths of entries and ticks: `code_lengths` (`LongestPaths`).
 #![tactic(auto)]
 
 ghost use Rattle.std.specs.Prelude.{◌≡◌, ◌<◌, length, IfOk, IfErr};
 ghost use Rattle.call_graph.specs.Ranks.{RanksOf};
 ghost use Rattle.sloth_source.specs.Texts.{SourcesErrorIs};
-ghost use Rattle.bounds_text.specs.BoundsText.{IsTellable, AreTellable, HasLines, bound_text, bound_line, bound_lines, IsBoundsText};
+ghost use Rattle.bounds_text.specs.BoundsText.{IsTellable, AreTellable, HasLines, bound_text, bound_line, bound_lines};
+ghost use Rattle.bounds_text.specs.BoundsText.{IsBoundsText};
 
 pub mod bound;
 pub mod entry_latency;
@@ -111,7 +118,8 @@ fn checked_text(alloc: Global, verified: &Verified, ranks: &Ranks) -> Result<Vec
     Ok(text)
 }
 
-/// The lines of the bounds of all tasks, of texts of at most 4,294,967,294 bytes; or the first refusal (O1 to O15, A1 to A7, V1 to V12).
+/// The lines of the bounds of all tasks, of texts of at most 4,294,967,294 bytes; or the first refusal (O1 to O15, A1
+/// to A7, V1 to V12).
 pub fn bounds_text(alloc: Global, oil: &[u8], src: &[u8]) -> Result<Vec<u8>, BuildError>
     requires oil { length oil.now < 4294967295 }
     requires src { length src.now < 4294967295 }

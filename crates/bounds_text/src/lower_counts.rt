@@ -4,7 +4,8 @@ ghost use Rattle.call_graph.specs.Ranks.{RanksOf};
 ghost use Rattle.walk_sums.specs.Weights.{AreWeights};
 ghost use Rattle.run_counts.specs.Counts.{AreCounts};
 ghost use Rattle.sloth_source.specs.Texts.{SourcesErrorIs};
-ghost use Rattle.bounds_text.specs.LowerCounts.{heaviest_in, heaviest, behind_item, lower_counts, sum_text, count_line, count_lines, HasLowerCounts, IsLowerCountsText};
+ghost use Rattle.bounds_text.specs.LowerCounts.{heaviest_item, heaviest, behind_item, lower_counts, sum_text};
+ghost use Rattle.bounds_text.specs.LowerCounts.{count_line, count_lines, HasLowerCounts, IsLowerCountsText};
 
 use crate::bound::has_lower;
 use bound_rules::{BodyWeights, weights_at};
@@ -16,11 +17,11 @@ use std::alloc::Global;
 use task_verify::Verified;
 use text_pieces::pieces::Piece::{Number, Word};
 use text_pieces::text;
-use walk_sums::{Sum, Walks, greatest_of, known_code};
+use walk_sums::{Sum, Walks, greatest_sum, known_code};
 
 // The heaviest of these items of a body.
-pub(crate) fn heaviest_in(going: &[u32]) -> u32
-    ensures { result ≡ heaviest_in going.now }
+pub(crate) fn heaviest_item(going: &[u32]) -> u32
+    ensures { result ≡ heaviest_item going.now }
 {
     let mut most = 0;
     for item in 0..going.len() {
@@ -35,7 +36,7 @@ pub(crate) fn heaviest(weights: &[BodyWeights]) -> u32
 {
     let mut most = 0;
     for body in 0..weights.len() {
-        most = heaviest_in(weights_at(weights, body).going.items()).max(most);
+        most = heaviest_item(weights_at(weights, body).going.items()).max(most);
     }
     most
 }
@@ -63,7 +64,7 @@ pub(crate) fn lower_counts(tasks: &[TaskDecl], weight: u32, sums: &[Sum], task: 
     ensures { result ≡ lower_counts tasks.now weight sums.now task }
 {
     if has_lower(tasks, tasks[task].priority) {
-        behind_item(weight, greatest_of(sums))
+        behind_item(weight, greatest_sum(sums))
     } else {
         Sum::Counts(0)
     }
@@ -125,12 +126,8 @@ fn lines_by_counts(walks: &Walks, weights: &[BodyWeights]) -> Result<Vec<u8>, No
 {
     let config = walks.config();
     let table = walks.section_sums(weights)?;
-    count_lines(
-        walks.alloc(),
-        config.tasks.items(),
-        heaviest(weights),
-        &table,
-    )
+    let tasks = config.tasks.items();
+    count_lines(walks.alloc(), tasks, heaviest(weights), &table)
 }
 
 // The lines of walked task code.
@@ -156,8 +153,8 @@ fn checked_counts(alloc: Global, verified: &Verified, ranks: &Ranks) -> Result<V
     Ok(text)
 }
 
-/// The lines of the counts of lower tasks that may stand in front of each task's entry, of texts of at most 4,294,967,294 bytes; or the first refusal
-/// (O1 to O15, A1 to A7, V1 to V12). Without a task there is no line.
+/// The lines of the counts of lower tasks that may stand in front of each task's entry, of texts of at most
+/// 4,294,967,294 bytes; or the first refusal (O1 to O15, A1 to A7, V1 to V12). Without a task there is no line.
 pub fn lower_count_lines(alloc: Global, oil: &[u8], src: &[u8]) -> Result<Vec<u8>, BuildError>
     requires oil { length oil.now < 4294967295 }
     requires src { length src.now < 4294967295 }

@@ -5,52 +5,21 @@ ghost use Rattle.sloth_source.specs.TaskNames.{task_named};
 ghost use Rattle.sloth_source.specs.Texts.{SourcesErrorIs};
 ghost use Rattle.bound_rules.specs.declared.bound.Bound.TheVariants as bound_is;
 ghost use Rattle.bounds_text.specs.Bounds.{AreToldBounds};
-ghost use Rattle.bounds_text.specs.TaskBound.{way_word, IsShown, HasBoundLines, HasLinesOf, IsBoundText};
+ghost use Rattle.section_ways.specs.ShownWays.{IsShown};
+ghost use Rattle.bounds_text.specs.TaskBound.{way_word, HasBoundLines, HasLinesOf, IsBoundText};
 
 use crate::bound::{Bound, walked_bounds};
 use crate::bound_line;
 use crate::way_lines::push_shown;
 use call_graph::Ranks;
-use section_ways::{Wanted, Way, way_of};
+use section_ways::{Way, lower_way};
 use sloth_base::{App, BuildError, Config, List, NoMemory};
 use sloth_source::{read_checked, task_named};
 use std::alloc::Global;
 use task_verify::Verified;
 use walk_sums::{Walks, known_code};
 
-// A section of the size that a bound of so many items asks for, if one is found.
-fn section_behind(walks: &Walks, task: usize, items: u32) -> Result<Option<Way>, NoMemory>
-    requires { task < length walks.now.config.tasks }
-    ensures { IfOk result (IsShown walks.now.config walks.now.app task (bound_is.Items items)) }
-{
-    if items < 2 {
-        return Ok(None);
-    }
-    let wanted = Wanted::Section((items - 1) as usize);
-    way_of(walks, task, wanted)
-}
-
-// A cycle, if one is found.
-fn cycle_behind(walks: &Walks, task: usize) -> Result<Option<Way>, NoMemory>
-    requires { task < length walks.now.config.tasks }
-    ensures { IfOk result (IsShown walks.now.config walks.now.app task bound_is.Endless) }
-{
-    way_of(walks, task, Wanted::Cycle)
-}
-
-// The way that a bound is made of, if one is found.
-fn way_behind(walks: &Walks, task: usize, bound: Bound) -> Result<Option<Way>, NoMemory>
-    requires { task < length walks.now.config.tasks }
-    ensures { IfOk result (IsShown walks.now.config walks.now.app task bound) }
-{
-    match bound {
-        Bound::Items(items) => section_behind(walks, task, items),
-        Bound::Huge => Ok(None),
-        Bound::Endless => cycle_behind(walks, task),
-    }
-}
-
-fn word_of(bound: Bound) -> &'static [u8]
+fn shown_word(bound: Bound) -> &'static [u8]
     ensures { result.now ≡ way_word bound }
 {
     match bound {
@@ -60,7 +29,7 @@ fn word_of(bound: Bound) -> &'static [u8]
 }
 
 // The lines of a task's bound, by those of all tasks and the way that is shown of it.
-fn lines_with(
+fn way_bound_lines(
     alloc: Global,
     config: &Config,
     app: &App,
@@ -74,7 +43,7 @@ fn lines_with(
     ensures { IfOk result (HasBoundLines config.now app.now task) }
 {
     let mut text = bound_line(alloc, config.tasks.items(), bounds, task)?;
-    push_shown(&mut text, config, app, word_of(bounds[task]), way)?;
+    push_shown(&mut text, config, app, shown_word(bounds[task]), way)?;
     Ok(List::from_vec(text))
 }
 
@@ -86,8 +55,8 @@ fn bound_lines(walks: &Walks, bounds: &[Bound], task: usize) -> Result<List<u8>,
 {
     let config = walks.config();
     let app = walks.app();
-    let way = way_behind(walks, task, bounds[task])?;
-    let text = lines_with(walks.alloc(), config, app, bounds, task, &way)?;
+    let way = lower_way(walks, task, bounds[task])?;
+    let text = way_bound_lines(walks.alloc(), config, app, bounds, task, &way)?;
     Ok(text)
 }
 
@@ -131,8 +100,8 @@ fn checked_lines(
     Ok(lines)
 }
 
-/// The lines of the bound of the task of this name, and of what it is made; nothing where no task has the name; of texts of at most 4,294,967,294 bytes; or
-/// the first refusal (O1 to O15, A1 to A7, V1 to V12).
+/// The lines of the bound of the task of this name, and of what it is made; nothing where no task has the name; of
+/// texts of at most 4,294,967,294 bytes; or the first refusal (O1 to O15, A1 to A7, V1 to V12).
 pub fn task_bound_text(
     alloc: Global,
     oil: &[u8],

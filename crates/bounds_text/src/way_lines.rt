@@ -1,7 +1,7 @@
 //! The lines of ways.
 ghost use Rattle.std.specs.Prelude.{◌≡◌, ◌++◌, OnOk};
 ghost use Rattle.sloth_base.specs.Named.{function, item_of};
-ghost use Rattle.bounds_text.specs.TaskBound.{point_word, point_words, task_line, way_lines, shown_lines};
+ghost use Rattle.bounds_text.specs.TaskBound.{point_word, point_words, shown_lines};
 
 use section_ways::Way;
 use sloth_base::{App, Config, NoMemory};
@@ -10,7 +10,7 @@ use text_pieces::pieces::Piece::{Number, Word};
 use walk_sums::Point;
 
 // The line of the item at a point, 0 where there is none.
-fn line_of(app: &App, point: Point) -> u32
+fn point_line(app: &App, point: Point) -> u32
     ensures { result ≡ (item_of (function app.now point.func) point.item).line }
 {
     match app.funcs.items().get(point.func) {
@@ -25,7 +25,7 @@ fn line_of(app: &App, point: Point) -> u32
 fn push_point(text: &mut Vec<u8>, app: &App, point: Point) -> Result<(), NoMemory>
     ensures { OnOk result (text.new.items ≡ text.old.items ++ point_word app.now point) }
 {
-    line!(text; Word(b" "), Number(line_of(app, point)))
+    line!(text; Word(b" "), Number(point_line(app, point)))
 }
 
 fn push_points(text: &mut Vec<u8>, app: &App, points: &[Point]) -> Result<(), NoMemory>
@@ -37,40 +37,23 @@ fn push_points(text: &mut Vec<u8>, app: &App, points: &[Point]) -> Result<(), No
     Ok(())
 }
 
-fn push_task(text: &mut Vec<u8>, config: &Config, task: usize) -> Result<(), NoMemory>
-    ensures { OnOk result (text.new.items ≡ text.old.items ++ task_line config.now task) }
-{
-    line!(text; Word(b"task "), Word(config.task_name(task)), Word(b"\n"))
-}
-
-// The lines of a way, the second with this word.
-fn push_way(
+/// The lines of a way, the second with this word, if there is one.
+pub fn push_shown<'x>(
     text: &mut Vec<u8>,
-    config: &Config,
+    config: &'x Config,
     app: &App,
-    word: &[u8],
-    way: &Way,
-) -> Result<(), NoMemory>
-    ensures { OnOk result (text.new.items ≡ text.old.items ++ way_lines config.now app.now word.now way.now) }
-{
-    push_task(text, config, way.task)?;
-    line!(text; Word(word))?;
-    push_points(text, app, way.points.items())?;
-    line!(text; Word(b"\n"))
-}
-
-/// The lines of a way, if there is one.
-pub fn push_shown(
-    text: &mut Vec<u8>,
-    config: &Config,
-    app: &App,
-    word: &[u8],
+    word: &'x [u8],
     way: &Option<Way>,
 ) -> Result<(), NoMemory>
     ensures { OnOk result (text.new.items ≡ text.old.items ++ shown_lines config.now app.now word.now way.now) }
 {
     match way {
-        Some(way) => push_way(text, config, app, word, way),
+        Some(way) => {
+            let name = config.task_name(way.task);
+            line!(text; Word(b"task "), Word(name), Word(b"\n"), Word(word))?;
+            push_points(text, app, way.points.items())?;
+            line!(text; Word(b"\n"))
+        },
         None => Ok(()),
     }
 }

@@ -195,7 +195,7 @@ required-plain tools status.NotAnElf words c old new text is h = absurd h
 required-plain tools (status.Explained kind) words c old new text is h = absurd h
 required-plain tools status.BadTrace words c old new text is h = absurd h
 required-plain tools status.NoHolds words c old new text is h = absurd h
-required-plain tools status.OpenDeadline words c old new text is h = absurd h
+required-plain tools status.Unmet words c old new text is h = absurd h
 
 required : (tools : ToolTable) (faults : FaultsAreOfImages tools) (s : Status) (words : List (List ℕ)) (c : Command) (old new : Files) (text : List ℕ) → IsCommand words c → IsCommandEnd tools s old new c text
     → IsRequired tools s words old new text

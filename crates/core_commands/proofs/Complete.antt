@@ -168,7 +168,7 @@ usage-by tools status.NotAnElf answer words old new text r p none = absurd (none
 usage-by tools (status.Explained kind) answer words old new text r p none = absurd (none (Uses r.0) r.1)
 usage-by tools status.BadTrace answer words old new text r p none = absurd (none (Uses r.0) r.1)
 usage-by tools status.NoHolds answer words old new text r p none = absurd (none (Uses r.0) r.1)
-usage-by tools status.OpenDeadline answer words old new text r p none = absurd (none (Uses r.0) r.1)
+usage-by tools status.Unmet answer words old new text r p none = absurd (none (Uses r.0) r.1)
 
 pub tells-usage : (tools : ToolTable) (words : List (List ℕ)) (old new : World) (answer : Status) → IsTopAnswer tools words old new answer → HasUsageAnswer words old new answer
 tells-usage tools words old new answer h none = usage-by tools h.wanted answer words old new h.text h.required h.puts none
@@ -213,7 +213,7 @@ refused-by tools status.NotAnElf answer words old new text c oil src arr r q p i
 refused-by tools (status.Explained kind) answer words old new text c oil src arr r q p is there works refusal = absurd (no-tool words q.0 (Builds c) q.1 is tt)
 refused-by tools status.BadTrace answer words old new text c oil src arr r q p is there works refusal = absurd (no-tool words q.0 (Builds c) q.1 is tt)
 refused-by tools status.NoHolds answer words old new text c oil src arr r q p is there works refusal = absurd (no-tool words q.0 (Builds c) q.1 is tt)
-refused-by tools status.OpenDeadline answer words old new text c oil src arr r q p is there works refusal = absurd (no-tool words q.0 (Builds c) q.1 is tt)
+refused-by tools status.Unmet answer words old new text c oil src arr r q p is there works refusal = absurd (no-tool words q.0 (Builds c) q.1 is tt)
 
 pub tells-refused : (tools : ToolTable) (words : List (List ℕ)) (old new : World) (answer : Status) → IsTopAnswer tools words old new answer → HasRefusalAnswer words old new answer
 tells-refused tools words old new answer h c is oil src arr there works r refusal =
@@ -284,7 +284,7 @@ module _ (tools : ToolTable) (old new : World) (c : Building) (oil src arr : Lis
   complete-by (status.Explained kind) answer words text q p is = absurd (no-tool words q.0 (Builds c) q.1 is tt)
   complete-by status.BadTrace answer words text q p is = absurd (no-tool words q.0 (Builds c) q.1 is tt)
   complete-by status.NoHolds answer words text q p is = absurd (no-tool words q.0 (Builds c) q.1 is tt)
-  complete-by status.OpenDeadline answer words text q p is = absurd (no-tool words q.0 (Builds c) q.1 is tt)
+  complete-by status.Unmet answer words text q p is = absurd (no-tool words q.0 (Builds c) q.1 is tt)
 
 pub is-complete : (tools : ToolTable) (words : List (List ℕ)) (old new : World) (answer : Status) → IsTopAnswer tools words old new answer → IsComplete tools words old new answer
 is-complete tools words old new answer a c is oil src arr there config app accepted arrivals read works =

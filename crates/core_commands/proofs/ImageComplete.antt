@@ -186,9 +186,9 @@ module _ (tools : ToolTable) (words : List (List ℕ)) (old new : Files) (text :
   verdict status.NoHolds q =
       inl (own-image tools old c file tool_answer.NoHolds k (subst (AnswersAs tools old tool_answer.NoHolds) (one-command words (Uses q.0) c q.1 is) q.2)
       (λ fault e. let same : tool_answer.NoHolds ≡ tool_answer.NotAnImage fault = e in cc))
-  verdict status.OpenDeadline q =
-      inl (own-image tools old c file (tool_answer.OpenDeadline q.2) k (subst (AnswersAs tools old (tool_answer.OpenDeadline q.2)) (one-command words (Uses q.0) c q.1 is) q.3)
-      (λ fault e. let same : tool_answer.OpenDeadline q.2 ≡ tool_answer.NotAnImage fault = e in cc))
+  verdict status.Unmet q =
+      inl (own-image tools old c file (tool_answer.Unmet q.2) k (subst (AnswersAs tools old (tool_answer.Unmet q.2)) (one-command words (Uses q.0) c q.1 is) q.3)
+      (λ fault e. let same : tool_answer.Unmet q.2 ≡ tool_answer.NotAnImage fault = e in cc))
 
 fault-by : (wanted answer : Status) (old new : World) (file text : List ℕ) (fault : ImageFault) → IsFirstImageFault fault file → Verdict wanted file text
     → IsPutAnswer wanted answer old.sink new.sink text → IsImageFaultAnswer old new fault answer
@@ -290,7 +290,7 @@ module _ (tools : ToolTable) (words : List (List ℕ)) (old new : World) (answer
   executed-by (status.Explained kind) arrivals text read works q p = absurd (no-tool words q.0 (Executes e) q.1 is tt)
   executed-by status.BadTrace arrivals text read works q p = absurd (no-tool words q.0 (Executes e) q.1 is tt)
   executed-by status.NoHolds arrivals text read works q p = absurd (no-tool words q.0 (Executes e) q.1 is tt)
-  executed-by status.OpenDeadline arrivals text read works q p = absurd (no-tool words q.0 (Executes e) q.1 is tt)
+  executed-by status.Unmet arrivals text read works q p = absurd (no-tool words q.0 (Executes e) q.1 is tt)
 
   -- accepted arrivals are not refused
   not-accepted : (other : Image) (others : List Arrival) (r : Refusal) → IsRunnable old.files e other others → IsLeast (ArrivalsFault image.tasks image.counters arr) r → ⊥
@@ -332,7 +332,7 @@ module _ (tools : ToolTable) (words : List (List ℕ)) (old new : World) (answer
   refused-by (status.Explained kind) text r works least q p = absurd (no-tool words q.0 (Executes e) q.1 is tt)
   refused-by status.BadTrace text r works least q p = absurd (no-tool words q.0 (Executes e) q.1 is tt)
   refused-by status.NoHolds text r works least q p = absurd (no-tool words q.0 (Executes e) q.1 is tt)
-  refused-by status.OpenDeadline text r works least q p = absurd (no-tool words q.0 (Executes e) q.1 is tt)
+  refused-by status.Unmet text r works least q p = absurd (no-tool words q.0 (Executes e) q.1 is tt)
 
 pub tells-executed : (tools : ToolTable) (words : List (List ℕ)) (old new : World) (answer : Status) → IsTopAnswer tools words old new answer → HasExecutedAnswer tools words old new answer
 tells-executed tools words old new answer h e is tells file arr i image is_image arrivals read works =
@@ -372,7 +372,7 @@ module _ (tools : ToolTable) (words : List (List ℕ)) (old new : World) (answer
   listed-by (status.Explained kind) text q p = absurd (no-tool words q.0 (Lists img) q.1 is tt)
   listed-by status.BadTrace text q p = absurd (no-tool words q.0 (Lists img) q.1 is tt)
   listed-by status.NoHolds text q p = absurd (no-tool words q.0 (Lists img) q.1 is tt)
-  listed-by status.OpenDeadline text q p = absurd (no-tool words q.0 (Lists img) q.1 is tt)
+  listed-by status.Unmet text q p = absurd (no-tool words q.0 (Lists img) q.1 is tt)
 
 pub tells-listed : (tools : ToolTable) (words : List (List ℕ)) (old new : World) (answer : Status) → IsTopAnswer tools words old new answer → HasListedAnswer tools words old new answer
 tells-listed tools words old new answer h img is tells file i image is_image works =

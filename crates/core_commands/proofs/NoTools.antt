@@ -100,7 +100,7 @@ module _ (tools : ToolTable) (words : List (List ℕ)) (none : NoTool words) whe
   required-anyway (status.Explained kind) old new text q = absurd (none q.0 q.1)
   required-anyway status.BadTrace old new text q = absurd (none q.0 q.1)
   required-anyway status.NoHolds old new text q = absurd (none q.0 q.1)
-  required-anyway status.OpenDeadline old new text q = absurd (none q.0 q.1)
+  required-anyway status.Unmet old new text q = absurd (none q.0 q.1)
 
   pub answered-anyway : (old new : World) (answer : Status) → IsTopAnswer LacksTools words old new answer → IsTopAnswer tools words old new answer
   answered-anyway old new answer h = record {

@@ -50,7 +50,7 @@ module _ (tools : ToolTable) (words : List (List ℕ)) (old new : World) (answer
   refused-by (status.Explained kind) text r refusal q p = absurd (no-tool words q.0 (Samples seed img) q.1 is tt)
   refused-by status.BadTrace text r refusal q p = absurd (no-tool words q.0 (Samples seed img) q.1 is tt)
   refused-by status.NoHolds text r refusal q p = absurd (no-tool words q.0 (Samples seed img) q.1 is tt)
-  refused-by status.OpenDeadline text r refusal q p = absurd (no-tool words q.0 (Samples seed img) q.1 is tt)
+  refused-by status.Unmet text r refusal q p = absurd (no-tool words q.0 (Samples seed img) q.1 is tt)
 
   sampled-by : (wanted : Status) (text : List ℕ) (config : Config) (app : App) → AreAccepted sample_oil (sample_source seed) config app
       → SampleWorks seed img config app old new → IsRequired tools wanted words old.files new.files text → IsPutAnswer wanted answer old.sink new.sink text
@@ -83,7 +83,7 @@ module _ (tools : ToolTable) (words : List (List ℕ)) (old new : World) (answer
   sampled-by (status.Explained kind) text config app accepted works q p = absurd (no-tool words q.0 (Samples seed img) q.1 is tt)
   sampled-by status.BadTrace text config app accepted works q p = absurd (no-tool words q.0 (Samples seed img) q.1 is tt)
   sampled-by status.NoHolds text config app accepted works q p = absurd (no-tool words q.0 (Samples seed img) q.1 is tt)
-  sampled-by status.OpenDeadline text config app accepted works q p = absurd (no-tool words q.0 (Samples seed img) q.1 is tt)
+  sampled-by status.Unmet text config app accepted works q p = absurd (no-tool words q.0 (Samples seed img) q.1 is tt)
 
 pub tells-sample-refused : (tools : ToolTable) (words : List (List ℕ)) (old new : World) (answer : Status) → IsTopAnswer tools words old new answer → HasSampleRefusedAnswer words old new answer
 tells-sample-refused tools words old new answer h seed img is r refusal =

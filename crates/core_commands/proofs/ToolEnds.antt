@@ -50,7 +50,7 @@ module _ (tools : ToolTable) (faults : FaultsAreOfImages tools) where
   tool-required (tool_answer.Explained kind fault) words u old new is h after = (u, is, fault, h, refl, after)
   tool-required (tool_answer.BadTrace fault) words u old new is h after = (u, is, fault, h, refl, after)
   tool-required tool_answer.NoHolds words u old new is h after = (u, is, h, refl, after)
-  tool-required (tool_answer.OpenDeadline lines) words u old new is h after = (u, is, lines, h, refl, after)
+  tool-required (tool_answer.Unmet lines) words u old new is h after = (u, is, lines, h, refl, after)
   tool-required tool_answer.NoTask words u old new is h after = (inr (u, is, h), refl, after)
 
   pub end-required : (s : Status) (words : List (List ℕ)) (u : ToolUse) (old new : Files) (text : List ℕ) → IsCommand words (Uses u)

@@ -241,7 +241,7 @@ FilesAfter (tool_answer.NotAnImage fault) old new output = AreFilesSame old new
 FilesAfter (tool_answer.NotAnElf fault) old new output = AreFilesSame old new
 FilesAfter (tool_answer.BadTrace fault) old new output = AreFilesSame old new
 FilesAfter tool_answer.NoHolds old new output = AreFilesSame old new
-FilesAfter (tool_answer.OpenDeadline lines) old new output = AreFilesSame old new
+FilesAfter (tool_answer.Unmet lines) old new output = AreFilesSame old new
 FilesAfter (tool_answer.Explained kind text) old new output = AreFilesSame old new
 FilesAfter tool_answer.NoTask old new output = AreFilesSame old new
 
@@ -341,8 +341,8 @@ IsRequired IsToolAnswer status.BadTrace words old new text =
     × AreFilesSame old new
 IsRequired IsToolAnswer status.NoHolds words old new text =
     (u : ToolUse) × IsCommand words (Uses u) × IsToolAnswer old u tool_answer.NoHolds × (text ≡ codes "no holds\n") × AreFilesSame old new
-IsRequired IsToolAnswer status.OpenDeadline words old new text =
-    (u : ToolUse) × IsCommand words (Uses u) × (lines : List ℕ) × IsToolAnswer old u (tool_answer.OpenDeadline lines) × (text ≡ lines)
+IsRequired IsToolAnswer status.Unmet words old new text =
+    (u : ToolUse) × IsCommand words (Uses u) × (lines : List ℕ) × IsToolAnswer old u (tool_answer.Unmet lines) × (text ≡ lines)
     × AreFilesSame old new
 IsRequired IsToolAnswer (status.Explained kind) words old new text =
     (u : ToolUse) × IsCommand words (Uses u) × (lines : List ℕ) × IsToolAnswer old u (tool_answer.Explained kind lines) × (text ≡ lines) × AreFilesSame old new

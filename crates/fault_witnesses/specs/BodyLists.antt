@@ -1,11 +1,16 @@
 -- What is kept of the lists of a body: a table of what is held before each item, and of the places at which all labels say so.
-use Rattle.std.specs.Prelude.{ℕ, ◌≡◌, Bool, true, false, List, [], get_or}
+use Rattle.std.specs.Prelude.{ℕ, ◌≡◌, ◌≤◌, Bool, true, false, List, [], Option, None, length, get_or}
 use Rattle.sloth_base.specs.declared.app.Func.{Func}
 use Rattle.sloth_base.specs.declared.app.Op.{Op}
 use Rattle.code_rules.specs.Code.{held_list_at, held_after}
+use Rattle.task_verify.specs.Labels.{last_label_below}
 use Rattle.fault_witnesses.specs.CleanWays.{LabelsHave, is_orderly}
 use Rattle.fault_witnesses.specs.declared.body_lists.KeptList.{KeptList}
 use Rattle.fault_witnesses.specs.declared.body_lists.BodyLists.{BodyLists}
+
+-- the last label at each place of a body, and at that behind its last item
+abbrev pub AreLastLabels : Func → List (Option ℕ) → Type 0
+AreLastLabels f last = (place : ℕ) → place ≤ length f.items → get_or last place None ≡ last_label_below f.labels place (length f.labels)
 
 -- what stands in the place of a list that is not there
 abbrev pub no_list : KeptList

@@ -1,8 +1,8 @@
 //! What is held before each item of a body, and where all labels say so.
-ghost use Rattle.std.specs.Prelude.{◌≡◌, ◌<◌, ◌≤◌, ◌+◌, ℕ, length, get_or, None, true, false, IfOk};
+ghost use Rattle.std.specs.Prelude.{◌≡◌, ◌<◌, ◌+◌, ℕ, length, get_or, true, false, IfOk};
 ghost use Rattle.code_rules.specs.Code.{held_list_at};
-ghost use Rattle.task_verify.specs.Labels.{last_label_below, ArePlaced};
-ghost use Rattle.fault_witnesses.specs.BodyLists.{AreLists, AreAgreed, AreBodyLists};
+ghost use Rattle.task_verify.specs.Labels.{ArePlaced};
+ghost use Rattle.fault_witnesses.specs.BodyLists.{AreLastLabels, AreLists, AreAgreed, AreBodyLists};
 
 use sloth_base::{Func, Label, List, NoMemory};
 use std::alloc::Global;
@@ -46,7 +46,7 @@ fn kept_list(alloc: Global, held: &[u32]) -> Result<KeptList, NoMemory>
 // By the last label at each place.
 fn kept_lists(alloc: Global, func: &Func, last: &[Option<usize>]) -> Result<Vec<KeptList>, NoMemory>
     requires count { length last.now ≡ length func.now.items + 1 }
-    requires lasts { (place : ℕ) → place ≤ length func.now.items → get_or last.now place None ≡ last_label_below func.now.labels place (length func.now.labels) }
+    requires lasts { AreLastLabels func.now last.now }
     ensures { IfOk result (λ rows. AreLists func.now rows.items) }
 {
     let mut rows = Vec::new(alloc);
@@ -91,7 +91,8 @@ fn unmark(marks: &mut [bool], place: usize)
 fn judge_label(func: &Func, rows: &[KeptList], label: &Label, marks: &mut [bool])
     requires { AreLists func.now rows.now }
     ensures kept { (k : ℕ) → get_or marks.new k false ≡ true → get_or marks.old k false ≡ true }
-    ensures agreed { get_or marks.new label.now.item false ≡ true → label.now.holds ≡ held_list_at func.now label.now.item }
+    ensures agreed { get_or marks.new label.now.item false ≡ true
+        → label.now.holds ≡ held_list_at func.now label.now.item }
 {
     if !has_label_list(func, rows, label) {
         unmark(marks, label.item as usize);

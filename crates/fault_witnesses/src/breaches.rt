@@ -101,7 +101,8 @@ pub fn stands_behind(alloc: Global, func: &Func, item: usize) -> Result<bool, No
     requires inside { item < length func.now.items }
     requires later { 0 < item }
     ensures unreached { IfOk result (λ behind. behind ≡ true → IsUnreached func.now item) }
-    ensures reached { IfOk result (λ behind. behind ≡ true → (between : List ℕ) × IsPath func.now 0 between (item - 1)) }
+    ensures reached { IfOk result (λ behind. behind ≡ true
+        → (between : List ℕ) × IsPath func.now 0 between (item - 1)) }
 {
     let marks = reached(alloc, func)?;
     Ok(lacks_mark(func, &marks, item) && has_mark(func, &marks, item - 1))

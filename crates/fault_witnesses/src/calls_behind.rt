@@ -45,34 +45,14 @@ fn reaches_culprit(app: &App, code: Code, held: &[u32], callee: usize, calls: &C
     ensures chain { result ≡ true → IsChain app.now callee calls.now.links }
     ensures known { result ≡ true → chain_end callee calls.now.links < length app.now.funcs }
     ensures inside { result ≡ true → calls.now.item < length (function app.now (chain_end callee calls.now.links)).items }
-    ensures culprit { result ≡ true → is_culprit code held.now (operation app.now (chain_end callee calls.now.links) calls.now.item) ≡ true }
+    ensures culprit { result ≡ true
+        → is_culprit code held.now (operation app.now (chain_end callee calls.now.links) calls.now.item) ≡ true }
 {
     let end = chain_end(callee, calls.links.items());
     is_chain(app, callee, calls.links.items()) && is_culprit_item(app, code, held, end, calls.item)
 }
 
-// The calls, if they lead from the function that the item calls to what breaks the rule.
-fn culprit_calls(
-    app: &App,
-    code: Code,
-    body: usize,
-    item: usize,
-    callee: usize,
-    held: &[u32],
-    calls: Calls,
-) -> Option<Calls>
-    requires is { operation app.now body item ≡ op.Invoke callee }
-    requires held { held.now ≡ held_list_at (function app.now body) item }
-    ensures { AreShownCalls app.now code (place.Item body item) result }
-{
-    if reaches_culprit(app, code, held, callee, &calls) {
-        Some(calls)
-    } else {
-        None
-    }
-}
-
-// The calls from a function that the item calls.
+// The calls from a function that the item calls, if they lead to what breaks the rule.
 fn callee_calls(
     alloc: Global,
     app: &App,
@@ -90,10 +70,13 @@ fn callee_calls(
         Code::V9 => Aim::Taking(held),
         _ => Aim::Pause,
     };
-    match shortest_chain(alloc, app, callee, aim)? {
-        Some(calls) => Ok(culprit_calls(app, code, body, item, callee, held, calls)),
-        None => Ok(None),
+    let Some(calls) = shortest_chain(alloc, app, callee, aim)? else {
+        return Ok(None);
+    };
+    if !reaches_culprit(app, code, held, callee, &calls) {
+        return Ok(None);
     }
+    Ok(Some(calls))
 }
 
 /// The calls behind V9 and V10, where the item calls a function; of other rules none.

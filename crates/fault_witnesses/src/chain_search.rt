@@ -85,25 +85,18 @@ fn reach_all(reached: &mut Vec<Reached>, before: usize, func: &Func) -> Result<(
     Ok(())
 }
 
-// The calls back to the first, and in their order.
-fn links_back(alloc: Global, reached: &[Reached], last: usize) -> Result<List<Link>, NoMemory> {
-    let mut back = Vec::new(alloc);
+// The calls from the first on, found from the last one back.
+fn reached_links(alloc: Global, reached: &[Reached], last: usize) -> Result<List<Link>, NoMemory> {
+    let mut links = Vec::new(alloc);
     let mut at = last;
     for _turn in 0..reached.len() {
         if at > 0 && at < reached.len() {
             let Reached { func, line, before } = reached[at];
-            push(&mut back, Link { func, line })?;
+            push(&mut links, Link { func, line })?;
             at = before;
         }
     }
-    in_order(alloc, &back)
-}
-
-fn in_order(alloc: Global, back: &[Link]) -> Result<List<Link>, NoMemory> {
-    let mut links = Vec::new(alloc);
-    for number in 0..back.len() {
-        push(&mut links, back[back.len() - 1 - number])?;
-    }
+    links.reverse();
     Ok(List::from_vec(links))
 }
 
@@ -121,7 +114,7 @@ fn found_chain(
         let number = reached[turn].func;
         let func = app.function(number);
         if let Some(item) = hit(aim, number, func) {
-            let links = links_back(alloc, reached, turn)?;
+            let links = reached_links(alloc, reached, turn)?;
             return Ok(Some(Calls { links, item }));
         }
         reach_all(reached, turn, func)?;
@@ -148,17 +141,6 @@ pub fn shortest_chain(
     found_chain(alloc, app, &mut reached, aim)
 }
 
-// These calls, if they lead from one body to another.
-fn proven_calls(app: &App, start: usize, links: List<Link>, end: usize) -> Option<List<Link>>
-    ensures { IfSome result (λ links. IsChain app.now start links × (chain_end start links ≡ end)) }
-{
-    if leads(app, start, links.items(), end) {
-        Some(links)
-    } else {
-        None
-    }
-}
-
 /// The shortest chain of calls from one body to another, if there is one.
 pub fn calls_between(
     alloc: Global,
@@ -166,10 +148,15 @@ pub fn calls_between(
     start: usize,
     end: usize,
 ) -> Result<Option<List<Link>>, NoMemory>
-    ensures { IfOk result (λ found. IfSome found (λ links. IsChain app.now start links × (chain_end start links ≡ end))) }
+    ensures { IfOk result (λ found.
+        IfSome found (λ links. IsChain app.now start links × (chain_end start links ≡ end))) }
 {
-    match shortest_chain(alloc, app, start, Aim::Function(end))? {
-        Some(Calls { links, item: _ }) => Ok(proven_calls(app, start, links, end)),
-        None => Ok(None),
+    let Some(Calls { links, item: _ }) = shortest_chain(alloc, app, start, Aim::Function(end))?
+    else {
+        return Ok(None);
+    };
+    if !leads(app, start, links.items(), end) {
+        return Ok(None);
     }
+    Ok(Some(links))
 }

@@ -112,7 +112,8 @@ pub fn are_clean_steps(
 ) -> Result<bool, NoMemory>
     requires labels { (i : ℕ) → i < length func.now.items → HasBodyLabel func.now (item_of func.now i).op }
     requires tables { AreBodyLists func.now tables.now }
-    ensures { IfOk result (λ clean. clean ≡ true → (n : ℕ) → n + 1 < length way.now → IsCleanStep func.now (way_item way.now n) (way_item way.now (n + 1))) }
+    ensures { IfOk result (λ clean. clean ≡ true → (n : ℕ) → n + 1 < length way.now
+        → IsCleanStep func.now (way_item way.now n) (way_item way.now (n + 1))) }
 {
     for number in 1..way.len() {
         if !is_clean_step(alloc, func, tables, way[number - 1], way[number])? {

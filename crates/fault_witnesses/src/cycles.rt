@@ -31,18 +31,7 @@ fn closes(app: &App, body: usize, links: &[Link]) -> bool
     !links.is_empty() && leads(app, body, links, body)
 }
 
-// The calls, if they lead from a function back to it.
-fn proven_cycle(app: &App, body: usize, links: List<Link>) -> Option<List<Link>>
-    ensures { IfSome result (λ links. IsCycle app.now body links) }
-{
-    if closes(app, body, links.items()) {
-        Some(links)
-    } else {
-        None
-    }
-}
-
-// The calls to a body that calls the function, and that call.
+// The calls to a body that calls the function, and that call, if they lead back to the function.
 fn closed_cycle(
     alloc: Global,
     app: &App,
@@ -55,7 +44,10 @@ fn closed_cycle(
     let line = item_line(app, chain_end(body, links), calls.item);
     let mut longer = links.to_vec(alloc)?;
     push(&mut longer, Link { func: body, line })?;
-    Ok(proven_cycle(app, body, List::from_vec(longer)))
+    if !closes(app, body, &longer) {
+        return Ok(None);
+    }
+    Ok(Some(List::from_vec(longer)))
 }
 
 /// The shortest chain of calls by which a function calls itself, if there is one: its last call is of the function.

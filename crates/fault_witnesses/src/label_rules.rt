@@ -1,9 +1,10 @@
 //! What is held before an item and behind a label, and V7 at a label.
-ghost use Rattle.std.specs.Prelude.{◌≡◌, ◌<◌, ◌≤◌, ◌+◌, ◌||◌, ◌≢◌, cond, ℕ, length, get_or, true, Some, None, [], is_some, IfOk};
+ghost use Rattle.std.specs.Prelude.{◌≡◌, ◌<◌, ◌≤◌, ◌+◌, ◌||◌, ◌≢◌, cond, length, true, Some, None, [], is_some, IfOk};
 ghost use Rattle.sloth_base.specs.Named.{label_of};
 ghost use Rattle.code_rules.specs.Code.{held_list_at, held_list_fallen_into, held_list_entering, is_entered, is_fallen_into};
 ghost use Rattle.code_rules.specs.WellFormed.{HasOtherList};
 ghost use Rattle.task_verify.specs.Labels.{last_label_below, ArePlaced};
+ghost use Rattle.fault_witnesses.specs.BodyLists.{AreLastLabels};
 
 use sloth_base::{Func, Label, NoMemory};
 use std::alloc::Global;
@@ -17,7 +18,7 @@ fn fallen_list(
     place: usize,
 ) -> Result<Vec<u32>, NoMemory>
     requires count { length last.now ≡ length func.now.items + 1 }
-    requires lasts { (place : ℕ) → place ≤ length func.now.items → get_or last.now place None ≡ last_label_below func.now.labels place (length func.now.labels) }
+    requires lasts { AreLastLabels func.now last.now }
     requires inside { place ≤ length func.now.items }
     ensures { IfOk result (λ held. held.items ≡ held_list_fallen_into func.now place) }
 {

@@ -1,7 +1,8 @@
 //! Ways in the order of the text, from the last label in front.
-ghost use Rattle.std.specs.Prelude.{◌≡◌, ◌<◌, ◌≤◌, ◌+◌, ◌-◌, ℕ, length, get_or, true, Some, None, IfOk};
+ghost use Rattle.std.specs.Prelude.{◌≡◌, ◌<◌, ◌≤◌, ◌+◌, ◌-◌, ℕ, length, true, Some, None, IfOk};
 ghost use Rattle.sloth_base.specs.Named.{label_of};
 ghost use Rattle.task_verify.specs.Labels.{last_label_below, ArePlaced};
+ghost use Rattle.fault_witnesses.specs.BodyLists.{AreLastLabels};
 ghost use Rattle.fault_witnesses.specs.CleanWays.{IsCleanStep, IsShownWay, way_item};
 
 use crate::{Way, is_orderly};
@@ -32,11 +33,13 @@ fn is_straight(
     goal: usize,
 ) -> Result<bool, NoMemory>
     requires count { length last.now ≡ length func.now.items + 1 }
-    requires lasts { (place : ℕ) → place ≤ length func.now.items → get_or last.now place None ≡ last_label_below func.now.labels place (length func.now.labels) }
+    requires lasts { AreLastLabels func.now last.now }
     requires known { label < length func.now.labels }
-    requires behind { last_label_below func.now.labels (label_of func.now label).item (length func.now.labels) ≡ Some label }
+    requires behind { last_label_below func.now.labels (label_of func.now label).item (length func.now.labels)
+        ≡ Some label }
     requires inside { goal < length func.now.items }
-    ensures { IfOk result (λ straight. straight ≡ true → (i : ℕ) → (label_of func.now label).item ≤ i → i < goal → IsCleanStep func.now i (i + 1)) }
+    ensures { IfOk result (λ straight. straight ≡ true → (i : ℕ) → (label_of func.now label).item ≤ i → i < goal
+        → IsCleanStep func.now i (i + 1)) }
 {
     let label = &func.labels.items()[label];
     let mut held = held_by(alloc, label.holds.items())?;
@@ -76,7 +79,7 @@ fn labelled_way(
     goal: usize,
 ) -> Result<Option<Way>, NoMemory>
     requires count { length last.now ≡ length func.now.items + 1 }
-    requires lasts { (place : ℕ) → place ≤ length func.now.items → get_or last.now place None ≡ last_label_below func.now.labels place (length func.now.labels) }
+    requires lasts { AreLastLabels func.now last.now }
     requires inside { goal < length func.now.items }
     ensures { IfOk result (IsShownWay func.now goal) }
 {
@@ -105,7 +108,7 @@ fn is_number(found: Option<usize>, number: usize) -> bool
 
 // Whether the label is the last one at its place, which is not behind the goal.
 fn stands_last(func: &Func, last: &[Option<usize>], label: usize, goal: usize) -> bool
-    requires lasts { (place : ℕ) → place ≤ length func.now.items → get_or last.now place None ≡ last_label_below func.now.labels place (length func.now.labels) }
+    requires lasts { AreLastLabels func.now last.now }
     requires inside { goal < length func.now.items }
     ensures known { result ≡ true → label < length func.now.labels }
     ensures before { result ≡ true → (label_of func.now label).item ≤ goal }

@@ -176,7 +176,8 @@ fn nearer(first: Option<User>, second: Option<User>) -> Option<User>
     }
 }
 
-/// The task that lacks what an item uses (V12): of the tasks that reach it by the fewest calls the first; of other rules none.
+/// The task that lacks what an item uses (V12): of the tasks that reach it by the fewest calls the first; of other
+/// rules none.
 pub fn lacking_user(
     alloc: Global,
     config: &Config,

@@ -24,46 +24,39 @@ fn mark(marks: &mut [bool], at: usize) {
     }
 }
 
-// Reaches an item from another one, where that is a clean step and it was not reached.
+// Visits an item from another one, where that is a clean step and it was not visited.
 fn visit(
     alloc: Global,
     func: &Func,
     tables: &BodyLists,
     marks: &mut [bool],
     visits: &mut Vec<Visited>,
-    before: usize,
     from: usize,
-    item: usize,
+    visited: Visited,
 ) -> Result<(), NoMemory>
     requires labels { (i : ℕ) → i < length func.now.items → HasBodyLabel func.now (item_of func.now i).op }
     requires tables { AreBodyLists func.now tables.now }
 {
+    let item = visited.item;
     if item >= marks.len() || marks[item] || !is_clean_step(alloc, func, tables, from, item)? {
         return Ok(());
     }
     mark(marks, item);
-    push(visits, Visited { item, before })
+    push(visits, visited)
 }
 
-// The items back to the first one, and in their order.
-fn way_back(alloc: Global, visits: &[Visited], last: usize) -> Result<Vec<usize>, NoMemory> {
-    let mut back = Vec::new(alloc);
+// The items from the first one on, found from the last one back.
+fn visited_way(alloc: Global, visits: &[Visited], last: usize) -> Result<Vec<usize>, NoMemory> {
+    let mut way = Vec::new(alloc);
     let mut at = last;
     for _turn in 0..visits.len() {
         if at > 0 && at < visits.len() {
-            push(&mut back, visits[at].item)?;
+            push(&mut way, visits[at].item)?;
             at = visits[at].before;
         }
     }
-    in_order(alloc, &back)
-}
-
-fn in_order(alloc: Global, back: &[usize]) -> Result<Vec<usize>, NoMemory> {
-    let mut way = Vec::new(alloc);
     push(&mut way, 0)?;
-    for number in 0..back.len() {
-        push(&mut way, back[back.len() - 1 - number])?;
-    }
+    way.reverse();
     Ok(way)
 }
 
@@ -80,41 +73,28 @@ fn search(
     requires tables { AreBodyLists func.now tables.now }
 {
     let count = func.items.items().len();
-    for turn in 0..count {
-        if turn >= visits.len() || visits[turn].item >= count {
+    for before in 0..count {
+        if before >= visits.len() || visits[before].item >= count {
             return Ok(None);
         }
-        let item = visits[turn].item;
-        if item == goal {
-            return Ok(Some(turn));
+        let from = visits[before].item;
+        if from == goal {
+            return Ok(Some(before));
         }
-        let next = next_of(func, item);
-        let jump = jump_of(func, item);
-        visit(
-            alloc,
-            func,
-            tables,
-            marks,
-            visits,
-            turn,
-            item,
-            next.min(jump),
-        )?;
-        visit(
-            alloc,
-            func,
-            tables,
-            marks,
-            visits,
-            turn,
-            item,
-            next.max(jump),
-        )?;
+        let next = next_of(func, from);
+        let jump = jump_of(func, from);
+        let item = next.min(jump);
+        let first = Visited { item, before };
+        visit(alloc, func, tables, marks, visits, from, first)?;
+        let item = next.max(jump);
+        let second = Visited { item, before };
+        visit(alloc, func, tables, marks, visits, from, second)?;
     }
     Ok(None)
 }
 
-/// The shortest way of clean steps from the first item of a body to another one, of several the one of the lower items; no items, where none is found.
+/// The shortest way of clean steps from the first item of a body to another one, of several the one of the lower items;
+/// no items, where none is found.
 pub fn shortest_way(
     alloc: Global,
     func: &Func,
@@ -129,7 +109,7 @@ pub fn shortest_way(
     let mut visits = Vec::new(alloc);
     push(&mut visits, Visited { item: 0, before: 0 })?;
     match search(alloc, func, tables, &mut marks, &mut visits, goal)? {
-        Some(turn) => way_back(alloc, &visits, turn),
+        Some(turn) => visited_way(alloc, &visits, turn),
         None => Ok(Vec::new(alloc)),
     }
 }

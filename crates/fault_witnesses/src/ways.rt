@@ -14,7 +14,8 @@ use crate::way_search::shortest_way;
 use sloth_base::{Func, List, NoMemory};
 use std::alloc::Global;
 
-/// A way through a body: the numbers of its items, and the label that it starts behind, if it does not start where the body begins.
+/// A way through a body: the numbers of its items, and the label that it starts behind, if it does not start where the
+/// body begins.
 #[derive(Drop)]
 pub struct Way {
     pub label: Option<usize>,
@@ -79,7 +80,8 @@ fn checked_way(
     straight_way(alloc, func, goal)
 }
 
-/// A way of clean steps to an item: the shortest one from the begin of the body, else one from the last label in front, in the order of the text.
+/// A way of clean steps to an item: the shortest one from the begin of the body, else one from the last label in front,
+/// in the order of the text.
 pub fn clean_way(alloc: Global, func: &Func, goal: usize) -> Result<Option<Way>, NoMemory>
     requires placed { ArePlaced func.now }
     requires labels { (i : ℕ) → i < length func.now.items → HasBodyLabel func.now (item_of func.now i).op }

@@ -21,7 +21,7 @@ use Rattle.mem_map.specs.Stacks.{address_behind_data}
 use Rattle.mem_map.proofs.Starts.{length_starts}
 use Rattle.map_text.specs.ExactRows.{RowsAreExact, behind_symbols, exact_rows, function_bytes, row_alone, rows_of}
 use Rattle.map_text.specs.Rows.{address_behind_code, code_places, map_rows, numbered_starts, own_rows, prologues_of, shared_rows, single_start, starts_of, ticks_of}
-use Rattle.map_text.specs.PieceRows.{first_at, row_to, rows_between}
+use Rattle.map_text.specs.PieceRows.{first_start, row_to, rows_between}
 use Rattle.map_text.specs.declared.piece_rows.Kind.{Kind}
 use Rattle.map_text.specs.declared.piece_rows.Kind.TheVariants as kind
 use Rattle.map_text.specs.declared.piece_rows.Row.{Row}
@@ -47,20 +47,20 @@ row_empty k n from =
 
 -- they do, and these are their rows
 record Fill (pieces : List Start) (from to : ℕ) (rows : List Row) : Type 0 where
-  first : first_at pieces to ≡ from
+  first : first_start pieces to ≡ from
   are : rows_between pieces to ≡ rows
 
-first_both : (one other : List Start) (to : ℕ) → first_at (one ++ other) to ≡ first_at one (first_at other to)
+first_both : (one other : List Start) (to : ℕ) → first_start (one ++ other) to ≡ first_start one (first_start other to)
 first_both [] other to = refl
 first_both (s ∷ one) other to = refl
 
-rows_both : (one other : List Start) (to : ℕ) → rows_between (one ++ other) to ≡ rows_between one (first_at other to) ++ rows_between other to
+rows_both : (one other : List Start) (to : ℕ) → rows_between (one ++ other) to ≡ rows_between one (first_start other to) ++ rows_between other to
 rows_both [] other to = refl
 rows_both (s ∷ one) other to =
-    let mid = first_at other to in
+    let mid = first_start other to in
     ap (λ a. row_to s a ++ rows_between (one ++ other) to) (first_both one other to)
-    ∙ ap (λ l. row_to s (first_at one mid) ++ l) (rows_both one other to)
-    ∙ sym (append_assoc (row_to s (first_at one mid)) (rows_between one mid) (rows_between other to))
+    ∙ ap (λ l. row_to s (first_start one mid) ++ l) (rows_both one other to)
+    ∙ sym (append_assoc (row_to s (first_start one mid)) (rows_between one mid) (rows_between other to))
 
 fill_none : (to : ℕ) → Fill [] to to []
 fill_none to = record { first = refl; are = refl }
@@ -68,7 +68,7 @@ fill_none to = record { first = refl; are = refl }
 fill_both : (one other : List Start) (from mid to : ℕ) (rows more : List Row) → Fill one from mid rows → Fill other mid to more
     → Fill (one ++ other) from to (rows ++ more)
 fill_both one other from mid to rows more f g = record {
-  first = first_both one other to ∙ ap (first_at one) g.first ∙ f.first;
+  first = first_both one other to ∙ ap (first_start one) g.first ∙ f.first;
   are = rows_both one other to ∙ ap (λ a. rows_between one a ++ rows_between other to) g.first ∙ ap (λ l. l ++ rows_between other to) f.are
       ∙ ap (λ l. rows ++ l) g.are;
 }
@@ -86,7 +86,7 @@ fill_more k at from len mid to others rows is end some f = record {
 
 -- ---- pieces of a kind
 
-first_numbered : (k : Kind) (n from : ℕ) (bytes : List ℕ) → first_at (numbered_starts k n (starts from bytes)) (end_of from bytes) ≡ from
+first_numbered : (k : Kind) (n from : ℕ) (bytes : List ℕ) → first_start (numbered_starts k n (starts from bytes)) (end_of from bytes) ≡ from
 first_numbered k n from [] = refl
 first_numbered k n from (len ∷ bytes) = refl
 
@@ -111,7 +111,7 @@ rows_numbered k n from (suc len ∷ bytes) =
 fill_numbered : (k : Kind) (addresses : List ℕ) (from to : ℕ) (bytes : List ℕ) → addresses ≡ starts from bytes → end_of from bytes ≡ to
     → Fill (numbered_starts k 0 addresses) from to (rows_of k 0 from bytes)
 fill_numbered k addresses from to bytes are end = record {
-  first = ap (λ l. first_at (numbered_starts k 0 l) to) are ∙ ap (λ a. first_at (numbered_starts k 0 (starts from bytes)) a) (sym end) ∙ first_numbered k 0 from bytes;
+  first = ap (λ l. first_start (numbered_starts k 0 l) to) are ∙ ap (λ a. first_start (numbered_starts k 0 (starts from bytes)) a) (sym end) ∙ first_numbered k 0 from bytes;
   are = ap (λ l. rows_between (numbered_starts k 0 l) to) are ∙ ap (λ a. rows_between (numbered_starts k 0 (starts from bytes)) a) (sym end) ∙ rows_numbered k 0 from bytes;
 }
 

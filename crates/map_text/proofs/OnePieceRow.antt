@@ -5,15 +5,15 @@ use Rattle.std.proofs.lemmas.List.{drop_more}
 use Rattle.map_text.specs.declared.piece_rows.Kind.TheVariants as kind
 use Rattle.map_text.specs.declared.piece_rows.Row.{Row}
 use Rattle.map_text.specs.declared.piece_rows.Start.{Start}
-use Rattle.map_text.specs.PieceRows.{first_at, row_to, rows_between}
+use Rattle.map_text.specs.PieceRows.{first_start, row_to, rows_between}
 
 -- what begins at a place of a list
-pub first_some : (starts : List Start) (k end : ℕ) (s : Start) → slice_get starts k ≡ Some s → first_at (drop k starts) end ≡ s.at
+pub first_some : (starts : List Start) (k end : ℕ) (s : Start) → slice_get starts k ≡ Some s → first_start (drop k starts) end ≡ s.at
 first_some [] k end s e = absurd cc
 first_some (x ∷ starts) zero end s e = let same : x ≡ s = cc in ap (λ (y : Start). y.at) same
 first_some (x ∷ starts) (suc k) end s e = first_some starts k end s e
 
-pub first_none : (starts : List Start) (k end : ℕ) → slice_get starts k ≡ None → first_at (drop k starts) end ≡ end
+pub first_none : (starts : List Start) (k end : ℕ) → slice_get starts k ≡ None → first_start (drop k starts) end ≡ end
 first_none [] zero end e = refl
 first_none [] (suc k) end e = refl
 first_none (x ∷ starts) zero end e = absurd cc
@@ -24,7 +24,7 @@ abbrev pub no_start : Start
 no_start = record { kind = kind.Words; number = 0; at = 0 }
 
 -- one row more of those between starts
-pub between_more : (starts : List Start) (end i : ℕ) (rows more all : List Row) (to : ℕ) → i < length starts → to ≡ first_at (drop (i + 1) starts) end
+pub between_more : (starts : List Start) (end i : ℕ) (rows more all : List Row) (to : ℕ) → i < length starts → to ≡ first_start (drop (i + 1) starts) end
     → more ≡ rows ++ row_to (get_or starts i no_start) to → rows ++ rows_between (drop i starts) end ≡ all → more ++ rows_between (drop (i + 1) starts) end ≡ all
 between_more starts end i rows more all to inside next is before =
     let s = get_or starts i no_start in

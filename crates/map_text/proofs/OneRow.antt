@@ -10,7 +10,7 @@ use Rattle.map_text.specs.declared.piece_rows.Kind.{Kind}
 use Rattle.map_text.specs.declared.piece_rows.Kind.TheVariants as kind
 use Rattle.map_text.specs.declared.piece_rows.Row.{Row}
 use Rattle.map_text.specs.declared.piece_rows.Start.{Start}
-use Rattle.map_text.specs.Rows.{numbered_starts, own_rows, row_of, sum_of}
+use Rattle.map_text.specs.Rows.{numbered_starts, own_rows, extent_row, rows_sum}
 
 -- what stands in the place of a row that is not there
 abbrev pub no_row : Row
@@ -32,7 +32,7 @@ module _ (config : Config) (m : Map) where
   unfolding own_rows
   no_own = refl
 
-  one_own_more : (t : ℕ) → own_rows config m (t + 1) ≡ own_rows config m t ++ cond (is_extended config.tasks t) (row_of kind.Stack t (stack_of m t) ∷ []) []
+  one_own_more : (t : ℕ) → own_rows config m (t + 1) ≡ own_rows config m t ++ cond (is_extended config.tasks t) (extent_row kind.Stack t (stack_of m t) ∷ []) []
   unfolding own_rows
   one_own_more t = ap (own_rows config m) (add-one t)
 
@@ -41,24 +41,24 @@ module _ (config : Config) (m : Map) where
 
   module _ (t : ℕ) (old rows : List Row) (before : rows ≡ old ++ own_rows config m t) where
     -- a task with a stack of its own
-    pub own_more : (more : List Row) → is_extended config.tasks t ≡ true → more ≡ rows ++ row_of kind.Stack t (stack_of m t) ∷ []
+    pub own_more : (more : List Row) → is_extended config.tasks t ≡ true → more ≡ rows ++ extent_row kind.Stack t (stack_of m t) ∷ []
         → more ≡ old ++ own_rows config m (t + 1)
     own_more more e is =
-        let row = row_of kind.Stack t (stack_of m t) ∷ [] in
+        let row = extent_row kind.Stack t (stack_of m t) ∷ [] in
         is ∙ ap (λ l. l ++ row) before ∙ append_assoc old (own_rows config m t) row
         ∙ ap (λ b. old ++ (own_rows config m t ++ cond b row [])) (sym e) ∙ ap (λ l. old ++ l) (sym (one_own_more t))
 
     -- a basic one
     pub own_passed : is_extended config.tasks t ≡ false → rows ≡ old ++ own_rows config m (t + 1)
     own_passed e =
-        let row = row_of kind.Stack t (stack_of m t) ∷ [] in
+        let row = extent_row kind.Stack t (stack_of m t) ∷ [] in
         before ∙ ap (λ l. old ++ l) (sym (append-nil (own_rows config m t)))
         ∙ ap (λ b. old ++ (own_rows config m t ++ cond b row [])) (sym e) ∙ ap (λ l. old ++ l) (sym (one_own_more t))
 
 -- ---- sums
 
-pub sum_more : (rows : List Row) (i : ℕ) → i < length rows → sum_of (drop i rows) ≡ (get_or rows i no_row).len + sum_of (drop (i + 1) rows)
-sum_more rows i inside = ap sum_of (drop_more rows i no_row inside)
+pub sum_more : (rows : List Row) (i : ℕ) → i < length rows → rows_sum (drop i rows) ≡ (get_or rows i no_row).len + rows_sum (drop (i + 1) rows)
+sum_more rows i inside = ap rows_sum (drop_more rows i no_row inside)
 
-pub sum_end : (rows : List Row) (i : ℕ) → length rows ≤ i → sum_of (drop i rows) ≡ 0
-sum_end rows i past = ap sum_of (drop_all i rows past)
+pub sum_end : (rows : List Row) (i : ℕ) → length rows ≤ i → rows_sum (drop i rows) ≡ 0
+sum_end rows i past = ap rows_sum (drop_all i rows past)

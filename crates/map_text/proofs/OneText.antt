@@ -16,7 +16,7 @@ use Rattle.mem_map.specs.StackParts.{is_extended}
 use Rattle.mem_map.specs.Zones.{stack_of}
 use Rattle.mem_map.proofs.OnePlan.{AreAlike, one_plan}
 use Rattle.map_text.specs.MapText.{OneText, lines_of, map_text}
-use Rattle.map_text.specs.Rows.{map_rows, own_rows, row_of, shared_rows, starts_of}
+use Rattle.map_text.specs.Rows.{map_rows, own_rows, extent_row, shared_rows, starts_of}
 use Rattle.map_text.specs.PieceRows.{rows_between}
 use Rattle.map_text.specs.declared.piece_rows.Kind.TheVariants as kind
 use Rattle.map_text.specs.declared.piece_rows.Row.{Row}
@@ -36,7 +36,7 @@ module _ (config : Config) (m : Map) (tops : List ℕ) (words : Extent) where
   own_alike : (k : ℕ) → own_rows config other k ≡ own_rows config m k
   unfolding own_rows
   own_alike zero = refl
-  own_alike (suc t) = ap (λ l. l ++ cond (is_extended config.tasks t) (row_of kind.Stack t (stack_of m t) ∷ []) []) (own_alike t)
+  own_alike (suc t) = ap (λ l. l ++ cond (is_extended config.tasks t) (extent_row kind.Stack t (stack_of m t) ∷ []) []) (own_alike t)
 
   pub rows_alike : map_rows config other ≡ map_rows config m
   rows_alike =

@@ -4,7 +4,7 @@ use Rattle.std.specs.Prelude.{slice_get}
 use Rattle.std.proofs.lemmas.List.{drop_all, drop_more}
 use Rattle.map_text.specs.declared.piece_rows.Row.{Row}
 use Rattle.map_text.specs.declared.totals.Part.{Part}
-use Rattle.map_text.specs.Totals.{between_rows, bytes_in, filled_rows, gap_rows, part_sum}
+use Rattle.map_text.specs.Totals.{between_rows, part_bytes, filled_rows, gap_rows, part_sum}
 use Rattle.map_text.proofs.OneRow.{no_row}
 
 pub gap_some : (row : Row) (rest : List Row) (next : Row) → slice_get rest 0 ≡ Some next → between_rows row rest ≡ gap_rows row next.base
@@ -31,7 +31,7 @@ filled_more rows i filled with_row more all inside is behind before =
     ∙ ap (λ (l : List Row). filled ++ filled_rows l) (sym (drop_more rows i no_row inside))
     ∙ before
 
-pub part_more : (p : Part) (rows : List Row) (i : ℕ) → i < length rows → part_sum p (drop i rows) ≡ bytes_in p (get_or rows i no_row) + part_sum p (drop (i + 1) rows)
+pub part_more : (p : Part) (rows : List Row) (i : ℕ) → i < length rows → part_sum p (drop i rows) ≡ part_bytes p (get_or rows i no_row) + part_sum p (drop (i + 1) rows)
 part_more p rows i inside = ap (part_sum p) (drop_more rows i no_row inside)
 
 pub part_end : (p : Part) (rows : List Row) (i : ℕ) → length rows ≤ i → part_sum p (drop i rows) ≡ 0

@@ -18,8 +18,8 @@ stacks_end [] end = end
 stacks_end (stack ∷ stacks) end = stacks_end stacks (stack.base + stack.len)
 
 -- of an image with so many bytes of memory: its data begin behind the code, and its memory ends with them
-abbrev pub borders_of : Map → (memory : ℕ) → Borders
-borders_of map memory = record {
+abbrev pub image_borders : Map → (memory : ℕ) → Borders
+image_borders map memory = record {
   code_end = (data_zone map).base;
   end = memory_base + memory;
   stacks = stacks_base (all_stacks map) (memory_base + memory);

@@ -8,11 +8,11 @@ abbrev pub row_to : Start → ℕ → List Row
 row_to s to = cond (ltb s.at to) (record { kind = s.kind; number = s.number; base = s.at; len = to - s.at } ∷ []) []
 
 -- where the first of these pieces begins, or an address where there is none
-abbrev pub first_at : List Start → ℕ → ℕ
-first_at [] end = end
-first_at (s ∷ rest) end = s.at
+abbrev pub first_start : List Start → ℕ → ℕ
+first_start [] end = end
+first_start (s ∷ rest) end = s.at
 
 -- the rows of pieces, each of which goes to the next, and the last one to an address
 abbrev pub rows_between : List Start → ℕ → List Row
 rows_between [] end = []
-rows_between (s ∷ rest) end = row_to s (first_at rest end) ++ rows_between rest end
+rows_between (s ∷ rest) end = row_to s (first_start rest end) ++ rows_between rest end

@@ -69,8 +69,8 @@ last_starts code m =
 -- ---- stacks
 
 -- the row of an extent
-abbrev pub row_of : Kind → ℕ → Extent → Row
-row_of k number e = record { kind = k; number = number; base = e.base; len = e.len }
+abbrev pub extent_row : Kind → ℕ → Extent → Row
+extent_row k number e = record { kind = k; number = number; base = e.base; len = e.len }
 
 -- some task has no events
 abbrev pub has_basic : List TaskDecl → Bool
@@ -78,12 +78,12 @@ has_basic tasks = list_any (λ (t : TaskDecl). not t.extended) tasks
 
 -- the row of the stack that all basic tasks share, if there are any: the first extent behind the zone of data
 abbrev pub shared_rows : Config → Map → List Row
-shared_rows config m = cond (has_basic config.tasks) (row_of kind.Shared 0 (get_or m.extents 3 no_extent) ∷ []) []
+shared_rows config m = cond (has_basic config.tasks) (extent_row kind.Shared 0 (get_or m.extents 3 no_extent) ∷ []) []
 
 -- the rows of the stacks of the first tasks, so many of them, that have one of their own
 unfoldable pub own_rows : Config → Map → ℕ → List Row
 own_rows config m zero = []
-own_rows config m (suc t) = own_rows config m t ++ cond (is_extended config.tasks t) (row_of kind.Stack t (stack_of m t) ∷ []) []
+own_rows config m (suc t) = own_rows config m t ++ cond (is_extended config.tasks t) (extent_row kind.Stack t (stack_of m t) ∷ []) []
 
 -- ---- all of it
 
@@ -92,6 +92,6 @@ abbrev pub map_rows : Config → Map → List Row
 map_rows config m = rows_between (starts_of config m) (address_behind_data m) ++ shared_rows config m ++ own_rows config m (length config.tasks)
 
 -- the bytes of rows together
-abbrev pub sum_of : List Row → ℕ
-sum_of [] = 0
-sum_of (row ∷ rows) = row.len + sum_of rows
+abbrev pub rows_sum : List Row → ℕ
+rows_sum [] = 0
+rows_sum (row ∷ rows) = row.len + rows_sum rows

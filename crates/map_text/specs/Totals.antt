@@ -25,20 +25,20 @@ filled_rows [] = []
 filled_rows (row ∷ rest) = row ∷ (between_rows row rest ++ filled_rows rest)
 
 -- the part of the image that a row of this kind belongs to
-abbrev pub part_of : Kind → Part
-part_of kind.Words = part.Data
-part_of kind.Vectors = part.Code
-part_of kind.Boot = part.Code
-part_of kind.Idle = part.Code
-part_of kind.Prologue = part.Code
-part_of kind.Tick = part.Code
-part_of kind.Service = part.Code
-part_of kind.Code = part.Code
-part_of kind.Data = part.Data
-part_of kind.End = part.Data
-part_of kind.Shared = part.Stacks
-part_of kind.Stack = part.Stacks
-part_of kind.Between = part.Between
+abbrev pub kind_part : Kind → Part
+kind_part kind.Words = part.Data
+kind_part kind.Vectors = part.Code
+kind_part kind.Boot = part.Code
+kind_part kind.Idle = part.Code
+kind_part kind.Prologue = part.Code
+kind_part kind.Tick = part.Code
+kind_part kind.Service = part.Code
+kind_part kind.Code = part.Code
+kind_part kind.Data = part.Data
+kind_part kind.End = part.Data
+kind_part kind.Shared = part.Stacks
+kind_part kind.Stack = part.Stacks
+kind_part kind.Between = part.Between
 
 -- these are one part
 abbrev pub is_part : Part → Part → Bool
@@ -49,13 +49,13 @@ is_part part.Between part.Between = true
 is_part _ _ = false
 
 -- the bytes of a row, if it is of the part
-abbrev pub bytes_in : Part → Row → ℕ
-bytes_in p row = cond (is_part p (part_of row.kind)) row.len 0
+abbrev pub part_bytes : Part → Row → ℕ
+part_bytes p row = cond (is_part p (kind_part row.kind)) row.len 0
 
 -- the bytes of the rows of a part together
 abbrev pub part_sum : Part → List Row → ℕ
 part_sum p [] = 0
-part_sum p (row ∷ rows) = bytes_in p row + part_sum p rows
+part_sum p (row ∷ rows) = part_bytes p row + part_sum p rows
 
 -- the parts, in the order of their lines
 abbrev pub all_parts : List Part

@@ -1,16 +1,11 @@
 //! Where the zones of an image begin and end.
-ghost use Rattle.std.specs.Prelude.{◌≡◌, ◌≤◌, ◌+◌, All, drop, length};
+ghost use Rattle.std.specs.Prelude.{◌≡◌, ◌≤◌, ◌+◌, All};
 ghost use Rattle.sloth_base.specs.MemoryMap.{memory_end, vectors_base};
-ghost use Rattle.map_text.specs.Borders.{HasBorders, borders_of, stacks_base, stacks_end};
+ghost use Rattle.map_text.specs.Borders.{HasBorders, image_borders, stacks_base, stacks_end};
 
+use crate::piece_starts::{DATA, STACKS};
 use sloth_base::{MEMORY_BASE, VECTORS_BASE};
 use sloth_region::{Extent, Map};
-
-/// The place of the zone of data among the extents of a map.
-const DATA: usize = 2;
-
-/// That of the first stack.
-const STACKS: usize = 3;
 
 /// Where the zones behind the code begin, and where they end.
 #[derive(Clone, Copy)]
@@ -30,14 +25,6 @@ pub struct Borders {
 pub struct Range {
     pub from: u32,
     pub to: u32,
-}
-
-// The stacks, which are the extents behind the zone of data.
-fn stacks_of(extents: &[Extent]) -> &[Extent]
-    requires { 3 ≤ length extents.now }
-    ensures { result.now ≡ drop 3 extents.now }
-{
-    &extents[STACKS..]
 }
 
 // The address of the first stack, or another where there is none.
@@ -63,12 +50,12 @@ fn stacks_end(stacks: &[Extent], end: u32) -> u32
 }
 
 /// The borders of an image with so many bytes of memory.
-pub fn borders_of(map: &Map, memory: usize) -> Borders
+pub fn image_borders(map: &Map, memory: usize) -> Borders
     requires { HasBorders map.now memory }
-    ensures { result ≡ borders_of map.now memory }
+    ensures { result ≡ image_borders map.now memory }
 {
     let extents = map.extents.items();
-    let stacks = stacks_of(extents);
+    let stacks = &extents[STACKS..];
     let end = MEMORY_BASE + memory as u32;
     Borders {
         code_end: extents[DATA].base,

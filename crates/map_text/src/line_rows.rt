@@ -1,7 +1,8 @@
 //! Which line of the source each address of task code comes from.
 ghost use Rattle.std.specs.Prelude.{◌≡◌, ◌≤◌, ◌+◌, ◌++◌, IfOk, OnOk, length};
 ghost use Rattle.sloth_base.specs.Limits.{item_limit};
-ghost use Rattle.map_text.specs.LineRows.{body_rows, first_rows, item_address, item_count, item_rows, last_row, line_rows};
+ghost use Rattle.map_text.specs.LineRows.{body_rows, first_rows, item_address, item_count, item_rows, last_row};
+ghost use Rattle.map_text.specs.LineRows.{line_rows};
 
 use sloth_base::{Func, Item, Places, WORD};
 use std::alloc::{AllocError, Global};
@@ -23,7 +24,8 @@ impl LineRow {
     }
 }
 
-/// The address of the first instruction of an item, by its place among the items of all bodies; behind them the address behind the code.
+/// The address of the first instruction of an item, by its place among the items of all bodies; behind them the address
+/// behind the code.
 pub fn item_address(places: &Places, end: u32, number: usize) -> u32
     ensures { result ≡ item_address places.now end number }
 {

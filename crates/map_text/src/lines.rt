@@ -1,7 +1,8 @@
 //! The lines of a map.
 ghost use Rattle.std.specs.Prelude.{◌≡◌, ◌<◌, ◌++◌, IfOk, OnOk, length};
 ghost use Rattle.sloth_base.specs.Blocks.{block_object, block_service};
-ghost use Rattle.map_text.specs.MapText.{behind_part, need_line, object_text, part_text, piece_name, piece_text, piece_word, row_line, service_text, sum_line, total_line};
+ghost use Rattle.map_text.specs.MapText.{behind_part, need_line, object_text, part_text, piece_name, piece_text};
+ghost use Rattle.map_text.specs.MapText.{piece_word, row_line, service_text, sum_line, total_line};
 
 use crate::object_names::{alarm_name, resource_name};
 use crate::totals::part_sum;
@@ -14,13 +15,6 @@ use text_pieces::pieces::Piece::{Number, Sum, Word};
 use text_pieces::{line, text};
 use trace_text::LineText;
 
-// Appends two texts.
-fn push_both<'x>(text: &mut Vec<u8>, one: &'x [u8], other: &'x [u8]) -> Result<(), NoMemory>
-    ensures { OnOk result (text.new.items ≡ text.old.items ++ (one.now ++ other.now)) }
-{
-    line!(text; Word(one), Word(other))
-}
-
 // Appends the object of a service, if it has one, behind a blank.
 fn push_object(
     text: &mut Vec<u8>,
@@ -32,9 +26,9 @@ fn push_object(
 {
     match kind {
         ObjectKind::Nothing => Ok(()),
-        ObjectKind::Task => push_both(text, b" ", config.task_name(number as usize)),
-        ObjectKind::Resource => push_both(text, b" ", resource_name(config, number)),
-        ObjectKind::Alarm => push_both(text, b" ", alarm_name(config, number as usize)),
+        ObjectKind::Task => line!(text; Word(b" "), Word(config.task_name(number as usize))),
+        ObjectKind::Resource => line!(text; Word(b" "), Word(resource_name(config, number))),
+        ObjectKind::Alarm => line!(text; Word(b" "), Word(alarm_name(config, number as usize))),
     }
 }
 
@@ -108,18 +102,18 @@ fn push_piece(
     app: &App,
     row: &Row,
 ) -> Result<(), NoMemory>
-    ensures { OnOk result (text.new.items ≡ text.old.items ++ piece_text config.now app.now row.now.kind row.now.number) }
+    ensures { OnOk result (text.new.items ≡
+        text.old.items ++ piece_text config.now app.now row.now.kind row.now.number) }
 {
     match row.kind {
         Kind::Service => {
             let service = block_text(alloc, config, row.number)?;
-            push_both(text, b"service ", service.as_slice())
+            line!(text; Word(b"service "), Word(service.as_slice()))
         }
-        kind => push_both(
-            text,
-            piece_word(kind),
-            piece_name(config, app, kind, row.number),
-        ),
+        kind => {
+            let name = piece_name(config, app, kind, row.number);
+            line!(text; Word(piece_word(kind)), Word(name))
+        },
     }
 }
 

@@ -9,14 +9,14 @@ use sloth_base::{
     BLOCK_COUNT, Config, List, NoMemory, ObjectKind, Service, block_object, block_service,
 };
 use std::alloc::Global;
+use text_pieces::pieces::Piece::Word;
+use text_pieces::text;
 
 /// Two names, joined by `$`, which no name of a text has.
-pub fn joined(alloc: Global, one: &[u8], other: &[u8]) -> Result<List<u8>, NoMemory>
+pub fn joined<'x>(alloc: Global, one: &'x [u8], other: &'x [u8]) -> Result<List<u8>, NoMemory>
     ensures { IfOk result (λ name. name ≡ joined one.now other.now) }
 {
-    let mut name = Vec::from_slice(alloc, one)?;
-    name.extend_from_slice(b"$")?;
-    name.extend_from_slice(other)?;
+    let name = text!(alloc; Word(one), Word(b"$"), Word(other))?;
     Ok(List::from_vec(name))
 }
 
@@ -35,7 +35,8 @@ fn service_symbol(
     service: Service,
     number: u32,
 ) -> Result<List<u8>, NoMemory>
-    ensures { IfOk result (λ name. name ≡ service_symbol config.now (service_name service) (object_kind service) number) }
+    ensures { IfOk result (λ name. name ≡ service_symbol config.now (service_name service) (object_kind service)
+        number) }
 {
     let name = service.name();
     match service.object_kind() {

@@ -1,6 +1,6 @@
 //! A row for each piece.
 ghost use Rattle.std.specs.Prelude.{◌≡◌, ◌++◌, OnOk, IfOk, drop, length};
-ghost use Rattle.map_text.specs.PieceRows.{first_at, row_to, rows_between};
+ghost use Rattle.map_text.specs.PieceRows.{first_start, row_to, rows_between};
 
 use sloth_base::Config;
 use std::alloc::{AllocError, Global};
@@ -33,7 +33,8 @@ pub enum Kind {
     Between,
 }
 
-/// Where a piece begins: the task, counter, service block, function or symbol of this number, or the one piece of its kind, with the number 0.
+/// Where a piece begins: the task, counter, service block, function or symbol of this number, or the one piece of its
+/// kind, with the number 0.
 #[derive(Clone, Copy)]
 pub struct Start {
     pub kind: Kind,
@@ -58,7 +59,7 @@ pub fn tick_count(config: &Config) -> usize
 }
 
 // Appends the row of a piece that goes to an address, if it has any bytes.
-fn push_to(rows: &mut Vec<Row>, start: Start, to: u32) -> Result<(), AllocError>
+fn push_row(rows: &mut Vec<Row>, start: Start, to: u32) -> Result<(), AllocError>
     ensures { OnOk result (rows.new.items ≡ rows.old.items ++ row_to start to) }
 {
     if start.at < to {
@@ -74,8 +75,8 @@ fn push_to(rows: &mut Vec<Row>, start: Start, to: u32) -> Result<(), AllocError>
 
 // Where the piece at a place begins, or an address where there is none.
 #[tactic(auto, using(crate::proofs::OnePieceRow::first_some, crate::proofs::OnePieceRow::first_none))]
-fn first_at(starts: &[Start], place: usize, end: u32) -> u32
-    ensures { result ≡ first_at (drop place starts.now) end }
+fn first_start(starts: &[Start], place: usize, end: u32) -> u32
+    ensures { result ≡ first_start (drop place starts.now) end }
 {
     match starts.get(place) {
         Some(start) => start.at,
@@ -89,7 +90,7 @@ pub fn rows_between(alloc: Global, starts: &[Start], end: u32) -> Result<Vec<Row
 {
     let mut rows = Vec::new(alloc);
     for i in 0..starts.len() {
-        push_to(&mut rows, starts[i], first_at(starts, i + 1, end))?;
+        push_row(&mut rows, starts[i], first_start(starts, i + 1, end))?;
     }
     Ok(rows)
 }

@@ -1,15 +1,13 @@
 //! Where each piece of code and data begins.
-ghost use Rattle.std.specs.Prelude.{◌≡◌, ◌<◌, ◌≤◌, ◌+◌, ◌++◌, ◌∷◌, [], IfOk, OnOk, drop, get_or, take};
-ghost use Rattle.sloth_base.specs.Owners.{first_counter_line};
-ghost use Rattle.sloth_base.specs.Limits.{counter_limit};
-ghost use Rattle.sloth_base.specs.MemoryMap.{line_count};
+ghost use Rattle.std.specs.Prelude.{◌≡◌, ◌<◌, ◌≤◌, ◌+◌, ◌++◌, ◌∷◌, [], IfOk, OnOk, get_or};
 ghost use Rattle.mem_map.specs.StackParts.{no_extent};
 ghost use Rattle.map_text.specs.Listable.{IsListable};
 ghost use Rattle.mem_map.specs.Stacks.{address_behind_data};
-ghost use Rattle.map_text.specs.Rows.{address_behind_code, code_places, first_starts, last_starts, numbered_starts, routine_starts, single_start, starts_of};
+ghost use Rattle.map_text.specs.Rows.{address_behind_code, code_places, first_starts, last_starts, numbered_starts};
+ghost use Rattle.map_text.specs.Rows.{routine_starts, single_start, starts_of};
 
-use crate::Kind;
 use crate::piece_rows::{Start, tick_count};
+use crate::{Kind, item_address};
 use sloth_base::{BOOT_BASE, Config, FIRST_COUNTER_LINE, MEMORY_BASE, VECTORS_BASE, WORD};
 use sloth_region::{Extent, Map};
 use std::alloc::{AllocError, Global};
@@ -24,7 +22,7 @@ pub const DATA: usize = 2;
 pub const STACKS: usize = 3;
 
 /// An extent of a list, or none.
-pub fn extent_at(extents: &[Extent], place: usize) -> Extent
+pub fn extent_or_none(extents: &[Extent], place: usize) -> Extent
     ensures { result ≡ get_or extents.now place no_extent }
 {
     match extents.get(place) {
@@ -41,26 +39,15 @@ pub fn behind(extent: Extent) -> u32
     extent.base + extent.len
 }
 
-// A number of a list, or another behind its end.
-fn number_or(numbers: &[u32], place: usize, other: u32) -> u32
-    ensures { result ≡ get_or numbers.now place other }
-{
-    match numbers.get(place) {
-        Some(number) => *number,
-        None => other,
-    }
-}
-
 // Where the code of each function begins.
 fn code_places(alloc: Global, map: &Map) -> Result<Vec<u32>, AllocError>
     requires { address_behind_code map.now < 4294967296 }
     ensures { IfOk result (λ places. places.items ≡ code_places map.now) }
 {
-    let end = behind(extent_at(map.extents.items(), CODE));
-    let items = map.places.items.items();
+    let end = behind(extent_or_none(map.extents.items(), CODE));
     let mut places = Vec::new(alloc);
     for first in map.places.first.items() {
-        let place = number_or(items, *first as usize, end);
+        let place = item_address(&map.places, end, *first as usize);
         places.push(place)?;
     }
     Ok(places)
@@ -93,23 +80,6 @@ fn push_numbered(starts: &mut Vec<Start>, kind: Kind, addresses: &[u32]) -> Resu
     Ok(())
 }
 
-// The addresses of the prologues of so many tasks.
-fn prologues(map: &Map, tasks: usize) -> &[u32]
-    requires { tasks ≤ line_count }
-    ensures { result.now ≡ take tasks map.now.handlers }
-{
-    &map.handlers[..tasks]
-}
-
-// Those of the ticks of so many counters.
-fn ticks(map: &Map, counters: usize) -> &[u32]
-    requires { counters ≤ counter_limit }
-    ensures { result.now ≡ take counters (drop first_counter_line map.now.handlers) }
-{
-    let first = usize::from(FIRST_COUNTER_LINE);
-    &map.handlers[first..first + counters]
-}
-
 // Appends where the pieces begin whose addresses are the same in each image, and the idle loop.
 fn push_first(starts: &mut Vec<Start>, map: &Map) -> Result<(), AllocError>
     ensures { OnOk result (starts.new.items ≡ starts.old.items ++ first_starts map.now) }
@@ -126,9 +96,10 @@ fn push_routines(starts: &mut Vec<Start>, config: &Config, map: &Map) -> Result<
     ensures { OnOk result (starts.new.items ≡ starts.old.items ++ routine_starts config.now map.now) }
 {
     let tasks = config.tasks.items().len();
-    let counters = tick_count(config);
-    push_numbered(starts, Kind::Prologue, prologues(map, tasks))?;
-    push_numbered(starts, Kind::Tick, ticks(map, counters))?;
+    let first = usize::from(FIRST_COUNTER_LINE);
+    let end = first + tick_count(config);
+    push_numbered(starts, Kind::Prologue, &map.handlers[..tasks])?;
+    push_numbered(starts, Kind::Tick, &map.handlers[first..end])?;
     push_numbered(starts, Kind::Service, &map.places.blocks)
 }
 
@@ -137,7 +108,7 @@ fn push_last(starts: &mut Vec<Start>, code: &[u32], map: &Map) -> Result<(), All
     requires { address_behind_data map.now < 4294967296 }
     ensures { OnOk result (starts.new.items ≡ starts.old.items ++ last_starts code.now map.now) }
 {
-    let end = behind(extent_at(map.extents.items(), DATA)).saturating_sub(WORD);
+    let end = behind(extent_or_none(map.extents.items(), DATA)).saturating_sub(WORD);
     push_numbered(starts, Kind::Code, code)?;
     push_numbered(starts, Kind::Data, map.places.symbols.items())?;
     push_single(starts, Kind::End, end)

@@ -33,7 +33,12 @@ pub fn words_segment() -> Segment
 
 /// The code, with the vector words.
 pub fn code_segment(borders: &Borders) -> Segment
-    ensures { result ≡ record { from = vectors_base; to = borders.now.code_end; end = borders.now.code_end; flags = 5 } }
+    ensures { result ≡ record {
+      from = vectors_base;
+      to = borders.now.code_end;
+      end = borders.now.code_end;
+      flags = 5;
+    } }
 {
     Segment {
         from: VECTORS_BASE,
@@ -45,7 +50,12 @@ pub fn code_segment(borders: &Borders) -> Segment
 
 /// The data, with the stacks behind them.
 pub fn data_segment(borders: &Borders) -> Segment
-    ensures { result ≡ record { from = borders.now.code_end; to = borders.now.end; end = max borders.now.end borders.now.top; flags = 6 } }
+    ensures { result ≡ record {
+      from = borders.now.code_end;
+      to = borders.now.end;
+      end = max borders.now.end borders.now.top;
+      flags = 6;
+    } }
 {
     Segment {
         from: borders.code_end,

@@ -8,7 +8,7 @@ ghost use Rattle.map_text.specs.Listable.{IsListable};
 ghost use Rattle.map_text.specs.MapText.{HasMap, IsMapText, lines_with, map_text, need_lines, row_line, total_line};
 
 use crate::lines::{need_line, row_line, sum_line, total_line};
-use crate::rows::sum_of;
+use crate::rows::rows_sum;
 use crate::totals::{PARTS, filled_rows};
 use crate::{Part, Row, map_rows};
 use mem_map::plan;
@@ -42,7 +42,8 @@ fn push_needs(
     bounds: &Bounds,
 ) -> Result<(), NoMemory>
     requires { length bounds.now.bytes ≡ length config.now.tasks }
-    ensures { OnOk result (text.new.items ≡ text.old.items ++ need_lines config.now bounds.now (length config.now.tasks)) }
+    ensures { OnOk result (text.new.items ≡
+        text.old.items ++ need_lines config.now bounds.now (length config.now.tasks)) }
 {
     for task in 0..config.tasks.items().len() {
         text.extend_from_slice(need_line(alloc, config, bounds, task)?.as_slice())?;
@@ -66,7 +67,7 @@ fn push_totals(
 }
 
 // The text of rows.
-fn text_with(
+fn rows_text(
     alloc: Global,
     config: &Config,
     app: &App,
@@ -80,12 +81,12 @@ fn text_with(
     push_rows(alloc, &mut text, config, app, rows)?;
     push_needs(alloc, &mut text, config, bounds)?;
     push_totals(alloc, &mut text, rows, &PARTS)?;
-    text.extend_from_slice(sum_line(alloc, sum_of(rows))?.as_slice())?;
+    text.extend_from_slice(sum_line(alloc, rows_sum(rows))?.as_slice())?;
     Ok(text)
 }
 
 // The text of a map.
-fn text_of(
+fn plan_text(
     alloc: Global,
     config: &Config,
     app: &App,
@@ -98,7 +99,7 @@ fn text_of(
 {
     let rows = map_rows(alloc, config, map)?;
     let rows = filled_rows(alloc, rows.as_slice())?;
-    text_with(alloc, config, app, bounds, rows.as_slice())
+    rows_text(alloc, config, app, bounds, rows.as_slice())
 }
 
 // The lines of the map that is planned for task code.
@@ -114,11 +115,11 @@ fn planned_text(
     ensures { IfOk result (λ text. HasMap config.now app.now bounds.now text.items) }
 {
     let map = plan(alloc, app, config, bounds)?;
-    text_of(alloc, config, app, bounds, &map)
+    plan_text(alloc, config, app, bounds, &map)
 }
 
-/// The lines of what the image of these texts, of at most 4,294,967,294 bytes, takes of memory; or the first refusal (O1 to O15, A1 to A7,
-/// V1 to V12).
+/// The lines of what the image of these texts, of at most 4,294,967,294 bytes, takes of memory; or the first refusal
+/// (O1 to O15, A1 to A7, V1 to V12).
 pub fn map_text(alloc: Global, oil: &[u8], src: &[u8]) -> Result<Vec<u8>, BuildError>
     requires oil { length oil.now < 4294967295 }
     requires src { length src.now < 4294967295 }

@@ -1,6 +1,6 @@
 //! The bytes between rows, and what the rows of each part take together.
 ghost use Rattle.std.specs.Prelude.{◌≡◌, ◌++◌, OnOk, IfOk};
-ghost use Rattle.map_text.specs.Totals.{between_rows, bytes_in, filled_rows, gap_rows, is_part, part_of, part_sum};
+ghost use Rattle.map_text.specs.Totals.{between_rows, part_bytes, filled_rows, gap_rows, kind_part, part_sum};
 
 use crate::{Kind, Row};
 use std::alloc::{AllocError, Global};
@@ -18,8 +18,8 @@ pub enum Part {
 /// The parts, in the order of their lines.
 pub const PARTS: [Part; 4] = [Part::Code, Part::Data, Part::Stacks, Part::Between];
 
-fn part_of(kind: Kind) -> Part
-    ensures { result ≡ part_of kind }
+fn kind_part(kind: Kind) -> Part
+    ensures { result ≡ kind_part kind }
 {
     match kind {
         Kind::Vectors
@@ -33,18 +33,6 @@ fn part_of(kind: Kind) -> Part
         Kind::Shared | Kind::Stack => Part::Stacks,
         Kind::Between => Part::Between,
     }
-}
-
-fn is_part(one: Part, other: Part) -> bool
-    ensures { result ≡ is_part one other }
-{
-    matches!(
-        (one, other),
-        (Part::Code, Part::Code)
-            | (Part::Data, Part::Data)
-            | (Part::Stacks, Part::Stacks)
-            | (Part::Between, Part::Between)
-    )
 }
 
 // Appends a row of the bytes from behind one row up to an address, if there are any.
@@ -87,13 +75,15 @@ pub fn filled_rows(alloc: Global, rows: &[Row]) -> Result<Vec<Row>, AllocError>
 }
 
 // The bytes of a row, if it is of the part.
-fn bytes_in(part: Part, row: &Row) -> u32
-    ensures { result ≡ bytes_in part row.now }
+fn part_bytes(part: Part, row: &Row) -> u32
+    ensures { result ≡ part_bytes part row.now }
 {
-    if is_part(part, part_of(row.kind)) {
-        row.len
-    } else {
-        0
+    match (part, kind_part(row.kind)) {
+        (Part::Code, Part::Code)
+        | (Part::Data, Part::Data)
+        | (Part::Stacks, Part::Stacks)
+        | (Part::Between, Part::Between) => row.len,
+        _ => 0,
     }
 }
 
@@ -104,7 +94,7 @@ pub fn part_sum(part: Part, rows: &[Row]) -> u128
 {
     let mut sum = 0;
     for i in 0..rows.len() {
-        sum += u128::from(bytes_in(part, &rows[i]));
+        sum += u128::from(part_bytes(part, &rows[i]));
     }
     sum
 }

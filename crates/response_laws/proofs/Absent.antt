@@ -107,16 +107,16 @@ module _ (config : Config) (app : App) (h b : ℕ) where
 
     pub absent_within : IsSectionWithin config h run b raised s
     absent_within = record {
-      front = λ before behind first xs is section busy.
+      front = λ before behind first xs is all section busy joins.
           let none = none_behind before behind first xs is raised section in
           let own = own_where_none config h xs none in
           let most = few (before ++ first ∷ []) xs behind (is ∙ part_behind before first xs behind) none in
           let le = room in
           omega (arith, own, most, le);
-      acts = λ before behind j xs over is section.
+      acts = λ before behind j xs over is section joins.
           let none = no_others config h (activated j) xs (none_where before behind xs is section) in
           omega (arith, none);
-      sets = λ before behind j xs over is section.
+      sets = λ before behind j xs over is section joins.
           let none = no_others config h (was_set j) xs (none_where before behind xs is section) in
           omega (arith, none);
     }

@@ -1,5 +1,5 @@
 -- What lower tasks bring into busy periods is within the starts that the task code fits.
-use Rattle.std.proofs.Common.{◌≡◌, ℕ, ◌+◌, ◌<◌, ◌≤◌, List, [], ◌∷◌, Bool, true, false, cond, refl, sym, ap, subst, arith, is_some}
+use Rattle.std.proofs.Common.{◌≡◌, ℕ, ◌+◌, ◌<◌, ◌≤◌, ◌⊎◌, List, [], ◌∷◌, Bool, true, false, cond, length, refl, sym, ap, subst, arith, is_some}
 use Rattle.std.specs.List.{AllByRecursion}
 use Rattle.sloth_base.specs.Events.{is_boot, served_task}
 use Rattle.osek_scheduler.specs.declared.state.TaskState.TheVariants as mode
@@ -16,8 +16,10 @@ use Rattle.run_counts.specs.Stages.{Stage, charged, end_of, run_stages}
 use Rattle.run_counts.specs.Laws.{IsWithinWeights}
 use Rattle.run_counts.specs.Rounds.{is_left}
 use Rattle.run_counts.proofs.States.{not_suspended}
-use Rattle.response_laws.specs.Turns.{is_other, activated, was_set}
-use Rattle.response_laws.specs.Walked.{FitsItem}
+use Rattle.response_laws.specs.Turns.{at_entry, is_other, begins_first, begins_next, activated, was_set}
+use Rattle.response_laws.specs.Bounded.{EachOf}
+use Rattle.response_laws.specs.Walked.{FitsItem, FirstRoundsSum, LaterRoundsSum}
+use Rattle.response_laws.specs.Works.{WorksWithin}
 use Rattle.response_laws.specs.Makers.{activation_weights, setting_weights}
 use Rattle.response_laws.specs.Starts.{IsWithinStart, SomeIsWithin, begun_item}
 use Rattle.response_laws.specs.CodeStarts.{CodeFitsStarts}
@@ -25,9 +27,12 @@ use Rattle.response_laws.proofs.Linked.{Known, Linked, each_so, each_both, stage
 use Rattle.response_laws.proofs.Making.{items_activate, items_set}
 use Rattle.response_laws.proofs.LowerSpending.{spent_in, lower_spend}
 use Rattle.response_laws.specs.Never.{OthersSleep}
-use Rattle.response_laws.specs.Shares.{LowerSpendWithin}
+use Rattle.response_laws.specs.Shares.{share_of, LowerSpendWithin}
 use Rattle.response_laws.specs.Starts.{IsSectionWithin}
 use Rattle.response_laws.proofs.Absent.{at_most, absent_within}
+use Rattle.response_laws.proofs.OwnWalks.{own_first, own_next}
+use Rattle.response_laws.proofs.RoundEnds.{rounds_make_within}
+use Rattle.response_laws.proofs.RoundSums.{first_opens, next_opens}
 use Rattle.response_laws.proofs.Seen.{Seen}
 use Rattle.response_laws.proofs.SingleStarts.{within_one, within_served, within_leaving}
 use Rattle.response_laws.proofs.SectionStarts.{sections_within}
@@ -86,6 +91,29 @@ code_fits_starts config app size longest late n weights load cuts comes arrivals
     awaken : AllByRecursion Awaken run
     awaken = each_both (Seen config app size longest) (λ x. OthersSleep comes x.found) run seen sleeps
 
+    no_entry_counts : (e : Bool) → ◌≡◌ {A = ℕ} (cond e 0 0) 0
+    no_entry_counts true = refl
+    no_entry_counts false = refl
+
+    -- the counts of rounds of a task whose turns WaitEvents cut
+    first_of : (b : ℕ) → b < length config.tasks → cuts b ≡ true → (m : ℕ) → WorksWithin load b m ⊎ FirstRoundsSum app true b weights m
+        → EachOf run true b (begins_first b) (λ x. 0) (share_of config b) m
+    first_of b lt cut m =
+        subst (λ c. WorksWithin load b m ⊎ FirstRoundsSum app c b weights m → EachOf run c b (begins_first b) (λ x. 0) (share_of config b) m) cut
+        (λ takes before behind opens is begun.
+        let le = own_first config app size longest n weights load arrivals events cuts wf osek timed weighs ends works b lt (spends b lt) before behind opens is m takes begun (first_opens (cuts b) b opens begun) in
+        let none = no_entry_counts (at_entry b opens) in
+        omega (arith, le, none))
+
+    next_of : (b : ℕ) → b < length config.tasks → cuts b ≡ true → (m : ℕ) → WorksWithin load b m ⊎ LaterRoundsSum app true b weights m
+        → EachOf run true b (begins_next true b) (λ x. 0) (share_of config b) m
+    next_of b lt cut m =
+        subst (λ c. WorksWithin load b m ⊎ LaterRoundsSum app c b weights m → EachOf run c b (begins_next c b) (λ x. 0) (share_of config b) m) cut
+        (λ takes before behind opens is begun.
+        let le = own_next config app size longest n weights load arrivals events cuts wf osek timed weighs ends works b lt (spends b lt) before behind opens is m takes begun (next_opens (cuts b) b opens begun) in
+        let none = no_entry_counts (at_entry b opens) in
+        omega (arith, le, none))
+
     -- the section of a task that never comes has none of its events
     section_of : (b : ℕ) → IsLower config h b → (raised c : Bool) → comes b ≡ c
         → (i : ℕ) × (i < starts) × ((start i).is_boot ≡ false) × (cond raised late 0 ≤ (start i).lead) × IsSectionWithin config h run b raised (start i)
@@ -97,7 +125,8 @@ code_fits_starts config app size longest late n weights load cuts comes arrivals
           s.3,
           sections_within config app w size longest weights weighs ends h b lower run (opening config app)
               (stages_linked config app 0 (opening config app) events) seen (λ before xs behind is. spent_in config app size longest n b arrivals events wf osek timed (spends b lower.0) before xs behind is)
-              few load cuts works (λ active. not_suspended (task (opening config app) b).state active (ap (λ k. k.state) (asleep_at config.tasks b))) raised (start s.0) s.4,
+              few load cuts works (λ active. not_suspended (task (opening config app) b).state active (ap (λ k. k.state) (asleep_at config.tasks b)))
+              (λ j most. rounds_make_within config app events b j true most wf osek) (first_of b lower.0) (next_of b lower.0) raised (start s.0) s.4,
         )
     section_of b lower raised false is =
         let s = fits.some in (

@@ -1,5 +1,5 @@
 -- The runs of an image respond in time, by what its builder promises of them.
-use Rattle.std.proofs.Common.{ℕ, ◌+◌, ◌<◌, List, [], length, Bool, refl, arith, ◌≡◌, true}
+use Rattle.std.proofs.Common.{ℕ, ◌+◌, ◌<◌, List, [], length, Bool, refl, arith, ◌≡◌, true, Some}
 use Rattle.std.specs.List.{AllByRecursion}
 use Rattle.sloth_base.specs.declared.config.Config.{Config}
 use Rattle.sloth_base.specs.declared.app.App.{App}
@@ -40,7 +40,8 @@ use Rattle.response_laws.specs.Loaded.{HasAlarms, IsStartFor}
 use Rattle.response_laws.specs.Response.{RespondsWithin, EntersOnce}
 use Rattle.response_laws.specs.Demand.{Costs, Start}
 use Rattle.response_laws.specs.Arrivals.{HasDistances}
-use Rattle.response_laws.specs.SoundRuns.{item_instructions, NoStretchIsAbove, KeepsWork, FitsRounds, ImagesRespond, ImagesRespondByCode}
+use Rattle.response_laws.specs.Bounded.{BoundsJoining}
+use Rattle.response_laws.specs.SoundRuns.{item_instructions, NoStretchIsAbove, KeepsWork, FitsRounds, FitsJoined, ImagesRespond, ImagesRespondByCode}
 use Rattle.response_laws.specs.Never.{AreClosed, OthersSleep, NoneComes}
 use Rattle.response_laws.proofs.Never.{others_never_come}
 use Rattle.response_laws.proofs.Linked.{Known, each_so, stages_known}
@@ -48,7 +49,7 @@ use Rattle.response_laws.proofs.Loaded.{respond_under_load}
 use Rattle.response_laws.proofs.Expiring.{ticks_make_as_alarms_expire}
 use Rattle.response_laws.proofs.CodeStarts.{code_fits_starts}
 use Rattle.response_laws.proofs.LowerSpending.{lower_spend}
-use Rattle.response_laws.proofs.SoundRuns.{all_charged, bounds_rounds, all_brief}
+use Rattle.response_laws.proofs.SoundRuns.{all_charged, bounds_rounds, bounds_joined, all_brief}
 
 -- an image, whose longest item has so many instructions
 module _ (config : Config) (app : App) (image : Image) (weights : List BodyWeights) (load : List Entry) (comes : ℕ → Bool) (arrivals : List Arrival) (n late longest h r : ℕ)
@@ -93,7 +94,7 @@ module _ (config : Config) (app : App) (image : Image) (weights : List BodyWeigh
 
   responds : NoStretchIsAbove config app late → HasDistances load → KeepDistances load arrivals → AreClosed config app load comes → KeepsWork config load cuts (run_stages config app events)
       → FitsRounds config app weights load comes h cuts costs → HaveStarts config h longest late once starts start (run_stages config app events)
-      → ((i : ℕ) → i < starts → IsStartFor config load late (longest + late) h r once boot costs (run_stages config app events) (start i))
+      → ((i : ℕ) → i < starts → IsStartFor config load late (longest + late) h r cuts once boot costs (run_stages config app events) (start i))
       → RespondsWithin config app n (longest + late) h r boot events
   responds above distances keeps closed works rounds have fit =
       respond_under_load config app load n late (longest + late) (longest + late) longest arrivals events h r cuts costs once boot starts start enters wf run.osek run.in_time
@@ -111,6 +112,12 @@ module _ (config : Config) (app : App) (image : Image) (weights : List BodyWeigh
   have_starts : KeepDistances load arrivals → AreClosed config app load comes → KeepsWork config load cuts (run_stages config app events) → FitsStarts config app longest late weights load cuts comes h once starts start → HaveStarts config h longest late once starts start (run_stages config app events)
   have_starts keeps closed works fits =
       code_fits_starts config app size longest late n weights load cuts comes arrivals events h once starts start wf run.osek run.in_time most spends within weighs ends (sleeps keeps closed) works fits
+
+  joins : KeepDistances load arrivals → AreClosed config app load comes → KeepsWork config load cuts (run_stages config app events) → FitsRounds config app weights load comes h cuts costs
+      → (s : Start) → ((b : ℕ) → s.joins ≡ Some b → FitsJoined config app comes h cuts costs b) → BoundsJoining config h cuts costs (run_stages config app events) s
+  joins keeps closed works rounds s fit b is =
+      bounds_joined config app size longest n weights load arrivals events h cuts costs wf run.osek run.in_time (weighed.each arrivals n are) spends weighs ends works comes known
+      (sleeps keeps closed) rounds b (fit b is)
 
   alarms : (is_set : ℕ → Bool) (s : Start) → MarksAlarms app is_set → HasExpiries config is_set s → HasAlarms (run_stages config app events) s
   alarms is_set s marks has = ticks_make_as_alarms_expire config app events is_set s wf run.osek marks has
@@ -131,6 +138,8 @@ images_respond_by_code config app image weights load comes arrivals n late longe
       arrivals = (each i lt).arrivals;
       alarms = alarms config app image weights load comes arrivals n late longest h r cuts costs once boot starts start enters wf sound weighed pace counts is_longest.some most code are
           is_set (start i) marks (each i lt).expiries;
+      joining = joins config app image weights load comes arrivals n late longest h r cuts costs once boot starts start enters wf sound weighed pace counts is_longest.some most code are
+          keeps closed works rounds (start i) (each i lt).joining;
       enough = (each i lt).enough;
       lasts = (each i lt).lasts;
     })

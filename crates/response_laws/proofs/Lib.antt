@@ -43,6 +43,7 @@ pub mod SectionEnds
 pub mod SectionOnce
 pub mod SectionShares
 pub mod SectionWorks
+pub mod Joined
 pub mod Uncounted
 pub mod Seen
 pub mod SingleStarts

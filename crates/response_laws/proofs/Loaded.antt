@@ -37,10 +37,10 @@ use Rattle.response_laws.specs.Sums.{count, is_over}
 use Rattle.response_laws.specs.Turns.{is_other, comes_at, activated, was_set, at_entry, round_behind, if_turn}
 use Rattle.response_laws.specs.Busy.{IsBusyPeriod, is_quiet, LeavesFirst, IsLeaving}
 use Rattle.response_laws.specs.Demand.{Costs, Start}
-use Rattle.response_laws.specs.Bounded.{BeginsWithin, IsWithinInflow, StartsSo, EndsSoon, StartsInOne, left_of, left_over}
+use Rattle.response_laws.specs.Bounded.{BeginsWithin, IsWithinInflow, JoinsWithin, StartsSo, EndsSoon, StartsInOne, left_of, left_over}
 use Rattle.response_laws.specs.Arrivals.{HasDistances, AreCharged}
 use Rattle.raised_sections.specs.Sections.{IsLower}
-use Rattle.response_laws.specs.Starts.{InSection, OpensSection, AreOfSection, HasSectionBehind, IsAlone, AreOfOne, Comes, with_one, with_section, IsWithinStart, SomeIsWithin, HaveStarts, begun_item}
+use Rattle.response_laws.specs.Starts.{InSection, OpensSection, AreOfSection, HasSectionBehind, JoinsSo, IsAlone, AreOfOne, Comes, with_one, with_section, IsWithinStart, SomeIsWithin, HaveStarts, begun_item}
 use Rattle.response_laws.specs.Response.{HasPace, EntersOnce}
 use Rattle.response_laws.specs.Loaded.{IsStartFor, RespondsUnderLoad}
 use Rattle.response_laws.proofs.Booted.{HasStarted, has_started, no_boot}
@@ -64,14 +64,14 @@ module _ (config : Config) (app : App) (load : List Entry) (n late more heaviest
     (charges : AreCharged heaviest (run_stages config app events)) (positive : HasDistances load) (keeps : KeepDistances load arrivals)
     (brief : LowerSpendWithin config h longest (run_stages config app events))
     (have : HaveStarts config h longest late once starts start (run_stages config app events))
-    (fit : (i : ℕ) → i < starts → IsStartFor config load late heaviest h r once boot costs (run_stages config app events) (start i)) where
+    (fit : (i : ℕ) → i < starts → IsStartFor config load late heaviest h r cuts once boot costs (run_stages config app events) (start i)) where
   module _ (first : Stage) (period : List Stage) (busy : IsBusyPeriod config h once (run_stages config app events) first period) where
     -- a beginning of the period is a part of the run
     part : (front rest : List Stage) → period ≡ front ++ rest → run_stages config app events ≡ busy.before ++ ((first ∷ front) ++ (rest ++ busy.behind))
     part front rest is =
         busy.part ∙ ap (λ zs. busy.before ++ first ∷ (zs ++ busy.behind)) is ∙ ap (λ zs. busy.before ++ first ∷ zs) (append_assoc front rest busy.behind)
 
-    within : (s : Start) → IsStartFor config load late heaviest h r once boot costs (run_stages config app events) s → (s.is_boot ≡ true → busy.before ≡ [])
+    within : (s : Start) → IsStartFor config load late heaviest h r cuts once boot costs (run_stages config app events) s → (s.is_boot ≡ true → busy.before ≡ [])
         → (front rest : List Stage) → period ≡ front ++ rest
         → AllByRecursion (BeginsWithin s.counts first) front → total (lower_counts config h) front + left_of once h (share_of config h) front ≤ s.inflow.front
         → ((j : ℕ) → is_over config h j ≡ true → others config h (activated j) (first ∷ front) + left_over once h (activated j) (first ∷ front) ≤ s.inflow.acts j)
@@ -202,23 +202,30 @@ module _ (config : Config) (app : App) (load : List Entry) (n late more heaviest
         section_in : (front rest : List Stage) → period ≡ front ++ rest → AreOfSection config h b (first ∷ front)
         section_in front rest is = section_front config h b (first ∷ front) rest (subst (λ zs. AreOfSection config h b (first ∷ zs)) is section)
 
+        joins_so : (s : Start) (front rest : List Stage) → period ≡ front ++ rest → JoinsWithin config h once s (first ∷ front) → JoinsSo config h s b (first ∷ front)
+        joins_so s front rest is joining joins =
+            let le = joining b joins in
+            let none = nothing_over quiet (was_set b) front rest is in
+            omega (arith, le, none)
+
         with_start : (raised : Bool) → ((front rest : List Stage) → period ≡ front ++ rest → HasSectionBehind config h b raised first front)
             → ((lead : ℕ) → cond raised late 0 ≤ lead → EndsSoon h lead first (first ∷ period)) → StartsInSome
         with_start raised behind soon =
             let s = have.section b lower raised in (
               s.0,
               s.1,
-              (λ front rest is begins.
+              (λ front rest is begins joining.
                   let of_front = section_in front rest is in
+                  let joins = joins_so (start s.0) front rest is joining in
                   within (start s.0) (fit s.0 s.1) (λ boots. absurd (true≢false (sym boots ∙ s.2))) front rest is begins
-                  (let le = s.4.front busy.before (rest ++ busy.behind) first front (part front rest is) (behind front rest is)
-                  (each_append (IsBusy config h) front rest (subst (AllByRecursion (IsBusy config h)) is busy.busy)).0 in
+                  (let le = s.4.front busy.before (rest ++ busy.behind) first front (part front rest is) of_front (behind front rest is)
+                  (each_append (IsBusy config h) front rest (subst (AllByRecursion (IsBusy config h)) is busy.busy)).0 joins in
                   let none = nothing_over_behind quiet front rest is in omega (arith, le, none))
                   (λ j over.
-                  let le = s.4.acts busy.before (rest ++ busy.behind) j (first ∷ front) over (part front rest is) of_front in
+                  let le = s.4.acts busy.before (rest ++ busy.behind) j (first ∷ front) over (part front rest is) of_front joins in
                   let none = nothing_over quiet (activated j) front rest is in omega (arith, le, none))
                   (λ j over.
-                  let le = s.4.sets busy.before (rest ++ busy.behind) j (first ∷ front) over (part front rest is) of_front in
+                  let le = s.4.sets busy.before (rest ++ busy.behind) j (first ∷ front) over (part front rest is) of_front joins in
                   let none = nothing_over quiet (was_set j) front rest is in omega (arith, le, none))),
               soon (start s.0).lead s.3,
               λ boots. absurd (true≢false (sym boots ∙ s.2)),
@@ -353,7 +360,7 @@ module _ (config : Config) (app : App) (load : List Entry) (n late more heaviest
     with_single quiet alone one = (
       one.which,
       one.there,
-      (λ front rest is begins.
+      (λ front rest is begins joining.
           let smaller : (f : Stage → ℕ) → others config h f (first ∷ front) ≤ others config h f (first ∷ period) =
           λ f.
           let whole = ap (λ zs. others config h f (first ∷ zs)) is in
@@ -411,7 +418,7 @@ module _ (config : Config) (app : App) (load : List Entry) (n late more heaviest
     starts_leaving on leaving = (
       found.which,
       found.there,
-      (λ front rest is begins.
+      (λ front rest is begins joining.
           let prefix : (f : Stage → ℕ) → rest_of h f (first ∷ front) ≤ rest_of h f (first ∷ period) =
           λ f. let le = longer false h f (first ∷ front) rest in let same = ap (λ zs. rest_of h f (first ∷ zs)) is in omega (arith, le, same) in
           let no_other : (f : Stage → ℕ) → others config h f (first ∷ front) ≤ 0 =
@@ -507,4 +514,4 @@ pub respond_under_load : RespondsUnderLoad
 respond_under_load config app load n late more heaviest longest arrivals events h r cuts costs once boot starts start enters wf osek in_time pace fits charges positive keeps shared brief bounds have fit =
     respond_in_time config app n late more arrivals events h r cuts costs once boot starts start enters wf osek in_time pace shared bounds
     (all_start config app load n late more heaviest longest arrivals events h r cuts costs once boot starts start enters wf osek in_time pace fits charges positive keeps brief have fit)
-    (λ i lt. (fit i lt).enough) (λ i lt. (fit i lt).lasts)
+    (λ i lt. (fit i lt).joining) (λ i lt. (fit i lt).enough) (λ i lt. (fit i lt).lasts)

@@ -6,6 +6,7 @@ use Rattle.sloth_base.specs.declared.config.Config.{Config}
 use Rattle.sloth_base.specs.declared.app.App.{App}
 use Rattle.osek_scheduler.specs.State.{System}
 use Rattle.osek_scheduler.specs.Apart.{IsActive}
+use Rattle.osek_scheduler.specs.InTime.{is_admit}
 use Rattle.osek_scheduler.proofs.Facts.{Facts}
 use Rattle.run_counts.specs.Stages.{Stage, unseen, spanned, own, is_running}
 use Rattle.run_counts.specs.Rounds.{round_of, total}
@@ -15,6 +16,7 @@ use Rattle.run_counts.proofs.Running.{others_rest}
 use Rattle.response_laws.specs.Sums.{count}
 use Rattle.response_laws.specs.Turns.{in_turn, at_entry, begins_first, begins_next, round_behind, if_entry}
 use Rattle.response_laws.proofs.Linked.{Known, Linked}
+use Rattle.response_laws.proofs.LowerSpending.{admit_own}
 use Rattle.response_laws.proofs.Shares.{IsApart, IsNoneAtRest}
 use Rattle.response_laws.proofs.Shares as shares
 use Rattle.response_laws.proofs.Steps.{turn_active}
@@ -63,3 +65,14 @@ module _ (config : Config) (app : App) (t : ℕ) where
       by : (b : Bool) (n : ℕ) → cond b 0 n ≤ n
       by true n = omega arith
       by false n = omega arith
+
+-- an admission has none
+pub admitted_share : (config : Config) (t : ℕ) (x : Stage) → is_admit x.stamped ≡ true → share_of config t x ≡ 0
+admitted_share config t x admits =
+    let none = admit_own config t x admits in
+    let less = by (at_entry t x) (own config t x) in
+    omega (arith, none, less)
+  where
+    by : (b : Bool) (n : ℕ) → cond b 0 n ≤ n
+    by true n = omega arith
+    by false n = omega arith

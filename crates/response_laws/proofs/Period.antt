@@ -1,5 +1,5 @@
 -- As long as a busy period is no longer than its start says, its rounds are no more than their numbers; so it ends in time.
-use Rattle.std.proofs.Common.{◌≡◌, ℕ, zero, suc, ◌+◌, ◌*◌, ◌<◌, ◌≤◌, ◌⊎◌, ◌&&◌, ◌||◌, not, List, [], ◌∷◌, ◌++◌, Bool, true, false, cond, length, refl, sym, ap, ◌∙◌, subst, arith, inl, inr, append_assoc, append-nil, ◌==◌, add-mul}
+use Rattle.std.proofs.Common.{◌≡◌, ℕ, zero, suc, ◌+◌, ◌*◌, ◌<◌, ◌≤◌, ◌⊎◌, ◌&&◌, ◌||◌, not, List, [], ◌∷◌, ◌++◌, Bool, true, false, cond, length, refl, sym, ap, ◌∙◌, subst, arith, inl, inr, append_assoc, append-nil, ◌==◌, add-mul, Some}
 use Rattle.std.specs.List.{AllByRecursion}
 use Rattle.std.proofs.lemmas.Bool.{cases_eq, and_parts, not-true, true≢false, or_parts, eqb-true, ne_eqb}
 use Rattle.sloth_base.specs.declared.config.Config.{Config}
@@ -20,15 +20,15 @@ use Rattle.response_laws.specs.Turns.{round_behind, if_turn, if_entry, in_turn, 
 use Rattle.response_laws.specs.Busy.{is_quiet, is_quiet_but, LeavesOnce}
 use Rattle.osek_scheduler.proofs.Facts.{Facts}
 use Rattle.response_laws.proofs.EnteredOnce.{entered_once}
-use Rattle.response_laws.specs.Demand.{Costs, Start, acts_due, sets_due, IsEnough}
-use Rattle.response_laws.specs.Bounded.{EachOf, EachFirst, EachNext, BoundsRounds, BeginsWithin, left_of, left_over, IsWithinInflow, StartsSo}
+use Rattle.response_laws.specs.Demand.{Costs, Start, acts_due, sets_due, outer_sets, IsEnough}
+use Rattle.response_laws.specs.Bounded.{EachOf, EachFirst, EachNext, IsOfLevel, BoundsRounds, BoundsJoining, BeginsWithin, left_of, left_over, IsWithinInflow, JoinsWithin, StartsSo}
 use Rattle.response_laws.proofs.Sums.{total-le, total-none, each_stage, product_grows, total-append, total_within, sum_below-le, sum_over-le, sum_over-once}
 use Rattle.response_laws.proofs.Attributed.{IsDeclared, declared_by_step, all_attributed}
 use Rattle.response_laws.proofs.Linked.{Known, Linked, last_state, last_end, linked_front, linked_behind, each_append, each_joined, each_so, last_within}
 use Rattle.response_laws.proofs.Steps.{turn_active, ready_count, entry_takes, entry_balance, acts_by_admission, sets_by_admission, due_count, tick_balance}
 use Rattle.response_laws.proofs.OwnAttributed.{own_or_entry, all_attributed_own}
 use Rattle.response_laws.proofs.OwnShares.{own_apart, own_rests}
-use Rattle.response_laws.proofs.RoundSums.{waiting_turn, turn_apart, turn_rests}
+use Rattle.response_laws.proofs.RoundSums.{waiting_turn, turn_apart, turn_rests, longer}
 use Rattle.response_laws.proofs.Shares.{IsApart, IsNoneAtRest, rounds_of, no_round}
 
 -- ---- a quiet state
@@ -178,6 +178,11 @@ none_begins config app k x known rests = by (begins_next true k x) refl
     by true any = absurd (which (at_entry_for true k x) (goes_on_waiting k x.stamped.event) refl refl any)
     by false none = omega arith
 
+-- with more stages no less is left over
+left_grows : (once : Bool) (h : ℕ) (f : Stage → ℕ) (xs ys : List Stage) → left_over once h f xs ≤ left_over once h f (xs ++ ys)
+left_grows true h f xs ys = longer false h f xs ys
+left_grows false h f xs ys = omega arith
+
 -- what comes in from outside, the first stage included
 pub record Counted (config : Config) (h : ℕ) (once : Bool) (start : Start) (q : List Stage) : Type 0 where
   pub arrivals : (line : ℕ) → count (at_admission line) q ≤ start.inflow.arrivals line
@@ -188,7 +193,7 @@ pub record Counted (config : Config) (h : ℕ) (once : Bool) (start : Start) (q 
 
 module _ (config : Config) (app : App) (h : ℕ) (cuts : ℕ → Bool) (costs : Costs) (run : List Stage) (bounds : BoundsRounds config h cuts costs run)
     (w : Facts config app) (opening : System) (linked : Linked 0 opening run) (known : AllByRecursion (Known config app) run)
-    (shared : AllByRecursion (IsShared config) run) (start : Start)
+    (shared : AllByRecursion (IsShared config) run) (start : Start) (joining : BoundsJoining config h cuts costs run start)
     (once : Bool) (whole : once ≡ true → cuts h ≡ false) (enough : IsEnough config h once costs start) where
   -- a part of the run
   part_linked : (before q behind : List Stage) → run ≡ before ++ (q ++ behind) → Linked (last_end 0 before) (last_state opening before) q
@@ -204,6 +209,7 @@ module _ (config : Config) (app : App) (h : ℕ) (cuts : ℕ → Bool) (costs : 
   pub record AreFew (xs : List Stage) : Type 0 where
     pub acts : (j : ℕ) → j < length config.tasks → is_over config h j ≡ true → total (activated j) xs ≤ acts_due config h costs start j
     pub sets : (j : ℕ) → j < length config.tasks → is_over config h j ≡ true → total (was_set j) xs ≤ sets_due config h costs start j
+    pub joined : (b : ℕ) → start.joins ≡ Some b → total (was_set b) xs ≤ total_where (is_other config h) (was_set b) xs + left_over once h (was_set b) xs + outer_sets config h costs start b
 
   -- behind the stages `front` of a busy period comes stage x; the rounds that begin with x are no more than was made in front of it
   module _ (at : ℕ) (s : System) (calm : Calm config h once s) (front : List Stage) (x : Stage) (before behind : List Stage)
@@ -364,20 +370,28 @@ module _ (config : Config) (app : App) (h : ℕ) (cuts : ℕ → Bool) (costs : 
         (λ is. (enough.entered is).acts j) in
         omega (arith, parts_all, other, admits, arrived, alarms, turns)
 
-    sets_step : (j : ℕ) → j < length config.tasks → is_over config h j ≡ true → total (was_set j) q ≤ sets_due config h costs start j
-    sets_step j lt over =
+    -- what sets events of a task, but for other events
+    sets_of : (j : ℕ) → ((k : ℕ) → IsOfLevel config h k → EachFirst run (cuts k) k (was_set j) (costs.first_sets k j))
+        → ((k : ℕ) → IsOfLevel config h k → EachNext run (cuts k) k (was_set j) (costs.next_sets k j))
+        → total (was_set j) q ≤ total_where (is_other config h) (was_set j) q + left_over once h (was_set j) q + outer_sets config h costs start j
+    sets_of j first next =
         let parts_all = all_attributed config h (was_set j) q declared in
-        let other = counted.sets j over in
         let admits = total-none (λ y. cond (is_admit y.stamped) (was_set j y) 0) q
         (each_so (Known config app) (λ y. cond (is_admit y.stamped) (was_set j y) 0 ≤ 0) (sets_by_admission config app j) q ks) in
         let alarms = sum_below-le (length config.counters) (λ c. total_where (at_tick c) (was_set j) q) (λ c. start.inflow.alarm_sets c j)
         (λ c lt. counted.alarm_sets c j (ticks c lt)) in
-        let turns = turns_of (was_set j) (λ k. costs.first_sets k j) (λ k. costs.next_sets k j) (λ k there above. bounds.first_sets k j (there, above) (lt, over)) (λ k there above. bounds.next_sets k j (there, above) (lt, over))
+        let turns = turns_of (was_set j) (λ k. costs.first_sets k j) (λ k. costs.next_sets k j) (λ k there above. first k (there, above)) (λ k there above. next k (there, above))
         (λ is. (enough.entered is).sets j) in
-        omega (arith, parts_all, other, admits, alarms, turns)
+        omega (arith, parts_all, admits, alarms, turns)
+
+    sets_step : (j : ℕ) → j < length config.tasks → is_over config h j ≡ true → total (was_set j) q ≤ sets_due config h costs start j
+    sets_step j lt over =
+        let all = sets_of j (λ k level. bounds.first_sets k j level (lt, over)) (λ k level. bounds.next_sets k j level (lt, over)) in
+        let other = counted.sets j over in
+        omega (arith, all, other)
 
     pub few_step : AreFew q
-    few_step = record { acts = acts_step; sets = sets_step }
+    few_step = record { acts = acts_step; sets = sets_step; joined = λ b is. sets_of b (joining b is).first_sets (joining b is).next_sets }
 
     -- the events behind the first
     pub counts_step : (first : Stage) (period : List Stage) → q ≡ first ∷ period → total (lower_counts config h) period + left_of once h (share_of config h) period ≤ start.inflow.front
@@ -493,10 +507,10 @@ module _ (config : Config) (app : App) (h : ℕ) (cuts : ℕ → Bool) (costs : 
     begin : Holds []
     begin = record {
       few = few_step first.start first.found calm [] first before (all ++ rest_of_run) (part_of [] all refl) (links_of [] all refl)
-          (record { acts = λ k lt over. omega arith; sets = λ k lt over. omega arith }) (λ k lt over is.
+          (record { acts = λ k lt over. omega arith; sets = λ k lt over. omega arith; joined = λ b is. omega arith }) (λ k lt over is.
           none_begins config app k first (part_each (Known config app) known before (first ∷ []) (all ++ rest_of_run) (part_of [] all refl)).0
           (calm.not_due_but k lt over (cut_apart k is)))
-          (entries [] all first refl) (counted_by [] (starts [] all refl tt));
+          (entries [] all first refl) (counted_by [] (starts [] all refl tt (λ b is. let le = (joining b is).settings before [] (all ++ rest_of_run) first (part_of [] all refl) in omega (arith, le))));
       ends = omega arith;
       begins = tt;
     }
@@ -530,8 +544,18 @@ module _ (config : Config) (app : App) (h : ℕ) (cuts : ℕ → Bool) (costs : 
             let le = holds.ends in
             each_joined (BeginsWithin start.counts first) period (x ∷ []) holds.begins (omega (arith, here, le), tt)
 
+        -- the task that joins has a setting in front of each later round, or one in front of the period
+        joined : JoinsWithin config h once start (first ∷ (period ++ x ∷ []))
+        joined b is_joined =
+            let le = (joining b is_joined).settings before (first ∷ period) (rest ++ rest_of_run) x part in
+            let sets = holds.few.joined b is_joined in
+            let most = enough.joined b is_joined in
+            let more = total-append (λ y. cond (is_other config h y) (was_set b y) 0) (first ∷ period) (x ∷ []) in
+            let grown = left_grows once h (was_set b) (first ∷ period) (x ∷ []) in
+            omega (arith, le, sets, most, more, grown)
+
         b : IsWithinInflow config h once start.inflow first (period ++ x ∷ [])
-        b = starts (period ++ x ∷ []) rest is begins
+        b = starts (period ++ x ∷ []) rest is begins joined
 
     go : (period rest : List Stage) → all ≡ period ++ rest → Holds period → Holds all
     go period [] is holds = subst Holds (sym (is ∙ append-nil period)) holds

@@ -33,7 +33,7 @@ use Rattle.sloth_base.specs.Options.{is_number}
 use Rattle.response_laws.specs.Turns.{ticking_counter, is_counter, comes_at, as_said, is_ready_for, is_made, makes_ready, has_grown, activated, was_set}
 use Rattle.response_laws.specs.Busy.{is_quiet, LeavesFirst, IsLeaving, LeavesOnce}
 use Rattle.response_laws.specs.Demand.{Costs, Start, acts_due, sets_due, IsEnough}
-use Rattle.response_laws.specs.Bounded.{BoundsRounds, EndsSoon, StartsInOne}
+use Rattle.response_laws.specs.Bounded.{BoundsRounds, BoundsJoining, EndsSoon, StartsInOne}
 use Rattle.response_laws.specs.Response.{IsEdge, LeavesBefore, EndsWithin, HasPace, EntersOnce, IsAsked, IsCounted, LastsWithin, RespondsInTime}
 use Rattle.response_laws.proofs.Counters.{arrived, on_along}
 use Rattle.response_laws.proofs.Passing.{Cut, at_one, in_front, behind_it, cut, head_or, tail_of}
@@ -166,6 +166,7 @@ module _ (config : Config) (app : App) (n late more : ℕ) (arrivals : List Arri
     (run : OsekRun config app events) (in_time : InTime config n arrivals events) (pace : HasPace n late more events)
     (shared : AllByRecursion (IsShared config) (run_stages config app events))
     (bounds : BoundsRounds config h cuts costs (run_stages config app events)) (ways : StartsInOne config h once starts start (run_stages config app events))
+    (joining : (i : ℕ) → i < starts → BoundsJoining config h cuts costs (run_stages config app events) (start i))
     (enough : (i : ℕ) → i < starts → IsCounted boot (start i) → IsEnough config h once costs (start i)) (lasts : (i : ℕ) → i < starts → IsCounted boot (start i) → LastsWithin h r (start i)) where
   whole : AreStepsTo config app events (opening config app) run.0
   whole = follows_leads config app [] (opening config app) events run.0 run.1
@@ -195,7 +196,7 @@ module _ (config : Config) (app : App) (n late more : ℕ) (arrivals : List Arri
       let way = ways first period (record { before = before; behind = behind; part = part; begins = begins; busy = busy; leaves_once = low }) in
       let counted : IsCounted boot (start way.0) = λ boots. asked (way.4 boots) in
       let holds = period_holds config app h cuts costs (run_stages config app events) bounds (facts config app wf) (opening config app)
-      (stages_linked config app 0 (opening config app) events) known shared (start way.0) once (λ on. (enters on).whole) (enough way.0 way.1 counted) before first (calm begins) period behind
+      (stages_linked config app 0 (opening config app) events) known shared (start way.0) (joining way.0 way.1) once (λ on. (enters on).whole) (enough way.0 way.1 counted) before first (calm begins) period behind
       part way.2 low in
       let over = over_itself config h in
       let acts = holds.few.acts h declared over in
@@ -592,11 +593,11 @@ module _ (config : Config) (app : App) (n late more : ℕ) (arrivals : List Arri
             absurd (omega (arith, le, end, last, no_less, enough_counts))
 
 pub respond_in_time : RespondsInTime
-respond_in_time config app n late more arrivals events h r cuts costs once boot starts start enters wf run in_time pace shared bounds ways enough lasts = record {
+respond_in_time config app n late more arrivals events h r cuts costs once boot starts start enters wf run in_time pace shared bounds ways joining enough lasts = record {
   some = λ before behind made found s is leads makes asked.
-      some config app n late more arrivals events h r cuts costs once boot starts start enters wf run in_time pace shared bounds ways enough lasts before behind made found s is leads makes asked;
+      some config app n late more arrivals events h r cuts costs once boot starts start enters wf run in_time pace shared bounds ways joining enough lasts before behind made found s is leads makes asked;
   leaves = λ before behind made found s edge is leads makes asked has many.
-      responds config app n late more arrivals events h r cuts costs once boot starts start enters wf run in_time pace shared bounds ways enough lasts before behind made found s is leads makes asked edge has many;
+      responds config app n late more arrivals events h r cuts costs once boot starts start enters wf run in_time pace shared bounds ways joining enough lasts before behind made found s is leads makes asked edge has many;
   pends = λ before front rest made e found s edge is leads makes asked has none other.
-      pends config app n late more arrivals events h r cuts costs once boot starts start enters wf run in_time pace shared bounds ways enough lasts before (front ++ e ∷ rest) made found s is leads makes asked edge has front e rest refl none other;
+      pends config app n late more arrivals events h r cuts costs once boot starts start enters wf run in_time pace shared bounds ways joining enough lasts before (front ++ e ∷ rest) made found s is leads makes asked edge has front e rest refl none other;
 }

@@ -1,17 +1,18 @@
 -- The rounds of a task in a list of stages come together to no more than each may, for each that begins: of a number of the entry and of the events in turns.
-use Rattle.std.proofs.Common.{◌≡◌, ℕ, ◌+◌, ◌*◌, ◌≤◌, List, ◌++◌, Bool, true, false, cond, refl, ap}
+use Rattle.std.proofs.Common.{◌≡◌, ℕ, ◌+◌, ◌*◌, ◌≤◌, ◌&&◌, ◌||◌, not, List, ◌++◌, Bool, true, false, cond, refl, ap}
 use Rattle.std.specs.List.{AllByRecursion}
 use Rattle.std.proofs.lemmas.Bool.{false≢true, and_parts}
 use Rattle.sloth_base.specs.declared.config.Config.{Config}
 use Rattle.sloth_base.specs.declared.app.App.{App}
 use Rattle.sloth_base.specs.declared.event.Event.{Event}
 use Rattle.sloth_base.specs.declared.event.Event.TheVariants as event
-use Rattle.osek_scheduler.specs.State.{System}
+use Rattle.osek_scheduler.specs.State.{System, task}
 use Rattle.osek_scheduler.specs.Apart.{IsActive}
 use Rattle.run_counts.specs.Stages.{Stage, is_turn}
-use Rattle.run_counts.specs.Rounds.{goes_on_waiting, total}
+use Rattle.event_weights.specs.Events.{has_frames}
+use Rattle.run_counts.specs.Rounds.{goes_on_waiting, opens_round, total}
 use Rattle.response_laws.specs.Sums.{count}
-use Rattle.response_laws.specs.Turns.{in_turn, begins_first, begins_next, round_behind, if_turn, if_entry}
+use Rattle.response_laws.specs.Turns.{in_turn, at_entry, begins_first, begins_next, round_behind, if_turn, if_entry}
 use Rattle.response_laws.specs.Bounded.{EachFirst, EachNext}
 use Rattle.response_laws.proofs.Linked.{Known, Linked}
 use Rattle.response_laws.proofs.Shares.{IsApart, IsNoneAtRest, entry_alone}
@@ -22,6 +23,17 @@ use Rattle.response_laws.proofs.Steps.{turn_active}
 pub waiting_turn : (t : ℕ) (e : Event) → goes_on_waiting t e ≡ true → is_turn t e ≡ true
 waiting_turn t (event.Call u served status) is = (and_parts _ _ is).0
 waiting_turn t e is = absurd (false≢true is)
+
+-- a round that begins in either way opens one
+pub first_opens : (cuts : Bool) (t : ℕ) (x : Stage) → begins_first t x ≡ true → opens_round cuts t x.stamped.event ≡ true
+first_opens cuts t x is = ap (λ b. b || (cuts && goes_on_waiting t x.stamped.event)) (and_parts (at_entry t x) (not (has_frames (task x.found t).frames)) is).0
+
+pub next_opens : (cuts : Bool) (t : ℕ) (x : Stage) → begins_next cuts t x ≡ true → opens_round cuts t x.stamped.event ≡ true
+next_opens cuts t x is = by (at_entry t x) (has_frames (task x.found t).frames) (cuts && goes_on_waiting t x.stamped.event) is
+  where
+    by : (a b c : Bool) → ((a && b) || c) ≡ true → (a || c) ≡ true
+    by true b c is = refl
+    by false b c is = is
 
 module _ (cuts : Bool) (t : ℕ) (f : Stage → ℕ) where
   -- what a stage has as an entry of the task and in a turn of it

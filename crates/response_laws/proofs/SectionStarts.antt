@@ -33,17 +33,18 @@ use Rattle.run_counts.specs.Stages.{Stage, charged, end_of, is_turn, is_entry}
 use Rattle.run_counts.specs.Spending.{WeighsItems}
 use Rattle.run_counts.specs.Rounds.{total, WeighsEndings}
 use Rattle.run_counts.proofs.SpentStages.{AreSpent}
-use Rattle.response_laws.specs.Sums.{total_where, is_over}
-use Rattle.response_laws.specs.Shares.{lower_own, lower_counts, LowerSpendWithin}
-use Rattle.response_laws.specs.Turns.{at_entry, is_other, activated, was_set}
+use Rattle.response_laws.specs.Sums.{total_where, count}
+use Rattle.response_laws.specs.Shares.{share_of, lower_own, lower_counts, LowerSpendWithin}
+use Rattle.response_laws.specs.Turns.{at_entry, is_other, begins_first, begins_next, activated, was_set}
+use Rattle.response_laws.specs.Bounded.{EachOf, EachFirst, EachNext}
 use Rattle.response_laws.specs.Busy.{is_quiet}
 use Rattle.response_laws.specs.Demand.{Start}
-use Rattle.response_laws.specs.Walked.{standing, is_executed, is_back, FitsItem, SectionsSum}
+use Rattle.response_laws.specs.Walked.{standing, is_executed, is_back, FitsItem, FirstRoundsSum, LaterRoundsSum, SectionsSum}
 use Rattle.response_laws.specs.Once.{IsShutOut}
-use Rattle.response_laws.specs.Makers.{activation_weights, setting_weights}
-use Rattle.response_laws.specs.Starts.{IsRaisedTurn, InSection, may_raise, OpensSection, AreOfSection, HasSectionBehind, IsSectionWithin}
-use Rattle.response_laws.specs.Works.{KeepsWork}
-use Rattle.response_laws.specs.CodeStarts.{SectionsTake, HasSections}
+use Rattle.response_laws.specs.Makers.{activation_weights, setting_weights, MakesWithin}
+use Rattle.response_laws.specs.Starts.{IsRaisedTurn, InSection, may_raise, OpensSection, AreOfSection, HasSectionBehind, JoinsSo, IsSectionWithin}
+use Rattle.response_laws.specs.Works.{KeepsWork, WorksWithin}
+use Rattle.response_laws.specs.CodeStarts.{SectionsTake, Joins, RoundsSum, RoundsCount, HasSections}
 use Rattle.response_laws.proofs.Counting.{counted_lighter}
 use Rattle.response_laws.proofs.Starting.{IsBusy}
 use Rattle.response_laws.proofs.Highest.{declared_above, over_all}
@@ -52,6 +53,8 @@ use Rattle.response_laws.proofs.Settled.{top_raised, no_lower_entry}
 use Rattle.response_laws.proofs.Lower.{admit_is_none}
 use Rattle.response_laws.proofs.SectionWalks.{FitsRaised, section_within}
 use Rattle.response_laws.proofs.LowerSpending.{admit_counts}
+use Rattle.response_laws.proofs.OwnShares.{own_apart, own_rests, admitted_share}
+use Rattle.response_laws.proofs.Joined.{few_rounds, taken, makes_within, joined_counts}
 use Rattle.response_laws.proofs.SectionOnce.{section_once}
 use Rattle.response_laws.proofs.SectionShares.{executed_fits, section_shares}
 use Rattle.response_laws.proofs.SectionWorks.{section_works}
@@ -205,7 +208,21 @@ module _ (config : Config) (app : App) (w : Facts config app) (size : ItemSizes)
     module _ (run : List Stage) (first_found : System) (linked : Linked 0 first_found run) (seen : AllByRecursion (Seen config app size longest) run)
         (spent : (before xs behind : List Stage) → run ≡ before ++ (xs ++ behind)
         → (at : ℕ) × ((spent : ℕ) × AreSpent config app size longest b at spent (last_state first_found before) xs)) (few : LowerSpendWithin config h longest run) (load : List Entry) (cuts : ℕ → Bool)
-        (works : KeepsWork config load cuts run) (asleep : ¬ (IsActive first_found b)) (raised : Bool) (s : Start) (has : HasSections config app longest weights load cuts h b raised s) where
+        (works : KeepsWork config load cuts run) (asleep : ¬ (IsActive first_found b)) (walks : (j most : ℕ) → MakesWithin app run b j true most)
+        (own_first : cuts b ≡ true → (n : ℕ) → WorksWithin load b n ⊎ FirstRoundsSum app true b weights n → EachOf run true b (begins_first b) (λ x. 0) (share_of config b) n)
+        (own_next : cuts b ≡ true → (n : ℕ) → WorksWithin load b n ⊎ LaterRoundsSum app true b weights n → EachOf run true b (begins_next true b) (λ x. 0) (share_of config b) n)
+        (raised : Bool) (s : Start) (has : HasSections config app longest weights load cuts h b raised s) where
+      -- where the task joins, its rounds are no more than the start has
+      abbrev Fits : List Stage → Type 0
+      Fits xs = Joins app cuts b s → count (begins_next true b) xs ≤ s.nexts b
+
+      fits_behind : (x : Stage) (xs : List Stage) → Fits (x ∷ xs) → Fits xs
+      fits_behind x xs fits joins = let le = fits joins in omega (arith, le)
+
+      fits_so : (before xs behind : List Stage) → run ≡ before ++ (xs ++ behind) → AreOfSection config h b xs → JoinsSo config h s b xs → Fits xs
+      fits_so before xs behind is section so joins =
+          few_rounds config app w h b lower run first_found linked (all_known run seen) asleep cuts s joins walks before xs behind is section so
+
       part_links : (before xs behind : List Stage) → run ≡ before ++ (xs ++ behind) → Linked (last_end 0 before) (last_state first_found before) xs
       part_links before xs behind is =
           linked_front (last_end 0 before) (last_state first_found before) xs behind
@@ -214,9 +231,9 @@ module _ (config : Config) (app : App) (w : Facts config app) (size : ItemSizes)
       part_seen : (before xs behind : List Stage) → run ≡ before ++ (xs ++ behind) → AllByRecursion (Seen config app size longest) xs
       part_seen before xs behind is = (each_append (Seen config app size longest) xs behind (each_append (Seen config app size longest) before (xs ++ behind) (subst (AllByRecursion (Seen config app size longest)) is seen)).1).0
 
-      in_shares : (before xs behind : List Stage) → run ≡ before ++ (xs ++ behind) → InSection config h b xs → total (lower_counts config h) xs ≤ has.counts + longest
-      in_shares before [] behind is section = omega arith
-      in_shares before (x ∷ xs) behind is section =
+      in_shares : (before xs behind : List Stage) → run ≡ before ++ (xs ++ behind) → InSection config h b xs → Fits xs → total (lower_counts config h) xs ≤ has.counts + longest
+      in_shares before [] behind is section fits = omega arith
+      in_shares before (x ∷ xs) behind is section fits =
           let links = part_links before (x ∷ xs) behind is in
           let each = part_seen before (x ∷ xs) behind is in
           let so_far = spent before (x ∷ xs) behind is in
@@ -225,19 +242,27 @@ module _ (config : Config) (app : App) (w : Facts config app) (size : ItemSizes)
           by so_far.0 so_far.1.0 so_far.1.1 links known placed has.sum
         where
           by : (at done : ℕ) → AreSpent config app size longest b at done (last_state first_found before) (x ∷ xs) → Linked (last_end 0 before) (last_state first_found before) (x ∷ xs)
-              → AllByRecursion (Known config app) (x ∷ xs) → Placed app (last_state first_found before) → SectionsTake config app weights load cuts h b has.counts
+              → AllByRecursion (Known config app) (x ∷ xs) → Placed app (last_state first_found before)
+              → SectionsTake config app weights load cuts h b has.counts ⊎ (Joins app cuts b s × RoundsCount app weights load b (s.nexts b) has.counts)
               → total (lower_counts config h) (x ∷ xs) ≤ has.counts + longest
-          by at done so_far links known placed (inl sums) =
+          by at done so_far links known placed (inl (inl sums)) =
               section_shares config app w size longest weights weighs ends h b lower run few has.counts sums before behind (last_end 0 before) at done
               (last_state first_found before) (x ∷ xs) is links known so_far placed section
-          by at done so_far links known placed (inr (within, waits)) =
+          by at done so_far links known placed (inl (inr (within, waits))) =
               section_works config app w size longest h b lower run few (cuts b) waits load cuts refl works has.counts within first_found asleep linked (all_known run seen)
               before behind (last_end 0 before) at done (x ∷ xs) is links known so_far placed section
+          by at done so_far links known placed (inr (joins, rounds)) =
+              let come =
+              joined_counts config app w h b lower run first_found linked (all_known run seen) asleep size longest few (own_apart config app b true) (own_rests config app b) (admitted_share config b)
+              rounds.under_way rounds.later (own_first joins.cut rounds.under_way rounds.firsts) (own_next joins.cut rounds.later rounds.laters_fit) rounds.longer before (x ∷ xs) behind is at done so_far section in
+              let all = taken config app w h b lower run first_found linked (all_known run seen) asleep cuts s joins walks rounds (count (begins_next true b) (x ∷ xs)) (fits joins) in
+              omega (arith, come, all)
 
       of_shares : raised ≡ false → (before xs behind : List Stage) → run ≡ before ++ (xs ++ behind) → AreOfSection config h b xs → AllByRecursion (IsBusy config h) xs
-          → total (lower_counts config h) xs ≤ has.raising + has.counts + longest
-      of_shares not_yet before [] behind is section busy = omega arith
-      of_shares not_yet before (x ∷ xs) behind is section busy = by (is_admit x.stamped) refl section (λ s. of_shares not_yet (before ++ x ∷ []) xs behind further s busy.1)
+          → Fits xs → total (lower_counts config h) xs ≤ has.raising + has.counts + longest
+      of_shares not_yet before [] behind is section busy fits = omega arith
+      of_shares not_yet before (x ∷ xs) behind is section busy fits =
+          by (is_admit x.stamped) refl section (λ s. of_shares not_yet (before ++ x ∷ []) xs behind further s busy.1 (fits_behind x xs fits))
         where
           further : run ≡ (before ++ x ∷ []) ++ (xs ++ behind)
           further = is ∙ sym (append_assoc before (x ∷ []) (xs ++ behind))
@@ -246,7 +271,7 @@ module _ (config : Config) (app : App) (w : Facts config app) (size : ItemSizes)
           here other is = ap {B = ℕ} (λ b. cond b (charged x) (lower_own config h x)) is
 
           all_of : (is_other config h x ≡ true → IsRaisedTurn config h b x) → InSection config h b xs → total (lower_counts config h) (x ∷ xs) ≤ has.raising + has.counts + longest
-          all_of raised section = let le = in_shares before (x ∷ xs) behind is (raised, section) in omega (arith, le)
+          all_of raised section = let le = in_shares before (x ∷ xs) behind is (raised, section) fits in omega (arith, le)
 
           opened : (is_other config h x ≡ true) ⊎ (is_other config h x ≡ false)
               → ((is_other config h x ≡ true → IsRaisedTurn config h b x ⊎ (may_raise config b x.stamped.event ≡ true)) × InSection config h b xs)
@@ -264,7 +289,7 @@ module _ (config : Config) (app : App) (w : Facts config app) (size : ItemSizes)
                   opening : IsRaisedTurn config h b x ⊎ ((declaration config b).non ≡ false) → total (lower_counts config h) (x ∷ xs) ≤ has.raising + has.counts + longest
                   opening (inl r) = all_of (λ _. r) s.1
                   opening (inr preemptable) =
-                      let le = in_shares (before ++ x ∷ []) xs behind further s.1 in
+                      let le = in_shares (before ++ x ∷ []) xs behind further s.1 (fits_behind x xs fits) in
                       let first = raising_charge has.raising (has.takes not_yet preemptable) preemptable x x_seen may in
                       let own = here true on in
                       omega (arith, le, first, own)
@@ -281,20 +306,21 @@ module _ (config : Config) (app : App) (w : Facts config app) (size : ItemSizes)
 
       -- without the first stage of all
       behind_first : raised ≡ false → (before : List Stage) (x : Stage) (xs behind : List Stage) → run ≡ before ++ ((x ∷ xs) ++ behind) → AreOfSection config h b (x ∷ xs)
-          → AllByRecursion (IsBusy config h) xs → total (lower_counts config h) xs ≤ has.raising + has.counts + longest
-      behind_first not_yet before x xs behind is section busy = by (is_admit x.stamped) section
+          → AllByRecursion (IsBusy config h) xs → Fits xs → total (lower_counts config h) xs ≤ has.raising + has.counts + longest
+      behind_first not_yet before x xs behind is section busy fits = by (is_admit x.stamped) section
         where
           further : run ≡ (before ++ x ∷ []) ++ (xs ++ behind)
           further = is ∙ sym (append_assoc before (x ∷ []) (xs ++ behind))
 
           by : (a : Bool) → OpensSection config h b a (AreOfSection config h b xs) x xs → total (lower_counts config h) xs ≤ has.raising + has.counts + longest
-          by true s = of_shares not_yet (before ++ x ∷ []) xs behind further s busy
-          by false s = let le = in_shares (before ++ x ∷ []) xs behind further s.1 in omega (arith, le)
+          by true s = of_shares not_yet (before ++ x ∷ []) xs behind further s busy fits
+          by false s = let le = in_shares (before ++ x ∷ []) xs behind further s.1 fits in omega (arith, le)
 
       -- what makes task j Ready among the other events of a section
-      acts_in : (j : ℕ) → is_over config h j ≡ true → (at : ℕ) (st : System) (xs : List Stage) → Linked at st xs → AllByRecursion (Seen config app size longest) xs → Placed app st
+      acts_in : (j : ℕ) → SectionsSum config app h b (activation_weights app b j) (s.inflow.acts j) ⊎ (IsShutOut config h b j × (1 ≤ s.inflow.acts j))
+          → (at : ℕ) (st : System) (xs : List Stage) → Linked at st xs → AllByRecursion (Seen config app size longest) xs → Placed app st
           → InSection config h b xs → total_where (is_other config h) (activated j) xs ≤ s.inflow.acts j
-      acts_in j over at st xs l seen placed section = by (has.acts j over)
+      acts_in j sum at st xs l seen placed section = by sum
         where
           by : SectionsSum config app h b (activation_weights app b j) (s.inflow.acts j) ⊎ (IsShutOut config h b j × (1 ≤ s.inflow.acts j))
               → total_where (is_other config h) (activated j) xs ≤ s.inflow.acts j
@@ -304,23 +330,51 @@ module _ (config : Config) (app : App) (w : Facts config app) (size : ItemSizes)
           by (inr (out, some)) = let le = section_once config app w h b lower j out at st xs l (all_known xs seen) section in omega (arith, le, some)
 
       front_within : (r : Bool) → raised ≡ r → (before behind : List Stage) (first : Stage) (xs : List Stage) → run ≡ before ++ ((first ∷ xs) ++ behind)
-          → HasSectionBehind config h b r first xs → AllByRecursion (IsBusy config h) xs → total (lower_counts config h) xs ≤ has.raising + has.counts + longest
-      front_within true already before behind first xs is section busy =
-          let le = in_shares (before ++ first ∷ []) xs behind (is ∙ sym (append_assoc before (first ∷ []) (xs ++ behind))) section in omega (arith, le)
-      front_within false not_yet before behind first xs is section busy = behind_first not_yet before first xs behind is section busy
+          → HasSectionBehind config h b r first xs → AllByRecursion (IsBusy config h) xs → Fits xs → total (lower_counts config h) xs ≤ has.raising + has.counts + longest
+      front_within true already before behind first xs is section busy fits =
+          let le = in_shares (before ++ first ∷ []) xs behind (is ∙ sym (append_assoc before (first ∷ []) (xs ++ behind))) section fits in omega (arith, le)
+      front_within false not_yet before behind first xs is section busy fits = behind_first not_yet before first xs behind is section busy fits
+
+      -- where it joins, by its rounds
+      made_by_rounds : (f : Stage → ℕ) (c : List BodyWeights) (most : ℕ) → ((n : ℕ) → FirstRoundsSum app true b c n → EachFirst run true b f n)
+          → ((n : ℕ) → LaterRoundsSum app true b c n → EachNext run true b f n) → Joins app cuts b s → RoundsSum app b c (s.nexts b) most
+          → (before xs behind : List Stage) → run ≡ before ++ (xs ++ behind) → AreOfSection config h b xs → Fits xs → total_where (is_other config h) f xs ≤ most
+      made_by_rounds f c most first next joins rounds before xs behind is section fits =
+          let le = makes_within config app w h b lower run first_found linked (all_known run seen) asleep f rounds.under_way rounds.later (first rounds.under_way rounds.firsts)
+          (next rounds.later rounds.laters_fit) rounds.longer before xs behind is section in
+          let all = taken config app w h b lower run first_found linked (all_known run seen) asleep cuts s joins walks rounds (count (begins_next true b) xs) (fits joins) in
+          omega (arith, le, all)
+
+      acts_of : (before behind : List Stage) (j : ℕ) (xs : List Stage) → run ≡ before ++ (xs ++ behind) → AreOfSection config h b xs → Fits xs
+          → (SectionsSum config app h b (activation_weights app b j) (s.inflow.acts j) ⊎ (IsShutOut config h b j × (1 ≤ s.inflow.acts j)))
+          ⊎ (Joins app cuts b s × RoundsSum app b (activation_weights app b j) (s.nexts b) (s.inflow.acts j))
+          → total_where (is_other config h) (activated j) xs ≤ s.inflow.acts j
+      acts_of before behind j xs is section fits (inl sum) =
+          of_section (activated j) (s.inflow.acts j) (acts_in j sum)
+          (raising_makes (activated j) (λ x y entry. entry_acts config app size longest x y b j entry) (activation_weights app b j) (λ x y. y.acts b j)
+          (no_take (cond (b == j) (counts.Chains j) (counts.Activations j)) (activation_making (b == j) j) app))
+          (last_end 0 before) (last_state first_found before) xs (part_links before xs behind is) (part_seen before xs behind is) section
+      acts_of before behind j xs is section fits (inr (joins, rounds)) =
+          made_by_rounds (activated j) (activation_weights app b j) (s.inflow.acts j) (λ n. (walks j n).first_acts) (λ n. (walks j n).next_acts) joins rounds before xs behind is section fits
+
+      sets_of : (before behind : List Stage) (j : ℕ) (xs : List Stage) → run ≡ before ++ (xs ++ behind) → AreOfSection config h b xs → Fits xs
+          → SectionsSum config app h b (setting_weights app j) (s.inflow.sets j) ⊎ (Joins app cuts b s × RoundsSum app b (setting_weights app j) (s.nexts b) (s.inflow.sets j))
+          → total_where (is_other config h) (was_set j) xs ≤ s.inflow.sets j
+      sets_of before behind j xs is section fits (inl sums) =
+          of_section (was_set j) (s.inflow.sets j)
+          (by_walks (was_set j) (setting_weights app j) (counted_lighter (counts.Settings j) app) (λ x y. y.sets b j) (s.inflow.sets j) sums)
+          (raising_makes (was_set j) (λ x y entry. entry_sets config app size longest x y b j entry) (setting_weights app j) (λ x y. y.sets b j)
+          (no_take (counts.Settings j) refl app))
+          (last_end 0 before) (last_state first_found before) xs (part_links before xs behind is) (part_seen before xs behind is) section
+      sets_of before behind j xs is section fits (inr (joins, rounds)) =
+          made_by_rounds (was_set j) (setting_weights app j) (s.inflow.sets j) (λ n. (walks j n).first_sets) (λ n. (walks j n).next_sets) joins rounds before xs behind is section fits
 
       pub sections_within : IsSectionWithin config h run b raised s
       sections_within = record {
-        front = λ before behind first xs is section busy. let le = front_within raised refl before behind first xs is section busy in let most = has.front in omega (arith, le, most);
-        acts = λ before behind j xs over is section.
-            of_section (activated j) (s.inflow.acts j) (acts_in j over)
-            (raising_makes (activated j) (λ x y entry. entry_acts config app size longest x y b j entry) (activation_weights app b j) (λ x y. y.acts b j)
-            (no_take (cond (b == j) (counts.Chains j) (counts.Activations j)) (activation_making (b == j) j) app))
-            (last_end 0 before) (last_state first_found before) xs (part_links before xs behind is) (part_seen before xs behind is) section;
-        sets = λ before behind j xs over is section.
-            of_section (was_set j) (s.inflow.sets j)
-            (by_walks (was_set j) (setting_weights app j) (counted_lighter (counts.Settings j) app) (λ x y. y.sets b j) (s.inflow.sets j) (has.sets j over))
-            (raising_makes (was_set j) (λ x y entry. entry_sets config app size longest x y b j entry) (setting_weights app j) (λ x y. y.sets b j)
-            (no_take (counts.Settings j) refl app))
-            (last_end 0 before) (last_state first_found before) xs (part_links before xs behind is) (part_seen before xs behind is) section;
+        front = λ before behind first xs is all section busy so.
+            let le = front_within raised refl before behind first xs is section busy (fits_behind first xs (fits_so before (first ∷ xs) behind is all so)) in
+            let most = has.front in
+            omega (arith, le, most);
+        acts = λ before behind j xs over is section so. acts_of before behind j xs is section (fits_so before xs behind is section so) (has.acts j over);
+        sets = λ before behind j xs over is section so. sets_of before behind j xs is section (fits_so before xs behind is section so) (has.sets j over);
       }

@@ -64,20 +64,21 @@ round_behind_few cuts t f (x ∷ xs) ys open_still =
 
 module _ (config : Config) (app : App) (w : Facts config app) (cuts : Bool) (b : ℕ) where
   -- the stages end in a round of the task
-  record InRound (front : List Stage) : Type 0 where
-    before : List Stage
-    opens : Stage
-    middle : List Stage
-    parts : front ≡ before ++ opens ∷ middle
-    opening : opens_round cuts b opens.stamped.event ≡ true
-    open_still : AllByRecursion (λ x. closes_round cuts b x.stamped.event ≡ false) middle
+  pub record InRound (front : List Stage) : Type 0 where
+    pub before : List Stage
+    pub opens : Stage
+    pub middle : List Stage
+    pub parts : front ≡ before ++ opens ∷ middle
+    pub opening : opens_round cuts b opens.stamped.event ≡ true
+    pub open_still : AllByRecursion (λ x. closes_round cuts b x.stamped.event ≡ false) middle
+    pub inside : AllByRecursion (λ x. is_entry b x.stamped.event ≡ false) middle
 
   -- one stage more
   one_more : (front : List Stage) (x : Stage) → Known config app x → (IsActive x.found b → InRound front) → IsActive x.next b → InRound (front ++ x ∷ [])
   one_more front x k was active = by (opens_round cuts b x.stamped.event) refl
     where
       by : (o : Bool) → opens_round cuts b x.stamped.event ≡ o → InRound (front ++ x ∷ [])
-      by true opens = record { before = front; opens = x; middle = []; parts = refl; opening = opens; open_still = tt }
+      by true opens = record { before = front; opens = x; middle = []; parts = refl; opening = opens; open_still = tt; inside = tt }
       by false still =
           let both = or_parts (is_entry b x.stamped.event) (cuts && goes_on_waiting b x.stamped.event) still in
           let r = was (stays_inactive config app b x k both.0 active) in
@@ -90,13 +91,14 @@ module _ (config : Config) (app : App) (w : Facts config app) (cuts : Bool) (b :
             open_still =
                 each_joined (λ y. closes_round cuts b y.stamped.event ≡ false) r.middle (x ∷ []) r.open_still
                 (ap (λ l. l || (cuts && goes_on_waiting b x.stamped.event)) (goes_on (is_left b x.stamped.event) refl) ∙ both.1, tt);
+            inside = each_joined (λ y. is_entry b y.stamped.event ≡ false) r.middle (x ∷ []) r.inside (both.0, tt);
           }
         where
           goes_on : (l : Bool) → is_left b x.stamped.event ≡ l → is_left b x.stamped.event ≡ false
           goes_on true leaves = absurd (left_inactive config app w b x k leaves active)
           goes_on false still = still
 
-  in_round : (at : ℕ) (s : System) (front xs : List Stage) → Linked at s xs → AllByRecursion (Known config app) xs → (IsActive s b → InRound front) → IsActive (last_state s xs) b
+  pub in_round : (at : ℕ) (s : System) (front xs : List Stage) → Linked at s xs → AllByRecursion (Known config app) xs → (IsActive s b → InRound front) → IsActive (last_state s xs) b
       → InRound (front ++ xs)
   in_round at s front [] l k was active = subst InRound (sym (append-nil front)) (was active)
   in_round at s front (x ∷ xs) l k was active =

@@ -14,6 +14,9 @@ use Rattle.sloth_base.specs.declared.app.Op.{Op}
 use Rattle.sloth_base.specs.declared.app.Op.TheVariants as op
 use Rattle.sloth_base.specs.declared.event.Event.{Event}
 use Rattle.sloth_base.specs.declared.event.Event.TheVariants as event
+use Rattle.sloth_base.specs.declared.event.Stamped.{Stamped}
+use Rattle.code_rules.specs.WellFormed.{WellFormed}
+use Rattle.osek_scheduler.specs.Runs.{OsekRun}
 use Rattle.sloth_base.specs.declared.service.Service.{Service}
 use Rattle.sloth_base.specs.declared.service.Service.TheVariants as service
 use Rattle.sloth_base.specs.ServiceCodes.{is_service}
@@ -56,7 +59,7 @@ use Rattle.run_counts.specs.Rounds.{goes_on_waiting, is_left, total}
 use Rattle.response_laws.specs.Sums.{count}
 use Rattle.response_laws.specs.Turns.{in_turn, at_entry, begins_next, is_ready_for, is_made, has_grown, is_set, was_set}
 use Rattle.response_laws.specs.Walked.{standing}
-use Rattle.response_laws.specs.Settings.{CleanTasksHaveSettings}
+use Rattle.response_laws.specs.Settings.{CleanTasksHaveSettings, CleanTasksHaveSettingsButOne}
 use Rattle.response_laws.proofs.Linked.{Known, Linked, last_state, last_end, linked_front, linked_behind, each_append, stages_linked, stages_known}
 use Rattle.response_laws.proofs.Steps.{turn_active, stays_inactive}
 use Rattle.response_laws.proofs.RoundSums.{waiting_turn}
@@ -640,43 +643,47 @@ module _ (config : Config) (app : App) (w : Facts config app) (t : ℕ) (clean :
       let rest = counted xs last (end_of x) x.next (n + cond (begins_next true t x) 1 0) (m + was_set t x) l.2 k.1 stand.1 here.1 in
       omega (arith, rest)
 
-pub clean_tasks_have_settings : CleanTasksHaveSettings
-clean_tasks_have_settings config app events t wf osek clean before further behind first last is rests =
-    let le = counted config app w t clean (first ∷ further) last (last_end 0 before) (last_state (opening config app) before) 0 0 links ks stand begins in
-    omega (arith, le)
-  where
-    w : Facts config app
-    w = facts config app wf
+-- ---- a run
 
-    known : AllByRecursion (Known config app) (run_stages config app events)
-    known =
-        stages_known config app w 0 (opening config app) osek.0 events (opening_ordered config app) (opening_valid config app)
-        (follows_leads config app [] (opening config app) events osek.0 osek.1)
+module _ (config : Config) (app : App) (events : List Stamped) (t : ℕ) (wf : WellFormed config app) (osek : OsekRun config app events) (clean : IsClean app t) where
+  abbrev w : Facts config app
+  w = facts config app wf
 
-    stands_all : AllByRecursion (λ x. Stands config app w t x.found × Placed app x.found) (run_stages config app events)
-    stands_all =
-        all_stand config app w t 0 (opening config app) (run_stages config app events) (stages_linked config app 0 (opening config app) events) known
-        (opening_placed config app) (inr (inl (ap (λ (k : Task). k.frames) (asleep_at config.tasks t))))
+  known : AllByRecursion (Known config app) (run_stages config app events)
+  known =
+      stages_known config app w 0 (opening config app) osek.0 events (opening_ordered config app) (opening_valid config app)
+      (follows_leads config app [] (opening config app) events osek.0 osek.1)
 
-    part : (P : Stage → Type 0) → AllByRecursion P (run_stages config app events) → AllByRecursion P (first ∷ (further ++ last ∷ []))
-    part P each = (each_append P (first ∷ (further ++ last ∷ [])) behind (each_append P before ((first ∷ (further ++ last ∷ [])) ++ behind) (subst (AllByRecursion P) is each)).1).0
+  stands_all : AllByRecursion (λ x. Stands config app w t x.found × Placed app x.found) (run_stages config app events)
+  stands_all =
+      all_stand config app w t 0 (opening config app) (run_stages config app events) (stages_linked config app 0 (opening config app) events) known
+      (opening_placed config app) (inr (inl (ap (λ (k : Task). k.frames) (asleep_at config.tasks t))))
 
-    ks : AllByRecursion (Known config app) (first ∷ (further ++ last ∷ []))
-    ks = part (Known config app) known
+  module _ (before xs behind : List Stage) (last : Stage) (is : run_stages config app events ≡ before ++ ((xs ++ last ∷ []) ++ behind)) where
+    part : (P : Stage → Type 0) → AllByRecursion P (run_stages config app events) → AllByRecursion P (xs ++ last ∷ [])
+    part P each = (each_append P (xs ++ last ∷ []) behind (each_append P before ((xs ++ last ∷ []) ++ behind) (subst (AllByRecursion P) is each)).1).0
 
-    stand : AllByRecursion (λ x. Stands config app w t x.found × Placed app x.found) (first ∷ (further ++ last ∷ []))
-    stand = part (λ x. Stands config app w t x.found × Placed app x.found) stands_all
-
-    links : Linked (last_end 0 before) (last_state (opening config app) before) (first ∷ (further ++ last ∷ []))
+    links : Linked (last_end 0 before) (last_state (opening config app) before) (xs ++ last ∷ [])
     links =
-        linked_front (last_end 0 before) (last_state (opening config app) before) (first ∷ (further ++ last ∷ [])) behind
-        (linked_behind 0 (opening config app) before ((first ∷ (further ++ last ∷ [])) ++ behind)
+        linked_front (last_end 0 before) (last_state (opening config app) before) (xs ++ last ∷ []) behind
+        (linked_behind 0 (opening config app) before ((xs ++ last ∷ []) ++ behind)
         (subst (Linked 0 (opening config app)) is (stages_linked config app 0 (opening config app) events)))
 
+    counted_part : (n m : ℕ) → Inv config app w t clean n m (last_state (opening config app) before) → n + count (begins_next true t) (xs ++ last ∷ []) ≤ m + total (was_set t) xs
+    counted_part n m begins =
+        counted config app w t clean xs last (last_end 0 before) (last_state (opening config app) before) n m links (part (Known config app) known)
+        (part (λ x. Stands config app w t x.found × Placed app x.found) stands_all) begins
+
+pub clean_tasks_have_settings : CleanTasksHaveSettings
+clean_tasks_have_settings config app events t wf osek clean before further behind first last is rests =
+    let begins = subst (Inv config app (facts config app wf) t clean 0 0) (links config app events t wf osek clean before (first ∷ further) behind last is).1 begins_at in
+    let le = counted_part config app events t wf osek clean before (first ∷ further) behind last is 0 0 begins in
+    omega (arith, le)
+  where
     not_due : (is_ready (task first.found t).state ≡ false) × (is_active (task first.found t).state ≡ false)
     not_due = or_parts (is_ready (task first.found t).state) (is_active (task first.found t).state) rests
 
-    begins_at : Inv config app w t clean 0 0 first.found
+    begins_at : Inv config app (facts config app wf) t clean 0 0 first.found
     begins_at = record {
       few = omega arith;
       fresh = λ ready _. absurd (true≢false (sym (ap is_ready ready) ∙ not_due.0));
@@ -684,5 +691,9 @@ clean_tasks_have_settings config app events t wf osek clean before further behin
       active = λ active. absurd (true≢false (sym (ap is_active active) ∙ not_due.1));
     }
 
-    begins : Inv config app w t clean 0 0 (last_state (opening config app) before)
-    begins = subst (Inv config app w t clean 0 0) links.1 begins_at
+-- wherever the part of the run begins, at most one event is set in front of it
+pub settings_but_one : CleanTasksHaveSettingsButOne
+settings_but_one config app events t wf osek clean before xs behind last is =
+    let le = counted_part config app events t wf osek clean before xs behind last is 0 1
+    (record { few = omega arith; fresh = λ _ _. inl (omega arith); again = λ _ _. omega arith; active = λ _. inl (omega arith) }) in
+    omega (arith, le)

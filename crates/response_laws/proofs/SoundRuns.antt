@@ -29,18 +29,19 @@ use Rattle.response_laws.proofs.Spanned.{IsSpannedWithin, run_spanned, entry_spa
 use Rattle.run_counts.specs.Rounds.{goes_on_waiting, opens_round, WeighsEndings}
 use Rattle.response_laws.specs.Turns.{at_entry, at_tick, begins_first, begins_next, if_entry, activated}
 use Rattle.response_laws.specs.Demand.{Costs}
-use Rattle.response_laws.specs.Bounded.{EachFirst, EachNext, BoundsRounds}
+use Rattle.response_laws.specs.Bounded.{EachFirst, EachNext, BoundsRounds, BoundsJoined}
 use Rattle.response_laws.specs.Makers.{activation_weights}
 use Rattle.response_laws.specs.Once.{StaysOut}
 use Rattle.response_laws.proofs.Once.{rounds_make_once}
 use Rattle.response_laws.specs.Arrivals.{AreCharged}
-use Rattle.response_laws.specs.SoundRuns.{NoStretchIsAbove, KeepsWork, FitsRounds}
+use Rattle.response_laws.specs.SoundRuns.{NoStretchIsAbove, KeepsWork, FitsRounds, FitsJoined}
 use Rattle.response_laws.specs.Walked.{FirstRoundsSum, LaterRoundsSum}
 use Rattle.response_laws.specs.Never.{OthersSleep}
 use Rattle.response_laws.proofs.Awake.{opener_comes}
 use Rattle.response_laws.proofs.Linked.{Known, each_append, each_so}
 use Rattle.response_laws.proofs.RoundEnds.{rounds_make_within}
-use Rattle.response_laws.proofs.Settings.{clean_tasks_have_settings}
+use Rattle.response_laws.proofs.RoundSums.{first_opens, next_opens}
+use Rattle.response_laws.proofs.Settings.{clean_tasks_have_settings, settings_but_one}
 
 -- ---- what an event may take
 
@@ -97,17 +98,6 @@ module _ (config : Config) (app : App) (size : ItemSizes) (longest n : ℕ) (wei
       opener_comes comes opens.found (there (λ x. OthersSleep comes x.found) sleeps before behind opens is) t config app (cuts t) opens.stamped.event opens.next
       (there (Known config app) known before behind opens is).step begins
 
-  -- a round that begins in either way opens one
-  first_opens : (t : ℕ) (x : Stage) → begins_first t x ≡ true → opens_round (cuts t) t x.stamped.event ≡ true
-  first_opens t x is = ap (λ b. b || (cuts t && goes_on_waiting t x.stamped.event)) (and_parts (at_entry t x) (not (has_frames (task x.found t).frames)) is).0
-
-  next_opens : (t : ℕ) (x : Stage) → begins_next (cuts t) t x ≡ true → opens_round (cuts t) t x.stamped.event ≡ true
-  next_opens t x is = by (at_entry t x) (has_frames (task x.found t).frames) (cuts t && goes_on_waiting t x.stamped.event) is
-    where
-      by : (a b c : Bool) → ((a && b) || c) ≡ true → (a || c) ≡ true
-      by true b c is = refl
-      by false b c is = is
-
   entry_few : (t : ℕ) (resumed : Bool) (before behind : List Stage) (opens : Stage) → run ≡ before ++ opens ∷ behind
       → (at_entry t opens ≡ true → has_frames (task opens.found t).frames ≡ resumed)
       → if_entry t spanned opens ≤ enter_counts config app resumed t
@@ -119,20 +109,32 @@ module _ (config : Config) (app : App) (size : ItemSizes) (longest n : ℕ) (wei
           subst (λ b. spanned opens ≤ enter_counts config app b t) (so entry) (entry_spanned config app t opens within entry)
       by false other = omega arith
 
+  -- what the code says of a task that joins
+  pub bounds_joined : (b : ℕ) → FitsJoined config app comes h cuts costs b → BoundsJoined config h cuts costs run b
+  bounds_joined b joined = record {
+    first_sets = λ k level before behind opens is begun.
+        (rounds_make_within config app events k b (cuts k) (costs.first_sets k b) wf osek).first_sets
+        (joined.first_sets k level (opener k before behind opens is (first_opens (cuts k) k opens begun))) before behind opens is begun;
+    next_sets = λ k level before behind opens is begun.
+        (rounds_make_within config app events k b (cuts k) (costs.next_sets k b) wf osek).next_sets
+        (joined.next_sets k level (opener k before behind opens is (next_opens (cuts k) k opens begun))) before behind opens is begun;
+    settings = settings_but_one config app events b wf osek joined.clean;
+  }
+
   pub bounds_rounds : BoundsRounds config h cuts costs run
   bounds_rounds = record {
     firsts = λ t lt over before behind opens is begun.
         let round = own_first config app size longest n weights load arrivals events cuts wf osek timed weighs ends works t lt (spends t lt) before behind opens is (fits.first_round t)
-        (fits.firsts t lt over (opener t before behind opens is (first_opens t opens begun))) begun (first_opens t opens begun) in
+        (fits.firsts t lt over (opener t before behind opens is (first_opens (cuts t) t opens begun))) begun (first_opens (cuts t) t opens begun) in
         let front = entry_few t false before behind opens is
         (λ entry. not-true (has_frames (task opens.found t).frames) (and_parts (at_entry t opens) (not (has_frames (task opens.found t).frames)) begun).1) in
-        let whole = fits.first t (opener t before behind opens is (first_opens t opens begun)) in
+        let whole = fits.first t (opener t before behind opens is (first_opens (cuts t) t opens begun)) in
         omega (arith, round, front, whole);
     nexts = λ t lt over before behind opens is begun.
         let round = own_next config app size longest n weights load arrivals events cuts wf osek timed weighs ends works t lt (spends t lt) before behind opens is (fits.next_round t)
-        (fits.nexts t lt over (opener t before behind opens is (next_opens t opens begun))) begun (next_opens t opens begun) in
+        (fits.nexts t lt over (opener t before behind opens is (next_opens (cuts t) t opens begun))) begun (next_opens (cuts t) t opens begun) in
         let front = entry_few t true before behind opens is (λ entry. again t opens begun entry) in
-        let whole = fits.next t (opener t before behind opens is (next_opens t opens begun)) in
+        let whole = fits.next t (opener t before behind opens is (next_opens (cuts t) t opens begun)) in
         omega (arith, round, front, whole);
     ticks = λ c.
         each_so (IsSpannedWithin config app) (λ x. at_tick c x ≡ true → spanned x ≤ costs.tick c)
@@ -141,15 +143,15 @@ module _ (config : Config) (app : App) (size : ItemSizes) (longest n : ℕ) (wei
         let whole = fits.tick c in
         omega (arith, le, whole)) run each_spanned;
     first_acts = λ k j over made before behind opens is begun.
-        first_makes k j over.0 (fits.first_acts k j over made (opener k before behind opens is (first_opens k opens begun))) before behind opens is begun;
+        first_makes k j over.0 (fits.first_acts k j over made (opener k before behind opens is (first_opens (cuts k) k opens begun))) before behind opens is begun;
     next_acts = λ k j over made before behind opens is begun.
-        next_makes k j over.0 (fits.next_acts k j over made (opener k before behind opens is (next_opens k opens begun))) before behind opens is begun;
+        next_makes k j over.0 (fits.next_acts k j over made (opener k before behind opens is (next_opens (cuts k) k opens begun))) before behind opens is begun;
     first_sets = λ k j over made before behind opens is begun.
         (rounds_make_within config app events k j (cuts k) (costs.first_sets k j) wf osek).first_sets
-        (fits.first_sets k j over made (opener k before behind opens is (first_opens k opens begun))) before behind opens is begun;
+        (fits.first_sets k j over made (opener k before behind opens is (first_opens (cuts k) k opens begun))) before behind opens is begun;
     next_sets = λ k j over made before behind opens is begun.
         (rounds_make_within config app events k j (cuts k) (costs.next_sets k j) wf osek).next_sets
-        (fits.next_sets k j over made (opener k before behind opens is (next_opens k opens begun))) before behind opens is begun;
+        (fits.next_sets k j over made (opener k before behind opens is (next_opens (cuts k) k opens begun))) before behind opens is begun;
     settings = λ t lt over is. clean_tasks_have_settings config app events t wf osek (fits.clean t lt over is);
   }
     where

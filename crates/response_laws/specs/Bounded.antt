@@ -1,5 +1,5 @@
 -- What costs and starts say of a run.
-use Rattle.std.specs.Prelude.{ℕ, ◌+◌, ◌<◌, ◌≤◌, ◌≡◌, List, [], ◌∷◌, ◌++◌, Bool, true, false, length, cond}
+use Rattle.std.specs.Prelude.{ℕ, ◌+◌, ◌<◌, ◌≤◌, ◌≡◌, List, [], ◌∷◌, ◌++◌, Bool, true, false, length, cond, Some}
 use Rattle.std.specs.List.{AllByRecursion}
 use Rattle.sloth_base.specs.declared.config.Config.{Config}
 use Rattle.sloth_base.specs.Owners.{counter_line}
@@ -35,6 +35,11 @@ HasSettings run t =
     (before further behind : List Stage) (first last : Stage) → run ≡ before ++ ((first ∷ (further ++ last ∷ [])) ++ behind) → is_due first.found t ≡ false
     → count (begins_next true t) (first ∷ (further ++ last ∷ [])) ≤ total (was_set t) (first ∷ further)
 
+-- In any part of the run it has one in front, but for one: its event may have been set before.
+abbrev pub HasSettingsButOne : List Stage → (t : ℕ) → Type 0
+HasSettingsButOne run t =
+    (before xs behind : List Stage) (last : Stage) → run ≡ before ++ ((xs ++ last ∷ []) ++ behind) → count (begins_next true t) (xs ++ last ∷ []) ≤ total (was_set t) xs + 1
+
 -- a task of the configuration, of at least the static priority of h
 abbrev pub IsOfLevel : Config → (h t : ℕ) → Type 0
 IsOfLevel config h t = (t < length config.tasks) × (is_over config h t ≡ true)
@@ -50,6 +55,16 @@ pub record BoundsRounds (config : Config) (h : ℕ) (cuts : ℕ → Bool) (costs
   pub first_sets : (k j : ℕ) → IsOfLevel config h k → IsOfLevel config h j → EachFirst run (cuts k) k (was_set j) (costs.first_sets k j)
   pub next_sets : (k j : ℕ) → IsOfLevel config h k → IsOfLevel config h j → EachNext run (cuts k) k (was_set j) (costs.next_sets k j)
   pub settings : (t : ℕ) → t < length config.tasks → is_over config h t ≡ true → cuts t ≡ true → HasSettings run t
+
+-- The costs bound how often rounds of tasks of at least the static priority of h set events of the lower task b, and its own rounds have settings.
+pub record BoundsJoined (config : Config) (h : ℕ) (cuts : ℕ → Bool) (costs : Costs) (run : List Stage) (b : ℕ) : Type 0 where
+  pub first_sets : (k : ℕ) → IsOfLevel config h k → EachFirst run (cuts k) k (was_set b) (costs.first_sets k b)
+  pub next_sets : (k : ℕ) → IsOfLevel config h k → EachNext run (cuts k) k (was_set b) (costs.next_sets k b)
+  pub settings : HasSettingsButOne run b
+
+-- so of the task that joins
+abbrev pub BoundsJoining : Config → (h : ℕ) → (cuts : ℕ → Bool) → Costs → List Stage → Start → Type 0
+BoundsJoining config h cuts costs run s = (b : ℕ) → s.joins ≡ Some b → BoundsJoined config h cuts costs run b
 
 -- ---- busy periods
 
@@ -77,10 +92,21 @@ pub record IsWithinInflow (config : Config) (h : ℕ) (once : Bool) (inflow : In
   pub acts : (j : ℕ) → is_over config h j ≡ true → total_where (is_other config h) (activated j) (first ∷ period) + left_over once h (activated j) (first ∷ period) ≤ inflow.acts j
   pub sets : (j : ℕ) → is_over config h j ≡ true → total_where (is_other config h) (was_set j) (first ∷ period) + left_over once h (was_set j) (first ∷ period) ≤ inflow.sets j
 
--- The busy period starts in this way: so much comes into each beginning of it, as long as that lasts no longer than the start says.
+-- Task b has, behind WaitEvents, no more rounds in these stages than its events are set: by others as often as the start says, by what is left over, by itself; and once in front
+-- of them.
+abbrev pub HasRoundsSet : Config → (h : ℕ) → Start → (left b : ℕ) → List Stage → Type 0
+HasRoundsSet config h s left b xs = count (begins_next true b) xs ≤ s.settings + left + total_where (is_other config h) (was_set b) xs + 1
+
+-- so has the task that joins
+abbrev pub JoinsWithin : Config → (h : ℕ) → (once : Bool) → Start → List Stage → Type 0
+JoinsWithin config h once s xs = (b : ℕ) → s.joins ≡ Some b → HasRoundsSet config h s (left_over once h (was_set b) xs) b xs
+
+-- The busy period starts in this way: so much comes into each beginning of it, as long as that lasts no longer than the start says, and the task that joins has no more rounds than
+-- settings.
 abbrev pub StartsSo : Config → (h : ℕ) → (once : Bool) → Start → (first : Stage) → (period : List Stage) → Type 0
 StartsSo config h once s first period =
-    (front rest : List Stage) → period ≡ front ++ rest → AllByRecursion (BeginsWithin s.counts first) front → IsWithinInflow config h once s.inflow first front
+    (front rest : List Stage) → period ≡ front ++ rest → AllByRecursion (BeginsWithin s.counts first) front → JoinsWithin config h once s (first ∷ front)
+    → IsWithinInflow config h once s.inflow first front
 
 -- from each moment at which one of these stages makes task h Ready, or a counter due, the first stage of the period ends within so many counts
 abbrev pub EndsSoon : (h lead : ℕ) → (first : Stage) → List Stage → Type 0

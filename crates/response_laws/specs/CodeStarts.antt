@@ -1,5 +1,5 @@
 -- Starts that hold what lower tasks bring in, said of the task code.
-use Rattle.std.specs.Prelude.{ℕ, ◌+◌, ◌<◌, ◌≤◌, ◌≡◌, ◌⊎◌, List, Bool, true, false, cond, length}
+use Rattle.std.specs.Prelude.{ℕ, ◌+◌, ◌*◌, ◌<◌, ◌≤◌, ◌≡◌, ◌⊎◌, List, Bool, true, false, cond, length, Some}
 use Rattle.std.specs.List.{AllByRecursion}
 use Rattle.sloth_base.specs.declared.config.Config.{Config}
 use Rattle.sloth_base.specs.declared.app.App.{App}
@@ -27,7 +27,7 @@ use Rattle.run_counts.specs.Spending.{WeighsItems}
 use Rattle.run_counts.specs.Rounds.{WeighsEndings}
 use Rattle.response_laws.specs.Sums.{is_over}
 use Rattle.response_laws.specs.Demand.{Start}
-use Rattle.response_laws.specs.Walked.{SectionsSum}
+use Rattle.response_laws.specs.Walked.{FirstRoundsSum, LaterRoundsSum, SectionsSum}
 use Rattle.response_laws.specs.Once.{IsShutOut}
 use Rattle.response_laws.specs.Never.{OthersSleep}
 use Rattle.response_laws.specs.Works.{KeepsWork, WorksWithin, WaitsNowhere}
@@ -68,18 +68,46 @@ abbrev pub SectionsTake : Config → App → (weights : List BodyWeights) → (l
 SectionsTake config app weights load cuts h b most =
     SectionsSum config app h b weights most ⊎ (WorksWithin load b most × WaitsNowhere config app h b (cuts b))
 
--- A start has the sections of the lower task b, an item that it or another one has begun behind them, and the GetResource that raises it, if it is preemptable and not raised yet. One that is not is
+-- Rounds come to no more: one of either kind that is under way, a first one or one behind a WaitEvent, and so many behind WaitEvents.
+pub record RoundsTake (First Later : ℕ → Type 0) (laters most : ℕ) : Type 0 where
+  pub under_way : ℕ
+  pub later : ℕ
+  pub firsts : First under_way
+  pub laters_fit : Later later
+  pub longer : later ≤ under_way
+  pub all : under_way + laters * later ≤ most
+
+-- by walks
+abbrev pub RoundsSum : App → (b : ℕ) → (weights : List BodyWeights) → (laters most : ℕ) → Type 0
+RoundsSum app b weights laters most = RoundsTake (FirstRoundsSum app true b weights) (LaterRoundsSum app true b weights) laters most
+
+-- Task b joins: WaitEvents cut its turns into rounds, and behind WaitEvents the start has enough of them for its settings, by others and by itself, and for one in front of the period.
+pub record Joins (app : App) (cuts : ℕ → Bool) (b : ℕ) (s : Start) : Type 0 where
+  pub joins : s.joins ≡ Some b
+  pub cut : cuts b ≡ true
+  pub own_sets : ℕ
+  pub sets : RoundsSum app b (setting_weights app b) (s.nexts b) own_sets
+  pub number : s.settings + own_sets + 1 ≤ s.nexts b
+
+-- the counts of its rounds, by what the load says of the task, or by walks of its code
+abbrev pub RoundsCount : App → (weights : List BodyWeights) → (load : List Entry) → (b laters most : ℕ) → Type 0
+RoundsCount app weights load b laters most =
+    RoundsTake (λ n. WorksWithin load b n ⊎ FirstRoundsSum app true b weights n) (λ n. WorksWithin load b n ⊎ LaterRoundsSum app true b weights n) laters most
+
+-- A start has the sections of the lower task b, or its rounds where it joins, an item that it or another one has begun behind them, and the GetResource that raises it, if it is preemptable and not raised yet. One that is not is
 -- raised in front of the period, or with its first event.
 pub record HasSections (config : Config) (app : App) (longest : ℕ) (weights : List BodyWeights) (load : List Entry) (cuts : ℕ → Bool) (h b : ℕ) (raised : Bool) (s : Start) : Type 0 where
   pub counts : ℕ
   pub raising : ℕ
-  pub sum : SectionsTake config app weights load cuts h b counts
+  pub sum : SectionsTake config app weights load cuts h b counts ⊎ (Joins app cuts b s × RoundsCount app weights load b (s.nexts b) counts)
   pub takes : raised ≡ false → (declaration config b).non ≡ false → (at : Position) → Reaches app b at → calls service.GetResource (operation_at app at) ≡ true → going_at weights at ≤ raising
   pub front : raising + counts + longest ≤ s.inflow.front
   -- what they make, by walks; or once, where the task cannot be entered meanwhile
   pub acts : (j : ℕ) → is_over config h j ≡ true
-      → SectionsSum config app h b (activation_weights app b j) (s.inflow.acts j) ⊎ (IsShutOut config h b j × (1 ≤ s.inflow.acts j))
-  pub sets : (j : ℕ) → is_over config h j ≡ true → SectionsSum config app h b (setting_weights app j) (s.inflow.sets j)
+      → (SectionsSum config app h b (activation_weights app b j) (s.inflow.acts j) ⊎ (IsShutOut config h b j × (1 ≤ s.inflow.acts j)))
+      ⊎ (Joins app cuts b s × RoundsSum app b (activation_weights app b j) (s.nexts b) (s.inflow.acts j))
+  pub sets : (j : ℕ) → is_over config h j ≡ true
+      → SectionsSum config app h b (setting_weights app j) (s.inflow.sets j) ⊎ (Joins app cuts b s × RoundsSum app b (setting_weights app j) (s.nexts b) (s.inflow.sets j))
 
 -- ---- all of them
 

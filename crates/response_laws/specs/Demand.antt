@@ -1,5 +1,5 @@
 -- What a busy period demands of the processor at most.
-use Rattle.std.specs.Prelude.{ℕ, ◌+◌, ◌*◌, ◌<◌, ◌≤◌, ◌≡◌, ◌==◌, ◌&&◌, min, Bool, true, false, length}
+use Rattle.std.specs.Prelude.{ℕ, ◌+◌, ◌*◌, ◌<◌, ◌≤◌, ◌≡◌, ◌==◌, ◌&&◌, min, Bool, true, false, length, Option, Some}
 use Rattle.sloth_base.specs.declared.config.Config.{Config}
 use Rattle.sloth_base.specs.Owners.{counter_line}
 use Rattle.response_laws.specs.Sums.{is_over, sum_over, sum_counters}
@@ -38,6 +38,9 @@ pub record Start : Type 0 where
   -- so many counts at most stand between the moment at which task h is made Ready and the end of the period's first event
   pub lead : ℕ
   pub inflow : Inflow
+  -- a lower task that joins the period, if one does: it has rounds in it; and how often its events are set at most, but by itself
+  pub joins : Option ℕ
+  pub settings : ℕ
   pub counts : ℕ
   pub firsts : (j : ℕ) → ℕ
   pub nexts : (j : ℕ) → ℕ
@@ -52,6 +55,12 @@ acts_due config h costs s j =
 abbrev pub sets_due : Config → (h : ℕ) → Costs → Start → (j : ℕ) → ℕ
 sets_due config h costs s j =
     s.inflow.sets j + sum_counters config (λ c. s.inflow.alarm_sets c j)
+    + sum_over config h (λ k. s.firsts k * costs.first_sets k j + s.nexts k * costs.next_sets k j)
+
+-- how often they are set at most by alarms and by the tasks of at least the static priority of h
+abbrev pub outer_sets : Config → (h : ℕ) → Costs → Start → (j : ℕ) → ℕ
+outer_sets config h costs s j =
+    sum_counters config (λ c. s.inflow.alarm_sets c j)
     + sum_over config h (λ k. s.firsts k * costs.first_sets k j + s.nexts k * costs.next_sets k j)
 
 -- the counts of all events behind the first
@@ -72,4 +81,5 @@ pub record IsEnough (config : Config) (h : ℕ) (once : Bool) (costs : Costs) (s
   pub firsts : (j : ℕ) → j < length config.tasks → is_over config h j ≡ true → (once && (j == h)) ≡ false → acts_due config h costs s j ≤ s.firsts j
   pub nexts : (j : ℕ) → j < length config.tasks → is_over config h j ≡ true → (once && (j == h)) ≡ false → sets_due config h costs s j ≤ s.nexts j
   pub entered : once ≡ true → IsEnteredOnce config h costs s
+  pub joined : (b : ℕ) → s.joins ≡ Some b → outer_sets config h costs s b ≤ s.settings
   pub enough : counts_due config h costs s ≤ s.counts

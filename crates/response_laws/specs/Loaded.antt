@@ -17,7 +17,7 @@ use Rattle.response_laws.specs.Shares.{LowerSpendWithin}
 use Rattle.response_laws.specs.Sums.{total_where, count}
 use Rattle.response_laws.specs.Turns.{at_tick, activated, was_set}
 use Rattle.response_laws.specs.Demand.{Costs, Start, IsEnough}
-use Rattle.response_laws.specs.Bounded.{BoundsRounds}
+use Rattle.response_laws.specs.Bounded.{BoundsRounds, BoundsJoining}
 use Rattle.response_laws.specs.Arrivals.{HasDistances, AreCharged, admission_window}
 use Rattle.response_laws.specs.Starts.{HaveStarts}
 use Rattle.response_laws.specs.Response.{HasPace, EntersOnce, IsCounted, LastsWithin, RespondsWithin}
@@ -34,11 +34,12 @@ pub record HasAlarms (run : List Stage) (s : Start) : Type 0 where
   pub sets : (c j : ℕ) (before xs behind : List Stage) → run ≡ before ++ (xs ++ behind) → (s.is_boot ≡ true → before ≡ []) → count (at_tick c) xs ≤ s.inflow.arrivals (counter_line c)
       → total_where (at_tick c) (was_set j) xs ≤ s.inflow.alarm_sets c j
 
--- A start with the arrivals and alarms that fit into it; and with enough, and no longer than r with what stands in front where task h has a round in it, if
--- it counts.
-pub record IsStartFor (config : Config) (load : List Entry) (late heaviest h r : ℕ) (once boot : Bool) (costs : Costs) (run : List Stage) (s : Start) : Type 0 where
+-- A start with the arrivals and alarms that fit into it, and with what the costs say of a task that joins; and with enough, and no longer than r with what stands in front where task h has a
+-- round in it, if it counts.
+pub record IsStartFor (config : Config) (load : List Entry) (late heaviest h r : ℕ) (cuts : ℕ → Bool) (once boot : Bool) (costs : Costs) (run : List Stage) (s : Start) : Type 0 where
   pub arrivals : HasArrivals load late heaviest s
   pub alarms : HasAlarms run s
+  pub joining : BoundsJoining config h cuts costs run s
   pub enough : IsCounted boot s → IsEnough config h once costs s
   pub lasts : IsCounted boot s → LastsWithin h r s
 
@@ -51,5 +52,5 @@ RespondsUnderLoad = (config : Config) (app : App) (load : List Entry) (n late mo
     → AreCharged heaviest (run_stages config app events) → HasDistances load → KeepDistances load arrivals
     → AllByRecursion (IsShared config) (run_stages config app events) → LowerSpendWithin config h longest (run_stages config app events)
     → BoundsRounds config h cuts costs (run_stages config app events) → HaveStarts config h longest late once starts start (run_stages config app events)
-    → ((i : ℕ) → i < starts → IsStartFor config load late heaviest h r once boot costs (run_stages config app events) (start i))
+    → ((i : ℕ) → i < starts → IsStartFor config load late heaviest h r cuts once boot costs (run_stages config app events) (start i))
     → RespondsWithin config app n more h r boot events

@@ -21,7 +21,7 @@ use Rattle.run_counts.specs.OwnCounts.{IsShared}
 use Rattle.response_laws.specs.Busy.{is_quiet}
 use Rattle.response_laws.specs.Turns.{ticking_counter}
 use Rattle.response_laws.specs.Demand.{Costs, Start, IsEnough}
-use Rattle.response_laws.specs.Bounded.{BoundsRounds, StartsInOne}
+use Rattle.response_laws.specs.Bounded.{BoundsRounds, BoundsJoining, StartsInOne}
 
 -- task h leaves among these events, for the first time, and before this count
 pub record LeavesBefore (h limit : ℕ) (events : List Stamped) : Type 0 where
@@ -125,5 +125,6 @@ RespondsInTime = (config : Config) (app : App) (n late more : ℕ) (arrivals : L
     (once boot : Bool) (starts : ℕ) (start : ℕ → Start)
     → (once ≡ true → EntersOnce config h cuts) → WellFormed config app → OsekRun config app events → InTime config n arrivals events → HasPace n late more events
     → AllByRecursion (IsShared config) (run_stages config app events) → BoundsRounds config h cuts costs (run_stages config app events) → StartsInOne config h once starts start (run_stages config app events)
+    → ((i : ℕ) → i < starts → BoundsJoining config h cuts costs (run_stages config app events) (start i))
     → ((i : ℕ) → i < starts → IsCounted boot (start i) → IsEnough config h once costs (start i)) → ((i : ℕ) → i < starts → IsCounted boot (start i) → LastsWithin h r (start i))
     → RespondsWithin config app n more h r boot events

@@ -1,5 +1,5 @@
 -- Response times of the runs of an image.
-use Rattle.std.specs.Prelude.{ℕ, ◌+◌, ◌<◌, ◌≤◌, ◌≡◌, ◌⊎◌, List, Bool, true, false, length}
+use Rattle.std.specs.Prelude.{ℕ, ◌+◌, ◌<◌, ◌≤◌, ◌≡◌, ◌⊎◌, List, Bool, true, false, length, Some}
 use Rattle.sloth_base.specs.declared.config.Config.{Config}
 use Rattle.sloth_base.specs.declared.app.App.{App}
 use Rattle.sloth_base.specs.declared.event.Arrival.{Arrival}
@@ -86,16 +86,24 @@ ImagesRespond = (config : Config) (app : App) (image : Image) (weights : List Bo
     → HasDistances load → KeepDistances load arrivals → AreClosed config app load comes → KeepsWork config load cuts (run_stages config app (events_of image arrivals n))
     → FitsRounds config app weights load comes h cuts costs
     → HaveStarts config h item_instructions late once starts start (run_stages config app (events_of image arrivals n))
-    → ((i : ℕ) → i < starts → IsStartFor config load late (item_instructions + late) h r once boot costs (run_stages config app (events_of image arrivals n)) (start i))
+    → ((i : ℕ) → i < starts → IsStartFor config load late (item_instructions + late) h r cuts once boot costs (run_stages config app (events_of image arrivals n)) (start i))
     → RespondsWithin config app n (item_instructions + late) h r boot (events_of image arrivals n)
 
 -- ---- by the task code alone
 
--- A start with the arrivals that fit into it, and the expiries of alarms that fit into its ticks; and with enough, and no longer than r with what stands in
+-- The costs are those of the settings of the lower task b by the code of tasks that come, and b clears what it waits for.
+pub record FitsJoined (config : Config) (app : App) (comes : ℕ → Bool) (h : ℕ) (cuts : ℕ → Bool) (costs : Costs) (b : ℕ) : Type 0 where
+  pub first_sets : (k : ℕ) → IsOfLevel config h k → comes k ≡ true → FirstRoundsSum app (cuts k) k (setting_weights app b) (costs.first_sets k b)
+  pub next_sets : (k : ℕ) → IsOfLevel config h k → comes k ≡ true → LaterRoundsSum app (cuts k) k (setting_weights app b) (costs.next_sets k b)
+  pub clean : IsClean app b
+
+-- A start with the arrivals that fit into it, the expiries of alarms that fit into its ticks, and the settings of a task that joins; and with enough, and no longer than r with what stands in
 -- front where task h has a round in it, if it counts.
-pub record IsCodeStart (config : Config) (is_set : ℕ → Bool) (load : List Entry) (late heaviest h r : ℕ) (once boot : Bool) (costs : Costs) (s : Start) : Type 0 where
+pub record IsCodeStart (config : Config) (app : App) (comes is_set : ℕ → Bool) (load : List Entry) (late heaviest h r : ℕ) (cuts : ℕ → Bool) (once boot : Bool) (costs : Costs) (s : Start)
+    : Type 0 where
   pub arrivals : HasArrivals load late heaviest s
   pub expiries : HasExpiries config is_set s
+  pub joining : (b : ℕ) → s.joins ≡ Some b → FitsJoined config app comes h cuts costs b
   pub enough : IsCounted boot s → IsEnough config h once costs s
   pub lasts : IsCounted boot s → LastsWithin h r s
 
@@ -112,7 +120,7 @@ ImagesRespondByCode = (config : Config) (app : App) (image : Image) (weights : L
     → MarksAlarms app is_set → IsLongestItem app longest → AreComing (owners_in config) arrivals → NoStretchIsAbove config app late
     → HasDistances load → KeepDistances load arrivals → AreClosed config app load comes → KeepsWork config load cuts (run_stages config app (events_of image arrivals n))
     → FitsRounds config app weights load comes h cuts costs → FitsStarts config app longest late weights load cuts comes h once starts start
-    → ((i : ℕ) → i < starts → IsCodeStart config is_set load late (longest + late) h r once boot costs (start i))
+    → ((i : ℕ) → i < starts → IsCodeStart config app comes is_set load late (longest + late) h r cuts once boot costs (start i))
     → RespondsWithin config app n (longest + late) h r boot (events_of image arrivals n)
 
 -- ---- ticks

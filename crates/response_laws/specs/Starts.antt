@@ -1,5 +1,5 @@
 -- In which ways a busy period starts: how lower tasks come into it.
-use Rattle.std.specs.Prelude.{ℕ, ◌+◌, ◌<◌, ◌≤◌, ◌≡◌, ◌⊎◌, ◌==◌, ◌&&◌, List, [], ◌∷◌, ◌++◌, Bool, true, false, cond, is_some}
+use Rattle.std.specs.Prelude.{ℕ, ◌+◌, ◌<◌, ◌≤◌, ◌≡◌, ◌⊎◌, ◌==◌, ◌&&◌, List, [], ◌∷◌, ◌++◌, Bool, true, false, cond, is_some, Some}
 use Rattle.std.specs.List.{AllByRecursion}
 use Rattle.sloth_base.specs.declared.config.Config.{Config}
 use Rattle.sloth_base.specs.declared.app.App.{App}
@@ -23,6 +23,7 @@ use Rattle.response_laws.specs.Turns.{in_turn, is_other, activated, was_set}
 use Rattle.response_laws.specs.Shares.{lower_counts}
 use Rattle.response_laws.specs.Busy.{is_quiet, IsBusyPeriod}
 use Rattle.response_laws.specs.Demand.{Start}
+use Rattle.response_laws.specs.Bounded.{HasRoundsSet}
 
 -- ---- ways
 
@@ -92,14 +93,19 @@ abbrev pub HasSectionBehind : Config → (h b : ℕ) → (raised : Bool) → (fi
 HasSectionBehind config h b true first xs = InSection config h b xs
 HasSectionBehind config h b false first xs = AreOfSection config h b (first ∷ xs)
 
+-- where it is task b that joins, it has no more rounds in these stages than settings
+abbrev pub JoinsSo : Config → (h : ℕ) → Start → (b : ℕ) → List Stage → Type 0
+JoinsSo config h s b xs = s.joins ≡ Some b → HasRoundsSet config h s 0 b xs
+
 -- What comes in with a section of task b is, in each part of the run that such a section is in: the counts of lower tasks, their items' pieces among them, behind the first event, where no state is quiet.
 pub record IsSectionWithin (config : Config) (h : ℕ) (run : List Stage) (b : ℕ) (raised : Bool) (s : Start) : Type 0 where
-  pub front : (before behind : List Stage) (first : Stage) (xs : List Stage) → run ≡ before ++ ((first ∷ xs) ++ behind) → HasSectionBehind config h b raised first xs
-      → AllByRecursion (λ x. is_quiet config h x.found ≡ false) xs → total (lower_counts config h) xs ≤ s.inflow.front
+  pub front : (before behind : List Stage) (first : Stage) (xs : List Stage) → run ≡ before ++ ((first ∷ xs) ++ behind)
+      → AreOfSection config h b (first ∷ xs) → HasSectionBehind config h b raised first xs
+      → AllByRecursion (λ x. is_quiet config h x.found ≡ false) xs → JoinsSo config h s b (first ∷ xs) → total (lower_counts config h) xs ≤ s.inflow.front
   pub acts : (before behind : List Stage) (j : ℕ) (xs : List Stage) → is_over config h j ≡ true → run ≡ before ++ (xs ++ behind) → AreOfSection config h b xs
-      → total_where (is_other config h) (activated j) xs ≤ s.inflow.acts j
+      → JoinsSo config h s b xs → total_where (is_other config h) (activated j) xs ≤ s.inflow.acts j
   pub sets : (before behind : List Stage) (j : ℕ) (xs : List Stage) → is_over config h j ≡ true → run ≡ before ++ (xs ++ behind) → AreOfSection config h b xs
-      → total_where (is_other config h) (was_set j) xs ≤ s.inflow.sets j
+      → JoinsSo config h s b xs → total_where (is_other config h) (was_set j) xs ≤ s.inflow.sets j
 
 -- one of the starts, which is not boot, has this of an event
 abbrev pub SomeIsWithin : Config → (h starts : ℕ) → (ℕ → Start) → (counts lead : ℕ) → Stage → Type 0

@@ -7,7 +7,7 @@ ghost use Rattle.response_laws.specs.Makers.{RoundsMakeWithin};
 ghost use Rattle.response_laws.specs.Once.{RoundsMakeOnce};
 ghost use Rattle.response_laws.specs.Ticks.{TicksMakeByAlarms};
 ghost use Rattle.response_laws.specs.Expiries.{TicksMakeAsAlarmsExpire};
-ghost use Rattle.response_laws.specs.Settings.{CleanTasksHaveSettings};
+ghost use Rattle.response_laws.specs.Settings.{CleanTasksHaveSettings, CleanTasksHaveSettingsButOne};
 ghost use Rattle.response_laws.specs.Response.{RespondsInTime};
 ghost use Rattle.response_laws.specs.Admissions.{AdmissionsFindSuspended};
 ghost use Rattle.response_laws.specs.Expected.{ExpectedExpiriesFindSuspended};
@@ -64,6 +64,11 @@ pub fn ticks_make_as_alarms_expire()
 /// In every run of well-formed task code a task that clears what it waits for has, for each round behind a WaitEvent, an event that is set in front of it.
 pub fn clean_tasks_have_settings()
     ensures { CleanTasksHaveSettings }
+{}
+
+/// In every run of well-formed task code such a task has one in any part of the run for each round behind a WaitEvent but one: the event of that may have been set before.
+pub fn clean_tasks_have_settings_but_one()
+    ensures { CleanTasksHaveSettingsButOne }
 {}
 
 /// In every run whose rounds are within their costs, and whose busy periods start in given ways, each with enough, a task leaves within the longest of

@@ -16,6 +16,8 @@
 //! - Alarms expire no more often than their cycles and the services on them let them (`ticks_make_as_alarms_expire`; `specs/Expiries`).
 //! - A task that clears what it waits for has a setting of its own for each round behind a WaitEvent (`clean_tasks_have_settings`; `specs/Settings`), so such
 //!   rounds may be cut where it goes on.
+//! - In any part of a run it has one in front of each but one (`clean_tasks_have_settings_but_one`). So a lower task that goes on behind WaitEvents while it is raised may join a
+//!   period: with the round that is under way, one for each setting of its events, and one more (`Joins` of `specs/CodeStarts`).
 //! - A period's first event may have a stretch in front of its end. Where it is an admission in front of a service, it has none: of those that made a task
 //!   above its caller Ready, a service passes over what came while it was running alone (`proofs/Passing`).
 //! - With costs of rounds and starts (`specs/Demand`, `specs/Bounded`) that are enough, a task responds within the longest start in which it has a round, and

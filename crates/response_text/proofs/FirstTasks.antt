@@ -7,16 +7,18 @@ use Rattle.sloth_base.specs.declared.app.App.{App}
 use Rattle.load_text.specs.declared.entry.Entry.{Entry}
 use Rattle.load_text.specs.Loads.{deadline}
 use Rattle.response_text.specs.declared.told.Response.{Response}
-use Rattle.response_text.specs.Lines.{is_open, response_at, response_line, response_lines, counter_row, counter_rows, has_open}
+use Rattle.response_reasons.specs.declared.reasons.Reason.{Reason}
+use Rattle.response_text.specs.Lines.{is_open, response_at, reason_at, response_line, response_lines, counter_row, counter_rows, has_open}
 
-pub no_lines : (config : Config) (app : App) (load : List Entry) (responses : List Response) → response_lines config app load responses 0 ≡ []
+pub no_lines : (config : Config) (app : App) (load : List Entry) (responses : List Response) (reasons : List (Option Reason)) → response_lines config app load responses reasons 0 ≡ []
 unfolding response_lines
-no_lines config app load responses = refl
+no_lines config app load responses reasons = refl
 
-pub one_line_more : (config : Config) (app : App) (load : List Entry) (responses : List Response) (t : ℕ)
-    → response_lines config app load responses (t + 1) ≡ response_lines config app load responses t ++ response_line config app load t (response_at responses t)
+pub one_line_more : (config : Config) (app : App) (load : List Entry) (responses : List Response) (reasons : List (Option Reason)) (t : ℕ)
+    → response_lines config app load responses reasons (t + 1)
+    ≡ response_lines config app load responses reasons t ++ response_line config app load t (response_at responses t) (reason_at reasons t)
 unfolding response_lines
-one_line_more config app load responses t = ap (response_lines config app load responses) (add-one t)
+one_line_more config app load responses reasons t = ap (response_lines config app load responses reasons) (add-one t)
 
 no_counter_rows : (config : Config) (load : List Entry) (n : Option ℕ) → counter_rows config load n 0 ≡ []
 unfolding counter_rows
@@ -41,13 +43,16 @@ one_more_open load responses t = ap (has_open load responses) (add-one t)
 
 -- ---- lines of the same responses
 
-pub same_lines : (config : Config) (app : App) (load : List Entry) (one other : List Response) (n : ℕ)
-    → ((t : ℕ) → t < n → response_at one t ≡ response_at other t) → response_lines config app load one n ≡ response_lines config app load other n
+pub same_lines : (config : Config) (app : App) (load : List Entry) (one other : List Response) (why because : List (Option Reason)) (n : ℕ)
+    → ((t : ℕ) → t < n → response_at one t ≡ response_at other t) → ((t : ℕ) → t < n → reason_at why t ≡ reason_at because t)
+    → response_lines config app load one why n ≡ response_lines config app load other because n
 unfolding response_lines
-same_lines config app load one other zero e = refl
-same_lines config app load one other (suc n) e =
-    ap (λ l. l ++ response_line config app load n (response_at one n)) (same_lines config app load one other n (λ t lt. e t (omega (arith, lt))))
-    ∙ ap (λ l. response_lines config app load other n ++ l) (ap (response_line config app load n) (e n (omega arith)))
+same_lines config app load one other why because zero e r = refl
+same_lines config app load one other why because (suc n) e r =
+    ap (λ l. l ++ response_line config app load n (response_at one n) (reason_at why n))
+    (same_lines config app load one other why because n (λ t lt. e t (omega (arith, lt))) (λ t lt. r t (omega (arith, lt))))
+    ∙ ap (λ l. response_lines config app load other because n ++ l)
+    (ap (λ x. response_line config app load n x (reason_at why n)) (e n (omega arith)) ∙ ap (response_line config app load n (response_at other n)) (r n (omega arith)))
 
 pub same_open : (load : List Entry) (one other : List Response) (n : ℕ) → ((t : ℕ) → t < n → response_at one t ≡ response_at other t)
     → has_open load one n ≡ has_open load other n

@@ -10,6 +10,8 @@ use Rattle.load_text.specs.declared.entry.Entry.{Entry}
 use Rattle.load_text.specs.Loads.{distance, deadline}
 use Rattle.response_laws.specs.Made.{are_called, is_activating, is_made_by_arrivals, is_made_by_one_alarm}
 use Rattle.response_text.specs.declared.told.Response.{Response}
+use Rattle.response_reasons.specs.declared.reasons.Reason.{Reason}
+use Rattle.response_reasons.specs.declared.reasons.Reason.TheVariants as reason
 
 -- ---- a response
 
@@ -92,15 +94,32 @@ keeps_expiries config app load t n =
 abbrev pub is_lossless : Config → App → List Entry → (t : ℕ) → (number : Option ℕ) → Bool
 is_lossless config app load t n = keeps_arrivals config app load t n || keeps_expiries config app load t n
 
+-- ---- reasons
+
+-- a word, the name of a task, and a source line
+abbrev pub loop_words : Config → (word : List ℕ) → (k line : ℕ) → List ℕ
+loop_words config word k line = word ++ ((declaration config k).name ++ number_words (Some line))
+
+-- why there is no number
+abbrev pub reason_words : Config → Option Reason → List ℕ
+reason_words config None = []
+reason_words config (Some (reason.Loop k line)) = loop_words config (codes " loop ") k line
+reason_words config (Some (reason.Makes k line)) = loop_words config (codes " makes ") k line
+reason_words config (Some reason.Load) = codes " load"
+
+-- the reason of a task among those of all
+abbrev pub reason_at : List (Option Reason) → (t : ℕ) → Option Reason
+reason_at reasons t = get_or reasons t None
+
 -- ---- a line
 
 abbrev pub lossless_words : (kept : Bool) → List ℕ
 lossless_words kept = cond kept (codes " lossless") []
 
--- what stands behind the name of a task: its response, whether that is within its deadline, and whether no activation of it is lost
-abbrev pub task_words : Config → App → List Entry → (t : ℕ) → Response → List ℕ
-task_words config app load t r =
-    (response_words r ++ deadline_words r (deadline load t)) ++ lossless_words (is_lossless config app load t r.anywhere)
+-- what stands behind the name of a task: its response, whether that is within its deadline, whether no activation of it is lost, and why there is no number
+abbrev pub task_words : Config → App → List Entry → (t : ℕ) → Response → Option Reason → List ℕ
+task_words config app load t r why =
+    ((response_words r ++ deadline_words r (deadline load t)) ++ lossless_words (is_lossless config app load t r.anywhere)) ++ reason_words config why
 
 -- what stands in the place of a task that is not there
 abbrev pub no_response : Response
@@ -111,14 +130,14 @@ abbrev pub response_at : List Response → (t : ℕ) → Response
 response_at responses t = get_or responses t no_response
 
 -- the line of a task
-unfoldable pub response_line : Config → App → List Entry → (t : ℕ) → Response → List ℕ
-response_line config app load t r = ((declaration config t).name ++ task_words config app load t r) ++ codes "\n"
+unfoldable pub response_line : Config → App → List Entry → (t : ℕ) → Response → Option Reason → List ℕ
+response_line config app load t r why = ((declaration config t).name ++ task_words config app load t r why) ++ codes "\n"
 
 -- the lines of the first tasks, so many of them
-unfoldable pub response_lines : Config → App → List Entry → List Response → (count : ℕ) → List ℕ
-response_lines config app load responses zero = []
-response_lines config app load responses (suc t) =
-    response_lines config app load responses t ++ response_line config app load t (response_at responses t)
+unfoldable pub response_lines : Config → App → List Entry → List Response → List (Option Reason) → (count : ℕ) → List ℕ
+response_lines config app load responses reasons zero = []
+response_lines config app load responses reasons (suc t) =
+    response_lines config app load responses reasons t ++ response_line config app load t (response_at responses t) (reason_at reasons t)
 
 -- a tick has ended so many counts after the arrival of its counter; it never comes where that has no distance
 abbrev pub tick_words : (distance number : Option ℕ) → List ℕ

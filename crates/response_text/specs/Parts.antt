@@ -10,7 +10,7 @@ use Rattle.run_windows.specs.declared.longest.Longest.{Longest}
 use Rattle.run_windows.specs.declared.parts.Parts.{Parts}
 use Rattle.run_windows.specs.Arrivals.{arrivals}
 use Rattle.run_windows.specs.Costs.{task}
-use Rattle.run_windows.specs.Windows.{Numbers, numbers_of}
+use Rattle.run_windows.specs.Windows.{numbers_of, is_round}
 use Rattle.run_windows.specs.RunWindows.{IsNumber}
 use Rattle.run_windows.specs.Longest.{AreParts}
 use Rattle.run_costs.specs.declared.record.RunCosts.{RunCosts}
@@ -38,6 +38,7 @@ start_word start.Boot = codes " boot"
 start_word (start.Activation j) = codes " activation "
 start_word (start.Setting j) = codes " event "
 start_word (start.Section k) = codes " section "
+start_word (start.Round k) = codes " round "
 
 -- the task of which it is
 abbrev pub start_name : Config → Start → List ℕ
@@ -46,13 +47,19 @@ start_name config start.Boot = []
 start_name config (start.Activation j) = (declaration config j).name
 start_name config (start.Setting j) = (declaration config j).name
 start_name config (start.Section k) = (declaration config k).name
+start_name config (start.Round k) = (declaration config k).name
 
 abbrev pub start_line : Config → Start → List ℕ
 start_line config s = (codes "start" ++ start_word s) ++ (start_name config s ++ codes "\n")
 
+-- the counts of a section; a round that is under way stands with those of its task
+abbrev pub section_of : Start → Parts → ℕ
+section_of (start.Round k) p = 0
+section_of _ p = p.section
+
 -- what stands in front of all
-abbrev pub front_lines : Parts → List ℕ
-front_lines p = (front_line (codes "stretch") p.stretch ++ front_line (codes "service") p.service) ++ (front_line (codes "item") p.item ++ front_line (codes "section") p.section)
+abbrev pub front_lines : Start → Parts → List ℕ
+front_lines s p = (front_line (codes "stretch") p.stretch ++ front_line (codes "service") p.service) ++ (front_line (codes "item") p.item ++ front_line (codes "section") (section_of s p))
 
 -- ---- rounds
 
@@ -60,16 +67,20 @@ front_lines p = (front_line (codes "stretch") p.stretch ++ front_line (codes "se
 abbrev pub first_word : (cut : Bool) → List ℕ
 first_word cut = cond cut (codes " first") []
 
+-- the round of the task that is under way as the window begins
+abbrev pub begun_line : Config → Start → (counts t : ℕ) → List ℕ
+begun_line config s counts t = cond (is_round s t) (some_line (declaration config t).name (codes " first") 1 (Some counts)) []
+
 -- the rounds of a task that begin with its first item, and those that begin behind a WaitEvent
-abbrev pub round_line : Config → Costs → Numbers → (t : ℕ) → List ℕ
-round_line config costs n t =
-    part_line (declaration config t).name (first_word (task costs t).is_cut) (n t).activations (task costs t).first
-    ++ part_line (declaration config t).name (codes " next") (n t).settings (task costs t).next
+abbrev pub round_line : Config → Costs → Start → Parts → (t : ℕ) → List ℕ
+round_line config costs s p t =
+    (begun_line config s p.section t ++ part_line (declaration config t).name (first_word (task costs t).is_cut) (numbers_of p.numbers t).activations (task costs t).first)
+    ++ part_line (declaration config t).name (codes " next") (numbers_of p.numbers t).settings (task costs t).next
 
 -- those of the first tasks, so many of them
-unfoldable pub round_lines : Config → Costs → Numbers → (count : ℕ) → List ℕ
-round_lines config costs n zero = []
-round_lines config costs n (suc t) = round_lines config costs n t ++ round_line config costs n t
+unfoldable pub round_lines : Config → Costs → Start → Parts → (count : ℕ) → List ℕ
+round_lines config costs s p zero = []
+round_lines config costs s p (suc t) = round_lines config costs s p t ++ round_line config costs s p t
 
 -- ---- ticks
 
@@ -94,7 +105,7 @@ tick_lines config costs counts (suc c) = tick_lines config costs counts c ++ tic
 -- the lines of all parts of a window
 abbrev pub part_lines : Config → Costs → (tasks counters : ℕ) → Start → Parts → List ℕ
 part_lines config costs tasks counters s p =
-    ((start_line config s ++ front_lines p) ++ round_lines config costs (numbers_of p.numbers) tasks) ++ tick_lines config costs p.counts counters
+    ((start_line config s ++ front_lines s p) ++ round_lines config costs s p tasks) ++ tick_lines config costs p.counts counters
 
 -- there is a window with something in it
 abbrev pub has_parts : Option Longest → Bool

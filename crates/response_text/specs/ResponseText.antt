@@ -29,8 +29,10 @@ use Rattle.run_costs.specs.RunRecord.{IsRunRecord}
 use Rattle.run_responses.specs.Meeting.{AreCutTasks}
 use Rattle.response_text.specs.declared.told.Told.{Told}
 use Rattle.response_text.specs.declared.told.Response.{Response}
+use Rattle.response_reasons.specs.declared.reasons.Reason.{Reason}
 use Rattle.response_text.specs.Inputs.{IsLoadOf}
 use Rattle.response_text.specs.Lines.{keeps_arrivals, keeps_expiries, response_at, response_lines, counter_rows, demand_line, has_open}
+use Rattle.response_text.specs.Reasons.{AreReasons}
 
 -- ---- numbers
 
@@ -45,11 +47,11 @@ pub record AreResponses (longest late : ℕ) (costs : Costs) (count : ℕ) (resp
   pub count_is : length responses ≡ count
   pub each : (t : ℕ) → t < count → IsTaskResponse longest late costs t (response_at responses t)
 
--- the lines of these responses, this number of ticks and this demand, and whether a deadline is open
-abbrev pub told_of : Config → App → List Entry → List Response → (tick demand : Option ℕ) → Told
-told_of config app load responses tick demand =
+-- the lines of these responses and reasons, this number of ticks and this demand, and whether a deadline is open
+abbrev pub told_of : Config → App → List Entry → List Response → List (Option Reason) → (tick demand : Option ℕ) → Told
+told_of config app load responses reasons tick demand =
     record {
-      text = (response_lines config app load responses (length config.tasks) ++ counter_rows config load tick (length config.counters)) ++ demand_line demand;
+      text = (response_lines config app load responses reasons (length config.tasks) ++ counter_rows config load tick (length config.counters)) ++ demand_line demand;
       is_open = has_open load responses (length config.tasks);
     }
 
@@ -110,19 +112,21 @@ RunsKeepResponses config app load longest late responses tick =
 
 -- ---- what is told
 
--- This is told of the responses of all tasks and of ticks, by the costs of the task code under the load, its longest item and its longest stretch, and of the load's demand;
+-- This is told of the responses of all tasks, why some have no number, and of ticks, by the costs of the task code under the load, its longest item and its longest stretch, and of the load's demand;
 -- and runs keep it.
 pub record HasResponses (config : Config) (app : App) (load : List Entry) (told : Told) : Type 0 where
   pub costs : RunCosts
   pub are_costs : IsRunRecord config app load costs
   pub responses : List Response
   pub are_responses : AreResponses costs.longest costs.late costs.costs (length config.tasks) responses
+  pub reasons : List (Option Reason)
+  pub are_reasons : AreReasons config app costs.costs responses (length config.tasks) reasons
   pub tick : Option ℕ
   pub is_tick : IsTickNumber costs.longest costs.late costs.costs tick
   pub demand : Option ℕ
   pub is_demand : IsDemand costs.costs demand
   pub kept : RunsKeepResponses config app load costs.longest costs.late responses tick
-  pub is : told ≡ told_of config app load responses tick demand
+  pub is : told ≡ told_of config app load responses reasons tick demand
 
 -- the text is a load for the configuration, and this is told of it
 pub record HasLoadResponses (config : Config) (app : App) (text : List ℕ) (told : Told) : Type 0 where

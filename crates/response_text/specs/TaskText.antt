@@ -13,9 +13,11 @@ use Rattle.run_costs.specs.declared.record.RunCosts.{RunCosts}
 use Rattle.run_costs.specs.RunRecord.{IsRunRecord}
 use Rattle.response_text.specs.declared.told.Told.{Told}
 use Rattle.response_text.specs.declared.told.Response.{Response}
+use Rattle.response_reasons.specs.declared.reasons.Reason.{Reason}
 use Rattle.response_text.specs.Inputs.{IsLoadOf}
 use Rattle.response_text.specs.Lines.{is_open, response_line}
 use Rattle.response_text.specs.Parts.{has_parts, IsPartText}
+use Rattle.response_text.specs.Reasons.{IsReason}
 
 -- the response that these windows tell, of a task that comes or never does
 abbrev pub response_of : (comes : Bool) → (anywhere behind : Option Longest) → Response
@@ -39,10 +41,10 @@ pub record AreBothParts (config : Config) (costs : RunCosts) (t : ℕ) (anywhere
   pub is : text ≡ parts ++ further
 
 -- the line of a task, and such parts
-abbrev pub task_lines : Config → App → List Entry → (t : ℕ) → Response → (parts : List ℕ) → Told
-task_lines config app load t r parts = record { text = response_line config app load t r ++ parts; is_open = is_open r (deadline load t) }
+abbrev pub task_lines : Config → App → List Entry → (t : ℕ) → Response → Option Reason → (parts : List ℕ) → Told
+task_lines config app load t r why parts = record { text = response_line config app load t r why ++ parts; is_open = is_open r (deadline load t) }
 
--- This is told of the response of task t: its line, and the parts of longest windows, which add up to its numbers.
+-- This is told of the response of task t: its line, with the reason where it has no number, and the parts of longest windows, which add up to its numbers.
 pub record HasParts (config : Config) (app : App) (load : List Entry) (t : ℕ) (told : Told) : Type 0 where
   pub costs : RunCosts
   pub are_costs : IsRunRecord config app load costs
@@ -50,9 +52,11 @@ pub record HasParts (config : Config) (app : App) (load : List Entry) (t : ℕ) 
   pub is_longest : IsLongest costs.longest costs.late costs.costs t true anywhere
   pub behind : Option Longest
   pub is_behind : IsLongest costs.longest costs.late costs.costs t false behind
+  pub why : Option Reason
+  pub is_why : IsReason config app costs.costs t (response_of (comes costs.costs t) anywhere behind) why
   pub parts : List ℕ
   pub are_parts : AreBothParts config costs t anywhere behind parts
-  pub is : told ≡ task_lines config app load t (response_of (comes costs.costs t) anywhere behind) parts
+  pub is : told ≡ task_lines config app load t (response_of (comes costs.costs t) anywhere behind) why parts
 
 -- it is told of the task, if there is one
 abbrev pub HasPartsOf : Config → App → List Entry → (task : Option ℕ) → Option Told → Type 0

@@ -2,12 +2,14 @@
 ghost use Rattle.std.specs.Prelude.{◌≡◌, ◌<◌, ◌≤◌, ◌++◌, [], cond, length, codes, decimal, OnOk, IfOk};
 ghost use Rattle.sloth_base.specs.ConfigRange.{InRange};
 ghost use Rattle.load_text.specs.Loads.{deadline};
-ghost use Rattle.response_text.specs.Lines.{number_words, is_never, made_words, response_words, is_met, is_met_behind, verdict_word, deadline_words, is_open, lossless_words, task_words, response_at, response_line, response_lines, tick_words, counter_words, counter_row, counter_rows, demand_line, has_open};
+ghost use Rattle.response_text.specs.Lines.{number_words, is_never, made_words, response_words, is_met, is_met_behind, verdict_word, deadline_words, is_open, loop_words, reason_words, reason_at, lossless_words, task_words, response_at, response_line, response_lines, tick_words, counter_words, counter_row, counter_rows, demand_line, has_open};
 
 use crate::lossless::{is_lossless, is_within, is_within_limit};
+use crate::parts::task_name;
 use crate::told::Response;
 use itoa::Buffer;
 use load_text::{Entry, deadline_of, distance_of};
+use response_reasons::Reason;
 use sloth_base::{App, Config, FIRST_COUNTER_LINE, NoMemory};
 use std::alloc::Global;
 
@@ -131,6 +133,47 @@ fn push_deadline(
     }
 }
 
+// ---- reasons
+
+fn push_loop(
+    text: &mut Vec<u8>,
+    config: &Config,
+    word: &[u8],
+    task: usize,
+    line: u32,
+) -> Result<(), NoMemory>
+    ensures { OnOk result (text.new.items ≡ text.old.items ++ loop_words config.now word.now task line) }
+{
+    text.extend_from_slice(word)?;
+    text.extend_from_slice(task_name(config, task))?;
+    push_number(text, Some(line))
+}
+
+// Why there is no number.
+fn push_reason(text: &mut Vec<u8>, config: &Config, reason: Option<Reason>) -> Result<(), NoMemory>
+    ensures { OnOk result (text.new.items ≡ text.old.items ++ reason_words config.now reason) }
+{
+    match reason {
+        Some(Reason::Loop(task, line)) => push_loop(text, config, b" loop ", task, line),
+        Some(Reason::Makes(task, line)) => push_loop(text, config, b" makes ", task, line),
+        Some(Reason::Load) => {
+            text.extend_from_slice(b" load")?;
+            Ok(())
+        }
+        None => Ok(()),
+    }
+}
+
+/// The reason of a task; none behind the last one.
+pub fn reason_at(reasons: &[Option<Reason>], task: u32) -> Option<Reason>
+    ensures { result ≡ reason_at reasons.now task }
+{
+    match reasons.get(task as usize) {
+        Some(reason) => *reason,
+        None => None,
+    }
+}
+
 // ---- a line
 
 // That nothing is lost of a task or a counter, where it is so.
@@ -150,17 +193,18 @@ fn push_words(
     app: &App,
     load: &[Entry],
     task: u32,
-    response: Response,
+    told: (Response, Option<Reason>),
 ) -> Result<(), NoMemory>
     requires in_range { InRange config.now }
     requires there { task < length config.now.tasks }
-    ensures { OnOk result (text.new.items ≡ text.old.items ++ task_words config.now app.now load.now task response) }
+    ensures { OnOk result (text.new.items ≡ text.old.items ++ task_words config.now app.now load.now task told.0 told.1) }
 {
+    let (response, reason) = told;
     push_response(text, response)?;
     push_deadline(text, response, deadline_of(load, task as u8))?;
     let kept = is_lossless(config, app, load, task, response.anywhere);
     push_lossless(text, kept)?;
-    Ok(())
+    push_reason(text, config, reason)
 }
 
 /// The response of a task; none behind the last one.
@@ -185,14 +229,14 @@ pub fn push_line(
     app: &App,
     load: &[Entry],
     task: u32,
-    response: Response,
+    told: (Response, Option<Reason>),
 ) -> Result<(), NoMemory>
     requires in_range { InRange config.now }
     requires there { task < length config.now.tasks }
-    ensures { OnOk result (text.new.items ≡ text.old.items ++ response_line config.now app.now load.now task response) }
+    ensures { OnOk result (text.new.items ≡ text.old.items ++ response_line config.now app.now load.now task told.0 told.1) }
 {
     text.extend_from_slice(config.tasks.items()[task as usize].name.bytes())?;
-    push_words(text, config, app, load, task, response)?;
+    push_words(text, config, app, load, task, told)?;
     text.extend_from_slice(b"\n")?;
     Ok(())
 }
@@ -204,9 +248,10 @@ pub fn response_lines(
     app: &App,
     load: &[Entry],
     responses: &[Response],
+    reasons: &[Option<Reason>],
 ) -> Result<Vec<u8>, NoMemory>
     requires in_range { InRange config.now }
-    ensures { IfOk result (λ text. text.items ≡ response_lines config.now app.now load.now responses.now (length config.now.tasks)) }
+    ensures { IfOk result (λ text. text.items ≡ response_lines config.now app.now load.now responses.now reasons.now (length config.now.tasks)) }
 {
     let mut text = Vec::new(alloc);
     for task in 0..config.tasks.items().len() as u32 {
@@ -216,7 +261,7 @@ pub fn response_lines(
             app,
             load,
             task,
-            response_at(responses, task),
+            (response_at(responses, task), reason_at(reasons, task)),
         )?;
     }
     Ok(text)

@@ -2,17 +2,18 @@
 ghost use Rattle.std.specs.Prelude.{◌≡◌, ◌++◌, [], true, Some, length, codes, OnOk, IfOk};
 ghost use Rattle.sloth_base.specs.Named.{declaration, counter_declaration};
 ghost use Rattle.run_windows.specs.Settling.{TakeCounts};
-ghost use Rattle.run_windows.specs.Windows.{numbers_of};
 ghost use Rattle.response_text.specs.Lines.{number_words};
-ghost use Rattle.response_text.specs.Parts.{front_line, some_line, part_line, start_word, start_name, start_line, front_lines, first_word, round_line, round_lines, counter_costs, tick_line, tick_lines, part_lines, has_parts, IsNumbered, IsPartText};
+ghost use Rattle.response_text.specs.Parts.{front_line, some_line, part_line, start_word, start_name, start_line, section_of, front_lines, first_word, begun_line, round_line, round_lines, counter_costs, tick_line, tick_lines, part_lines, has_parts, IsNumbered, IsPartText};
 
-use crate::lines::push_number;
 use run_costs::RunCosts;
 use run_windows::arrivals::arrivals;
+use run_windows::level::is_round;
 use run_windows::rounds::number_of;
-use run_windows::{Costs, CounterCosts, Longest, Made, Parts, Start, task, window_parts};
+use run_windows::{Costs, CounterCosts, Longest, Parts, Start, task, window_parts};
 use sloth_base::{Config, NoMemory};
 use std::alloc::Global;
+use text_pieces::line;
+use text_pieces::pieces::Piece::{Sum, Word};
 
 // A name and a word behind it.
 fn push_named(text: &mut Vec<u8>, name: &[u8], word: &[u8]) -> Result<(), NoMemory>
@@ -23,11 +24,30 @@ fn push_named(text: &mut Vec<u8>, name: &[u8], word: &[u8]) -> Result<(), NoMemo
     Ok(())
 }
 
+fn wide(number: Option<u32>) -> Option<u64>
+    ensures { result ≡ number }
+{
+    match number {
+        Some(counts) => Some(u64::from(counts)),
+        None => None,
+    }
+}
+
+// A number behind a space.
+fn push_sum(text: &mut Vec<u8>, number: Option<u64>) -> Result<(), NoMemory>
+    ensures { OnOk result (text.new.items ≡ text.old.items ++ number_words number) }
+{
+    match number {
+        Some(counts) => line!(text; Word(b" "), Sum(u128::from(counts))),
+        None => line!(text; Word(b" none")),
+    }
+}
+
 // The last number of a line.
-fn push_last(text: &mut Vec<u8>, number: Option<u32>) -> Result<(), NoMemory>
+fn push_last(text: &mut Vec<u8>, number: Option<u64>) -> Result<(), NoMemory>
     ensures { OnOk result (text.new.items ≡ text.old.items ++ (number_words number ++ codes "\n")) }
 {
-    push_number(text, number)?;
+    push_sum(text, number)?;
     text.extend_from_slice(b"\n")?;
     Ok(())
 }
@@ -37,13 +57,13 @@ fn push_some(
     text: &mut Vec<u8>,
     name: &[u8],
     word: &[u8],
-    number: u32,
-    cost: Option<u32>,
+    number: u64,
+    cost: Option<u64>,
 ) -> Result<(), NoMemory>
     ensures { OnOk result (text.new.items ≡ text.old.items ++ some_line name.now word.now number cost) }
 {
     push_named(text, name, word)?;
-    push_number(text, Some(number))?;
+    push_sum(text, Some(number))?;
     push_last(text, cost)?;
     Ok(())
 }
@@ -53,8 +73,8 @@ fn push_part(
     text: &mut Vec<u8>,
     name: &[u8],
     word: &[u8],
-    number: u32,
-    cost: Option<u32>,
+    number: u64,
+    cost: Option<u64>,
 ) -> Result<(), NoMemory>
     ensures { OnOk result (text.new.items ≡ text.old.items ++ part_line name.now word.now number cost) }
 {
@@ -64,7 +84,8 @@ fn push_part(
     Ok(())
 }
 
-fn task_name(config: &Config, task: usize) -> &[u8]
+/// The name of a task; none behind the last one.
+pub fn task_name(config: &Config, task: usize) -> &[u8]
     ensures { result.now ≡ (declaration config.now task).name }
 {
     match config.tasks.items().get(task) {
@@ -82,6 +103,7 @@ fn start_word(start: Start) -> &'static [u8]
         Start::Activation(_) => b" activation ",
         Start::Setting(_) => b" event ",
         Start::Section(_) => b" section ",
+        Start::Round(_) => b" round ",
     }
 }
 
@@ -94,6 +116,7 @@ fn start_name(config: &Config, start: Start) -> &[u8]
         Start::Activation(made) => task_name(config, made),
         Start::Setting(made) => task_name(config, made),
         Start::Section(raised) => task_name(config, raised),
+        Start::Round(begun) => task_name(config, begun),
     }
 }
 
@@ -106,7 +129,7 @@ fn push_start(text: &mut Vec<u8>, config: &Config, start: Start) -> Result<(), N
 }
 
 // So many counts in front of all; no line of none.
-fn push_front(text: &mut Vec<u8>, word: &[u8], counts: u32) -> Result<(), NoMemory>
+fn push_front(text: &mut Vec<u8>, word: &[u8], counts: u64) -> Result<(), NoMemory>
     ensures { OnOk result (text.new.items ≡ text.old.items ++ front_line word.now counts) }
 {
     if counts != 0 {
@@ -116,13 +139,24 @@ fn push_front(text: &mut Vec<u8>, word: &[u8], counts: u32) -> Result<(), NoMemo
     Ok(())
 }
 
-fn push_fronts(text: &mut Vec<u8>, parts: &Parts) -> Result<(), NoMemory>
-    ensures { OnOk result (text.new.items ≡ text.old.items ++ front_lines parts.now) }
+// The counts of a section; a round that is under way stands with those of its task.
+fn section_of(start: Start, parts: &Parts) -> u64
+    ensures { result ≡ section_of start parts.now }
 {
-    push_front(text, b"stretch", parts.stretch)?;
-    push_front(text, b"service", parts.service)?;
-    push_front(text, b"item", parts.item)?;
-    push_front(text, b"section", parts.section)?;
+    match start {
+        Start::Round(_) => 0,
+        Start::Free | Start::Boot | Start::Activation(_) | Start::Setting(_) | Start::Section(_) =>
+            parts.section,
+    }
+}
+
+fn push_fronts(text: &mut Vec<u8>, start: Start, parts: &Parts) -> Result<(), NoMemory>
+    ensures { OnOk result (text.new.items ≡ text.old.items ++ front_lines start parts.now) }
+{
+    push_front(text, b"stretch", u64::from(parts.stretch))?;
+    push_front(text, b"service", u64::from(parts.service))?;
+    push_front(text, b"item", u64::from(parts.item))?;
+    push_front(text, b"section", section_of(start, parts))?;
     Ok(())
 }
 
@@ -132,22 +166,40 @@ fn first_word(cut: bool) -> &'static [u8]
     if cut { b" first" } else { b"" }
 }
 
+// The round of a task that is under way as the window begins.
+fn push_begun(
+    text: &mut Vec<u8>,
+    config: &Config,
+    start: Start,
+    counts: u64,
+    t: usize,
+) -> Result<(), NoMemory>
+    ensures { OnOk result (text.new.items ≡ text.old.items ++ begun_line config.now start counts t) }
+{
+    if is_round(start, t) {
+        push_some(text, task_name(config, t), b" first", 1, Some(counts))?;
+    }
+    Ok(())
+}
+
 // The rounds of a task.
 fn push_round(
     text: &mut Vec<u8>,
     config: &Config,
     costs: &Costs,
-    numbers: &[Made],
+    start: Start,
+    parts: &Parts,
     t: usize,
 ) -> Result<(), NoMemory>
-    ensures { OnOk result (text.new.items ≡ text.old.items ++ round_line config.now costs.now (numbers_of numbers.now) t) }
+    ensures { OnOk result (text.new.items ≡ text.old.items ++ round_line config.now costs.now start parts.now t) }
 {
+    push_begun(text, config, start, parts.section, t)?;
     let name = task_name(config, t);
-    let made = number_of(numbers, t);
+    let made = number_of(parts.numbers.items(), t);
     let costs = task(costs, t);
     let word = first_word(costs.is_cut);
-    push_part(text, name, word, made.activations, costs.first)?;
-    push_part(text, name, b" next", made.settings, costs.next)?;
+    push_part(text, name, word, made.activations, wide(costs.first))?;
+    push_part(text, name, b" next", made.settings, wide(costs.next))?;
     Ok(())
 }
 
@@ -155,12 +207,13 @@ fn push_rounds(
     text: &mut Vec<u8>,
     config: &Config,
     costs: &Costs,
-    numbers: &[Made],
+    start: Start,
+    parts: &Parts,
 ) -> Result<(), NoMemory>
-    ensures { OnOk result (text.new.items ≡ text.old.items ++ round_lines config.now costs.now (numbers_of numbers.now) (length config.now.tasks)) }
+    ensures { OnOk result (text.new.items ≡ text.old.items ++ round_lines config.now costs.now start parts.now (length config.now.tasks)) }
 {
     for t in 0..config.tasks.items().len() {
-        push_round(text, config, costs, numbers, t)?;
+        push_round(text, config, costs, start, parts, t)?;
     }
     Ok(())
 }
@@ -191,7 +244,7 @@ fn push_tick(
     text: &mut Vec<u8>,
     config: &Config,
     costs: &Costs,
-    counts: u32,
+    counts: u64,
     c: usize,
 ) -> Result<(), NoMemory>
     ensures { OnOk result (text.new.items ≡ text.old.items ++ tick_line config.now costs.now counts c) }
@@ -203,7 +256,7 @@ fn push_tick(
         counter_name(config, c),
         b"",
         ticks,
-        Some(counter.tick),
+        Some(u64::from(counter.tick)),
     )?;
     Ok(())
 }
@@ -212,7 +265,7 @@ fn push_ticks(
     text: &mut Vec<u8>,
     config: &Config,
     costs: &Costs,
-    counts: u32,
+    counts: u64,
 ) -> Result<(), NoMemory>
     ensures { OnOk result (text.new.items ≡ text.old.items ++ tick_lines config.now costs.now counts (length config.now.counters)) }
 {
@@ -234,8 +287,8 @@ fn push_parts(
         ++ part_lines config.now costs.now (length config.now.tasks) (length config.now.counters) start parts.now) }
 {
     push_start(text, config, start)?;
-    push_fronts(text, parts)?;
-    push_rounds(text, config, costs, parts.numbers.items())?;
+    push_fronts(text, start, parts)?;
+    push_rounds(text, config, costs, start, parts)?;
     push_ticks(text, config, costs, parts.counts)?;
     Ok(())
 }

@@ -16,10 +16,12 @@ use crate::Told;
 use crate::inputs::load_of;
 use crate::lines::{is_open, push_line};
 use crate::parts::{has_parts, part_text};
+use crate::reasons::reason;
 use crate::text::response_of;
 use crate::told::Response;
 use call_graph::Ranks;
 use load_text::{Entry, deadline_of};
+use response_reasons::Reason;
 use run_costs::{RunCosts, run_costs};
 use run_windows::level::comes;
 use run_windows::longest::number_of;
@@ -28,6 +30,7 @@ use sloth_base::{App, BuildError, Config, List, NoMemory};
 use sloth_source::{read_checked, task_named};
 use std::alloc::Global;
 use task_verify::Verified;
+use walk_sums::{Walks, known_code};
 
 fn same_number(one: Option<u32>, other: Option<u32>) -> bool
     ensures { result ≡ same_number one other }
@@ -76,43 +79,40 @@ fn task_lines(
     app: &App,
     load: &[Entry],
     task: u32,
-    response: Response,
+    told: (Response, Option<Reason>),
     parts: &[u8],
 ) -> Result<Told, NoMemory>
     requires in_range { InRange config.now }
     requires there { task < length config.now.tasks }
-    ensures { IfOk result (λ told. told ≡ task_lines config.now app.now load.now task response parts.now) }
+    ensures { IfOk result (λ lines. lines ≡ task_lines config.now app.now load.now task told.0 told.1 parts.now) }
 {
     let mut text = Vec::new(alloc);
-    push_line(&mut text, config, app, load, task, response)?;
+    push_line(&mut text, config, app, load, task, told)?;
     text.extend_from_slice(parts)?;
     Ok(Told {
         text: List::from_vec(text),
-        is_open: is_open(response, deadline_of(load, task as u8)),
+        is_open: is_open(told.0, deadline_of(load, task as u8)),
     })
 }
 
 // Those of what is computed from costs.
-fn told_by(
-    alloc: Global,
-    config: &Config,
-    app: &App,
-    load: &[Entry],
-    found: &RunCosts,
-    task: u32,
-) -> Result<Told, NoMemory>
-    requires in_range { InRange config.now }
-    requires there { task < length config.now.tasks }
-    requires costs { IsRunRecord config.now app.now load.now found.now }
-    ensures { IfOk result (λ told. HasParts config.now app.now load.now task told) }
+fn told_by(walks: &Walks<'_>, load: &[Entry], found: &RunCosts, task: u32) -> Result<Told, NoMemory>
+    requires there { task < length walks.now.config.tasks }
+    requires costs { IsRunRecord walks.now.config walks.now.app load.now found.now }
+    ensures { IfOk result (λ told. HasParts walks.now.config walks.now.app load.now task told) }
 {
+    let alloc = walks.alloc();
+    let config = walks.config();
+    let app = walks.app();
     let (longest, late, number) = (found.longest, found.late, task as usize);
     let anywhere = longest_window(alloc, longest, late, &found.costs, number, true)?;
     let behind = longest_window(alloc, longest, late, &found.costs, number, false)?;
     let parts = both_parts(alloc, config, found, number, anywhere, behind)?;
     let is_made = comes(&found.costs, number);
     let response = response_of(is_made, anywhere, behind);
-    task_lines(alloc, config, app, load, task, response, &parts)
+    let clean = walks.clean_tasks()?;
+    let why = reason(walks, &clean, &found.costs, number, response)?;
+    task_lines(alloc, config, app, load, task, (response, why), &parts)
 }
 
 // Those of task code that keeps all rules.
@@ -127,8 +127,12 @@ fn checked_text(
     requires there { task < length verified.now.config.tasks }
     ensures { IfOk result (λ told. HasParts verified.now.config verified.now.app load.now task told) }
 {
-    let found = run_costs(alloc, verified.config(), verified.app(), ranks, load)?;
-    told_by(alloc, verified.config(), verified.app(), load, &found, task)
+    let config = verified.config();
+    let app = verified.app();
+    let found = run_costs(alloc, config, app, ranks, load)?;
+    let known = known_code(alloc, config, app, ranks)?;
+    let walks = Walks::of(alloc, config, app, &known);
+    told_by(&walks, load, &found, task)
 }
 
 // Those of the task of a name, if there is one.

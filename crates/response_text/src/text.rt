@@ -17,9 +17,11 @@ ghost use Rattle.response_text.specs.ResponseText.{IsTaskResponse, AreResponses,
 use crate::Told;
 use crate::inputs::load_of;
 use crate::lines::{has_open, push_counter_rows, push_demand, response_lines};
+use crate::reasons::reasons;
 use crate::told::Response;
 use call_graph::Ranks;
 use load_text::Entry;
+use response_reasons::Reason;
 use run_costs::{RunCosts, run_costs};
 use run_responses::tick_number;
 use run_windows::level::comes;
@@ -30,6 +32,7 @@ use sloth_source::read_checked;
 use std::alloc::Global;
 use task_verify::Verified;
 use text_pieces::push;
+use walk_sums::{Walks, known_code};
 
 /// The response that these windows tell.
 pub fn response_of(comes: bool, anywhere: Option<Longest>, behind: Option<Longest>) -> Response
@@ -85,13 +88,14 @@ fn told_of(
     app: &App,
     load: &[Entry],
     responses: &[Response],
-    tick: Option<u32>,
-    demand: Option<u32>,
+    reasons: &[Option<Reason>],
+    numbers: (Option<u32>, Option<u32>),
 ) -> Result<Told, NoMemory>
     requires in_range { InRange config.now }
-    ensures { IfOk result (λ told. told ≡ told_of config.now app.now load.now responses.now tick demand) }
+    ensures { IfOk result (λ told. told ≡ told_of config.now app.now load.now responses.now reasons.now numbers.0 numbers.1) }
 {
-    let mut text = response_lines(alloc, config, app, load, responses)?;
+    let (tick, demand) = numbers;
+    let mut text = response_lines(alloc, config, app, load, responses, reasons)?;
     push_counter_rows(&mut text, config, load, tick)?;
     push_demand(&mut text, demand)?;
     Ok(Told {
@@ -101,22 +105,27 @@ fn told_of(
 }
 
 // Those of what is computed from costs.
-fn told_by(
-    alloc: Global,
-    config: &Config,
-    app: &App,
-    load: &[Entry],
-    found: &RunCosts,
-) -> Result<Told, NoMemory>
-    requires well_formed { WellFormed config.now app.now }
-    requires in_load { IsLoad (owners_in config.now) load.now }
-    requires costs { IsRunRecord config.now app.now load.now found.now }
-    ensures { IfOk result (λ told. HasResponses config.now app.now load.now told) }
+fn told_by(walks: &Walks<'_>, load: &[Entry], found: &RunCosts) -> Result<Told, NoMemory>
+    requires in_load { IsLoad (owners_in walks.now.config) load.now }
+    requires costs { IsRunRecord walks.now.config walks.now.app load.now found.now }
+    ensures { IfOk result (λ told. HasResponses walks.now.config walks.now.app load.now told) }
 {
+    let alloc = walks.alloc();
+    let config = walks.config();
+    let app = walks.app();
     let responses = responses(alloc, found.longest, found.late, &found.costs)?;
+    let reasons = reasons(walks, &found.costs, &responses)?;
     let tick = tick_number(alloc, found.longest, found.late, &found.costs)?;
     let demand = demand(alloc, &found.costs)?;
-    told_of(alloc, config, app, load, &responses, tick, demand)
+    told_of(
+        alloc,
+        config,
+        app,
+        load,
+        &responses,
+        &reasons,
+        (tick, demand),
+    )
 }
 
 // Those of task code that keeps all rules.
@@ -130,8 +139,12 @@ fn checked_text(
     requires in_load { IsLoad (owners_in verified.now.config) load.now }
     ensures { IfOk result (λ told. HasResponses verified.now.config verified.now.app load.now told) }
 {
-    let found = run_costs(alloc, verified.config(), verified.app(), ranks, load)?;
-    told_by(alloc, verified.config(), verified.app(), load, &found)
+    let config = verified.config();
+    let app = verified.app();
+    let found = run_costs(alloc, config, app, ranks, load)?;
+    let known = known_code(alloc, config, app, ranks)?;
+    let walks = Walks::of(alloc, config, app, &known);
+    told_by(&walks, load, &found)
 }
 
 // The same, where the error is that of texts.

@@ -1,8 +1,8 @@
 -- Marks that grow up to the tasks that come.
-use Rattle.std.proofs.Common.{◌≡◌, ◌++◌, ℕ, zero, suc, [], ◌∷◌, ◌+◌, ◌<◌, ◌≤◌, ◌⊎◌, ◌&&◌, ◌||◌, not, Bool, true, false, cond, List, length, get_or, set, ltb, is_some, refl, sym, ap, ◌∙◌, subst, arith, inl, inr}
+use Rattle.std.proofs.Common.{◌≡◌, ◌++◌, ℕ, zero, suc, [], ◌∷◌, ◌+◌, ◌<◌, ◌≤◌, ◌⊎◌, ◌&&◌, not, Bool, true, false, cond, List, length, get_or, set, ltb, refl, sym, ap, ◌∙◌, subst, arith, inl, inr}
 use Rattle.std.specs.Prelude.{Decides}
 use Rattle.std.proofs.lemmas.Bool.{and_parts, cases_eq, cases_lt, true≢false}
-use Rattle.std.proofs.lemmas.List.{get_or-set_same, get_or-set_other}
+use Rattle.std.proofs.lemmas.List.{get_or-set_other}
 use Rattle.std.proofs.lemmas.List.Sums.{sum_by-set}
 use Rattle.sloth_base.specs.declared.config.Config.{Config}
 use Rattle.sloth_base.specs.declared.app.App.{App}
@@ -12,7 +12,7 @@ use Rattle.sloth_base.specs.declared.service.Service.TheVariants as service
 use Rattle.walk_sums.specs.declared.counted.Counted.{Counted}
 use Rattle.walk_sums.specs.declared.counted.Counted.TheVariants as counts
 use Rattle.run_costs.specs.Tops.{AreTaskTops}
-use Rattle.run_costs.specs.Coming.{SomeReaches, SomeSets, IsUsed, SomeExpires, IsMade, IsClosed, marked, AreInAll, AreComing, IsSettled, unmarked, HasMarked}
+use Rattle.run_costs.specs.Coming.{SomeReaches, IsUsed, IsMade, IsClosed, marked, AreInAll, AreComing, IsSettled, unmarked, HasMarked}
 use Rattle.run_costs.proofs.Coming.{reaches_decided}
 
 both_true : (a b : Bool) → a ≡ true → b ≡ true → (a && b) ≡ true

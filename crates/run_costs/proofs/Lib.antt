@@ -5,7 +5,6 @@ mod Nothing
 mod Uncounted
 mod Topping
 mod Growing
-mod Bodies
 mod Serving
 mod Making
 mod Greatest

@@ -30,12 +30,13 @@ use Rattle.run_costs.specs.Coming.{marked, AreComing}
 use Rattle.run_costs.specs.Rounds.{AreRounds, round_cost, activations_of, made, many}
 use Rattle.run_costs.specs.CostsOf.{AreEach, ReachesService, IsGreatest, AreServices, AreMade, IsSectionCosts, IsTaskSection, IsSectionMade, no_counter, no_alarm, IsAlarm}
 use Rattle.walk_sums.proofs.OneTold.{one_told}
+use Rattle.run_costs.specs.SectionSums.{is_endless}
 use Rattle.run_costs.proofs.OneSums.{same_both, same_rounds}
 use Rattle.run_costs.proofs.SameCosts.{same_task, same_alarm, same_makings, same_services, same_section, same_section_makings, same_level, same_costs}
 use Rattle.bounds_text.proofs.OneLatency.{same-lengths}
 use Rattle.bounds_text.proofs.OneLowerCounts.{same-weights}
 use Rattle.run_windows.specs.RunWindows.{call_path}
-use Rattle.run_costs.specs.RunCosts.{round_entry, counts_once, section_work, AreRunTaskCosts, AreRunMakings, AreRunSectionMakings, IsRunSectionMaking, IsRunLevel, IsRunCounter, AreRunCosts}
+use Rattle.run_costs.specs.RunCosts.{round_entry, counts_once, has_raised_waits, section_work, AreRunTaskCosts, AreRunMakings, AreRunSectionMakings, IsRunSectionMaking, IsRunLevel, IsRunCounter, AreRunCosts}
 use Rattle.run_costs.specs.declared.record.RunCosts.{RunCosts}
 use Rattle.run_costs.specs.RunRecord.{longest_of, late_of, IsRunRecord}
 use Rattle.walk_sums.specs.declared.counted.Counted.TheVariants as counts
@@ -107,8 +108,9 @@ module _ (config : Config) (app : App) (load : List Entry) where
     where
       lower : IsSectionCosts config app weights h k x → IsSectionCosts config app weights h k y → x ≡ y
       lower a b =
-          same_section x y (same_from_decides x.exists y.exists a.exists b.exists)
-          (a.counts ∙ (ap many (one_told (IsSection config app h k) weights a.told b.told a.is_told b.is_told) ∙ sym b.counts))
+          let told = one_told (IsSection config app h k) weights a.told b.told a.is_told b.is_told in
+          same_section x y (same_from_decides x.exists y.exists a.exists b.exists) (a.is_endless ∙ (ap is_endless told ∙ sym b.is_endless))
+          (a.counts ∙ (ap many told ∙ sym b.counts))
 
       by : (static_priority config k < static_priority config h) ⊎ (static_priority config h ≤ static_priority config k) → x ≡ y
       by (inl lt) = lower (a.0 (there, lt)) (b.0 (there, lt))
@@ -134,14 +136,17 @@ module _ (config : Config) (app : App) (load : List Entry) where
   one_task weights t x y a b =
       let clean = same_from_decides a.clean b.clean a.clears b.clears in
       let extended = (declaration config t).extended in
+      let waits = same_from_decides a.waits b.waits a.is_waiting b.is_waiting in
       let told = one_rounds b.clean extended t weights a.told b.told (rounds_at a.clean b.clean extended t weights a.told clean a.rounds) b.rounds in
       let C : (resumed v : Bool) → Sum → Option ℕ = λ resumed v s. round_cost (round_entry config app v resumed t) (work load t) s in
       same_task x y (a.priority ∙ sym b.priority) (a.is_entered_once ∙ (ap (λ v. counts_once config v t) clean ∙ sym b.is_entered_once)) (a.is_autostarted ∙ sym b.is_autostarted)
-      (a.is_cut ∙ (ap (λ v. v && extended) clean ∙ sym b.is_cut)) (a.distance ∙ sym b.distance)
+      (a.is_cut ∙ (ap (λ v. v && extended) clean ∙ sym b.is_cut))
+      (a.has_raised_waits ∙ (ap (λ v. has_raised_waits config v a.waits t) clean ∙ (ap (λ v. has_raised_waits config b.clean v t) waits ∙ sym b.has_raised_waits)))
+      (a.distance ∙ sym b.distance)
       (a.first ∙ (ap (λ v. C false v a.told.first) clean ∙ (ap (λ (s : RoundSums). C false b.clean s.first) told ∙ sym b.first)))
       (a.next ∙ (ap (λ v. C true v a.told.later) clean ∙ (ap (λ (s : RoundSums). C true b.clean s.later) told ∙ sym b.next)))
       (a.raising ∙ sym b.raising)
-      (a.section_work ∙ (ap (λ v. section_work config load v a.waits t) clean ∙ (ap (λ v. section_work config load b.clean v t) (same_from_decides a.waits b.waits a.is_waiting b.is_waiting) ∙ sym b.section_work)))
+      (a.section_work ∙ (ap (λ v. section_work config load v a.waits t) clean ∙ (ap (λ v. section_work config load b.clean v t) waits ∙ sym b.section_work)))
       (one_greatest t call_path x.service y.service a.service b.service)
 
   -- ---- makings

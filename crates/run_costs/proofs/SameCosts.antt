@@ -10,19 +10,20 @@ use Rattle.run_windows.specs.declared.costs.SectionMakings.{SectionMakings}
 use Rattle.run_windows.specs.declared.costs.Level.{Level}
 use Rattle.run_windows.specs.declared.costs.Costs.{Costs}
 
-pub same_task : (a b : TaskCosts) → a.priority ≡ b.priority → a.is_entered_once ≡ b.is_entered_once → a.is_autostarted ≡ b.is_autostarted → a.is_cut ≡ b.is_cut → a.distance ≡ b.distance → a.first ≡ b.first → a.next ≡ b.next → a.raising ≡ b.raising → a.section_work ≡ b.section_work → a.service ≡ b.service → a ≡ b
-same_task a b e0 e1 e2 e3 e4 e5 e6 e7 e8 e9 =
-    let F0 : ℕ → TaskCosts = λ x. record { priority = x; is_entered_once = a.is_entered_once; is_autostarted = a.is_autostarted; is_cut = a.is_cut; distance = a.distance; first = a.first; next = a.next; raising = a.raising; section_work = a.section_work; service = a.service } in
-    let F1 : Bool → TaskCosts = λ x. record { priority = b.priority; is_entered_once = x; is_autostarted = a.is_autostarted; is_cut = a.is_cut; distance = a.distance; first = a.first; next = a.next; raising = a.raising; section_work = a.section_work; service = a.service } in
-    let F2 : Bool → TaskCosts = λ x. record { priority = b.priority; is_entered_once = b.is_entered_once; is_autostarted = x; is_cut = a.is_cut; distance = a.distance; first = a.first; next = a.next; raising = a.raising; section_work = a.section_work; service = a.service } in
-    let F3 : Bool → TaskCosts = λ x. record { priority = b.priority; is_entered_once = b.is_entered_once; is_autostarted = b.is_autostarted; is_cut = x; distance = a.distance; first = a.first; next = a.next; raising = a.raising; section_work = a.section_work; service = a.service } in
-    let F4 : Option ℕ → TaskCosts = λ x. record { priority = b.priority; is_entered_once = b.is_entered_once; is_autostarted = b.is_autostarted; is_cut = b.is_cut; distance = x; first = a.first; next = a.next; raising = a.raising; section_work = a.section_work; service = a.service } in
-    let F5 : Option ℕ → TaskCosts = λ x. record { priority = b.priority; is_entered_once = b.is_entered_once; is_autostarted = b.is_autostarted; is_cut = b.is_cut; distance = b.distance; first = x; next = a.next; raising = a.raising; section_work = a.section_work; service = a.service } in
-    let F6 : Option ℕ → TaskCosts = λ x. record { priority = b.priority; is_entered_once = b.is_entered_once; is_autostarted = b.is_autostarted; is_cut = b.is_cut; distance = b.distance; first = b.first; next = x; raising = a.raising; section_work = a.section_work; service = a.service } in
-    let F7 : ℕ → TaskCosts = λ x. record { priority = b.priority; is_entered_once = b.is_entered_once; is_autostarted = b.is_autostarted; is_cut = b.is_cut; distance = b.distance; first = b.first; next = b.next; raising = x; section_work = a.section_work; service = a.service } in
-    let F8 : Option ℕ → TaskCosts = λ x. record { priority = b.priority; is_entered_once = b.is_entered_once; is_autostarted = b.is_autostarted; is_cut = b.is_cut; distance = b.distance; first = b.first; next = b.next; raising = b.raising; section_work = x; service = a.service } in
-    let F9 : ℕ → TaskCosts = λ x. record { priority = b.priority; is_entered_once = b.is_entered_once; is_autostarted = b.is_autostarted; is_cut = b.is_cut; distance = b.distance; first = b.first; next = b.next; raising = b.raising; section_work = b.section_work; service = x } in
-    ap F0 e0 ∙ (ap F1 e1 ∙ (ap F2 e2 ∙ (ap F3 e3 ∙ (ap F4 e4 ∙ (ap F5 e5 ∙ (ap F6 e6 ∙ (ap F7 e7 ∙ (ap F8 e8 ∙ (ap F9 e9)))))))))
+pub same_task : (a b : TaskCosts) → a.priority ≡ b.priority → a.is_entered_once ≡ b.is_entered_once → a.is_autostarted ≡ b.is_autostarted → a.is_cut ≡ b.is_cut → a.has_raised_waits ≡ b.has_raised_waits → a.distance ≡ b.distance → a.first ≡ b.first → a.next ≡ b.next → a.raising ≡ b.raising → a.section_work ≡ b.section_work → a.service ≡ b.service → a ≡ b
+same_task a b e0 e1 e2 e3 e4 e5 e6 e7 e8 e9 e10 =
+    let F0 : ℕ → TaskCosts = λ x. record { priority = x; is_entered_once = a.is_entered_once; is_autostarted = a.is_autostarted; is_cut = a.is_cut; has_raised_waits = a.has_raised_waits; distance = a.distance; first = a.first; next = a.next; raising = a.raising; section_work = a.section_work; service = a.service } in
+    let F1 : Bool → TaskCosts = λ x. record { priority = b.priority; is_entered_once = x; is_autostarted = a.is_autostarted; is_cut = a.is_cut; has_raised_waits = a.has_raised_waits; distance = a.distance; first = a.first; next = a.next; raising = a.raising; section_work = a.section_work; service = a.service } in
+    let F2 : Bool → TaskCosts = λ x. record { priority = b.priority; is_entered_once = b.is_entered_once; is_autostarted = x; is_cut = a.is_cut; has_raised_waits = a.has_raised_waits; distance = a.distance; first = a.first; next = a.next; raising = a.raising; section_work = a.section_work; service = a.service } in
+    let F3 : Bool → TaskCosts = λ x. record { priority = b.priority; is_entered_once = b.is_entered_once; is_autostarted = b.is_autostarted; is_cut = x; has_raised_waits = a.has_raised_waits; distance = a.distance; first = a.first; next = a.next; raising = a.raising; section_work = a.section_work; service = a.service } in
+    let F4 : Bool → TaskCosts = λ x. record { priority = b.priority; is_entered_once = b.is_entered_once; is_autostarted = b.is_autostarted; is_cut = b.is_cut; has_raised_waits = x; distance = a.distance; first = a.first; next = a.next; raising = a.raising; section_work = a.section_work; service = a.service } in
+    let F5 : Option ℕ → TaskCosts = λ x. record { priority = b.priority; is_entered_once = b.is_entered_once; is_autostarted = b.is_autostarted; is_cut = b.is_cut; has_raised_waits = b.has_raised_waits; distance = x; first = a.first; next = a.next; raising = a.raising; section_work = a.section_work; service = a.service } in
+    let F6 : Option ℕ → TaskCosts = λ x. record { priority = b.priority; is_entered_once = b.is_entered_once; is_autostarted = b.is_autostarted; is_cut = b.is_cut; has_raised_waits = b.has_raised_waits; distance = b.distance; first = x; next = a.next; raising = a.raising; section_work = a.section_work; service = a.service } in
+    let F7 : Option ℕ → TaskCosts = λ x. record { priority = b.priority; is_entered_once = b.is_entered_once; is_autostarted = b.is_autostarted; is_cut = b.is_cut; has_raised_waits = b.has_raised_waits; distance = b.distance; first = b.first; next = x; raising = a.raising; section_work = a.section_work; service = a.service } in
+    let F8 : ℕ → TaskCosts = λ x. record { priority = b.priority; is_entered_once = b.is_entered_once; is_autostarted = b.is_autostarted; is_cut = b.is_cut; has_raised_waits = b.has_raised_waits; distance = b.distance; first = b.first; next = b.next; raising = x; section_work = a.section_work; service = a.service } in
+    let F9 : Option ℕ → TaskCosts = λ x. record { priority = b.priority; is_entered_once = b.is_entered_once; is_autostarted = b.is_autostarted; is_cut = b.is_cut; has_raised_waits = b.has_raised_waits; distance = b.distance; first = b.first; next = b.next; raising = b.raising; section_work = x; service = a.service } in
+    let F10 : ℕ → TaskCosts = λ x. record { priority = b.priority; is_entered_once = b.is_entered_once; is_autostarted = b.is_autostarted; is_cut = b.is_cut; has_raised_waits = b.has_raised_waits; distance = b.distance; first = b.first; next = b.next; raising = b.raising; section_work = b.section_work; service = x } in
+    ap F0 e0 ∙ (ap F1 e1 ∙ (ap F2 e2 ∙ (ap F3 e3 ∙ (ap F4 e4 ∙ (ap F5 e5 ∙ (ap F6 e6 ∙ (ap F7 e7 ∙ (ap F8 e8 ∙ (ap F9 e9 ∙ (ap F10 e10))))))))))
 
 pub same_alarm : (a b : AlarmCosts) → a.counter ≡ b.counter → a.task ≡ b.task → a.sets_events ≡ b.sets_events → a.time ≡ b.time → a.cycle ≡ b.cycle → a.is_set ≡ b.is_set → a ≡ b
 same_alarm a b e0 e1 e2 e3 e4 e5 =
@@ -49,11 +50,12 @@ same_services a b e0 e1 e2 =
     let F2 : Bool → Services = λ x. record { activates = b.activates; chains = b.chains; sets_events = x } in
     ap F0 e0 ∙ (ap F1 e1 ∙ ap F2 e2)
 
-pub same_section : (a b : SectionCosts) → a.exists ≡ b.exists → a.counts ≡ b.counts → a ≡ b
-same_section a b e0 e1 =
-    let F0 : Bool → SectionCosts = λ x. record { exists = x; counts = a.counts } in
-    let F1 : Option ℕ → SectionCosts = λ x. record { exists = b.exists; counts = x } in
-    ap F0 e0 ∙ ap F1 e1
+pub same_section : (a b : SectionCosts) → a.exists ≡ b.exists → a.is_endless ≡ b.is_endless → a.counts ≡ b.counts → a ≡ b
+same_section a b e0 e1 e2 =
+    let F0 : Bool → SectionCosts = λ x. record { exists = x; is_endless = a.is_endless; counts = a.counts } in
+    let F1 : Bool → SectionCosts = λ x. record { exists = b.exists; is_endless = x; counts = a.counts } in
+    let F2 : Option ℕ → SectionCosts = λ x. record { exists = b.exists; is_endless = b.is_endless; counts = x } in
+    ap F0 e0 ∙ (ap F1 e1 ∙ ap F2 e2)
 
 pub same_section_makings : (a b : SectionMakings) → a.activations ≡ b.activations → a.settings ≡ b.settings → a ≡ b
 same_section_makings a b e0 e1 =

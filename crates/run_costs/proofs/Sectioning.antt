@@ -1,12 +1,11 @@
 -- A lower task has sections where its greatest sum is no 0: each item has some weight.
 use Rattle.std.proofs.Common.{◌≡◌, ℕ, ◌<◌, ◌≤◌, ◌⊎◌, inl, inr, true, false, not, List, [], ◌∷◌, length, refl, ap, sym, ◌∙◌, subst, arith}
 use Rattle.std.specs.Prelude.{◌==◌, Decides}
-use Rattle.std.proofs.lemmas.Bool.{cases_eq, ne_eqb, true≢false, eq-eqb, lt-ltb}
+use Rattle.std.proofs.lemmas.Bool.{cases_eq, ne_eqb, true≢false, eq-eqb}
 use Rattle.sloth_base.specs.declared.config.Config.{Config}
 use Rattle.sloth_base.specs.declared.app.App.{App}
 use Rattle.sloth_base.specs.Named.{operation}
 use Rattle.sloth_base.specs.Limits.{count_limit}
-use Rattle.osek_scheduler.specs.Apart.{static_priority}
 use Rattle.osek_scheduler.proofs.Facts.{Facts}
 use Rattle.raised_sections.specs.Walks.{Position}
 use Rattle.bound_rules.specs.declared.weights.BodyWeights.{BodyWeights}
@@ -19,17 +18,19 @@ use Rattle.walk_sums.specs.declared.sum.Sum.{Sum}
 use Rattle.walk_sums.specs.declared.sum.Sum.TheVariants as sum
 use Rattle.walk_sums.specs.Rounds.{Reaches}
 use Rattle.walk_sums.specs.Told.{IsToldSum, SomeReaches}
+use Rattle.walk_sums.specs.Sections.{IsSumFor}
 use Rattle.code_rules.specs.WellFormed.{WellFormed}
-use Rattle.raised_sections.specs.Sections.{IsSection, IsLower}
+use Rattle.raised_sections.specs.Sections.{IsSection}
 use Rattle.walk_sums.proofs.Bodily.{facts_of}
 use Rattle.run_windows.specs.declared.costs.SectionCosts.{SectionCosts}
 use Rattle.run_windows.specs.Costs.{no_section}
 use Rattle.run_costs.specs.CostsOf.{IsTaskSection}
 use Rattle.run_costs.specs.Sections.{AllWeigh, IsRaised, IsRaisedAt}
 use Rattle.run_costs.specs.Rounds.{many}
-use Rattle.run_costs.specs.SectionSums.{is_lower, has_some}
+use Rattle.run_costs.specs.SectionSums.{has_some, is_endless}
 use Rattle.run_costs.proofs.Coming.{reached_stands}
 use Rattle.run_costs.proofs.Nothing.{walk_front}
+use Rattle.run_costs.proofs.SameCosts.{same_section}
 
 module _ (config : Config) (app : App) (w : Facts config app) (h k : ℕ) (declared : k < length config.tasks) (weights : List BodyWeights)
     (weighs : (f i : ℕ) (o : Op) → IsItem app f i o → 0 < ending_weight weights f i) where
@@ -66,22 +67,16 @@ module _ (config : Config) (app : App) (w : Facts config app) (h k : ℕ) (decla
 
 -- ---- what is told of them
 
--- of a lower task
-pub section_is : (config : Config) (app : App) (weights : List BodyWeights) (h k : ℕ) → WellFormed config app → AllWeigh app weights → (s : Sum) → IsLower config h k
-    → IsToldSum (IsSection config app h k) weights s → (c : SectionCosts) → c.exists ≡ has_some s → c.counts ≡ many s → IsTaskSection config app weights h k c
-section_is config app weights h k well weigh s low told c e n = (
-  λ l. record {
+pub sections_are : (config : Config) (app : App) (weights : List BodyWeights) (h k : ℕ) → WellFormed config app → AllWeigh app weights → (s : Sum) → IsSumFor config app weights h k s
+    → (c : SectionCosts) → c.exists ≡ has_some s → c.is_endless ≡ is_endless s → c.counts ≡ many s → IsTaskSection config app weights h k c
+sections_are config app weights h k well weigh s is c e endless n = (
+  λ low. record {
     exists = subst (λ b. Decides b (IsRaised config app h k)) (sym e)
-        (exists_decided config app (facts_of config app well) h k low.0 weights weigh s told);
+        (exists_decided config app (facts_of config app well) h k low.0 weights weigh s (is.lower low));
     told = s;
-    is_told = told;
+    is_told = is.lower low;
+    is_endless = endless;
     counts = n;
   },
-  λ higher. absurd (higher low),
+  λ higher. same_section c no_section (e ∙ ap has_some (is.other higher)) (endless ∙ ap is_endless (is.other higher)) (n ∙ ap many (is.other higher)),
 )
-
--- of any other
-pub no_section_is : (config : Config) (app : App) (weights : List BodyWeights) (h k : ℕ) → is_lower config h k ≡ false → (c : SectionCosts) → c ≡ no_section
-    → IsTaskSection config app weights h k c
-no_section_is config app weights h k other c e =
-    (λ low. absurd (true≢false (sym (lt-ltb (static_priority config k) (static_priority config h) low.1) ∙ other)), λ higher. e)

@@ -1,5 +1,6 @@
 -- Each entry with a round takes counts.
-use Rattle.std.proofs.Common.{ℕ, ◌≤◌, Bool, true, false, List, Option, Some, None, sym, subst, arith}
+use Rattle.std.proofs.Common.{ℕ, ◌+◌, ◌≤◌, min, cond, Bool, true, false, List, Option, Some, None, sym, subst, arith}
+use Rattle.std.specs.Prelude.{nat_lt}
 use Rattle.sloth_base.specs.declared.config.Config.{Config}
 use Rattle.sloth_base.specs.declared.app.App.{App}
 use Rattle.sloth_base.specs.Named.{declaration, function, body_of}
@@ -11,7 +12,7 @@ use Rattle.walk_sums.specs.declared.sum.Sum.TheVariants as sum
 use Rattle.run_windows.specs.declared.costs.Costs.{Costs}
 use Rattle.run_windows.specs.Costs.{reckoned}
 use Rattle.run_windows.specs.Settling.{TakeCounts}
-use Rattle.run_costs.specs.Rounds.{round_cost}
+use Rattle.run_costs.specs.Rounds.{with_entry, round_cost}
 use Rattle.run_costs.specs.RunCosts.{round_entry, AreRunCosts}
 
 entry_some : (extended resumed : Bool) (words : ℕ) → 1 ≤ entry_path extended resumed words
@@ -24,11 +25,18 @@ round_some config app clean resumed t =
     let one = entry_some (declaration config t).extended true (function app (body_of app.funcs t)).frame_words in
     omega (arith, one)
 
+entry_counts : (entry own : ℕ) → 1 ≤ entry → 1 ≤ reckoned (with_entry entry own)
+entry_counts entry own le = by (nat_lt 4294967295 (entry + own))
+  where
+    by : (b : Bool) → 1 ≤ reckoned (cond b None (Some (entry + own)))
+    by true = omega arith
+    by false = omega (arith, le)
+
 cost_some : (entry : ℕ) (w : Option ℕ) (s : Sum) → 1 ≤ entry → 1 ≤ reckoned (round_cost entry w s)
-cost_some entry (Some own) (sum.Counts n) le = omega (arith, le)
-cost_some entry (Some own) sum.Huge le = omega (arith, le)
-cost_some entry (Some own) sum.Endless le = omega (arith, le)
-cost_some entry None (sum.Counts own) le = omega (arith, le)
+cost_some entry (Some own) (sum.Counts n) le = entry_counts entry (min own n) le
+cost_some entry (Some own) sum.Huge le = entry_counts entry own le
+cost_some entry (Some own) sum.Endless le = entry_counts entry own le
+cost_some entry None (sum.Counts own) le = entry_counts entry own le
 cost_some entry None sum.Huge le = omega arith
 cost_some entry None sum.Endless le = omega arith
 

@@ -24,6 +24,7 @@ use Rattle.run_windows.specs.declared.costs.SectionCosts.{SectionCosts}
 use Rattle.run_windows.specs.Costs.{no_section}
 use Rattle.run_costs.specs.Rounds.{AreRounds, made, many}
 use Rattle.run_costs.specs.Sections.{IsRaised, DoesRaised}
+use Rattle.run_costs.specs.SectionSums.{is_endless}
 
 -- n entries, each as it is said of its number
 pub record AreEach {X : Type 0} (n : ℕ) (d : X) (Is : ℕ → X → Type 0) (list : List X) : Type 0 where
@@ -62,6 +63,7 @@ pub record IsSectionCosts (config : Config) (app : App) (weights : List BodyWeig
   pub exists : Decides s.exists (IsRaised config app h k)
   pub told : Sum
   pub is_told : IsToldSum (IsSection config app h k) weights told
+  pub is_endless : s.is_endless ≡ is_endless told
   pub counts : s.counts ≡ many told
 
 -- of any task: one that is not lower has none

@@ -1,8 +1,7 @@
 -- The greatest sums of rounds, what rounds cost, and how often they make a task Ready.
-use Rattle.std.specs.Prelude.{ℕ, ◌+◌, ◌≡◌, ◌==◌, min, cond, Bool, true, false, List, Option, Some, None}
+use Rattle.std.specs.Prelude.{ℕ, ◌+◌, ◌≡◌, ◌==◌, nat_lt, min, cond, Bool, true, false, List, Option, Some, None}
 use Rattle.sloth_base.specs.declared.app.App.{App}
 use Rattle.bound_rules.specs.declared.weights.BodyWeights.{BodyWeights}
-use Rattle.run_windows.specs.Costs.{capped}
 use Rattle.walk_sums.specs.declared.sum.Sum.{Sum}
 use Rattle.walk_sums.specs.declared.sum.Sum.TheVariants as sum
 use Rattle.walk_sums.specs.declared.tasks.RoundSums.{RoundSums}
@@ -23,9 +22,9 @@ AreRounds app false extended t weights told = IsToldSum (IsTurn app t) weights t
 
 -- ---- costs
 
--- an entry and so many counts
+-- an entry and so many counts; none above 4,294,967,295
 abbrev pub with_entry : (entry own : ℕ) → Option ℕ
-with_entry entry own = Some (capped (entry + own))
+with_entry entry own = cond (nat_lt 4294967295 (entry + own)) None (Some (entry + own))
 
 -- an entry and a round: by the greatest sum, or by what the load says of the task's work where that is less; none where neither has a limit
 abbrev pub round_cost : (entry : ℕ) → (work : Option ℕ) → Sum → Option ℕ

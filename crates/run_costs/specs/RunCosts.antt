@@ -43,9 +43,13 @@ raising_counts config t = cond (declaration config t).non 0 (call_path service.G
 abbrev pub counts_once : Config → (clean : Bool) → (t : ℕ) → Bool
 counts_once config clean t = not (declaration config t).non && not (clean && (declaration config t).extended)
 
--- What the load says of the work of task t bounds its sections too: but where it is not preemptable, and clean, and waits, since they may have several rounds then.
+-- A task that is not preemptable, and clean, and waits: sections of it may have several rounds.
+abbrev pub has_raised_waits : Config → (clean waits : Bool) → (t : ℕ) → Bool
+has_raised_waits config clean waits t = (declaration config t).non && (clean && waits)
+
+-- What the load says of the work of task t bounds its sections too, but where they may have several rounds.
 abbrev pub section_work : Config → (load : List Entry) → (clean waits : Bool) → (t : ℕ) → Option ℕ
-section_work config load clean waits t = cond ((declaration config t).non && (clean && waits)) None (work load t)
+section_work config load clean waits t = cond (has_raised_waits config clean waits t) None (work load t)
 
 -- what task t costs
 pub record AreRunTaskCosts (config : Config) (app : App) (load : List Entry) (weights : List BodyWeights) (t : ℕ) (c : TaskCosts) : Type 0 where
@@ -63,6 +67,7 @@ pub record AreRunTaskCosts (config : Config) (app : App) (load : List Entry) (we
   pub raising : c.raising ≡ raising_counts config t
   pub waits : Bool
   pub is_waiting : Decides waits (ReachesService app t service.WaitEvent)
+  pub has_raised_waits : c.has_raised_waits ≡ has_raised_waits config clean waits t
   pub section_work : c.section_work ≡ section_work config load clean waits t
   pub service : IsGreatest app t call_path c.service
 

@@ -8,12 +8,18 @@ use Rattle.bound_rules.specs.declared.weights.BodyWeights.{BodyWeights}
 use Rattle.raised_sections.specs.Sections.{IsSection}
 use Rattle.walk_sums.specs.declared.sum.Sum.{Sum}
 use Rattle.walk_sums.specs.declared.sum.Sum.TheVariants as sum
+use Rattle.walk_sums.specs.Sections.{no_sum}
 use Rattle.walk_sums.specs.Told.{IsToldSum}
 
 -- the sum tells that there are sections
 abbrev pub has_some : Sum → Bool
 has_some (sum.Counts n) = not (n == 0)
 has_some s = true
+
+-- the sum tells that there is no greatest one
+abbrev pub is_endless : Sum → Bool
+is_endless sum.Endless = true
+is_endless s = false
 
 abbrev pub is_lower : Config → (h k : ℕ) → Bool
 is_lower config h k = nat_lt (static_priority config k) (static_priority config h)
@@ -29,4 +35,4 @@ does config h k top = cond (declaration config k).non (nat_lt 0 top) (nat_lt (st
 -- the sums of the sections for h of the tasks that are asked for
 abbrev pub AreSummed : Config → App → List BodyWeights → (h : ℕ) → (asked : List Bool) → List Sum → Type 0
 AreSummed config app weights h asked sums =
-    (k : ℕ) → k < length config.tasks → get_or asked k false ≡ true → IsToldSum (IsSection config app h k) weights (get_or sums k (sum.Counts 0))
+    (k : ℕ) → k < length config.tasks → get_or asked k false ≡ true → IsToldSum (IsSection config app h k) weights (get_or sums k no_sum)

@@ -1,28 +1,25 @@
 //! Which tasks come: from none up, each that something makes with those so far, until there is no more.
 ghost use Rattle.std.specs.Prelude.{◌≡◌, ◌<◌, ◌≤◌, ◌&&◌, ℕ, true, false, ltb, is_some, length, get_or, Decides, IfOk};
 ghost use Rattle.sloth_base.specs.Limits.{counter_limit};
-ghost use Rattle.sloth_base.specs.Named.{alarm_declaration};
 ghost use Rattle.sloth_base.specs.Owners.{counter_line};
 ghost use Rattle.load_text.specs.Loads.{distance};
 ghost use Rattle.code_rules.specs.WellFormed.{WellFormed};
-ghost use Rattle.sloth_base.specs.declared.service.Service.TheVariants as service;
-ghost use Rattle.walk_sums.specs.declared.counted.Counted.TheVariants as counts;
-ghost use Rattle.walk_sums.specs.CallOrder.{IsCallOrder};
-ghost use Rattle.walk_sums.specs.KnownBodies.{AreKnownBodies};
 ghost use Rattle.run_costs.specs.CostsOf.{AreEach};
-ghost use Rattle.run_costs.specs.Services.{AreNamingTops, AreAllNamingTops};
-ghost use Rattle.run_costs.specs.Coming.{SomeReaches, SomeSets, IsUsed, MayActivate, SomeExpires, IsMade, marked, AreInAll, AreComing, no_setting, AreSettingTops, IsSettled, unmarked, HasMarked};
+ghost use Rattle.run_costs.specs.Services.{AreAllNamingTops};
+ghost use Rattle.run_costs.specs.Tops.{AreTaskTops};
+ghost use Rattle.run_costs.specs.Coming.{SomeReaches, SomeSets, IsUsed, MayActivate, SomeExpires, IsMade, marked};
+ghost use Rattle.run_costs.specs.Coming.{AreInAll, AreComing, no_setting, AreSettingTops, IsSettled, unmarked};
+ghost use Rattle.run_costs.specs.Coming.{HasMarked};
 
-use crate::objects::{sets_events, task_of};
-use crate::services::{NamingTops, naming_at};
-use crate::tasks::is_autostarted;
-use crate::tops::{task_tops, top_at};
-use bound_rules::{Body, is_marked};
+use crate::objects::{action_task, sets_events};
+use crate::services::{NamingTops, numbered_tops};
+use crate::tops::{numbered_top, task_tops};
+use bound_rules::is_marked;
 use load_text::{Entry, distance_of};
-use sloth_base::{App, Config, FIRST_COUNTER_LINE, List, NoMemory, Service};
+use sloth_base::{Config, FIRST_COUNTER_LINE, List, NoMemory, Service};
 use std::alloc::Global;
 use text_pieces::push;
-use walk_sums::Counted;
+use walk_sums::{Counted, Walks};
 
 /// Which tasks set an alarm: the tops of each of them.
 #[derive(Drop)]
@@ -33,44 +30,25 @@ pub struct SettingTops {
     pub absolute: List<u64>,
 }
 
-fn setting_tops(
-    alloc: Global,
-    config: &Config,
-    app: &App,
-    bodies: &[Body],
-    order: &[usize],
-    alarm: u32,
-) -> Result<SettingTops, NoMemory>
-    requires well_formed { WellFormed config.now app.now }
-    requires bodies { AreKnownBodies config.now app.now bodies.now }
-    requires order { IsCallOrder app.now order.now }
-    ensures { IfOk result (AreSettingTops config.now app.now alarm) }
+fn setting_tops(walks: &Walks, alarm: u32) -> Result<SettingTops, NoMemory>
+    ensures { IfOk result (AreSettingTops walks.now.config walks.now.app alarm) }
 {
-    let calls = Counted::CallsFor(Service::SetRelAlarm, alarm);
-    let relative = task_tops(alloc, config, app, bodies, order, calls)?;
-    let others = Counted::CallsFor(Service::SetAbsAlarm, alarm);
-    let absolute = task_tops(alloc, config, app, bodies, order, others)?;
+    let relative = task_tops(walks, Counted::CallsFor(Service::SetRelAlarm, alarm))?;
+    let absolute = task_tops(walks, Counted::CallsFor(Service::SetAbsAlarm, alarm))?;
     Ok(SettingTops {
         relative: List::from_vec(relative),
         absolute: List::from_vec(absolute),
     })
 }
 
-fn all_setting_tops(
-    alloc: Global,
-    config: &Config,
-    app: &App,
-    bodies: &[Body],
-    order: &[usize],
-) -> Result<Vec<SettingTops>, NoMemory>
-    requires well_formed { WellFormed config.now app.now }
-    requires bodies { AreKnownBodies config.now app.now bodies.now }
-    requires order { IsCallOrder app.now order.now }
-    ensures { IfOk result (λ all. AreEach (length config.now.alarms) no_setting (AreSettingTops config.now app.now) all.items) }
+fn all_setting_tops(walks: &Walks) -> Result<Vec<SettingTops>, NoMemory>
+    ensures { IfOk result (λ all.
+        AreEach (length walks.now.config.alarms) no_setting (AreSettingTops walks.now.config walks.now.app) all.items) }
 {
-    let mut all = Vec::new(alloc);
+    let config = walks.config();
+    let mut all = Vec::new(walks.alloc());
     for alarm in 0..config.alarms.items().len() {
-        let tops = setting_tops(alloc, config, app, bodies, order, alarm as u32)?;
+        let tops = setting_tops(walks, alarm as u32)?;
         push(&mut all, tops)?;
     }
     Ok(all)
@@ -80,15 +58,17 @@ fn all_setting_tops(
 fn comes_and_reaches(marks: &[bool], tops: &[u64], task: usize) -> bool
     ensures { result ≡ (marked marks.now task && ltb 0 (get_or tops.now task 0)) }
 {
-    is_marked(marks, task) && 0 < top_at(tops, task)
+    is_marked(marks, task) && 0 < numbered_top(tops, task)
 }
 
 // Whether one of these tasks does.
-fn some_reaches(config: &Config, marks: &[bool], tops: &[u64]) -> bool
-    ensures some { result ≡ true → (k : ℕ) × (k < length config.now.tasks) × ((marked marks.now k && ltb 0 (get_or tops.now k 0)) ≡ true) }
-    ensures none { (k : ℕ) → k < length config.now.tasks → (marked marks.now k && ltb 0 (get_or tops.now k 0)) ≡ true → result ≡ true }
+fn some_reaches(walks: &Walks, marks: &[bool], tops: &[u64]) -> bool
+    ensures some { result ≡ true → (k : ℕ) × (k < length walks.now.config.tasks)
+        × ((marked marks.now k && ltb 0 (get_or tops.now k 0)) ≡ true) }
+    ensures none { (k : ℕ) → k < length walks.now.config.tasks
+        → (marked marks.now k && ltb 0 (get_or tops.now k 0)) ≡ true → result ≡ true }
 {
-    for task in 0..config.tasks.items().len() {
+    for task in 0..walks.tasks() {
         if comes_and_reaches(marks, tops, task) {
             return true;
         }
@@ -96,78 +76,42 @@ fn some_reaches(config: &Config, marks: &[bool], tops: &[u64]) -> bool
     false
 }
 
-fn is_activated(
-    config: &Config,
-    app: &App,
-    marks: &[bool],
-    naming: &NamingTops,
-    named: usize,
-) -> bool
-    requires well_formed { WellFormed config.now app.now }
-    requires naming { AreNamingTops config.now app.now named naming.now }
-    ensures { Decides result (SomeReaches config.now app.now (marked marks.now) (counts.Activations named)) }
+// Whether a task that comes reaches what counts.
+fn is_reached(walks: &Walks, marks: &[bool], tops: &[u64], counted: Counted) -> bool
+    requires well_formed { WellFormed walks.now.config walks.now.app }
+    requires tops { AreTaskTops walks.now.config walks.now.app counted tops.now }
+    ensures { Decides result (SomeReaches walks.now.config walks.now.app (marked marks.now) counted) }
 {
-    some_reaches(config, marks, naming.either.items())
+    some_reaches(walks, marks, tops)
 }
 
-fn is_set_relative(
-    config: &Config,
-    app: &App,
-    marks: &[bool],
-    tops: &SettingTops,
-    alarm: usize,
-) -> bool
-    requires well_formed { WellFormed config.now app.now }
-    requires tops { AreSettingTops config.now app.now alarm tops.now }
-    ensures { Decides result (SomeReaches config.now app.now (marked marks.now) (counts.CallsFor service.SetRelAlarm alarm)) }
+fn is_set(walks: &Walks, marks: &[bool], tops: &SettingTops, alarm: usize) -> bool
+    requires well_formed { WellFormed walks.now.config walks.now.app }
+    requires inside { alarm < length walks.now.config.alarms }
+    requires tops { AreSettingTops walks.now.config walks.now.app alarm tops.now }
+    ensures { Decides result (SomeSets walks.now.config walks.now.app (marked marks.now) alarm) }
 {
-    some_reaches(config, marks, tops.relative.items())
+    let relative = Counted::CallsFor(Service::SetRelAlarm, alarm as u32);
+    let absolute = Counted::CallsFor(Service::SetAbsAlarm, alarm as u32);
+    is_reached(walks, marks, tops.relative.items(), relative)
+        || is_reached(walks, marks, tops.absolute.items(), absolute)
 }
 
-fn is_set_absolute(
-    config: &Config,
-    app: &App,
-    marks: &[bool],
-    tops: &SettingTops,
-    alarm: usize,
-) -> bool
-    requires well_formed { WellFormed config.now app.now }
-    requires tops { AreSettingTops config.now app.now alarm tops.now }
-    ensures { Decides result (SomeReaches config.now app.now (marked marks.now) (counts.CallsFor service.SetAbsAlarm alarm)) }
-{
-    some_reaches(config, marks, tops.absolute.items())
-}
-
-fn is_set(config: &Config, app: &App, marks: &[bool], tops: &SettingTops, alarm: usize) -> bool
-    requires well_formed { WellFormed config.now app.now }
-    requires tops { AreSettingTops config.now app.now alarm tops.now }
-    ensures { Decides result (SomeSets config.now app.now (marked marks.now) alarm) }
-{
-    is_set_relative(config, app, marks, tops, alarm)
-        || is_set_absolute(config, app, marks, tops, alarm)
-}
-
-fn setting_at(all: &[SettingTops], alarm: usize) -> &SettingTops
+fn numbered_setting(all: &[SettingTops], alarm: usize) -> &SettingTops
     requires { alarm < length all.now }
     ensures { result.now ≡ get_or all.now alarm no_setting }
 {
     &all[alarm]
 }
 
-fn is_used(
-    config: &Config,
-    app: &App,
-    marks: &[bool],
-    settings: &[SettingTops],
-    alarm: usize,
-) -> bool
-    requires well_formed { WellFormed config.now app.now }
-    requires settings { AreEach (length config.now.alarms) no_setting (AreSettingTops config.now app.now) settings.now }
-    requires inside { alarm < length config.now.alarms }
-    ensures { Decides result (IsUsed config.now app.now (marked marks.now) alarm) }
+fn is_used(walks: &Walks, marks: &[bool], settings: &[SettingTops], alarm: usize) -> bool
+    requires settings { AreEach (length walks.now.config.alarms) no_setting
+        (AreSettingTops walks.now.config walks.now.app) settings.now }
+    requires inside { alarm < length walks.now.config.alarms }
+    ensures { Decides result (IsUsed walks.now.config walks.now.app (marked marks.now) alarm) }
 {
-    0 < config.alarms.items()[alarm].time
-        || is_set(config, app, marks, setting_at(settings, alarm), alarm)
+    0 < walks.config().alarms.items()[alarm].time
+        || is_set(walks, marks, numbered_setting(settings, alarm), alarm)
 }
 
 // Whether a counter arrives.
@@ -179,49 +123,48 @@ fn ticks(config: &Config, load: &[Entry], counter: u32) -> bool
     distance_of(load, FIRST_COUNTER_LINE + counter as u8).is_some()
 }
 
-fn may_activate(config: &Config, load: &[Entry], alarm: usize, named: usize) -> bool
-    requires counters { length config.now.counters ≤ counter_limit }
-    requires inside { alarm < length config.now.alarms }
-    requires counter { (alarm_declaration config.now alarm).counter < length config.now.counters }
-    ensures { Decides result (MayActivate config.now load.now alarm named) }
+fn may_activate(walks: &Walks, load: &[Entry], alarm: usize, named: usize) -> bool
+    requires { alarm < length walks.now.config.alarms }
+    ensures { Decides result (MayActivate walks.now.config load.now alarm named) }
 {
+    let config = walks.config();
     let declared = &config.alarms.items()[alarm];
     ticks(config, load, declared.counter)
-        && (!sets_events(&declared.action) && task_of(&declared.action) as usize == named)
+        && (!sets_events(&declared.action) && action_task(&declared.action) as usize == named)
 }
 
 // Whether an alarm that is used activates the task.
 fn expires(
-    config: &Config,
-    app: &App,
+    walks: &Walks,
     load: &[Entry],
     marks: &[bool],
     settings: &[SettingTops],
     alarm: usize,
     named: usize,
 ) -> bool
-    requires well_formed { WellFormed config.now app.now }
-    requires settings { AreEach (length config.now.alarms) no_setting (AreSettingTops config.now app.now) settings.now }
-    requires inside { alarm < length config.now.alarms }
-    ensures { Decides result (MayActivate config.now load.now alarm named × IsUsed config.now app.now (marked marks.now) alarm) }
+    requires settings { AreEach (length walks.now.config.alarms) no_setting
+        (AreSettingTops walks.now.config walks.now.app) settings.now }
+    requires inside { alarm < length walks.now.config.alarms }
+    ensures { Decides result (MayActivate walks.now.config load.now alarm named
+        × IsUsed walks.now.config walks.now.app (marked marks.now) alarm) }
 {
-    may_activate(config, load, alarm, named) && is_used(config, app, marks, settings, alarm)
+    may_activate(walks, load, alarm, named) && is_used(walks, marks, settings, alarm)
 }
 
 fn some_expires(
-    config: &Config,
-    app: &App,
+    walks: &Walks,
     load: &[Entry],
     marks: &[bool],
     settings: &[SettingTops],
     named: usize,
 ) -> bool
-    requires well_formed { WellFormed config.now app.now }
-    requires settings { AreEach (length config.now.alarms) no_setting (AreSettingTops config.now app.now) settings.now }
-    ensures { Decides result (SomeExpires config.now app.now load.now (marked marks.now) named) }
+    requires settings { AreEach (length walks.now.config.alarms) no_setting
+        (AreSettingTops walks.now.config walks.now.app) settings.now }
+    ensures { Decides result (SomeExpires walks.now.config walks.now.app load.now (marked marks.now) named) }
 {
+    let config = walks.config();
     for alarm in 0..config.alarms.items().len() {
-        if expires(config, app, load, marks, settings, alarm, named) {
+        if expires(walks, load, marks, settings, alarm, named) {
             return true;
         }
     }
@@ -230,68 +173,68 @@ fn some_expires(
 
 // Whether something makes the task, where those that are marked come.
 fn is_made(
-    config: &Config,
-    app: &App,
+    walks: &Walks,
     load: &[Entry],
     naming: &[NamingTops],
     settings: &[SettingTops],
     marks: &[bool],
     task: usize,
 ) -> bool
-    requires well_formed { WellFormed config.now app.now }
-    requires naming { AreAllNamingTops config.now app.now naming.now }
-    requires settings { AreEach (length config.now.alarms) no_setting (AreSettingTops config.now app.now) settings.now }
-    requires inside { task < length config.now.tasks }
-    ensures { Decides result (IsMade config.now app.now load.now (marked marks.now) task) }
+    requires naming { AreAllNamingTops walks.now.config walks.now.app naming.now }
+    requires settings { AreEach (length walks.now.config.alarms) no_setting
+        (AreSettingTops walks.now.config walks.now.app) settings.now }
+    requires inside { task < length walks.now.config.tasks }
+    ensures { Decides result (IsMade walks.now.config walks.now.app load.now (marked marks.now) task) }
 {
-    is_autostarted(config, task)
+    let either = numbered_tops(naming, task).either.items();
+    walks.task(task).autostart
         || (distance_of(load, task as u8).is_some()
-            || (is_activated(config, app, marks, naming_at(naming, task), task)
-                || some_expires(config, app, load, marks, settings, task)))
+            || (is_reached(walks, marks, either, Counted::Activations(task as u32))
+                || some_expires(walks, load, marks, settings, task)))
 }
 
 // The same, where it is not marked.
 fn is_new(
-    config: &Config,
-    app: &App,
+    walks: &Walks,
     load: &[Entry],
     naming: &[NamingTops],
     settings: &[SettingTops],
     marks: &[bool],
     task: usize,
 ) -> bool
-    requires well_formed { WellFormed config.now app.now }
-    requires naming { AreAllNamingTops config.now app.now naming.now }
-    requires settings { AreEach (length config.now.alarms) no_setting (AreSettingTops config.now app.now) settings.now }
-    requires inside { task < length config.now.tasks }
-    ensures new { result ≡ true → (marked marks.now task ≡ false) × IsMade config.now app.now load.now (marked marks.now) task }
-    ensures settled { result ≡ false → IsSettled config.now app.now load.now marks.now task }
+    requires naming { AreAllNamingTops walks.now.config walks.now.app naming.now }
+    requires settings { AreEach (length walks.now.config.alarms) no_setting
+        (AreSettingTops walks.now.config walks.now.app) settings.now }
+    requires inside { task < length walks.now.config.tasks }
+    ensures new { result ≡ true → (marked marks.now task ≡ false)
+        × IsMade walks.now.config walks.now.app load.now (marked marks.now) task }
+    ensures settled { result ≡ false → IsSettled walks.now.config walks.now.app load.now marks.now task }
 {
-    !is_marked(marks, task) && is_made(config, app, load, naming, settings, marks, task)
+    !is_marked(marks, task) && is_made(walks, load, naming, settings, marks, task)
 }
 
 // Marks the task, if it is new.
 fn mark(
-    config: &Config,
-    app: &App,
+    walks: &Walks,
     load: &[Entry],
     naming: &[NamingTops],
     settings: &[SettingTops],
     marks: &mut [bool],
     task: usize,
 ) -> bool
-    requires well_formed { WellFormed config.now app.now }
-    requires naming { AreAllNamingTops config.now app.now naming.now }
-    requires settings { AreEach (length config.now.alarms) no_setting (AreSettingTops config.now app.now) settings.now }
-    requires inside { task < length config.now.tasks }
-    requires count { length marks.old ≡ length config.now.tasks }
-    requires within { AreInAll config.now app.now load.now marks.old }
-    ensures count { length marks.new ≡ length config.now.tasks }
-    ensures within { AreInAll config.now app.now load.now marks.new }
+    requires naming { AreAllNamingTops walks.now.config walks.now.app naming.now }
+    requires settings { AreEach (length walks.now.config.alarms) no_setting
+        (AreSettingTops walks.now.config walks.now.app) settings.now }
+    requires inside { task < length walks.now.config.tasks }
+    requires count { length marks.old ≡ length walks.now.config.tasks }
+    requires within { AreInAll walks.now.config walks.now.app load.now marks.old }
+    ensures count { length marks.new ≡ length walks.now.config.tasks }
+    ensures within { AreInAll walks.now.config walks.now.app load.now marks.new }
     ensures marked { result ≡ true → unmarked marks.new < unmarked marks.old }
-    ensures same { result ≡ false → (marks.new ≡ marks.old) × IsSettled config.now app.now load.now marks.old task }
+    ensures same { result ≡ false → (marks.new ≡ marks.old)
+        × IsSettled walks.now.config walks.now.app load.now marks.old task }
 {
-    if !is_new(config, app, load, naming, settings, marks, task) {
+    if !is_new(walks, load, naming, settings, marks, task) {
         return false;
     }
     marks[task] = true;
@@ -299,25 +242,25 @@ fn mark(
 }
 
 fn pass(
-    config: &Config,
-    app: &App,
+    walks: &Walks,
     load: &[Entry],
     naming: &[NamingTops],
     settings: &[SettingTops],
     marks: &mut [bool],
 ) -> bool
-    requires well_formed { WellFormed config.now app.now }
-    requires naming { AreAllNamingTops config.now app.now naming.now }
-    requires settings { AreEach (length config.now.alarms) no_setting (AreSettingTops config.now app.now) settings.now }
-    requires count { length marks.old ≡ length config.now.tasks }
-    requires within { AreInAll config.now app.now load.now marks.old }
-    ensures count { length marks.new ≡ length config.now.tasks }
-    ensures within { AreInAll config.now app.now load.now marks.new }
-    ensures marked { HasMarked config.now app.now load.now marks.old marks.new (length config.now.tasks) result }
+    requires naming { AreAllNamingTops walks.now.config walks.now.app naming.now }
+    requires settings { AreEach (length walks.now.config.alarms) no_setting
+        (AreSettingTops walks.now.config walks.now.app) settings.now }
+    requires count { length marks.old ≡ length walks.now.config.tasks }
+    requires within { AreInAll walks.now.config walks.now.app load.now marks.old }
+    ensures count { length marks.new ≡ length walks.now.config.tasks }
+    ensures within { AreInAll walks.now.config walks.now.app load.now marks.new }
+    ensures marked { HasMarked walks.now.config walks.now.app load.now marks.old marks.new
+        (length walks.now.config.tasks) result }
 {
     let mut grown = false;
-    for task in 0..config.tasks.items().len() {
-        if mark(config, app, load, naming, settings, marks, task) {
+    for task in 0..walks.tasks() {
+        if mark(walks, load, naming, settings, marks, task) {
             grown = true;
         }
     }
@@ -336,42 +279,29 @@ fn none_marked(alloc: Global, count: usize) -> Result<Vec<bool>, NoMemory>
 }
 
 fn settled_marks(
-    alloc: Global,
-    config: &Config,
-    app: &App,
+    walks: &Walks,
     load: &[Entry],
     naming: &[NamingTops],
     settings: &[SettingTops],
 ) -> Result<Vec<bool>, NoMemory>
-    requires well_formed { WellFormed config.now app.now }
-    requires naming { AreAllNamingTops config.now app.now naming.now }
-    requires settings { AreEach (length config.now.alarms) no_setting (AreSettingTops config.now app.now) settings.now }
-    ensures { IfOk result (λ marks. AreComing config.now app.now load.now marks.items) }
+    requires naming { AreAllNamingTops walks.now.config walks.now.app naming.now }
+    requires settings { AreEach (length walks.now.config.alarms) no_setting
+        (AreSettingTops walks.now.config walks.now.app) settings.now }
+    ensures { IfOk result (λ marks. AreComing walks.now.config walks.now.app load.now marks.items) }
 {
-    let mut marks = none_marked(alloc, config.tasks.items().len())?;
+    let mut marks = none_marked(walks.alloc(), walks.tasks())?;
     loop {
-        if !pass(config, app, load, naming, settings, &mut marks) {
+        if !pass(walks, load, naming, settings, &mut marks) {
             return Ok(marks);
         }
     }
 }
 
 /// Which tasks come.
-pub fn coming(
-    alloc: Global,
-    config: &Config,
-    app: &App,
-    load: &[Entry],
-    bodies: &[Body],
-    order: &[usize],
-    naming: &[NamingTops],
-) -> Result<Vec<bool>, NoMemory>
-    requires well_formed { WellFormed config.now app.now }
-    requires bodies { AreKnownBodies config.now app.now bodies.now }
-    requires order { IsCallOrder app.now order.now }
-    requires naming { AreAllNamingTops config.now app.now naming.now }
-    ensures { IfOk result (λ marks. AreComing config.now app.now load.now marks.items) }
+pub fn coming(walks: &Walks, load: &[Entry], naming: &[NamingTops]) -> Result<Vec<bool>, NoMemory>
+    requires { AreAllNamingTops walks.now.config walks.now.app naming.now }
+    ensures { IfOk result (λ marks. AreComing walks.now.config walks.now.app load.now marks.items) }
 {
-    let settings = all_setting_tops(alloc, config, app, bodies, order)?;
-    settled_marks(alloc, config, app, load, naming, &settings)
+    let settings = all_setting_tops(walks)?;
+    settled_marks(walks, load, naming, &settings)
 }

@@ -7,14 +7,13 @@ ghost use Rattle.run_costs.specs.CostsOf.{AreEach, no_counter, Names, task_of, s
 ghost use Rattle.run_costs.specs.RunCosts.{IsRunCounter};
 ghost use Rattle.sloth_base.specs.declared.service.Service.TheVariants as service;
 
-use crate::sought::calls_for;
 use code_lengths::tick_path;
 use load_text::{Entry, distance_of};
 use run_windows::{AlarmCosts, CounterCosts};
 use sloth_base::{Action, App, Config, FIRST_COUNTER_LINE, Func, NoMemory, Service};
 use std::alloc::Global;
 use text_pieces::push;
-use walk_sums::function_at;
+use walk_sums::{calls_object, numbered_function};
 
 // Whether an item of a body calls the service for the alarm.
 fn body_names(service: Service, alarm: u32, func: &Func) -> bool
@@ -22,7 +21,7 @@ fn body_names(service: Service, alarm: u32, func: &Func) -> bool
     ensures none { (i : ℕ) → calls_for alarm service (item_of func.now i).op ≡ true → result ≡ true }
 {
     for number in 0..func.items.items().len() {
-        if calls_for(alarm, service, func.items.items()[number].op) {
+        if calls_object(alarm, service, func.items.items()[number].op) {
             return true;
         }
     }
@@ -33,7 +32,7 @@ fn is_named(app: &App, service: Service, alarm: u32) -> bool
     ensures { Decides result (Names app.now service alarm) }
 {
     for number in 0..app.funcs.items().len() {
-        if body_names(service, alarm, function_at(app, number)) {
+        if body_names(service, alarm, numbered_function(app, number)) {
             return true;
         }
     }
@@ -47,7 +46,7 @@ fn is_set(app: &App, alarm: u32) -> bool
 }
 
 /// The task of an action.
-pub fn task_of(action: &Action) -> u32
+pub fn action_task(action: &Action) -> u32
     ensures { result ≡ task_of action.now }
 {
     match *action {
@@ -74,7 +73,7 @@ fn alarm(config: &Config, app: &App, number: usize) -> AlarmCosts
     let declared = &config.alarms.items()[number];
     AlarmCosts {
         counter: declared.counter,
-        task: task_of(&declared.action),
+        task: action_task(&declared.action),
         sets_events: sets_events(&declared.action),
         time: declared.time,
         cycle: declared.cycle,
@@ -85,7 +84,8 @@ fn alarm(config: &Config, app: &App, number: usize) -> AlarmCosts
 /// Of each alarm.
 pub fn alarms(alloc: Global, config: &Config, app: &App) -> Result<Vec<AlarmCosts>, NoMemory>
     requires { length config.now.alarms ≤ alarm_limit }
-    ensures { IfOk result (λ list. AreEach (length config.now.alarms) no_alarm (IsAlarm config.now app.now) list.items) }
+    ensures { IfOk result (λ list. AreEach (length config.now.alarms) no_alarm
+        (IsAlarm config.now app.now) list.items) }
 {
     let mut list = Vec::new(alloc);
     for number in 0..config.alarms.items().len() {
@@ -114,7 +114,8 @@ pub fn counters(
 ) -> Result<Vec<CounterCosts>, NoMemory>
     requires few { length config.now.counters ≤ counter_limit }
     requires alarms { length config.now.alarms ≤ alarm_limit }
-    ensures { IfOk result (λ list. AreEach (length config.now.counters) no_counter (IsRunCounter config.now load.now) list.items) }
+    ensures { IfOk result (λ list. AreEach (length config.now.counters) no_counter
+        (IsRunCounter config.now load.now) list.items) }
 {
     let mut list = Vec::new(alloc);
     for number in 0..config.counters.items().len() {

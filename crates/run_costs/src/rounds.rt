@@ -1,9 +1,6 @@
 //! The greatest sums of rounds.
 ghost use Rattle.std.specs.Prelude.{◌≡◌, ◌<◌, ℕ, None, true, false, length, get_or, IfOk};
 ghost use Rattle.sloth_base.specs.Named.{declaration};
-ghost use Rattle.code_rules.specs.WellFormed.{WellFormed};
-ghost use Rattle.walk_sums.specs.CallOrder.{IsCallOrder};
-ghost use Rattle.walk_sums.specs.KnownBodies.{AreKnownBodies};
 ghost use Rattle.walk_sums.specs.declared.kinds.Kind.TheVariants as kinds;
 ghost use Rattle.walk_sums.specs.Counted.{counted_weights};
 ghost use Rattle.walk_sums.specs.Weights.{AreWeights};
@@ -13,11 +10,10 @@ ghost use Rattle.run_costs.specs.Rounds.{AreRounds};
 ghost use Rattle.run_costs.specs.Tops.{AreTaskTops};
 ghost use Rattle.run_costs.specs.Tables.{both, rounds_by, AreRoundTables};
 
-use bound_rules::{Body, BodyWeights, Summary, is_marked};
-use sloth_base::{App, Config, List, NoMemory};
-use std::alloc::Global;
+use bound_rules::{BodyWeights, Summary, is_marked};
+use sloth_base::{List, NoMemory};
 use text_pieces::push;
-use walk_sums::{Counted, Kind, RoundSums, Sum, counted_weights, round_sums, turn_sum, whole_sums};
+use walk_sums::{Counted, Kind, RoundSums, Sum, Walks, counted_weights};
 
 /// The summaries of rounds, and those of turns where some task is not clean.
 #[derive(Drop)]
@@ -43,47 +39,29 @@ fn all_marked(marks: &[bool], count: usize) -> bool
     true
 }
 
-fn turns(
-    alloc: Global,
-    config: &Config,
-    app: &App,
-    weights: &[BodyWeights],
-    bodies: &[Body],
-    order: &[usize],
-    clean: &[bool],
-) -> Result<Vec<Summary>, NoMemory>
-    requires well_formed { WellFormed config.now app.now }
-    requires weights { AreWeights app.now weights.now }
-    requires bodies { AreKnownBodies config.now app.now bodies.now }
-    requires order { IsCallOrder app.now order.now }
-    ensures { IfOk result (λ turns. (t : ℕ) → t < length config.now.tasks → get_or clean.now t false ≡ false
-        → AreSums config.now app.now weights.now kinds.Turns None turns.items) }
+fn turns(walks: &Walks, weights: &[BodyWeights], clean: &[bool]) -> Result<Vec<Summary>, NoMemory>
+    requires { AreWeights walks.now.app weights.now }
+    ensures { IfOk result (λ turns. (t : ℕ) → t < length walks.now.config.tasks → get_or clean.now t false ≡ false
+        → AreSums walks.now.config walks.now.app weights.now kinds.Turns None turns.items) }
 {
-    if all_marked(clean, config.tasks.items().len()) {
-        Ok(Vec::new(alloc))
+    if all_marked(clean, walks.tasks()) {
+        Ok(Vec::new(walks.alloc()))
     } else {
-        whole_sums(alloc, config, app, weights, Kind::Turns, bodies, order)
+        walks.whole_sums(weights, Kind::Turns)
     }
 }
 
 /// The summaries by these weights.
 pub fn round_tables(
-    alloc: Global,
-    config: &Config,
-    app: &App,
+    walks: &Walks,
     weights: &[BodyWeights],
-    bodies: &[Body],
-    order: &[usize],
     clean: &[bool],
 ) -> Result<RoundTables, NoMemory>
-    requires well_formed { WellFormed config.now app.now }
-    requires weights { AreWeights app.now weights.now }
-    requires bodies { AreKnownBodies config.now app.now bodies.now }
-    requires order { IsCallOrder app.now order.now }
-    ensures { IfOk result (AreRoundTables config.now app.now weights.now clean.now) }
+    requires { AreWeights walks.now.app weights.now }
+    ensures { IfOk result (AreRoundTables walks.now.config walks.now.app weights.now clean.now) }
 {
-    let rounds = whole_sums(alloc, config, app, weights, Kind::Rounds, bodies, order)?;
-    let turns = turns(alloc, config, app, weights, bodies, order, clean)?;
+    let rounds = walks.whole_sums(weights, Kind::Rounds)?;
+    let turns = turns(walks, weights, clean)?;
     Ok(RoundTables {
         rounds: List::from_vec(rounds),
         turns: List::from_vec(turns),
@@ -100,56 +78,41 @@ fn both(sum: Sum) -> RoundSums
 }
 
 // A basic task has no rounds but the first ones.
-fn rounds_by(extended: bool, sums: RoundSums) -> RoundSums
+fn extended_rounds(extended: bool, sums: RoundSums) -> RoundSums
     ensures { result ≡ rounds_by extended sums }
 {
     if extended { sums } else { both(sums.first) }
 }
 
-fn is_extended(config: &Config, task: usize) -> bool
-    requires { task < length config.now.tasks }
-    ensures { result ≡ (declaration config.now task).extended }
-{
-    config.tasks.items()[task].extended
-}
-
 // Those of a task that is clean.
-fn clean_sums(
-    config: &Config,
-    app: &App,
-    weights: &[BodyWeights],
-    table: &[Summary],
-    task: usize,
-) -> RoundSums
-    requires well_formed { WellFormed config.now app.now }
-    requires weights { AreWeights app.now weights.now }
-    requires table { AreSums config.now app.now weights.now kinds.Rounds None table.now }
-    requires inside { task < length config.now.tasks }
-    ensures { AreRounds app.now true (declaration config.now task).extended task weights.now result }
+fn clean_sums(walks: &Walks, weights: &[BodyWeights], table: &[Summary], task: usize) -> RoundSums
+    requires weights { AreWeights walks.now.app weights.now }
+    requires table { AreSums walks.now.config walks.now.app weights.now kinds.Rounds None table.now }
+    requires inside { task < length walks.now.config.tasks }
+    ensures { AreRounds walks.now.app true (declaration walks.now.config task).extended task weights.now result }
 {
-    let sums = round_sums(config, app, weights, table, task);
-    rounds_by(is_extended(config, task), sums)
+    let sums = walks.round_sums(weights, table, task);
+    extended_rounds(walks.task(task).extended, sums)
 }
 
 /// The sums of the rounds of a task.
-pub fn sums_of(
-    config: &Config,
-    app: &App,
+pub fn task_rounds(
+    walks: &Walks,
     weights: &[BodyWeights],
     tables: &RoundTables,
     clean: &[bool],
     task: usize,
 ) -> RoundSums
-    requires well_formed { WellFormed config.now app.now }
-    requires weights { AreWeights app.now weights.now }
-    requires tables { AreRoundTables config.now app.now weights.now clean.now tables.now }
-    requires inside { task < length config.now.tasks }
-    ensures { AreRounds app.now (get_or clean.now task false) (declaration config.now task).extended task weights.now result }
+    requires weights { AreWeights walks.now.app weights.now }
+    requires tables { AreRoundTables walks.now.config walks.now.app weights.now clean.now tables.now }
+    requires inside { task < length walks.now.config.tasks }
+    ensures { AreRounds walks.now.app (get_or clean.now task false) (declaration walks.now.config task).extended task
+        weights.now result }
 {
     if is_marked(clean, task) {
-        clean_sums(config, app, weights, tables.rounds.items(), task)
+        clean_sums(walks, weights, tables.rounds.items(), task)
     } else {
-        both(turn_sum(config, app, weights, tables.turns.items(), task))
+        both(walks.turn_sum(weights, tables.turns.items(), task))
     }
 }
 
@@ -167,46 +130,36 @@ fn some_top(tops: &[u64]) -> bool
 }
 
 fn no_counted_sums(
-    alloc: Global,
-    config: &Config,
-    app: &App,
+    walks: &Walks,
     clean: &[bool],
     tops: &[u64],
     counted: Counted,
 ) -> Result<Vec<RoundSums>, NoMemory>
-    requires well_formed { WellFormed config.now app.now }
-    requires tops { AreTaskTops config.now app.now counted tops.now }
+    requires tops { AreTaskTops walks.now.config walks.now.app counted tops.now }
     requires none { (t : ℕ) → get_or tops.now t 0 ≡ 0 }
-    ensures { IfOk result (λ sums. AreCountedSums config.now app.now clean.now counted sums.items) }
+    ensures { IfOk result (λ sums. AreCountedSums walks.now.config walks.now.app clean.now counted sums.items) }
 {
-    let mut sums = Vec::new(alloc);
-    for _task in 0..config.tasks.items().len() {
+    let mut sums = Vec::new(walks.alloc());
+    for _task in 0..walks.tasks() {
         push(&mut sums, NO_SUMS)?;
     }
     Ok(sums)
 }
 
-fn counted_sums_by(
-    alloc: Global,
-    config: &Config,
-    app: &App,
+fn weighed_sums(
+    walks: &Walks,
     weights: &[BodyWeights],
-    bodies: &[Body],
-    order: &[usize],
     clean: &[bool],
     counted: Counted,
 ) -> Result<Vec<RoundSums>, NoMemory>
-    requires well_formed { WellFormed config.now app.now }
-    requires is { weights.now ≡ counted_weights counted app.now }
-    requires fit { AreWeights app.now weights.now }
-    requires bodies { AreKnownBodies config.now app.now bodies.now }
-    requires order { IsCallOrder app.now order.now }
-    ensures { IfOk result (λ sums. AreCountedSums config.now app.now clean.now counted sums.items) }
+    requires is { weights.now ≡ counted_weights counted walks.now.app }
+    requires fit { AreWeights walks.now.app weights.now }
+    ensures { IfOk result (λ sums. AreCountedSums walks.now.config walks.now.app clean.now counted sums.items) }
 {
-    let tables = round_tables(alloc, config, app, weights, bodies, order, clean)?;
-    let mut sums = Vec::new(alloc);
-    for task in 0..config.tasks.items().len() {
-        let sum = sums_of(config, app, weights, &tables, clean, task);
+    let tables = round_tables(walks, weights, clean)?;
+    let mut sums = Vec::new(walks.alloc());
+    for task in 0..walks.tasks() {
+        let sum = task_rounds(walks, weights, &tables, clean, task);
         push(&mut sums, sum)?;
     }
     Ok(sums)
@@ -214,24 +167,18 @@ fn counted_sums_by(
 
 /// How often rounds of all tasks do what counts, by their tops.
 pub fn counted_sums(
-    alloc: Global,
-    config: &Config,
-    app: &App,
-    bodies: &[Body],
-    order: &[usize],
+    walks: &Walks,
     clean: &[bool],
     tops: &[u64],
     counted: Counted,
 ) -> Result<Vec<RoundSums>, NoMemory>
-    requires well_formed { WellFormed config.now app.now }
-    requires bodies { AreKnownBodies config.now app.now bodies.now }
-    requires order { IsCallOrder app.now order.now }
-    requires tops { AreTaskTops config.now app.now counted tops.now }
-    ensures { IfOk result (λ sums. AreCountedSums config.now app.now clean.now counted sums.items) }
+    requires { AreTaskTops walks.now.config walks.now.app counted tops.now }
+    ensures { IfOk result (λ sums. AreCountedSums walks.now.config walks.now.app clean.now counted sums.items) }
 {
     if !some_top(tops) {
-        return no_counted_sums(alloc, config, app, clean, tops, counted);
+        return no_counted_sums(walks, clean, tops, counted);
     }
-    let weights = counted_weights(alloc, app, counted)?;
-    counted_sums_by(alloc, config, app, &weights, bodies, order, clean, counted)
+    let app = walks.app();
+    let weights = counted_weights(walks.alloc(), app, counted)?;
+    weighed_sums(walks, &weights, clean, counted)
 }

@@ -1,41 +1,29 @@
 //! The raised sections of lower tasks.
-ghost use Rattle.std.specs.Prelude.{◌≡◌, ◌<◌, None, Some, true, false, length, IfOk};
-ghost use Rattle.code_rules.specs.WellFormed.{WellFormed};
-ghost use Rattle.osek_scheduler.specs.Apart.{static_priority};
-ghost use Rattle.raised_sections.specs.Sections.{IsLower};
-ghost use Rattle.walk_sums.specs.CallOrder.{IsCallOrder};
-ghost use Rattle.walk_sums.specs.KnownBodies.{AreKnownBodies};
+ghost use Rattle.std.specs.Prelude.{◌≡◌, ◌<◌, None, length, get_or, IfOk};
 ghost use Rattle.walk_sums.specs.declared.kinds.Kind.TheVariants as kinds;
 ghost use Rattle.walk_sums.specs.Known.{AreSums};
 ghost use Rattle.walk_sums.specs.Weights.{AreWeights};
+ghost use Rattle.walk_sums.specs.Sections.{no_sum};
 ghost use Rattle.run_windows.specs.Costs.{no_section};
 ghost use Rattle.run_costs.specs.CostsOf.{AreEach, IsTaskSection};
+ghost use Rattle.run_costs.specs.Rounds.{many};
 ghost use Rattle.run_costs.specs.Sections.{AllWeigh};
-ghost use Rattle.run_costs.specs.SectionSums.{is_lower, has_some};
+ghost use Rattle.run_costs.specs.SectionSums.{is_lower, has_some, is_endless};
 
 use crate::makings::many;
-use bound_rules::{Body, BodyWeights, Summary};
+use bound_rules::{BodyWeights, Summary};
 use run_windows::SectionCosts;
-use sloth_base::{App, Config, NoMemory};
-use std::alloc::Global;
+use sloth_base::NoMemory;
 use text_pieces::push;
-use walk_sums::{Sum, own_sums, section_sum};
-
-/// The static priority of a task.
-pub fn priority_of(config: &Config, task: usize) -> u32
-    requires { task < length config.now.tasks }
-    ensures { result ≡ static_priority config.now task }
-{
-    config.tasks.items()[task].priority
-}
+use walk_sums::{Sum, Walks, Weighed};
 
 /// Whether a task is lower than this one.
-pub fn is_lower(config: &Config, above: usize, task: usize) -> bool
-    requires above { above < length config.now.tasks }
-    requires task { task < length config.now.tasks }
-    ensures { result ≡ is_lower config.now above task }
+pub fn is_lower(walks: &Walks, above: usize, task: usize) -> bool
+    requires above { above < length walks.now.config.tasks }
+    requires task { task < length walks.now.config.tasks }
+    ensures { result ≡ is_lower walks.now.config above task }
 {
-    priority_of(config, task) < priority_of(config, above)
+    walks.priority(task) < walks.priority(above)
 }
 
 fn has_some(sum: Sum) -> bool
@@ -47,107 +35,56 @@ fn has_some(sum: Sum) -> bool
     }
 }
 
-// Those of a lower task.
-fn lower_section(
-    config: &Config,
-    app: &App,
-    weights: &[BodyWeights],
-    whole: &[Summary],
-    own: &[Summary],
-    above: usize,
-    task: usize,
-) -> SectionCosts
-    requires well_formed { WellFormed config.now app.now }
-    requires weigh { AllWeigh app.now weights.now }
-    requires fit { AreWeights app.now weights.now }
-    requires whole { AreSums config.now app.now weights.now kinds.Sections None whole.now }
-    requires own { AreSums config.now app.now weights.now kinds.Sections (Some (static_priority config.now above)) own.now }
-    requires above { above < length config.now.tasks }
-    requires lower { IsLower config.now above task }
-    ensures { IsTaskSection config.now app.now weights.now above task result }
+/// The sum of a task; without limit behind the last one.
+pub fn numbered_sum(sums: &[Sum], task: usize) -> Sum
+    ensures { result ≡ get_or sums.now task no_sum }
 {
-    let sum = section_sum(config, app, weights, whole, own, above, task);
+    match sums.get(task) {
+        Some(sum) => *sum,
+        None => Sum::Endless,
+    }
+}
+
+fn is_endless(sum: Sum) -> bool
+    ensures { result ≡ is_endless sum }
+{
+    match sum {
+        Sum::Endless => true,
+        Sum::Counts(_) | Sum::Huge => false,
+    }
+}
+
+// The sections of a task, by their greatest sum.
+fn summed_sections(sum: Sum) -> SectionCosts
+    ensures exists { result.exists ≡ has_some sum }
+    ensures endless { result.is_endless ≡ is_endless sum }
+    ensures counts { result.counts ≡ many sum }
+{
     SectionCosts {
         exists: has_some(sum),
+        is_endless: is_endless(sum),
         counts: many(sum),
     }
 }
 
-// Those of any task.
-fn section_of(
-    config: &Config,
-    app: &App,
-    weights: &[BodyWeights],
-    whole: &[Summary],
-    own: &[Summary],
-    above: usize,
-    task: usize,
-) -> SectionCosts
-    requires well_formed { WellFormed config.now app.now }
-    requires weigh { AllWeigh app.now weights.now }
-    requires fit { AreWeights app.now weights.now }
-    requires whole { AreSums config.now app.now weights.now kinds.Sections None whole.now }
-    requires own { AreSums config.now app.now weights.now kinds.Sections (Some (static_priority config.now above)) own.now }
-    requires above { above < length config.now.tasks }
-    requires task { task < length config.now.tasks }
-    ensures { IsTaskSection config.now app.now weights.now above task result }
-{
-    if is_lower(config, above, task) {
-        lower_section(config, app, weights, whole, own, above, task)
-    } else {
-        SectionCosts {
-            exists: false,
-            counts: Some(0),
-        }
-    }
-}
-
-fn sections_by(
-    alloc: Global,
-    config: &Config,
-    app: &App,
-    weights: &[BodyWeights],
-    whole: &[Summary],
-    own: &[Summary],
-    above: usize,
-) -> Result<Vec<SectionCosts>, NoMemory>
-    requires well_formed { WellFormed config.now app.now }
-    requires weigh { AllWeigh app.now weights.now }
-    requires fit { AreWeights app.now weights.now }
-    requires whole { AreSums config.now app.now weights.now kinds.Sections None whole.now }
-    requires own { AreSums config.now app.now weights.now kinds.Sections (Some (static_priority config.now above)) own.now }
-    requires above { above < length config.now.tasks }
-    ensures { IfOk result (λ list. AreEach (length config.now.tasks) no_section (IsTaskSection config.now app.now weights.now above) list.items) }
-{
-    let mut list = Vec::new(alloc);
-    for task in 0..config.tasks.items().len() {
-        let section = section_of(config, app, weights, whole, own, above, task);
-        push(&mut list, section)?;
-    }
-    Ok(list)
-}
-
 /// The sections of all tasks for one, by the summaries where callers have raised a task.
 pub fn sections(
-    alloc: Global,
-    config: &Config,
-    app: &App,
+    walks: &Walks,
     weights: &[BodyWeights],
     whole: &[Summary],
-    bodies: &[Body],
-    order: &[usize],
     above: usize,
 ) -> Result<Vec<SectionCosts>, NoMemory>
-    requires well_formed { WellFormed config.now app.now }
-    requires weigh { AllWeigh app.now weights.now }
-    requires fit { AreWeights app.now weights.now }
-    requires whole { AreSums config.now app.now weights.now kinds.Sections None whole.now }
-    requires bodies { AreKnownBodies config.now app.now bodies.now }
-    requires order { IsCallOrder app.now order.now }
-    requires above { above < length config.now.tasks }
-    ensures { IfOk result (λ list. AreEach (length config.now.tasks) no_section (IsTaskSection config.now app.now weights.now above) list.items) }
+    requires weigh { AllWeigh walks.now.app weights.now }
+    requires fit { AreWeights walks.now.app weights.now }
+    requires whole { AreSums walks.now.config walks.now.app weights.now kinds.Sections None whole.now }
+    requires above { above < length walks.now.config.tasks }
+    ensures { IfOk result (λ list. AreEach (length walks.now.config.tasks) no_section
+        (IsTaskSection walks.now.config walks.now.app weights.now above) list.items) }
 {
-    let priority = priority_of(config, above);
-    let own = own_sums(alloc, config, app, weights, bodies, order, priority, whole)?;
-    sections_by(alloc, config, app, weights, whole, &own, above)
+    let sums = Weighed::new(walks, weights, whole).sums_above(above)?;
+    let mut list = Vec::new(walks.alloc());
+    for task in 0..walks.tasks() {
+        push(&mut list, summed_sections(numbered_sum(&sums, task)))?;
+    }
+    Ok(list)
 }

@@ -1,19 +1,15 @@
 //! Which services tasks reach.
 ghost use Rattle.std.specs.Prelude.{◌≡◌, ◌<◌, [], length, get_or, IfOk};
-ghost use Rattle.code_rules.specs.WellFormed.{WellFormed};
-ghost use Rattle.walk_sums.specs.CallOrder.{IsCallOrder};
-ghost use Rattle.walk_sums.specs.KnownBodies.{AreKnownBodies};
 ghost use Rattle.run_windows.specs.Costs.{no_services};
-ghost use Rattle.run_costs.specs.Services.{no_tops, AreNamingTops, AreAllNamingTops, AreServiceTops, services_by, reaches};
+ghost use Rattle.run_costs.specs.Services.{no_tops, AreNamingTops, AreAllNamingTops, AreServiceTops, services_by};
+ghost use Rattle.run_costs.specs.Services.{reaches};
 ghost use Rattle.run_costs.specs.CostsOf.{AreEach, AreServices};
 
-use crate::tops::{task_tops, top_at};
-use bound_rules::Body;
+use crate::tops::{numbered_top, task_tops};
 use run_windows::Services;
-use sloth_base::{App, Config, List, NoMemory, Service};
-use std::alloc::Global;
+use sloth_base::{List, NoMemory, Service};
 use text_pieces::push;
-use walk_sums::Counted;
+use walk_sums::{Counted, Walks};
 
 /// How tasks make one task Ready: the tops of each of them.
 #[derive(Drop)]
@@ -29,31 +25,13 @@ pub struct NamingTops {
 }
 
 // The same of calls that name a task.
-fn naming_tops(
-    alloc: Global,
-    config: &Config,
-    app: &App,
-    bodies: &[Body],
-    order: &[usize],
-    named: u32,
-) -> Result<NamingTops, NoMemory>
-    requires well_formed { WellFormed config.now app.now }
-    requires bodies { AreKnownBodies config.now app.now bodies.now }
-    requires order { IsCallOrder app.now order.now }
-    ensures { IfOk result (AreNamingTops config.now app.now named) }
+fn naming_tops(walks: &Walks, named: u32) -> Result<NamingTops, NoMemory>
+    ensures { IfOk result (AreNamingTops walks.now.config walks.now.app named) }
 {
-    let calls = Counted::CallsFor(Service::ActivateTask, named);
-    let activation = task_tops(alloc, config, app, bodies, order, calls)?;
-    let chain = task_tops(alloc, config, app, bodies, order, Counted::Chains(named))?;
-    let either = task_tops(
-        alloc,
-        config,
-        app,
-        bodies,
-        order,
-        Counted::Activations(named),
-    )?;
-    let setting = task_tops(alloc, config, app, bodies, order, Counted::Settings(named))?;
+    let activation = task_tops(walks, Counted::CallsFor(Service::ActivateTask, named))?;
+    let chain = task_tops(walks, Counted::Chains(named))?;
+    let either = task_tops(walks, Counted::Activations(named))?;
+    let setting = task_tops(walks, Counted::Settings(named))?;
     Ok(NamingTops {
         activation: List::from_vec(activation),
         chain: List::from_vec(chain),
@@ -63,57 +41,46 @@ fn naming_tops(
 }
 
 /// Those of all tasks, by the task that is named.
-pub fn all_naming_tops(
-    alloc: Global,
-    config: &Config,
-    app: &App,
-    bodies: &[Body],
-    order: &[usize],
-) -> Result<Vec<NamingTops>, NoMemory>
-    requires well_formed { WellFormed config.now app.now }
-    requires bodies { AreKnownBodies config.now app.now bodies.now }
-    requires order { IsCallOrder app.now order.now }
-    ensures { IfOk result (λ all. AreAllNamingTops config.now app.now all.items) }
+pub fn all_naming_tops(walks: &Walks) -> Result<Vec<NamingTops>, NoMemory>
+    ensures { IfOk result (λ all. AreAllNamingTops walks.now.config walks.now.app all.items) }
 {
-    let mut all = Vec::new(alloc);
-    for named in 0..config.tasks.items().len() {
-        let tops = naming_tops(alloc, config, app, bodies, order, named as u32)?;
+    let mut all = Vec::new(walks.alloc());
+    for named in 0..walks.tasks() {
+        let tops = naming_tops(walks, named as u32)?;
         push(&mut all, tops)?;
     }
     Ok(all)
 }
 
-fn services_by(tops: &NamingTops, task: usize) -> Services
+fn reached_services(tops: &NamingTops, task: usize) -> Services
     ensures { result ≡ services_by tops.now task }
 {
     Services {
-        activates: 0 < top_at(tops.activation.items(), task),
-        chains: 0 < top_at(tops.chain.items(), task),
-        sets_events: 0 < top_at(tops.setting.items(), task),
+        activates: 0 < numbered_top(tops.activation.items(), task),
+        chains: 0 < numbered_top(tops.chain.items(), task),
+        sets_events: 0 < numbered_top(tops.setting.items(), task),
     }
 }
 
 // The services of all tasks that name one.
-fn services_for(
-    alloc: Global,
-    config: &Config,
-    app: &App,
+fn naming_services(
+    walks: &Walks,
     tops: &NamingTops,
     named: usize,
 ) -> Result<Vec<Services>, NoMemory>
-    requires well_formed { WellFormed config.now app.now }
-    requires tops { AreNamingTops config.now app.now named tops.now }
-    ensures { IfOk result (λ row. AreEach (length config.now.tasks) no_services (AreServices app.now named) row.items) }
+    requires { AreNamingTops walks.now.config walks.now.app named tops.now }
+    ensures { IfOk result (λ row.
+        AreEach (length walks.now.config.tasks) no_services (AreServices walks.now.app named) row.items) }
 {
-    let mut row = Vec::new(alloc);
-    for task in 0..config.tasks.items().len() {
-        push(&mut row, services_by(tops, task))?;
+    let mut row = Vec::new(walks.alloc());
+    for task in 0..walks.tasks() {
+        push(&mut row, reached_services(tops, task))?;
     }
     Ok(row)
 }
 
 /// The tops by the task that is named.
-pub fn naming_at(all: &[NamingTops], named: usize) -> &NamingTops
+pub fn numbered_tops(all: &[NamingTops], named: usize) -> &NamingTops
     requires { named < length all.now }
     ensures { result.now ≡ get_or all.now named no_tops }
 {
@@ -121,20 +88,14 @@ pub fn naming_at(all: &[NamingTops], named: usize) -> &NamingTops
 }
 
 /// The services of all tasks, by the task that they name.
-pub fn services(
-    alloc: Global,
-    config: &Config,
-    app: &App,
-    all: &[NamingTops],
-) -> Result<Vec<List<Services>>, NoMemory>
-    requires well_formed { WellFormed config.now app.now }
-    requires all { AreAllNamingTops config.now app.now all.now }
-    ensures { IfOk result (λ table. AreEach (length config.now.tasks) []
-        (λ j. AreEach (length config.now.tasks) no_services (AreServices app.now j)) table.items) }
+pub fn services(walks: &Walks, all: &[NamingTops]) -> Result<Vec<List<Services>>, NoMemory>
+    requires { AreAllNamingTops walks.now.config walks.now.app all.now }
+    ensures { IfOk result (λ table. AreEach (length walks.now.config.tasks) []
+        (λ j. AreEach (length walks.now.config.tasks) no_services (AreServices walks.now.app j)) table.items) }
 {
-    let mut table = Vec::new(alloc);
-    for named in 0..config.tasks.items().len() {
-        let row = services_for(alloc, config, app, naming_at(all, named), named)?;
+    let mut table = Vec::new(walks.alloc());
+    for named in 0..walks.tasks() {
+        let row = naming_services(walks, numbered_tops(all, named), named)?;
         push(&mut table, List::from_vec(row))?;
     }
     Ok(table)
@@ -143,41 +104,22 @@ pub fn services(
 // ---- the longest service
 
 // The tops of the service of a code.
-fn tops_of_code(
-    alloc: Global,
-    config: &Config,
-    app: &App,
-    bodies: &[Body],
-    order: &[usize],
-    code: u8,
-) -> Result<Vec<u64>, NoMemory>
-    requires well_formed { WellFormed config.now app.now }
-    requires bodies { AreKnownBodies config.now app.now bodies.now }
-    requires order { IsCallOrder app.now order.now }
-    ensures { IfOk result (λ tops. AreServiceTops config.now app.now code tops.items) }
+fn code_tops(walks: &Walks, code: u8) -> Result<Vec<u64>, NoMemory>
+    ensures { IfOk result (λ tops. AreServiceTops walks.now.config walks.now.app code tops.items) }
 {
     match Service::from_code(code) {
-        Some(service) => task_tops(alloc, config, app, bodies, order, Counted::Calls(service)),
-        None => Ok(Vec::new(alloc)),
+        Some(service) => task_tops(walks, Counted::Calls(service)),
+        None => Ok(Vec::new(walks.alloc())),
     }
 }
 
 /// The tops of each service, by its code.
-pub fn service_tops(
-    alloc: Global,
-    config: &Config,
-    app: &App,
-    bodies: &[Body],
-    order: &[usize],
-) -> Result<Vec<List<u64>>, NoMemory>
-    requires well_formed { WellFormed config.now app.now }
-    requires bodies { AreKnownBodies config.now app.now bodies.now }
-    requires order { IsCallOrder app.now order.now }
-    ensures { IfOk result (λ all. AreEach 16 [] (AreServiceTops config.now app.now) all.items) }
+pub fn service_tops(walks: &Walks) -> Result<Vec<List<u64>>, NoMemory>
+    ensures { IfOk result (λ all. AreEach 16 [] (AreServiceTops walks.now.config walks.now.app) all.items) }
 {
-    let mut all = Vec::new(alloc);
+    let mut all = Vec::new(walks.alloc());
     for code in 0..16 {
-        let tops = tops_of_code(alloc, config, app, bodies, order, code)?;
+        let tops = code_tops(walks, code)?;
         push(&mut all, List::from_vec(tops))?;
     }
     Ok(all)
@@ -187,7 +129,7 @@ fn code_top(all: &[List<u64>], code: usize, task: usize) -> u64
     ensures { result ≡ get_or (get_or all.now code []) task 0 }
 {
     match all.get(code) {
-        Some(tops) => top_at(tops.items(), task),
+        Some(tops) => numbered_top(tops.items(), task),
         None => 0,
     }
 }

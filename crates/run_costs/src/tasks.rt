@@ -1,183 +1,114 @@
 //! What entries and rounds of tasks cost.
-ghost use Rattle.std.specs.Prelude.{Some, None, ◌&&◌, ◌≡◌, ◌<◌, ◌≤◌, ℕ, All, [], false, length, get_or, Decides, IfOk};
+ghost use Rattle.std.specs.Prelude.{Some, None, ◌&&◌, ◌≡◌, ◌<◌, ℕ, [], false, cond, length, get_or, Decides, IfOk};
 ghost use Rattle.sloth_base.specs.Named.{declaration};
-ghost use Rattle.sloth_base.specs.Limits.{task_limit, frame_limit};
-ghost use Rattle.load_text.specs.Loads.{work};
+ghost use Rattle.sloth_base.specs.ServiceCodes.{service_of};
+ghost use Rattle.sloth_base.specs.declared.service.Service.TheVariants as service;
 ghost use Rattle.code_lengths.specs.LongestPaths.{enter_path};
 ghost use Rattle.code_rules.specs.WellFormed.{WellFormed};
-ghost use Rattle.call_graph.specs.Tables.{HasTaskBody};
-ghost use Rattle.walk_sums.specs.CallOrder.{IsCallOrder};
-ghost use Rattle.walk_sums.specs.KnownBodies.{AreKnownBodies};
 ghost use Rattle.walk_sums.specs.Rounds.{IsClean};
 ghost use Rattle.walk_sums.specs.Weights.{AreWeights};
 ghost use Rattle.run_windows.specs.Costs.{no_task};
+ghost use Rattle.run_windows.specs.RunWindows.{call_path};
 ghost use Rattle.run_costs.specs.CostsOf.{AreEach, IsGreatest};
 ghost use Rattle.run_costs.specs.Rounds.{with_entry, round_cost};
 ghost use Rattle.run_costs.specs.Services.{AreServiceTops, reaches, reached_path};
 ghost use Rattle.run_costs.specs.Tables.{AreRoundTables};
-ghost use Rattle.sloth_base.specs.ServiceCodes.{service_of};
-ghost use Rattle.sloth_base.specs.declared.service.Service.TheVariants as service;
-ghost use Rattle.event_weights.specs.Events.{enter_counts};
-ghost use Rattle.run_windows.specs.RunWindows.{call_path};
-ghost use Rattle.run_costs.specs.RunCosts.{round_entry, raising_counts, section_work, counts_once, AreRunTaskCosts};
+ghost use Rattle.run_costs.specs.RunCosts.{round_entry, raising_counts, has_raised_waits, counts_once, AreRunTaskCosts};
 
-use crate::rounds::{RoundTables, round_tables, sums_of};
-use crate::sections::priority_of;
+use crate::rounds::{RoundTables, round_tables, task_rounds};
 use crate::services::reaches;
-use bound_rules::{Body, BodyWeights, is_marked};
+use bound_rules::{BodyWeights, is_marked};
 use code_lengths::entry_path;
 use load_text::{Entry, distance_of, work_of};
-use run_windows::{TaskCosts, call_path, plus};
-use sloth_base::{App, Config, List, NoMemory, Service};
-use stack_bounds::body_of;
-use std::alloc::Global;
+use run_windows::{TaskCosts, call_path};
+use sloth_base::{List, NoMemory, Service};
 use text_pieces::push;
-use walk_sums::Sum;
+use walk_sums::{Sum, Walks};
 
 // The entry of a task, that starts anew or goes on behind a wait.
-fn entry(config: &Config, app: &App, resumed: bool, task: usize) -> u32
-    requires inside { task < length config.now.tasks }
-    requires body { HasTaskBody app.now.funcs task }
-    requires frames { All (λ func. func.frame_words ≤ frame_limit) app.now.funcs }
-    ensures is { result ≡ enter_path config.now app.now resumed task }
-    ensures short { result ≤ 108 }
+fn entry(walks: &Walks, resumed: bool, task: usize) -> u32
+    requires { task < length walks.now.config.tasks }
+    ensures { result ≡ enter_path walks.now.config walks.now.app resumed task }
 {
-    let words = app.funcs.items()[body_of(app.funcs.items(), task)].frame_words;
-    entry_path(config.tasks.items()[task].extended, resumed, words)
-}
-
-/// Whether the task is activated as the system starts.
-pub fn is_autostarted(config: &Config, task: usize) -> bool
-    requires { task < length config.now.tasks }
-    ensures { result ≡ (declaration config.now task).autostart }
-{
-    config.tasks.items()[task].autostart
-}
-
-fn enter_counts(config: &Config, app: &App, resumed: bool, task: usize) -> u32
-    requires inside { task < length config.now.tasks }
-    requires body { HasTaskBody app.now.funcs task }
-    requires frames { All (λ func. func.frame_words ≤ frame_limit) app.now.funcs }
-    ensures is { result ≡ enter_counts config.now app.now resumed task }
-    ensures short { result ≤ 108 }
-{
-    let either = entry(config, app, resumed, task);
-    either.max(entry(config, app, true, task))
+    let app = walks.app();
+    let words = app.funcs.items()[walks.body(task)].frame_words;
+    entry_path(walks.task(task).extended, resumed, words)
 }
 
 // The entry of a round.
-fn round_entry(config: &Config, app: &App, clean: bool, resumed: bool, task: usize) -> u32
-    requires inside { task < length config.now.tasks }
-    requires body { HasTaskBody app.now.funcs task }
-    requires frames { All (λ func. func.frame_words ≤ frame_limit) app.now.funcs }
-    ensures { result ≡ round_entry config.now app.now clean resumed task }
+fn round_entry(walks: &Walks, clean: bool, resumed: bool, task: usize) -> u32
+    requires { task < length walks.now.config.tasks }
+    ensures { result ≡ round_entry walks.now.config walks.now.app clean resumed task }
 {
-    enter_counts(config, app, clean && resumed, task)
+    let either = entry(walks, clean && resumed, task);
+    either.max(entry(walks, true, task))
 }
 
 // An entry and so many counts.
 fn with_entry(entry: u32, own: u32) -> Option<u32>
     ensures { result ≡ with_entry entry own }
 {
-    Some(plus(entry, own))
+    entry.checked_add(own)
 }
 
-// An entry and a round that takes so many counts at most, by the load.
-fn bounded_cost(entry: u32, own: u32, sum: Sum) -> Option<u32>
-    ensures { result ≡ round_cost entry (Some own) sum }
-{
-    match sum {
-        Sum::Counts(counts) => with_entry(entry, own.min(counts)),
-        Sum::Huge | Sum::Endless => with_entry(entry, own),
-    }
-}
-
-// An entry and a round of which the load says nothing.
-fn summed_cost(entry: u32, sum: Sum) -> Option<u32>
-    ensures { result ≡ round_cost entry None sum }
-{
-    match sum {
-        Sum::Counts(counts) => with_entry(entry, counts),
-        Sum::Huge | Sum::Endless => None,
-    }
-}
-
+// An entry and a round: by the greatest sum, and by what the load says of the task's work.
 fn round_cost(entry: u32, work: Option<u32>, sum: Sum) -> Option<u32>
     ensures { result ≡ round_cost entry work sum }
 {
     match work {
-        Some(own) => bounded_cost(entry, own, sum),
-        None => summed_cost(entry, sum),
+        Some(own) => match sum {
+            Sum::Counts(counts) => with_entry(entry, own.min(counts)),
+            Sum::Huge | Sum::Endless => with_entry(entry, own),
+        },
+        None => match sum {
+            Sum::Counts(counts) => with_entry(entry, counts),
+            Sum::Huge | Sum::Endless => None,
+        },
     }
 }
 
-// What an entry and a round cost.
-fn cost_of(
-    config: &Config,
-    app: &App,
-    load: &[Entry],
-    clean: bool,
-    resumed: bool,
-    task: usize,
-    sum: Sum,
-) -> Option<u32>
-    requires few { length config.now.tasks ≤ task_limit }
-    requires inside { task < length config.now.tasks }
-    requires body { HasTaskBody app.now.funcs task }
-    requires frames { All (λ func. func.frame_words ≤ frame_limit) app.now.funcs }
-    ensures { result ≡ round_cost (round_entry config.now app.now clean resumed task) (work load.now task) sum }
-{
-    let work = work_of(load, task as u8);
-    let entry = round_entry(config, app, clean, resumed, task);
-    round_cost(entry, work, sum)
-}
-
 // What raises a task in a window.
-fn raising_counts(config: &Config, task: usize) -> u32
-    requires { task < length config.now.tasks }
-    ensures { result ≡ raising_counts config.now task }
+fn raising_counts(walks: &Walks, task: usize) -> u32
+    requires { task < length walks.now.config.tasks }
+    ensures { result ≡ raising_counts walks.now.config task }
 {
-    if config.tasks.items()[task].non {
+    if walks.task(task).non {
         0
     } else {
         call_path(Service::GetResource)
     }
 }
 
-// The work that bounds the sections of a task.
-fn section_work(
-    config: &Config,
-    load: &[Entry],
-    clean: bool,
-    services: &[List<u64>],
-    task: usize,
-) -> Option<u32>
-    requires few { length config.now.tasks ≤ task_limit }
-    requires inside { task < length config.now.tasks }
-    ensures { result ≡ section_work config.now load.now clean (reaches services.now service.WaitEvent task) task }
+// Whether sections of a task may have several rounds.
+fn has_raised_waits(walks: &Walks, clean: bool, services: &[List<u64>], task: usize) -> bool
+    requires { task < length walks.now.config.tasks }
+    ensures { result ≡ has_raised_waits walks.now.config clean (reaches services.now service.WaitEvent task) task }
 {
-    if config.tasks.items()[task].non && (clean && reaches(services, Service::WaitEvent, task)) {
-        None
-    } else {
-        work_of(load, task as u8)
-    }
+    walks.task(task).non && (clean && reaches(services, Service::WaitEvent, task))
+}
+
+// The work that bounds the sections of a task.
+fn section_work(raised: bool, work: Option<u32>) -> Option<u32>
+    ensures { result ≡ cond raised None work }
+{
+    if raised { None } else { work }
 }
 
 // Whether a task counts once in its own windows.
-fn counts_once(config: &Config, clean: bool, task: usize) -> bool
-    requires { task < length config.now.tasks }
-    ensures { result ≡ counts_once config.now clean task }
+fn counts_once(walks: &Walks, clean: bool, task: usize) -> bool
+    requires { task < length walks.now.config.tasks }
+    ensures { result ≡ counts_once walks.now.config clean task }
 {
-    let task = &config.tasks.items()[task];
+    let task = walks.task(task);
     !task.non && !(clean && task.extended)
 }
 
 // Whether rounds of a task are counted from its waits.
-fn is_cut(config: &Config, clean: bool, task: usize) -> bool
-    requires { task < length config.now.tasks }
-    ensures { result ≡ (clean && (declaration config.now task).extended) }
+fn is_cut(walks: &Walks, clean: bool, task: usize) -> bool
+    requires { task < length walks.now.config.tasks }
+    ensures { result ≡ (clean && (declaration walks.now.config task).extended) }
 {
-    clean && config.tasks.items()[task].extended
+    clean && walks.task(task).extended
 }
 
 fn reached_path(all: &[List<u64>], task: usize, code: u8) -> u32
@@ -196,11 +127,11 @@ fn reached_path(all: &[List<u64>], task: usize, code: u8) -> u32
 }
 
 // The longest service that a task reaches, with the item of its call.
-fn longest_service(config: &Config, app: &App, all: &[List<u64>], task: usize) -> u32
-    requires well_formed { WellFormed config.now app.now }
-    requires inside { task < length config.now.tasks }
-    requires all { AreEach 16 [] (AreServiceTops config.now app.now) all.now }
-    ensures { IsGreatest app.now task call_path result }
+fn longest_service(walks: &Walks, all: &[List<u64>], task: usize) -> u32
+    requires well_formed { WellFormed walks.now.config walks.now.app }
+    requires inside { task < length walks.now.config.tasks }
+    requires all { AreEach 16 [] (AreServiceTops walks.now.config walks.now.app) all.now }
+    ensures { IsGreatest walks.now.app task call_path result }
 {
     let mut most: u32 = 0;
     for code in 0..16 {
@@ -210,8 +141,7 @@ fn longest_service(config: &Config, app: &App, all: &[List<u64>], task: usize) -
 }
 
 fn task_costs(
-    config: &Config,
-    app: &App,
+    walks: &Walks,
     load: &[Entry],
     weights: &[BodyWeights],
     tables: &RoundTables,
@@ -219,77 +149,58 @@ fn task_costs(
     services: &[List<u64>],
     task: usize,
 ) -> TaskCosts
-    requires well_formed { WellFormed config.now app.now }
-    requires weights { AreWeights app.now weights.now }
-    requires tables { AreRoundTables config.now app.now weights.now clean.now tables.now }
-    requires clean { (t : ℕ) → t < length config.now.tasks → Decides (get_or clean.now t false) (IsClean app.now t) }
-    requires services { AreEach 16 [] (AreServiceTops config.now app.now) services.now }
-    requires inside { task < length config.now.tasks }
-    ensures { AreRunTaskCosts config.now app.now load.now weights.now task result }
+    requires weights { AreWeights walks.now.app weights.now }
+    requires tables { AreRoundTables walks.now.config walks.now.app weights.now clean.now tables.now }
+    requires clean { (t : ℕ) → t < length walks.now.config.tasks
+        → Decides (get_or clean.now t false) (IsClean walks.now.app t) }
+    requires services { AreEach 16 [] (AreServiceTops walks.now.config walks.now.app) services.now }
+    requires inside { task < length walks.now.config.tasks }
+    ensures { AreRunTaskCosts walks.now.config walks.now.app load.now weights.now task result }
 {
+    let declared = walks.task(task);
     let is_clean = is_marked(clean, task);
-    let sums = sums_of(config, app, weights, tables, clean, task);
-    let first = cost_of(config, app, load, is_clean, false, task, sums.first);
-    let next = cost_of(config, app, load, is_clean, true, task, sums.later);
+    let sums = task_rounds(walks, weights, tables, clean, task);
+    let work = work_of(load, task as u8);
+    let raised = has_raised_waits(walks, is_clean, services, task);
+    let entry = round_entry(walks, is_clean, false, task);
+    let resumed = round_entry(walks, is_clean, true, task);
+    let first = round_cost(entry, work, sums.first);
+    let next = round_cost(resumed, work, sums.later);
     TaskCosts {
-        priority: priority_of(config, task),
-        is_entered_once: counts_once(config, is_clean, task),
-        is_autostarted: is_autostarted(config, task),
-        is_cut: is_cut(config, is_clean, task),
+        priority: walks.priority(task),
+        is_entered_once: counts_once(walks, is_clean, task),
+        is_autostarted: declared.autostart,
+        is_cut: is_cut(walks, is_clean, task),
         distance: distance_of(load, task as u8),
         first,
         next,
-        raising: raising_counts(config, task),
-        section_work: section_work(config, load, is_clean, services, task),
-        service: longest_service(config, app, services, task),
+        raising: raising_counts(walks, task),
+        has_raised_waits: raised,
+        section_work: section_work(raised, work),
+        service: longest_service(walks, services, task),
     }
-}
-
-fn tasks_by(
-    alloc: Global,
-    config: &Config,
-    app: &App,
-    load: &[Entry],
-    weights: &[BodyWeights],
-    tables: &RoundTables,
-    clean: &[bool],
-    services: &[List<u64>],
-) -> Result<Vec<TaskCosts>, NoMemory>
-    requires well_formed { WellFormed config.now app.now }
-    requires weights { AreWeights app.now weights.now }
-    requires tables { AreRoundTables config.now app.now weights.now clean.now tables.now }
-    requires clean { (t : ℕ) → t < length config.now.tasks → Decides (get_or clean.now t false) (IsClean app.now t) }
-    requires services { AreEach 16 [] (AreServiceTops config.now app.now) services.now }
-    ensures { IfOk result (λ list. AreEach (length config.now.tasks) no_task (AreRunTaskCosts config.now app.now load.now weights.now) list.items) }
-{
-    let mut list = Vec::new(alloc);
-    for task in 0..config.tasks.items().len() {
-        let costs = task_costs(config, app, load, weights, tables, clean, services, task);
-        push(&mut list, costs)?;
-    }
-    Ok(list)
 }
 
 /// What each task costs.
 pub fn tasks(
-    alloc: Global,
-    config: &Config,
-    app: &App,
+    walks: &Walks,
     load: &[Entry],
     weights: &[BodyWeights],
-    bodies: &[Body],
-    order: &[usize],
     clean: &[bool],
     services: &[List<u64>],
 ) -> Result<Vec<TaskCosts>, NoMemory>
-    requires well_formed { WellFormed config.now app.now }
-    requires weights { AreWeights app.now weights.now }
-    requires bodies { AreKnownBodies config.now app.now bodies.now }
-    requires order { IsCallOrder app.now order.now }
-    requires clean { (t : ℕ) → t < length config.now.tasks → Decides (get_or clean.now t false) (IsClean app.now t) }
-    requires services { AreEach 16 [] (AreServiceTops config.now app.now) services.now }
-    ensures { IfOk result (λ list. AreEach (length config.now.tasks) no_task (AreRunTaskCosts config.now app.now load.now weights.now) list.items) }
+    requires weights { AreWeights walks.now.app weights.now }
+    requires clean { (t : ℕ) → t < length walks.now.config.tasks
+        → Decides (get_or clean.now t false) (IsClean walks.now.app t) }
+    requires services { AreEach 16 [] (AreServiceTops walks.now.config walks.now.app) services.now }
+    ensures { IfOk result (λ list. AreEach (length walks.now.config.tasks) no_task
+        (AreRunTaskCosts walks.now.config walks.now.app load.now weights.now) list.items) }
 {
-    let tables = round_tables(alloc, config, app, weights, bodies, order, clean)?;
-    tasks_by(alloc, config, app, load, weights, &tables, clean, services)
+    let tables = round_tables(walks, weights, clean)?;
+    let mut list = Vec::new(walks.alloc());
+    for task in 0..walks.tasks() {
+        let costs = task_costs(walks, load, weights, &tables, clean, services, task);
+        push(&mut list, costs)?;
+    }
+    Ok(list)
 }

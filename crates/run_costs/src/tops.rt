@@ -1,22 +1,15 @@
 //! Whether walks come to what is counted, and the greatest ceiling under which they do.
 ghost use Rattle.std.specs.Prelude.{◌≡◌, ◌<◌, ◌+◌, length, get_or, IfOk};
-ghost use Rattle.sloth_base.specs.Named.{body_of};
-ghost use Rattle.code_rules.specs.WellFormed.{WellFormed};
-ghost use Rattle.call_graph.specs.Tables.{HasTaskBody};
-ghost use Rattle.walk_sums.specs.CallOrder.{IsCallOrder};
-ghost use Rattle.walk_sums.specs.KnownBodies.{no_body, AreKnownBodies};
 ghost use Rattle.run_costs.specs.Tops.{under, op_top, item_top, body_top, AreTops, AreTaskTops};
 
-use crate::sought::is_counted;
 use bound_rules::{Body, is_marked, number_at};
-use sloth_base::{App, Config, Func, NoMemory, Op};
-use stack_bounds::body_of;
+use sloth_base::{Func, NoMemory, Op};
 use std::alloc::Global;
 use text_pieces::push;
-use walk_sums::{Counted, function_at};
+use walk_sums::{Counted, Walks, is_ending_counted, numbered_body, numbered_function};
 
 /// The top of this number; 0 behind the last one.
-pub fn top_at(table: &[u64], number: usize) -> u64
+pub fn numbered_top(table: &[u64], number: usize) -> u64
     ensures { result ≡ get_or table.now number 0 }
 {
     match table.get(number) {
@@ -40,9 +33,9 @@ fn op_top(counted: Counted, ceiling: u32, table: &[u64], op: Op) -> u64
     ensures { result ≡ op_top counted ceiling table.now op }
 {
     match op {
-        Op::Invoke { func } => under(ceiling, top_at(table, func.0 as usize)),
+        Op::Invoke { func } => under(ceiling, numbered_top(table, func.0 as usize)),
         _ => {
-            if is_counted(counted, op) {
+            if is_ending_counted(counted, op) {
                 u64::from(ceiling) + 1
             } else {
                 0
@@ -83,80 +76,30 @@ fn none(alloc: Global, count: usize) -> Result<Vec<u64>, NoMemory>
     Ok(table)
 }
 
-fn body_at(bodies: &[Body], number: usize) -> &Body
-    requires { number < length bodies.now }
-    ensures { result.now ≡ get_or bodies.now number no_body }
-{
-    &bodies[number]
-}
-
 /// For each function one more than the greatest ceiling under which its walks come to what counts, 0 where none does.
-pub fn tops(
-    alloc: Global,
-    config: &Config,
-    app: &App,
-    bodies: &[Body],
-    order: &[usize],
-    counted: Counted,
-) -> Result<Vec<u64>, NoMemory>
-    requires well_formed { WellFormed config.now app.now }
-    requires bodies { AreKnownBodies config.now app.now bodies.now }
-    requires order { IsCallOrder app.now order.now }
-    ensures { IfOk result (λ table. AreTops config.now app.now counted table.items) }
+fn function_tops(walks: &Walks, counted: Counted) -> Result<Vec<u64>, NoMemory>
+    ensures { IfOk result (λ table. AreTops walks.now.config walks.now.app counted table.items) }
 {
-    let mut table = none(alloc, app.funcs.items().len())?;
-    for number in order {
-        let top = body_top(
-            counted,
-            function_at(app, *number),
-            body_at(bodies, *number),
-            &table,
-        );
+    let app = walks.app();
+    let bodies = walks.bodies();
+    let mut table = none(walks.alloc(), app.funcs.items().len())?;
+    for number in walks.order() {
+        let func = numbered_function(app, *number);
+        let body = numbered_body(bodies, *number);
+        let top = body_top(counted, func, body, &table);
         table[*number] = top;
     }
     Ok(table)
 }
 
-fn task_top(app: &App, table: &[u64], task: usize) -> u64
-    requires { HasTaskBody app.now.funcs task }
-    ensures { result ≡ get_or table.now (body_of app.now.funcs task) 0 }
+/// The same for each task.
+pub fn task_tops(walks: &Walks, counted: Counted) -> Result<Vec<u64>, NoMemory>
+    ensures { IfOk result (λ tops. AreTaskTops walks.now.config walks.now.app counted tops.items) }
 {
-    top_at(table, body_of(app.funcs.items(), task))
-}
-
-// By those of the functions.
-fn tops_by(
-    alloc: Global,
-    config: &Config,
-    app: &App,
-    table: &[u64],
-    counted: Counted,
-) -> Result<Vec<u64>, NoMemory>
-    requires well_formed { WellFormed config.now app.now }
-    requires table { AreTops config.now app.now counted table.now }
-    ensures { IfOk result (λ tops. AreTaskTops config.now app.now counted tops.items) }
-{
-    let mut tops = Vec::new(alloc);
-    for task in 0..config.tasks.items().len() {
-        push(&mut tops, task_top(app, table, task))?;
+    let table = function_tops(walks, counted)?;
+    let mut tops = Vec::new(walks.alloc());
+    for task in 0..walks.tasks() {
+        push(&mut tops, numbered_top(&table, walks.body(task)))?;
     }
     Ok(tops)
-}
-
-/// The same for each task.
-pub fn task_tops(
-    alloc: Global,
-    config: &Config,
-    app: &App,
-    bodies: &[Body],
-    order: &[usize],
-    counted: Counted,
-) -> Result<Vec<u64>, NoMemory>
-    requires well_formed { WellFormed config.now app.now }
-    requires bodies { AreKnownBodies config.now app.now bodies.now }
-    requires order { IsCallOrder app.now order.now }
-    ensures { IfOk result (λ tops. AreTaskTops config.now app.now counted tops.items) }
-{
-    let table = tops(alloc, config, app, bodies, order, counted)?;
-    tops_by(alloc, config, app, &table, counted)
 }

@@ -11,7 +11,7 @@ use event_weights::{ItemLengths, ending_counts, going_counts, length_of, lengths
 use sloth_base::{App, Func, List, NoMemory};
 use std::alloc::Global;
 use text_pieces::push;
-use walk_sums::function_at;
+use walk_sums::numbered_function;
 
 /// The counts of an item behind which its task goes on.
 fn going_at(lengths: &ItemLengths, number: usize, func: &Func, item: usize) -> u32
@@ -94,7 +94,7 @@ fn counts_by(alloc: Global, app: &App, lengths: &ItemLengths) -> Result<Vec<Body
 {
     let mut weights = Vec::new(alloc);
     for number in 0..app.funcs.items().len() {
-        let own = body_counts(alloc, lengths, number, function_at(app, number))?;
+        let own = body_counts(alloc, lengths, number, numbered_function(app, number))?;
         push(&mut weights, own)?;
     }
     Ok(weights)

@@ -6,5 +6,6 @@ mod Reading
 mod SeenLines
 mod SeenWithin
 mod Telling
+mod TicksSeen
 mod Unread
 mod Watching

@@ -1,5 +1,5 @@
--- The lines of one task more.
-use Rattle.std.proofs.Common.{◌≡◌, ◌∙◌, ℕ, ◌+◌, Bool, true, false, List, [], ◌++◌, Option, refl, sym, ap}
+-- The lines of one task or counter more.
+use Rattle.std.proofs.Common.{◌≡◌, ◌∙◌, ℕ, ◌+◌, Bool, true, false, List, [], ◌++◌, Option, append_assoc, append-nil, refl, sym, ap}
 use Rattle.std.proofs.Math.Numerals.{add-one}
 use Rattle.sloth_base.specs.declared.config.Config.{Config}
 use Rattle.sloth_base.specs.declared.app.App.{App}
@@ -8,7 +8,7 @@ use Rattle.load_text.specs.declared.entry.Entry.{Entry}
 use Rattle.load_text.specs.Loads.{work}
 use Rattle.response_text.specs.declared.told.Response.{Response}
 use Rattle.response_text.specs.Lines.{response_at}
-use Rattle.run_load.specs.RunLines.{seen_line, seen_lines}
+use Rattle.run_load.specs.RunLines.{seen_line, seen_lines, tick_line, tick_lines}
 use Rattle.run_load.specs.Seen.{longest_seen}
 use Rattle.run_load.specs.Work.{above_limit, earlier, above_among}
 use Rattle.run_load.specs.declared.work.Excess.{Excess}
@@ -32,3 +32,23 @@ pub above-more : (config : Config) (app : App) (load : List Entry) (cuts : ℕ �
 above-more config app load cuts events t cut found this more is here cut_is e =
     e ∙ (ap (λ o. earlier o this) is ∙ (ap (λ o. earlier (above_among config app load cuts events t) o) (here ∙ ap (λ b. above_limit config app b t events (work load t)) cut_is)
     ∙ sym (ap (above_among config app load cuts events) (add-one t))))
+
+-- ---- ticks
+
+no_tick_lines : (config : Config) (load : List Entry) (events : List Stamped) (n : Option ℕ) → tick_lines config load events n 0 ≡ []
+unfolding tick_lines
+no_tick_lines config load events n = refl
+
+one_tick_more : (config : Config) (load : List Entry) (events : List Stamped) (n : Option ℕ) (c : ℕ)
+    → tick_lines config load events n (c + 1) ≡ tick_lines config load events n c ++ tick_line config load events n c
+unfolding tick_lines
+one_tick_more config load events n c = ap (tick_lines config load events n) (add-one c)
+
+pub ticks-begun : (config : Config) (load : List Entry) (events : List Stamped) (n : Option ℕ) (text : List ℕ) → text ≡ text ++ tick_lines config load events n 0
+ticks-begun config load events n text = sym (append-nil text) ∙ ap (λ l. text ++ l) (sym (no_tick_lines config load events n))
+
+pub ticks-longer : (config : Config) (load : List Entry) (events : List Stamped) (n : Option ℕ) (c : ℕ) (old text next : List ℕ) → text ≡ old ++ tick_lines config load events n c
+    → next ≡ text ++ tick_line config load events n c → next ≡ old ++ tick_lines config load events n (c + 1)
+ticks-longer config load events n c old text next is e =
+    e ∙ (ap (λ l. l ++ tick_line config load events n c) is
+    ∙ (append_assoc old (tick_lines config load events n c) (tick_line config load events n c) ∙ ap (λ l. old ++ l) (sym (one_tick_more config load events n c))))

@@ -1,5 +1,5 @@
 -- What is told says that a run keeps its load exactly where it does.
-use Rattle.std.proofs.Common.{◌≡◌, ◌∙◌, ◌<◌, ◌≤◌, ℕ, suc, Bool, true, false, List, [], ◌∷◌, length, Option, Some, None, is_none, refl, sym, ap, subst, arith}
+use Rattle.std.proofs.Common.{◌≡◌, ◌∙◌, ◌+◌, ◌<◌, ◌≤◌, ℕ, suc, Bool, true, false, List, [], ◌∷◌, length, Option, Some, None, is_none, refl, sym, ap, subst, arith}
 use Rattle.std.specs.Prelude.{IfSome, Decides}
 use Rattle.std.specs.List.{All, AllByRecursion}
 use Rattle.std.proofs.lemmas.Bool.{false≢true}
@@ -26,13 +26,16 @@ use Rattle.osek_scheduler.proofs.Leading.{follows_leads}
 use Rattle.response_text.specs.declared.told.Response.{Response}
 use Rattle.response_text.specs.Lines.{response_at}
 use Rattle.response_text.specs.ResponseText.{AreResponses}
+use Rattle.response_text.proofs.Keeping.{runs_keep}
 use Rattle.run_costs.specs.declared.record.RunCosts.{RunCosts}
 use Rattle.run_costs.specs.RunCosts.{AreRunCosts}
 use Rattle.run_costs.specs.RunRecord.{IsRunRecord}
 use Rattle.run_responses.specs.Meeting.{AreCutTasks}
+use Rattle.run_responses.specs.TickWindows.{IsTickNumber}
 use Rattle.sloth_base.specs.Named.{declaration}
 use Rattle.walk_sums.specs.Rounds.{IsClean}
 use Rattle.run_load.specs.Seen.{longest_seen}
+use Rattle.run_load.specs.Ticks.{longest_tick_seen}
 use Rattle.run_load.specs.Watched.{no_moments}
 use Rattle.run_counts.specs.Stages.{run_stages}
 use Rattle.response_laws.specs.Works.{KeepsWork}
@@ -59,6 +62,7 @@ use Rattle.run_load.specs.Soon.{no_lasts, first_soon}
 use Rattle.run_load.specs.Work.{above_among}
 use Rattle.run_load.proofs.Keeping.{keeps-exactly}
 use Rattle.run_load.proofs.KeptWork.{keeps-work, work-kept}
+use Rattle.run_load.proofs.TicksSeen.{are-served, longest-tick-within}
 use Rattle.run_load.proofs.SeenWithin.{longest_within, none_since}
 
 by_recursion : (arrivals : List Arrival) → All (λ a. a.line < line_count) arrivals → AllByRecursion (λ a. a.line < line_count) arrivals
@@ -101,10 +105,10 @@ arrivals-named config app image arrivals built are = subst (λ (o : Owners). Are
 coming : (config : Config) (arrivals : List Arrival) → AreArrivals (owners_in config) arrivals → AreComing (owners_in config) arrivals
 coming config arrivals are = record { ordered = are.ordered; lines_owned = are.lines_owned }
 
-pub exactly : (config : Config) (app : App) (load : List Entry) (costs : Costs) (arr : List ℕ) (arrivals : List Arrival) (image : Image) (n : ℕ) (responses : List Response)
+pub exactly : (config : Config) (app : App) (load : List Entry) (costs : Costs) (arr : List ℕ) (arrivals : List Arrival) (image : Image) (n : ℕ) (responses : List Response) (tick : Option ℕ)
     → WellFormed config app → IsLoad (owners_in config) load → AreArrivals (owners_in config) arrivals → IsBuilt config app image
-    → Decides (told_run config app load costs arr arrivals (events_of image arrivals n) responses).keeps (KeepsLoad config app load (cuts_of costs) arrivals (events_of image arrivals n))
-exactly config app load costs arr arrivals image n responses code in_load are built =
+    → Decides (told_run config app load costs arr arrivals (events_of image arrivals n) responses tick).keeps (KeepsLoad config app load (cuts_of costs) arrivals (events_of image arrivals n))
+exactly config app load costs arr arrivals image n responses tick code in_load are built =
     let events : List Stamped = events_of image arrivals n in
     let run : OsekRun config app events = (built.sound.each arrivals n (coming config arrivals are)).osek in
     let inside = by_recursion arrivals (controller-lines (owners_in config) arrivals code.in_range.configuration.few_tasks code.in_range.configuration.few_counters are.lines_owned) in
@@ -150,3 +154,13 @@ module _ (config : Config) (app : App) (load : List Entry) (costs : RunCosts) (a
     anywhere = one_within true t lt (response_at responses t).anywhere (all.each t lt).anywhere;
     behind = one_within false t lt (response_at responses t).behind (all.each t lt).behind;
   }
+
+  pub ticks-seen-within : (responses : List Response) → AreResponses costs.longest costs.late costs.costs (length config.tasks) responses → (tick : Option ℕ)
+      → IsTickNumber costs.longest costs.late costs.costs tick → (c : ℕ) → IfSome tick (λ most. longest_tick_seen c (events_of image arrivals n) ≤ most)
+  ticks-seen-within responses all None is c = tt
+  ticks-seen-within responses all (Some most) is c =
+      let come = coming config arrivals are in
+      let kept = runs_keep config app load code in_load costs record_is responses all (Some most) is image built.sound built.weighed built.paced in
+      longest-tick-within c most (events_of image arrivals n)
+      (are-served config image arrivals n (costs.longest + costs.late) most c (λ m. (built.sound.each arrivals m come).in_time)
+      (λ m. kept.ticks arrivals m most come keeps.0 refl))

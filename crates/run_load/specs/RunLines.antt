@@ -1,11 +1,11 @@
 -- The lines of a run beside its load.
-use Rattle.std.specs.Prelude.{ℕ, zero, suc, ◌-◌, ◌&&◌, leb, Bool, true, false, cond, List, [], ◌++◌, codes, decimal, length, is_none, Option, Some, None}
+use Rattle.std.specs.Prelude.{ℕ, zero, suc, ◌-◌, ◌&&◌, leb, Bool, true, false, cond, List, [], ◌++◌, codes, decimal, length, is_none, is_some, Option, Some, None}
 use Rattle.sloth_base.specs.declared.config.Config.{Config}
 use Rattle.sloth_base.specs.declared.app.App.{App}
 use Rattle.sloth_base.specs.declared.event.Arrival.{Arrival}
 use Rattle.sloth_base.specs.declared.event.Stamped.{Stamped}
 use Rattle.sloth_base.specs.Named.{declaration, counter_declaration}
-use Rattle.sloth_base.specs.Owners.{first_counter_line}
+use Rattle.sloth_base.specs.Owners.{first_counter_line, counter_line}
 use Rattle.load_text.specs.declared.entry.Entry.{Entry}
 use Rattle.load_text.specs.Loads.{distance}
 use Rattle.run_windows.specs.declared.costs.Costs.{Costs}
@@ -17,6 +17,7 @@ use Rattle.run_load.specs.declared.soon.EarlyArrival.{EarlyArrival}
 use Rattle.run_load.specs.declared.work.Excess.{Excess}
 use Rattle.run_load.specs.Seen.{longest_seen}
 use Rattle.run_load.specs.Soon.{no_lasts, first_soon, line_at}
+use Rattle.run_load.specs.Ticks.{longest_tick_seen}
 use Rattle.run_load.specs.Work.{above_among}
 
 -- the name of the task or the counter of a line
@@ -41,7 +42,7 @@ work_line config (Some a) =
     codes "work " ++ (declaration config a.task).name ++ codes " " ++ decimal a.at ++ codes " " ++ decimal a.own ++ codes " " ++ decimal a.limit ++ codes "\n"
 work_line config None = codes "work keeps\n"
 
--- of a task that comes these words of its number
+-- of a task that comes, or a counter, these words of its number
 abbrev pub told_words : (comes : Bool) → (words : List ℕ) → List ℕ
 told_words comes words = cond comes words (codes " never")
 
@@ -57,15 +58,27 @@ seen_lines config app events responses zero = []
 seen_lines config app events responses (suc t) =
     seen_lines config app events responses t ++ seen_line config t (response_at responses t) (longest_seen config app t true events) (longest_seen config app t false events)
 
+-- the longest time of counter c's ticks that is seen, beside the number of ticks
+abbrev pub tick_line : Config → List Entry → List Stamped → (number : Option ℕ) → (c : ℕ) → List ℕ
+tick_line config load events n c =
+    (codes "tick " ++ (counter_declaration config c).name ++ codes " " ++ decimal (longest_tick_seen c events) ++ codes " of")
+    ++ (told_words (is_some (distance load (counter_line c))) (number_words n) ++ codes "\n")
+
+-- those of the first counters, so many of them
+unfoldable pub tick_lines : Config → List Entry → List Stamped → (number : Option ℕ) → (count : ℕ) → List ℕ
+tick_lines config load events n zero = []
+tick_lines config load events n (suc c) = tick_lines config load events n c ++ tick_line config load events n c
+
 -- WaitEvents cut the turns of the task into rounds
 abbrev pub cuts_of : Costs → (t : ℕ) → Bool
 cuts_of costs t = (task costs t).is_cut
 
 -- what is told, and whether the run keeps the load
-abbrev pub told_run : Config → App → List Entry → Costs → (arr : List ℕ) → List Arrival → List Stamped → List Response → ToldRun
-told_run config app load costs arr arrivals events responses =
+abbrev pub told_run : Config → App → List Entry → Costs → (arr : List ℕ) → List Arrival → List Stamped → List Response → (tick : Option ℕ) → ToldRun
+told_run config app load costs arr arrivals events responses tick =
     record {
       text = arrivals_line config load arr (first_soon load no_lasts 0 arrivals)
-          ++ (work_line config (above_among config app load (cuts_of costs) events (length config.tasks)) ++ seen_lines config app events responses (length config.tasks));
+          ++ (work_line config (above_among config app load (cuts_of costs) events (length config.tasks))
+          ++ (seen_lines config app events responses (length config.tasks) ++ tick_lines config load events tick (length config.counters)));
       keeps = is_none (first_soon load no_lasts 0 arrivals) && is_none (above_among config app load (cuts_of costs) events (length config.tasks));
     }

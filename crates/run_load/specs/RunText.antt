@@ -1,5 +1,5 @@
 -- What the command `response` tells of a run.
-use Rattle.std.specs.Prelude.{ℕ, ◌<◌, ◌≤◌, ◌≡◌, ◌⊎◌, Bool, true, false, List, length, IfSome, Decides}
+use Rattle.std.specs.Prelude.{ℕ, ◌<◌, ◌≤◌, ◌≡◌, ◌⊎◌, Bool, true, false, List, length, IfSome, Option, Decides}
 use Rattle.sloth_base.specs.declared.config.Config.{Config}
 use Rattle.sloth_base.specs.declared.app.App.{App}
 use Rattle.sloth_base.specs.declared.event.Arrival.{Arrival}
@@ -25,10 +25,12 @@ use Rattle.response_text.specs.Inputs as inputs
 use Rattle.response_text.specs.Inputs.{IsLoadOf}
 use Rattle.response_text.specs.Lines.{response_at}
 use Rattle.response_text.specs.ResponseText.{AreResponses}
+use Rattle.run_responses.specs.TickWindows.{IsTickNumber}
 use Rattle.symbol_build.specs.SymbolFiles.{IsBuilt}
 use Rattle.run_load.specs.declared.lines.ToldRun.{ToldRun}
 use Rattle.run_load.specs.RunLines.{cuts_of, told_run}
 use Rattle.run_load.specs.Seen.{longest_seen}
+use Rattle.run_load.specs.Ticks.{longest_tick_seen}
 
 -- ---- what is told
 
@@ -41,16 +43,19 @@ pub record IsSeenWithin (config : Config) (app : App) (events : List Stamped) (t
   pub anywhere : IfSome r.anywhere (λ most. longest_seen config app t true events ≤ most)
   pub behind : IfSome r.behind (λ most. longest_seen config app t false events ≤ most)
 
--- This is told of a run of n instructions of an image: by the responses of all tasks, and it says that the run keeps the load exactly where it does. Where it
--- does, no response that is seen is longer than its number.
+-- This is told of a run of n instructions of an image: by the responses of all tasks and the number of ticks, and it says that the run keeps the load exactly
+-- where it does. Where it does, no response and no tick that is seen is longer than its number.
 pub record HasToldRun (config : Config) (app : App) (load : List Entry) (arr : List ℕ) (arrivals : List Arrival) (image : Image) (n : ℕ) (told : ToldRun) : Type 0 where
   pub costs : RunCosts
   pub are_costs : IsRunRecord config app load costs
   pub responses : List Response
   pub are_responses : AreResponses costs.longest costs.late costs.costs (length config.tasks) responses
-  pub is : told ≡ told_run config app load costs.costs arr arrivals (events_of image arrivals n) responses
+  pub tick : Option ℕ
+  pub is_tick : IsTickNumber costs.longest costs.late costs.costs tick
+  pub is : told ≡ told_run config app load costs.costs arr arrivals (events_of image arrivals n) responses tick
   pub exact : Decides told.keeps (KeepsLoad config app load (cuts_of costs.costs) arrivals (events_of image arrivals n))
   pub within : told.keeps ≡ true → (t : ℕ) → t < length config.tasks → IsSeenWithin config app (events_of image arrivals n) t (response_at responses t)
+  pub ticks_within : told.keeps ≡ true → (c : ℕ) → IfSome tick (λ most. longest_tick_seen c (events_of image arrivals n) ≤ most)
 
 -- the texts are accepted, and this is told of n instructions of an image which is built of what they mean, with these arrivals under this load
 pub record IsRunText (oil src load arr : List ℕ) (n : ℕ) (told : ToldRun) : Type 0 where

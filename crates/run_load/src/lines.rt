@@ -1,17 +1,19 @@
 //! The lines of a run beside its load.
 ghost use Rattle.std.specs.Prelude.{List as Items};
 ghost use Rattle.std.specs.Prelude.{◌≡◌, ◌<◌, ◌++◌, ℕ, Some, true, false, length, IfOk, OnOk};
+ghost use Rattle.sloth_base.specs.ConfigRange.{InRange};
 ghost use Rattle.sloth_base.specs.Named.{declaration, counter_declaration};
 ghost use Rattle.code_rules.specs.WellFormed.{WellFormed};
 ghost use Rattle.load_text.specs.Loads.{work};
 ghost use Rattle.response_text.specs.Lines.{number_words, made_words};
-ghost use Rattle.run_load.specs.RunLines.{owner_name, gap_words, arrivals_line, work_line, told_words, seen_line, seen_lines, cuts_of, told_run};
+ghost use Rattle.run_load.specs.RunLines.{owner_name, gap_words, arrivals_line, work_line, told_words, seen_line, seen_lines, tick_line, tick_lines, cuts_of, told_run};
 ghost use Rattle.run_load.specs.Seen.{longest_seen};
 ghost use Rattle.run_load.specs.Soon.{line_at};
 ghost use Rattle.run_load.specs.Work.{above_limit, above_among};
 
 use crate::seen::longest;
 use crate::soon::{EarlyArrival, first_soon, line_at};
+use crate::ticks::longest_tick;
 use crate::watch::watch;
 use crate::work::{Excess, earlier, first_above};
 use load_text::{Entry, distance_of, work_of};
@@ -125,11 +127,11 @@ fn push_work(text: &mut Vec<u8>, config: &Config, found: &Option<Excess>) -> Res
     }
 }
 
-fn push_told(text: &mut Vec<u8>, response: Response) -> Result<(), NoMemory>
-    ensures { OnOk result (text.new.items ≡ text.old.items ++ told_words response.comes (number_words response.anywhere)) }
+fn push_told(text: &mut Vec<u8>, comes: bool, number: Option<u32>) -> Result<(), NoMemory>
+    ensures { OnOk result (text.new.items ≡ text.old.items ++ told_words comes (number_words number)) }
 {
-    if response.comes {
-        return push_number(text, response.anywhere);
+    if comes {
+        return push_number(text, number);
     }
     line!(text; Word(b" never"))
 }
@@ -154,7 +156,7 @@ fn push_seen(
     ensures { OnOk result (text.new.items ≡ text.old.items ++ seen_line config.now task response all behind) }
 {
     line!(text; Word(task_name(config, task as usize)), Word(b" "), Sum(u128::from(all)), Word(b" of"))?;
-    push_told(text, response)?;
+    push_told(text, response.comes, response.anywhere)?;
     line!(text; Word(b" behind "), Sum(u128::from(behind)), Word(b" of"))?;
     push_told_behind(text, response)?;
     line!(text; Word(b"\n"))
@@ -223,16 +225,45 @@ fn seen_tasks(alloc: Global, run: &LoadRun, responses: &[Response]) -> Result<Se
     Ok(Seen { text, above })
 }
 
-/// The lines of a run with these arrivals, whose text is given too, beside the responses of its tasks.
+fn push_tick(
+    text: &mut Vec<u8>,
+    run: &LoadRun,
+    tick: Option<u32>,
+    counter: u32,
+) -> Result<(), NoMemory>
+    requires in_range { InRange run.now.config.now }
+    requires there { counter < length run.now.config.now.counters }
+    ensures { OnOk result (text.new.items ≡ text.old.items ++ tick_line run.now.config.now run.now.load.now run.now.events.now tick counter) }
+{
+    let seen = longest_tick(counter, run.events);
+    let comes = distance_of(run.load, FIRST_COUNTER_LINE + counter as u8).is_some();
+    line!(text; Word(b"tick "), Word(counter_name(run.config, counter as usize)), Word(b" "), Sum(u128::from(seen)), Word(b" of"))?;
+    push_told(text, comes, tick)?;
+    line!(text; Word(b"\n"))
+}
+
+// The lines of all counters.
+fn push_ticks(text: &mut Vec<u8>, run: &LoadRun, tick: Option<u32>) -> Result<(), NoMemory>
+    requires { InRange run.now.config.now }
+    ensures { OnOk result (text.new.items ≡ text.old.items ++ tick_lines run.now.config.now run.now.load.now run.now.events.now tick (length run.now.config.now.counters)) }
+{
+    for counter in 0..run.config.counters.items().len() as u32 {
+        push_tick(text, run, tick, counter)?;
+    }
+    Ok(())
+}
+
+/// The lines of a run with these arrivals, whose text is given too, beside the responses of its tasks and the number of its ticks.
 pub fn told_run(
     alloc: Global,
     run: &LoadRun,
     arr: &[u8],
     arrivals: &[Arrival],
     responses: &[Response],
+    tick: Option<u32>,
 ) -> Result<ToldRun, NoMemory>
     requires well_formed { WellFormed run.now.config.now run.now.app.now }
-    ensures { IfOk result (λ told. told ≡ told_run run.now.config.now run.now.app.now run.now.load.now run.now.costs.now arr.now arrivals.now run.now.events.now responses.now) }
+    ensures { IfOk result (λ told. told ≡ told_run run.now.config.now run.now.app.now run.now.load.now run.now.costs.now arr.now arrivals.now run.now.events.now responses.now tick) }
 {
     let soon = first_soon(run.load, arrivals);
     let seen = seen_tasks(alloc, run, responses)?;
@@ -240,6 +271,7 @@ pub fn told_run(
     push_arrivals(alloc, &mut text, run.config, run.load, arr, &soon)?;
     push_work(&mut text, run.config, &seen.above)?;
     text.extend_from_slice(&seen.text)?;
+    push_ticks(&mut text, run, tick)?;
     Ok(ToldRun {
         text: List::from_vec(text),
         keeps: soon.is_none() && seen.above.is_none(),

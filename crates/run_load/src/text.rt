@@ -23,6 +23,7 @@ use load_text::Entry;
 use response_text::inputs::load_of;
 use response_text::responses;
 use run_costs::{RunCosts, run_costs};
+use run_responses::tick_number;
 use sloth_base::{App, Arrival, BuildError, Config, Image, NoMemory, counter_names, task_names};
 use sloth_build::image::image;
 use sloth_source::{Source, read};
@@ -74,6 +75,7 @@ fn told_of(
 {
     let found = costs_of(alloc, code.config, code.app, load)?;
     let responses = responses(alloc, found.longest, found.late, &found.costs)?;
+    let tick = tick_number(alloc, found.longest, found.late, &found.costs)?;
     let events = run_events(alloc, image, arrivals, n)?;
     let run = LoadRun {
         config: code.config,
@@ -82,7 +84,7 @@ fn told_of(
         costs: &found.costs,
         events: &events,
     };
-    told_run(alloc, &run, arr, arrivals, &responses)
+    told_run(alloc, &run, arr, arrivals, &responses, tick)
 }
 
 // The same of an image that is built.
@@ -122,7 +124,7 @@ fn arrivals_of(alloc: Global, config: &Config, arr: &[u8]) -> Result<Vec<Arrival
 }
 
 /// What a run of n instructions, at most `COUNT_LIMIT`, of the image of two texts shows, with the arrivals of the last text: the first arrival that comes
-/// too soon for the load of the third, the first round above its work, and the longest responses beside those that every run keeps which keeps the load;
+/// too soon for the load of the third, the first round above its work, and the longest responses and ticks beside those that every run keeps which keeps the load;
 /// or the first refusal (O1 to O15, A1 to A7, V1 to V12, then L1 to L4, then T1 to T4). Texts have at most 4,294,967,294 bytes.
 pub fn run_text(
     alloc: Global,

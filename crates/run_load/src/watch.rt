@@ -102,8 +102,8 @@ fn is_turn(task: u32, event: &Event) -> bool
     }
 }
 
-// The first count behind the events up to this one.
-fn end_of(start: u64, event: &Stamped) -> u64
+/// The first count behind the events up to this one.
+pub fn end_count(start: u64, event: &Stamped) -> u64
     ensures { result ≡ cond (is_admit event.now) start (event.now.stamp.at + 1) }
 {
     if is_admission(event) {
@@ -220,7 +220,7 @@ pub fn watch(
             edge: edge(&moments, event),
         };
         push(&mut watched, seen)?;
-        start = end_of(start, event);
+        start = end_count(start, event);
         note(&mut moments, event);
         rest = behind;
     }

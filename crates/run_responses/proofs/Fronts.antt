@@ -1,5 +1,5 @@
 -- What lower tasks bring in by their code has a start of the record.
-use Rattle.std.proofs.Common.{if◌then◌else◌, ◌≡◌, ℕ, ◌+◌, ◌<◌, ◌≤◌, ◌⊎◌, ◌==◌, ◌&&◌, ◌||◌, Bool, true, false, cond, max, List, [], ◌∷◌, ◌++◌, length, get_or, refl, sym, ap, ◌∙◌, subst, arith, inl, inr, Option, Some, None, min, append_assoc, ◌-◌, ltb}
+use Rattle.std.proofs.Common.{if◌then◌else◌, ◌≡◌, ℕ, ◌+◌, ◌<◌, ◌≤◌, ◌⊎◌, ◌*◌, ◌==◌, ◌&&◌, ◌||◌, not, Bool, true, false, cond, max, List, [], ◌∷◌, ◌++◌, length, get_or, refl, sym, ap, ◌∙◌, subst, arith, inl, inr, Option, Some, None, min, append_assoc, ◌-◌, ltb}
 use Rattle.std.specs.List.{AllByRecursion}
 use Rattle.std.proofs.lemmas.Bool.{false≢true, true≢false, leb-true, lt-ltb, cases_lt, eqb-true, eq-eqb, le-ltb}
 use Rattle.std.proofs.lemmas.Bool.Decides.{not_from_Decides}
@@ -42,8 +42,8 @@ use Rattle.walk_sums.specs.Told.{IsToldSum}
 use Rattle.run_windows.specs.declared.costs.Costs.{Costs}
 use Rattle.run_windows.specs.declared.window.Start.{Start}
 use Rattle.run_windows.specs.declared.window.Start.TheVariants as start
-use Rattle.run_windows.specs.Costs.{reckoned, task, comes, section, lesser, section_counts, section_making}
-use Rattle.run_windows.specs.Windows.{Numbers, is_lower, is_below, is_boot, begun_by}
+use Rattle.run_windows.specs.Costs.{reckoned, task, comes, joins, making, section, lesser, section_counts, section_making}
+use Rattle.run_windows.specs.Windows.{Numbers, is_lower, is_below, is_boot, greater, begun_by, IsSolution}
 use Rattle.run_costs.specs.Sections.{IsRaised, DoesRaised}
 use Rattle.run_costs.specs.Rounds.{many}
 use Rattle.run_costs.specs.CostsOf.{IsSectionCosts, IsSectionMade}
@@ -54,17 +54,18 @@ use Rattle.response_laws.specs.Walked.{SectionsSum}
 use Rattle.response_laws.specs.Once.{IsShutOut}
 use Rattle.response_laws.specs.Makers.{activation_weights, setting_weights}
 use Rattle.response_laws.specs.Works.{WaitsNowhere}
-use Rattle.response_laws.specs.CodeStarts.{HasRoom, SomeHasRoom, none, autostarted, SectionsTake, HasSections, is_call, FitsStarts, HaveServiceRoom}
+use Rattle.response_laws.specs.CodeStarts.{HasRoom, SomeHasRoom, none, autostarted, SectionsTake, RoundsSum, Joins, HasSections, is_call, FitsStarts, HaveServiceRoom}
 use Rattle.response_laws.proofs.Counting.{counted_ending, counted_lighter}
 use Rattle.run_responses.specs.Meeting.{AreCutTasks}
 use Rattle.run_costs.specs.RunCosts.{AreRunTaskCosts, AreRunCosts, AreRunSectionMakings}
 use Rattle.run_windows.specs.declared.fronts.Way.TheVariants as way
-use Rattle.run_windows.specs.RunWindows.{call_words, call_path, may_serve, services_front, is_made_in_front, activation_front, setting_front, front_of, lead_of, run_starts, start_at, services_of, IsTold, AreTold}
+use Rattle.run_windows.specs.RunWindows.{is_joined, is_apart, longest_round, run_window, begun_item, call_words, call_path, may_serve, services_front, is_made_in_front, activation_front, setting_front, front_of, lead_of, run_starts, start_at, services_of, IsTold, AreTold}
 use Rattle.run_responses.proofs.Numbers.{told_number, none_told}
-use Rattle.run_responses.proofs.StartLists.{Has, has_free, has_boot, has_activation, has_setting, has_section, made_here, service_here}
+use Rattle.run_responses.proofs.StartLists.{Has, has_free, has_boot, has_activation, has_setting, has_section, has_round, made_here, service_here}
 use Rattle.run_responses.proofs.Rounds.{walk_front, many_told, level_upper, counted_task, counts_lighter}
 use Rattle.run_responses.proofs.Reaching.{object_is, waits_unraised}
-use Rattle.run_responses.proofs.Windows.{start_by}
+use Rattle.run_responses.proofs.Joined.{joined_of, joined_sum, joined_non, joined_cut, rounds_count, rounds_activate, rounds_set, rounds_set_own}
+use Rattle.run_responses.proofs.Windows.{own_sets, due_numbers, start_with, start_by, settings_enough}
 
 -- ---- services
 
@@ -140,8 +141,13 @@ one_of_one false b = omega arith
 module _ (config : Config) (app : App) (w : Facts config app) (load : List Entry) (longest late : ℕ) (costs : Costs) (are : AreRunCosts config app load costs) (h : ℕ)
     (there : h < length config.tasks) (here : comes costs h ≡ true) (told : AreTold costs h) (cuts : ℕ → Bool) (cut : AreCutTasks config app cuts)
     (numbers : (opens : Bool) → ℕ → Numbers) (lasting : (opens : Bool) → ℕ → ℕ) where
-  abbrev all_starts : List Start
+  abbrev pub all_starts : List Start
   all_starts = run_starts costs h true
+
+  -- the numbers of starts that are not boot solve their windows
+  abbrev pub AreSolved : Type 0
+  AreSolved = (opens : Bool) (i : ℕ) → is_boot (start_at all_starts i) ≡ false
+      → IsSolution costs (run_window longest late costs h opens (start_at all_starts i)) (numbers opens i) (lasting opens i)
 
   -- each of them begins in two ways
   abbrev pub ways : ℕ
@@ -217,7 +223,20 @@ module _ (config : Config) (app : App) (w : Facts config app) (load : List Entry
         subst (λ (v : Demand.Start). v.is_boot ≡ true → boot ≡ true) (sym at.1) (subst (λ v. is_boot v ≡ true → boot ≡ true) (sym is) boots),
         subst (HasRoom config h longest c (lead_of opens late) makes signals) (sym at.1)
             (subst (λ v. HasRoom config h longest c (lead_of opens late) makes signals (start_by config load longest late costs h opens v (numbers opens i) (lasting opens i))) (sym is)
-            (record { front = omega (arith, front); lead = omega arith; acts = acts; sets = sets })),
+            (record {
+              front =
+                  let more = joined_sum (joined_of costs h s) (λ k. (due_numbers config load longest late costs h opens s (numbers opens i) (lasting opens i) k).settings * reckoned (task costs k).next) (begun_item longest s + front_of opens costs h s) in
+                  omega (arith, front, more);
+              lead = omega arith;
+              acts = λ j over.
+                  let le = acts j over in
+                  let more = joined_sum (joined_of costs h s) (λ k. (due_numbers config load longest late costs h opens s (numbers opens i) (lasting opens i) k).settings * reckoned (making costs k j).next_activations) (begun_by costs h s j).activations in
+                  omega (arith, le, more);
+              sets = λ j over.
+                  let le = sets j over in
+                  let more = joined_sum (joined_of costs h s) (λ k. (due_numbers config load longest late costs h opens s (numbers opens i) (lasting opens i) k).settings * reckoned (making costs k j).next_settings) (begun_by costs h s j).settings in
+                  omega (arith, le, more);
+            })),
       )
 
   boots : SomeHasRoom config h longest ways begins true 0 late (autostarted config) none
@@ -477,7 +496,7 @@ module _ (config : Config) (app : App) (w : Facts config app) (load : List Entry
 
   -- ---- sections
 
-  module _ (b : ℕ) (low : IsLower config h b) (come : comes costs b ≡ true) where
+  module _ (solved : AreSolved) (b : ℕ) (low : IsLower config h b) (come : comes costs b ≡ true) where
     below_is : is_below costs h b ≡ true
     below_is = ap (λ l. l && comes costs b) (lower_is b low) ∙ come
 
@@ -549,31 +568,6 @@ module _ (config : Config) (app : App) (w : Facts config app) (load : List Entry
     by_sum : (n m : ℕ) → n ≤ m → IsToldSum (IsSection config app h b) weights (sum.Counts n) → Take m
     by_sum n m le are_told = inl (λ positions part. let few = are_told.0.none_above positions part in omega (arith, few, le))
 
-    sum_told : (s : Sum) → IsToldSum (IsSection config app h b) weights s → (section costs h b).counts ≡ many s
-        → (n : ℕ) × (reckoned (section_counts costs h b) ≡ n) × Take n
-    sum_told s are_told is = by (task costs b).section_work refl s are_told is
-      where
-        told_it : IsTold (section_counts costs h b)
-        told_it = told.sections b (counted_task config app w load costs are h there b low.0) below_is
-
-        -- they are the lesser of both
-        same : (o : Option ℕ) → (task costs b).section_work ≡ o → (m : Option ℕ) → (section costs h b).counts ≡ m → section_counts costs h b ≡ lesser o m
-        same o at m counts = ap (λ v. lesser v (section costs h b).counts) at ∙ ap (lesser o) counts
-
-        by : (o : Option ℕ) → (task costs b).section_work ≡ o → (s : Sum) → IsToldSum (IsSection config app h b) weights s → (section costs h b).counts ≡ many s
-            → (n : ℕ) × (reckoned (section_counts costs h b) ≡ n) × Take n
-        by None at (sum.Counts n) are_told is = (n, told_number n (section_counts costs h b) (same None at (Some n) is) told_it, by_sum n n (omega arith) are_told)
-        by None at sum.Huge are_told is = absurd (none_told (section_counts costs h b) (same None at None is) told_it)
-        by None at sum.Endless are_told is = absurd (none_told (section_counts costs h b) (same None at None is) told_it)
-        by (Some own) at (sum.Counts n) are_told is =
-            (min own n, told_number (min own n) (section_counts costs h b) (same (Some own) at (Some n) is) told_it, which (cases_lt own n))
-          where
-            which : (own < n) ⊎ (n ≤ own) → Take (min own n)
-            which (inl lt) = let e : own ≡ min own n = omega (arith, lt) in subst Take e (by_work own at)
-            which (inr le) = by_sum n (min own n) (omega (arith, le)) are_told
-        by (Some own) at sum.Huge are_told is = (own, told_number own (section_counts costs h b) (same (Some own) at None is) told_it, by_work own at)
-        by (Some own) at sum.Endless are_told is = (own, told_number own (section_counts costs h b) (same (Some own) at None is) told_it, by_work own at)
-
     -- where no raised position does what counts, sections do not
     none_made : (c : Counted) (n : ℕ) → ¬ (DoesRaised config app h b c) → SectionsSum config app h b (counted_weights c app) n
     none_made c n none positions is = let le = light is.before positions is.of_walk is.raised in omega (arith, le)
@@ -624,34 +618,6 @@ module _ (config : Config) (app : App) (w : Facts config app) (load : List Entry
             subst (λ w. SectionsSum config app h b w (reckoned o) ⊎ (IsShutOut config h b j × (1 ≤ reckoned o))) (sym (other_weights b j low over))
             (inl (none_made (counts.Activations j) (reckoned o) (not_from_Decides does decides off)))
 
-    section_acts : (j : ℕ) → is_over config h j ≡ true → MadeWithin j (begun_by costs h (start.Section b) j).activations
-    section_acts j over = by (declaration config b).non refl (h == j) refl (makings_of_section j of).activations
-      where
-        of : IsOfLevel config h j
-        of = over_declared b j low over
-
-        made : Option ℕ
-        made = (section_making costs h b j).activations
-
-        is_number : IsTold made
-        is_number =
-            (told.section_makings j (counted_task config app w load costs are h there j of.0) b (counted_task config app w load costs are h there b low.0)
-            (level_upper config app w load costs are h there j of) below_is).activations
-
-        by : (non : Bool) → (declaration config b).non ≡ non → (itself : Bool) → (h == j) ≡ itself → IsSectionMade config app h b (non || itself) (counts.Activations j) made
-            → MadeWithin j (reckoned made)
-        by true is itself e once = made_once j made over (inr is) once
-        by false is true e once = made_once j made over (inl (sym (eqb-true h j e))) once
-        by false is false e walks =
-            subst (λ w. SectionsSum config app h b w (reckoned made) ⊎ (IsShutOut config h b j × (1 ≤ reckoned made))) (sym (other_weights b j low over))
-            (inl (made_few (counts.Activations j) made walks is_number))
-
-    section_sets : (j : ℕ) → is_over config h j ≡ true → SectionsSum config app h b (setting_weights app j) (begun_by costs h (start.Section b) j).settings
-    section_sets j over =
-        let of = over_declared b j low over in
-        made_few (counts.Settings j) (section_making costs h b j).settings (makings_of_section j of).settings
-        (told.section_makings j (counted_task config app w load costs are h there j of.0) b (counted_task config app w load costs are h there b low.0) (level_upper config app w load costs are h there j of) below_is).settings
-
     abbrev Fits : (raised : Bool) → Start → ℕ → Type 0
     Fits raised s i = HasSections config app longest weights load cuts h b raised (start_by config load longest late costs h raised s (numbers raised i) (lasting raised i))
 
@@ -663,14 +629,14 @@ module _ (config : Config) (app : App) (w : Facts config app) (load : List Entry
     lead_enough false = omega arith
 
     -- a start that fits is one of them
-    fitting : (raised : Bool) (s : Start) → Has all_starts s → is_boot s ≡ false → ((i : ℕ) → Fits raised s i) → Fitting raised
+    fitting : (raised : Bool) (s : Start) → Has all_starts s → is_boot s ≡ false → ((i : ℕ) → start_at all_starts i ≡ s → Fits raised s i) → Fitting raised
     fitting raised s (i, lt, is) no_boot fits =
         let at = at_place raised i lt in (
           place raised i,
           at.0,
           ap (λ (v : Demand.Start). v.is_boot) at.1 ∙ ap is_boot is ∙ no_boot,
           subst (λ (v : Demand.Start). cond raised late 0 ≤ v.lead) (sym at.1) (lead_enough raised),
-          subst (HasSections config app longest weights load cuts h b raised) (sym at.1) (subst (λ v. Fits raised v i) (sym is) (fits i)),
+          subst (HasSections config app longest weights load cuts h b raised) (sym at.1) (subst (λ v. Fits raised v i) (sym is) (fits i is)),
         )
 
     -- what raises the task
@@ -680,65 +646,190 @@ module _ (config : Config) (app : App) (w : Facts config app) (load : List Entry
         let takes = ap {B = ℕ} (λ x. cond x 0 (call_path service.GetResource)) preemptable in
         omega (arith, same, takes)
 
-    there_is : (section costs h b).exists ≡ true → (raised : Bool) → Fitting raised
-    there_is exists raised =
-        fitting raised (start.Section b) (has_section costs h b (counted_task config app w load costs are h there b low.0) below_is exists) refl (fits raised)
-      where
-        known : (n : ℕ) × (reckoned (section_counts costs h b) ≡ n) × Take n
-        known = sum_told costs_of.told costs_of.is_told costs_of.counts
+    -- ---- one whose sections count
 
-        fits : (raised : Bool) (i : ℕ) → Fits raised (start.Section b) i
-        fits true i = record {
-          counts = known.0;
-          raising = 0;
-          sum = known.2;
-          takes = λ not_yet. absurd (true≢false not_yet);
-          front = let same = known.1 in omega (arith, same);
-          acts = section_acts;
-          sets = section_sets;
-        }
-        fits false i = record {
-          counts = known.0;
-          raising = (task costs b).raising;
-          sum = known.2;
-          takes = λ _ preemptable at reach takes. let few = (takes_few at reach takes).0 in let some = raises_preemptable preemptable in omega (arith, few, some);
-          front = let same = known.1 in omega (arith, same);
-          acts = section_acts;
-          sets = section_sets;
-        }
+    module _ (alone : joins costs h b ≡ false) where
+      apart_is : is_apart costs h b ≡ true
+      apart_is = ap (λ v. v && not (joins costs h b)) below_is ∙ ap not alone
 
-    there_is_none : (section costs h b).exists ≡ false → (raised : Bool) → Fitting raised
-    there_is_none exists raised = fitting raised start.Free (has_free costs h) refl (fits raised)
-      where
-        not_raised : ¬ (IsRaised config app h b)
-        not_raised = not_from_Decides (section costs h b).exists costs_of.exists exists
+      sum_told : (s : Sum) → IsToldSum (IsSection config app h b) weights s → (section costs h b).counts ≡ many s
+          → (n : ℕ) × (reckoned (section_counts costs h b) ≡ n) × Take n
+      sum_told s are_told is = by (task costs b).section_work refl s are_told is
+        where
+          told_it : IsTold (section_counts costs h b)
+          told_it = told.sections b (counted_task config app w load costs are h there b low.0) apart_is
 
-        fits : (raised : Bool) (i : ℕ) → Fits raised start.Free i
-        fits true i = record {
-          counts = 0;
-          raising = 0;
-          sum = inl (no_section_sums config app h b weights 0 not_raised);
-          takes = λ not_yet. absurd (true≢false not_yet);
-          front = omega arith;
-          acts = λ j over. inl (no_section_sums config app h b (activation_weights app b j) 0 not_raised);
-          sets = λ j over. no_section_sums config app h b (setting_weights app j) 0 not_raised;
-        }
-        fits false i = record {
-          counts = 0;
-          raising = services_front costs h 0 costs.tasks;
-          sum = inl (no_section_sums config app h b weights 0 not_raised);
-          takes = λ _ preemptable at reach takes. (takes_few at reach takes).1;
-          front = omega arith;
-          acts = λ j over. inl (no_section_sums config app h b (activation_weights app b j) 0 not_raised);
-          sets = λ j over. no_section_sums config app h b (setting_weights app j) 0 not_raised;
-        }
+          -- they are the lesser of both
+          same : (o : Option ℕ) → (task costs b).section_work ≡ o → (m : Option ℕ) → (section costs h b).counts ≡ m → section_counts costs h b ≡ lesser o m
+          same o at m counts = ap (λ v. lesser v (section costs h b).counts) at ∙ ap (lesser o) counts
+
+          by : (o : Option ℕ) → (task costs b).section_work ≡ o → (s : Sum) → IsToldSum (IsSection config app h b) weights s → (section costs h b).counts ≡ many s
+              → (n : ℕ) × (reckoned (section_counts costs h b) ≡ n) × Take n
+          by None at (sum.Counts n) are_told is = (n, told_number n (section_counts costs h b) (same None at (Some n) is) told_it, by_sum n n (omega arith) are_told)
+          by None at sum.Huge are_told is = absurd (none_told (section_counts costs h b) (same None at None is) told_it)
+          by None at sum.Endless are_told is = absurd (none_told (section_counts costs h b) (same None at None is) told_it)
+          by (Some own) at (sum.Counts n) are_told is =
+              (min own n, told_number (min own n) (section_counts costs h b) (same (Some own) at (Some n) is) told_it, which (cases_lt own n))
+            where
+              which : (own < n) ⊎ (n ≤ own) → Take (min own n)
+              which (inl lt) = let e : own ≡ min own n = omega (arith, lt) in subst Take e (by_work own at)
+              which (inr le) = by_sum n (min own n) (omega (arith, le)) are_told
+          by (Some own) at sum.Huge are_told is = (own, told_number own (section_counts costs h b) (same (Some own) at None is) told_it, by_work own at)
+          by (Some own) at sum.Endless are_told is = (own, told_number own (section_counts costs h b) (same (Some own) at None is) told_it, by_work own at)
+
+      section_acts : (j : ℕ) → is_over config h j ≡ true → MadeWithin j (begun_by costs h (start.Section b) j).activations
+      section_acts j over = by (declaration config b).non refl (h == j) refl (makings_of_section j of).activations
+        where
+          of : IsOfLevel config h j
+          of = over_declared b j low over
+
+          made : Option ℕ
+          made = (section_making costs h b j).activations
+
+          is_number : IsTold made
+          is_number =
+              (told.section_makings j (counted_task config app w load costs are h there j of.0) b (counted_task config app w load costs are h there b low.0)
+              (level_upper config app w load costs are h there j of) apart_is).activations
+
+          by : (non : Bool) → (declaration config b).non ≡ non → (itself : Bool) → (h == j) ≡ itself → IsSectionMade config app h b (non || itself) (counts.Activations j) made
+              → MadeWithin j (reckoned made)
+          by true is itself e once = made_once j made over (inr is) once
+          by false is true e once = made_once j made over (inl (sym (eqb-true h j e))) once
+          by false is false e walks =
+              subst (λ w. SectionsSum config app h b w (reckoned made) ⊎ (IsShutOut config h b j × (1 ≤ reckoned made))) (sym (other_weights b j low over))
+              (inl (made_few (counts.Activations j) made walks is_number))
+
+      section_sets : (j : ℕ) → is_over config h j ≡ true → SectionsSum config app h b (setting_weights app j) (begun_by costs h (start.Section b) j).settings
+      section_sets j over =
+          let of = over_declared b j low over in
+          made_few (counts.Settings j) (section_making costs h b j).settings (makings_of_section j of).settings
+          (told.section_makings j (counted_task config app w load costs are h there j of.0) b (counted_task config app w load costs are h there b low.0) (level_upper config app w load costs are h there j of) apart_is).settings
+
+      there_is : (section costs h b).exists ≡ true → (raised : Bool) → Fitting raised
+      there_is exists raised =
+          fitting raised (start.Section b) (has_section costs h b (counted_task config app w load costs are h there b low.0) apart_is exists) refl (λ i is. fits raised i)
+        where
+          known : (n : ℕ) × (reckoned (section_counts costs h b) ≡ n) × Take n
+          known = sum_told costs_of.told costs_of.is_told costs_of.counts
+
+          fits : (raised : Bool) (i : ℕ) → Fits raised (start.Section b) i
+          fits true i = record {
+            counts = known.0;
+            raising = 0;
+            sum = inl known.2;
+            takes = λ not_yet. absurd (true≢false not_yet);
+            front = let same = known.1 in omega (arith, same);
+            acts = λ j over. inl (section_acts j over);
+            sets = λ j over. inl (section_sets j over);
+          }
+          fits false i = record {
+            counts = known.0;
+            raising = (task costs b).raising;
+            sum = inl known.2;
+            takes = λ _ preemptable at reach takes. let few = (takes_few at reach takes).0 in let some = raises_preemptable preemptable in omega (arith, few, some);
+            front = let same = known.1 in omega (arith, same);
+            acts = λ j over. inl (section_acts j over);
+            sets = λ j over. inl (section_sets j over);
+          }
+
+      there_is_none : (section costs h b).exists ≡ false → (raised : Bool) → Fitting raised
+      there_is_none exists raised = fitting raised start.Free (has_free costs h) refl (λ i is. fits raised i)
+        where
+          not_raised : ¬ (IsRaised config app h b)
+          not_raised = not_from_Decides (section costs h b).exists costs_of.exists exists
+
+          fits : (raised : Bool) (i : ℕ) → Fits raised start.Free i
+          fits true i = record {
+            counts = 0;
+            raising = 0;
+            sum = inl (inl (no_section_sums config app h b weights 0 not_raised));
+            takes = λ not_yet. absurd (true≢false not_yet);
+            front = omega arith;
+            acts = λ j over. inl (inl (no_section_sums config app h b (activation_weights app b j) 0 not_raised));
+            sets = λ j over. inl (no_section_sums config app h b (setting_weights app j) 0 not_raised);
+          }
+          fits false i = record {
+            counts = 0;
+            raising = services_front costs h 0 costs.tasks;
+            sum = inl (inl (no_section_sums config app h b weights 0 not_raised));
+            takes = λ _ preemptable at reach takes. (takes_few at reach takes).1;
+            front = omega arith;
+            acts = λ j over. inl (inl (no_section_sums config app h b (activation_weights app b j) 0 not_raised));
+            sets = λ j over. inl (no_section_sums config app h b (setting_weights app j) 0 not_raised);
+          }
+
+      sections_apart : (raised : Bool) → Fitting raised
+      sections_apart raised = by (section costs h b).exists refl
+        where
+          by : (x : Bool) → (section costs h b).exists ≡ x → Fitting raised
+          by true e = there_is e raised
+          by false e = there_is_none e raised
+
+    -- ---- one whose rounds join
+
+    module _ (joins_it : is_joined costs h b ≡ true) where
+      abbrev round : Start
+      round = start.Round b
+
+      abbrev due_with : (raised : Bool) → ℕ → Numbers
+      due_with raised i = due_numbers config load longest late costs h raised round (numbers raised i) (lasting raised i)
+
+      abbrev with_round : (raised : Bool) → ℕ → Demand.Start
+      with_round raised i = start_with config load longest late costs h (Some b) raised round (due_with raised i) (lasting raised i)
+
+      joined_is : joined_of costs h round ≡ Some b
+      joined_is = ap (λ v. cond v (Some b) None) joins_it
+
+      enough_settings : (raised : Bool) (i : ℕ) → start_at all_starts i ≡ round → own_sets costs (due_with raised i) b + 1 ≤ (due_with raised i b).settings
+      enough_settings raised i is =
+          let solution = subst (λ v. IsSolution costs (run_window longest late costs h raised v) (numbers raised i) (lasting raised i)) is (solved raised i (ap is_boot is)) in
+          let all = settings_enough config app w load longest late costs are h there told cuts cut here raised round (numbers raised i) (lasting raised i) solution b joined_is in
+          omega (arith, all)
+
+      joins_so : (raised : Bool) (i : ℕ) → start_at all_starts i ≡ round → Joins app cuts b (with_round raised i)
+      joins_so raised i is = record {
+        joins = refl;
+        cut = joined_cut config app w load costs are h there b joins_it told cuts cut;
+        own_sets = own_sets costs (due_with raised i) b;
+        sets = rounds_set_own config app w load costs are h there b joins_it told cuts cut (due_with raised i b).settings;
+        number = let enough = enough_settings raised i is in omega (arith, enough);
+      }
+
+      has_rounds : (raised : Bool) (i : ℕ) → start_at all_starts i ≡ round → HasSections config app longest weights load cuts h b raised (with_round raised i)
+      has_rounds raised i is = record {
+        counts = longest_round costs b + (due_with raised i b).settings * reckoned (task costs b).next;
+        raising = 0;
+        sum = inr (joins_so raised i is, rounds_count config app w load costs are h there b joins_it told cuts cut (due_with raised i b).settings);
+        takes = λ _ preemptable. absurd (true≢false (sym (joined_non config app w load costs are h there b joins_it) ∙ preemptable));
+        front = front raised;
+        acts = λ j over. by j (rounds_activate config app w load costs are h there b joins_it told cuts cut j (due_with raised i b).settings (over_declared b j low over));
+        sets = λ j over. inr (joins_so raised i is, rounds_set config app w load costs are h there b joins_it told cuts cut j (due_with raised i b).settings (over_declared b j low over));
+      }
+        where
+          front : (opens : Bool) → 0 + (longest_round costs b + (due_with raised i b).settings * reckoned (task costs b).next) + longest
+              ≤ (due_with raised i b).settings * reckoned (task costs b).next + (longest + front_of opens costs h round)
+          front true = omega arith
+          front false = omega arith
+
+          by : (j : ℕ) → let made : ℕ = (due_with raised i b).settings * reckoned (making costs b j).next_activations + greater (making costs b j).first_activations (making costs b j).next_activations in
+              RoundsSum app b (activation_weights app b j) (due_with raised i b).settings made ⊎ (1 ≤ greater (making costs b j).first_activations (making costs b j).next_activations)
+              → (SectionsSum config app h b (activation_weights app b j) made ⊎ (IsShutOut config h b j × (1 ≤ made)))
+              ⊎ (Joins app cuts b (with_round raised i) × RoundsSum app b (activation_weights app b j) (due_with raised i b).settings made)
+          by j (inl sums) = inr (joins_so raised i is, sums)
+          by j (inr some) = inl (inr (inr (joined_non config app w load costs are h there b joins_it), omega (arith, some)))
+
+      rounds_join : (raised : Bool) → Fitting raised
+      rounds_join raised =
+          fitting raised round (has_round costs h b (counted_task config app w load costs are h there b low.0) joins_it) refl
+          (λ i is. subst (λ o. HasSections config app longest weights load cuts h b raised (start_with config load longest late costs h o raised round (due_with raised i) (lasting raised i)))
+          (sym joined_is) (has_rounds raised i is))
 
     sections : (raised : Bool) → Fitting raised
-    sections raised = by (section costs h b).exists refl
+    sections raised = by (joins costs h b) refl
       where
-        by : (x : Bool) → (section costs h b).exists ≡ x → Fitting raised
-        by true e = there_is e raised
-        by false e = there_is_none e raised
+        by : (v : Bool) → joins costs h b ≡ v → Fitting raised
+        by true e = rounds_join (ap (λ v. v && joins costs h b) below_is ∙ e) raised
+        by false e = sections_apart e raised
 
   some_start : (i : ℕ) × (i < ways) × ((begins i).is_boot ≡ false) × (longest ≤ (begins i).inflow.front) × (late ≤ (begins i).lead)
   some_start =
@@ -750,11 +841,11 @@ module _ (config : Config) (app : App) (w : Facts config app) (load : List Entry
         subst (λ (v : Demand.Start). late ≤ v.lead) (sym at.1) (omega arith),
       )
 
-  pub fits_starts : FitsStarts config app longest late weights load cuts (comes costs) h (task costs h).is_entered_once ways begins
-  fits_starts = record {
+  pub fits_starts : AreSolved → FitsStarts config app longest late weights load cuts (comes costs) h (task costs h).is_entered_once ways begins
+  fits_starts solved = record {
     some = some_start;
     boots = boots;
     serves = λ t low come. serves t (lower_serves t low come);
-    sections = sections;
+    sections = sections solved;
     leaves = λ once. serves h (own_serves once);
   }

@@ -6,6 +6,7 @@ pub mod Sums
 pub mod Alarms
 pub mod Reaching
 pub mod Rounds
+pub mod Joined
 pub mod StartLists
 pub mod Windows
 pub mod Fronts

@@ -32,7 +32,8 @@ use Rattle.run_responses.proofs.Never.{never_responds}
 use Rattle.run_responses.proofs.Alarms.{is_set, marks}
 use Rattle.run_responses.proofs.Rounds.{law_costs, fits_rounds, cut_as, is_full, is_whole}
 use Rattle.run_responses.proofs.Windows.{enough, has_arrivals, has_expiries, lasts}
-use Rattle.run_responses.proofs.Fronts.{start_of, begins, fits_starts}
+use Rattle.run_responses.proofs.Joined.{joined_so, fits_joined}
+use Rattle.run_responses.proofs.Fronts.{start_of, begins, AreSolved, fits_starts}
 
 -- a number of a load is none of 0
 pub some_said : (f : Form) (owner : ℕ) (load : List Entry) → All IsNumber load → (said f owner load ≡ Some 0) → ⊥
@@ -107,10 +108,11 @@ module _ (config : Config) (app : App) (wf : WellFormed config app) (load : List
   abbrev starting : ℕ → Demand.Start
   starting = begins config app w load longest late costs are h there here told cuts cut numbers lasting
 
-  start_so : (opens : Bool) (i : ℕ) → IsCodeStart config set load late (longest + late) h r once boot law (start_of config app w load longest late costs are h there here told cuts cut numbers lasting opens i)
+  start_so : (opens : Bool) (i : ℕ) → IsCodeStart config app (comes costs) set load late (longest + late) h r cuts once boot law (start_of config app w load longest late costs are h there here told cuts cut numbers lasting opens i)
   start_so opens i = record {
     arrivals = has_arrivals config app load longest late costs are h opens (at i) (numbers opens i) (lasting opens i) (solved opens i).room;
     expiries = has_expiries config app load longest late costs are h opens (at i) (numbers opens i) (lasting opens i) (solved opens i).room;
+    joining = λ b is. fits_joined config app w load costs are h there b (joined_so costs h (at i) b is).1 told cuts cut;
     enough = λ counts. enough config app w load longest late costs are h there told cuts cut here opens (at i) (numbers opens i) (lasting opens i) ((solved opens i).solves counts);
     lasts = λ counts.
         let within = (solved opens i).within counts in
@@ -118,11 +120,14 @@ module _ (config : Config) (app : App) (wf : WellFormed config app) (load : List
         within.0 r within.1 within.2;
   }
 
-  code_start : (i : ℕ) → IsCodeStart config set load late (longest + late) h r once boot law (starting i)
+  all_solved : AreSolved config app w load longest late costs are h there here told cuts cut numbers lasting
+  all_solved opens i other = (solved opens i).solves (λ boots. absurd (true≢false (sym boots ∙ other)))
+
+  code_start : (i : ℕ) → IsCodeStart config app (comes costs) set load late (longest + late) h r cuts once boot law (starting i)
   code_start i = by (ltb i (length (run_starts costs h true))) (start_so true i) (start_so false (i - length (run_starts costs h true)))
     where
-      by : (b : Bool) {x y : Demand.Start} → IsCodeStart config set load late (longest + late) h r once boot law x → IsCodeStart config set load late (longest + late) h r once boot law y
-          → IsCodeStart config set load late (longest + late) h r once boot law (cond b x y)
+      by : (b : Bool) {x y : Demand.Start} → IsCodeStart config app (comes costs) set load late (longest + late) h r cuts once boot law x → IsCodeStart config app (comes costs) set load late (longest + late) h r cuts once boot law y
+          → IsCodeStart config app (comes costs) set load late (longest + late) h r cuts once boot law (cond b x y)
       by true first second = first
       by false first second = second
 
@@ -161,5 +166,6 @@ images_meet_bounds config app image load arrivals n late longest h r boot cuts c
         wf code sound weighed pace are.are_counts (marks config app costs.alarms are.alarms) item come above (λ line. some_said form.Every line load in_load.numbers) keeps (closed config app load costs are) works
         (fits_rounds config app (facts config app wf) load costs are h there told cuts cut)
         (fits_starts config app (facts config app wf) load longest late costs are h there here told cuts cut (numbers config app wf load late longest h r boot cuts costs item cut are there told here bounds)
-        (lasting config app wf load late longest h r boot cuts costs item cut are there told here bounds))
+        (lasting config app wf load late longest h r boot cuts costs item cut are there told here bounds)
+        (all_solved config app wf load late longest h r boot cuts costs item cut are there told here bounds))
         (λ i _. code_start config app wf load late longest h r boot cuts costs item cut are there told here bounds i)

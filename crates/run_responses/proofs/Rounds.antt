@@ -1,5 +1,5 @@
 -- The costs of a record fit the rounds of its task code.
-use Rattle.std.proofs.Common.{◌≡◌, ℕ, ◌+◌, ◌-◌, ◌<◌, ◌≤◌, ◌⊎◌, ◌&&◌, ◌||◌, ◌++◌, not, cond, Bool, true, false, min, max, append_assoc, List, [], ◌∷◌, length, get_or, refl, sym, ap, ◌∙◌, subst, arith, inl, inr, Some, None, Option}
+use Rattle.std.proofs.Common.{◌≡◌, ℕ, ◌+◌, ◌-◌, ◌<◌, ◌≤◌, ◌⊎◌, ◌&&◌, ◌||◌, ◌==◌, ◌++◌, not, cond, Bool, true, false, min, max, append_assoc, List, [], ◌∷◌, length, get_or, refl, sym, ap, ◌∙◌, subst, arith, inl, inr, Some, None, Option}
 use Rattle.std.specs.List.{AllByRecursion}
 use Rattle.std.specs.Prelude.{Decides}
 use Rattle.std.proofs.lemmas.Bool.{leb-true, le-ltb, cases_lt, true≢false, and_parts, not-true}
@@ -40,11 +40,11 @@ use Rattle.response_laws.specs.Makers.{activation_weights, setting_weights}
 use Rattle.response_laws.specs.Once.{StaysOut}
 use Rattle.response_laws.specs.SoundRuns.{WorksWithin, FitsRounds}
 use Rattle.run_costs.specs.RunCosts.{round_entry, AreRunTaskCosts, AreRunMakings, AreRunCosts}
-use Rattle.run_windows.specs.RunWindows.{IsTold, AreTold}
+use Rattle.run_windows.specs.RunWindows.{is_joined, is_counted, is_making_counted, IsTold, AreTold}
 use Rattle.run_responses.specs.Meeting.{AreCutTasks}
 use Rattle.response_laws.proofs.Counting.{counted_lighter}
 use Rattle.run_responses.proofs.Reaching.{no_waits}
-use Rattle.run_responses.proofs.Numbers.{told_number, told_capped, none_told}
+use Rattle.run_responses.proofs.Numbers.{told_number, none_told, told_entry}
 
 -- ---- walks
 
@@ -145,15 +145,15 @@ module _ (Goal : ℕ → Type 0) (weaken : (n m : ℕ) → n ≤ m → Goal n �
   cost_told entry (Some own) (sum.Counts n) o is told above = (let e = number in omega (arith, e), by (cases_lt own n))
     where
       number : reckoned o ≡ entry + min own n
-      number = told_capped (entry + min own n) o is told
+      number = told_entry entry (min own n) o is told
 
       by : (own < n) ⊎ (n ≤ own) → ((m : ℕ) × (Some own ≡ Some m) × (m ≤ reckoned o - entry)) ⊎ Goal (reckoned o - entry)
       by (inl lt) = let e = number in inl (own, refl, omega (arith, e, lt))
       by (inr le) = let e = number in inr (weaken n (reckoned o - entry) (omega (arith, e, le)) (above n refl))
-  cost_told entry (Some own) sum.Huge o is told above = let e = told_capped (entry + own) o is told in (omega (arith, e), inl (own, refl, omega (arith, e)))
-  cost_told entry (Some own) sum.Endless o is told above = let e = told_capped (entry + own) o is told in (omega (arith, e), inl (own, refl, omega (arith, e)))
+  cost_told entry (Some own) sum.Huge o is told above = let e = told_entry entry own o is told in (omega (arith, e), inl (own, refl, omega (arith, e)))
+  cost_told entry (Some own) sum.Endless o is told above = let e = told_entry entry own o is told in (omega (arith, e), inl (own, refl, omega (arith, e)))
   cost_told entry None (sum.Counts own) o is told above =
-      let e = told_capped (entry + own) o is told in
+      let e = told_entry entry own o is told in
       (omega (arith, e), inr (weaken own (reckoned o - entry) (omega (arith, e)) (above own refl)))
   cost_told entry None sum.Huge o is told above = absurd (none_told o is told)
   cost_told entry None sum.Endless o is told above = absurd (none_told o is told)
@@ -179,7 +179,7 @@ module _ (Goal : ℕ → Type 0) (weaken : (n m : ℕ) → n ≤ m → Goal n �
       by (inl lt) = let e = number in inr (refl, omega (arith, e, lt))
       by (inr le) = let e = number in inl (weaken n (reckoned o) (omega (arith, e, le)) (above n refl))
 
-weaker : (Part : List Position → Type 0) (weights : List BodyWeights) (n m : ℕ) → n ≤ m → NoneIsAbove Part weights n → NoneIsAbove Part weights m
+pub weaker : (Part : List Position → Type 0) (weights : List BodyWeights) (n m : ℕ) → n ≤ m → NoneIsAbove Part weights n → NoneIsAbove Part weights m
 weaker Part weights n m le none positions part = let few = none positions part in omega (arith, few, le)
 
 -- ---- weights
@@ -230,6 +230,15 @@ module _ (config : Config) (app : App) (w : Facts config app) (load : List Entry
   -- of one that comes
   pub upper_counts : (t : ℕ) → IsOfLevel config h t → comes costs t ≡ true → is_left_out costs h t ≡ false
   upper_counts t over come = ap (λ b. b || not (comes costs t)) (level_upper t over) ∙ ap not come
+
+  pub level_counts : (t : ℕ) → IsOfLevel config h t → comes costs t ≡ true → is_counted costs h t ≡ true
+  level_counts t over come = ap (λ b. not b || is_joined costs h t) (upper_counts t over come)
+
+  -- what rounds that count make of a task of the level counts
+  pub level_makes : (j k : ℕ) → IsOfLevel config h j → is_counted costs h k ≡ true → is_making_counted costs h j k ≡ true
+  level_makes j k over counted =
+      ap (λ b. (not b && is_counted costs h k) || (is_joined costs h j && (not (is_left_out costs h k) || (k == j)))) (level_upper j over)
+      ∙ ap (λ b. b || (is_joined costs h j && (not (is_left_out costs h k) || (k == j)))) counted
 
   pub counted_task : (t : ℕ) → t < length config.tasks → t < length costs.tasks
   counted_task t lt = let same = are.tasks.count in omega (arith, lt, same)
@@ -282,57 +291,57 @@ module _ (config : Config) (app : App) (w : Facts config app) (load : List Entry
     fresh_is false t = refl
 
     -- the first rounds of a task, and the others
-    first_told : (t : ℕ) (over : IsOfLevel config h t) → comes costs t ≡ true → (first_entry t ≤ reckoned (task costs t).first)
+    pub first_told : (t : ℕ) (lt : t < length config.tasks) → is_counted costs h t ≡ true → (first_entry t ≤ reckoned (task costs t).first)
         × (WorksWithin load t (reckoned (task costs t).first - first_entry t) ⊎ FirstRoundsSum app (cuts t) t are.weights (reckoned (task costs t).first - first_entry t))
-    first_told t over come =
-        let own = are.tasks.each t over.0 in
+    first_told t lt counted =
+        let own = are.tasks.each t lt in
         cost_told (FirstRoundsSum app (cuts t) t are.weights) (λ n m. weaker (IsFirstRound app (cuts t) t) are.weights n m)
         (first_entry t) (work load t) own.told.first (task costs t).first (own.first ∙ ap (λ e. round_cost e (work load t) own.told.first) (fresh_is own.clean t))
-        (told.rounds t (counted_task t over.0) (upper_counts t over come)).first
-        (λ n is. subst (λ c. FirstRoundsSum app c t are.weights n) (cut_as t over.0 own.clean own.clears)
-        (first_above app t are.weights n (counts_lighter app are.weights are.are_counts) own.clean (declaration config t).extended own.told (never t over.0) own.rounds is))
+        (told.rounds t (counted_task t lt) counted).first
+        (λ n is. subst (λ c. FirstRoundsSum app c t are.weights n) (cut_as t lt own.clean own.clears)
+        (first_above app t are.weights n (counts_lighter app are.weights are.are_counts) own.clean (declaration config t).extended own.told (never t lt) own.rounds is))
 
-    next_told : (t : ℕ) (over : IsOfLevel config h t) → comes costs t ≡ true → (next_entry t ≤ reckoned (task costs t).next)
+    pub next_told : (t : ℕ) (lt : t < length config.tasks) → is_counted costs h t ≡ true → (next_entry t ≤ reckoned (task costs t).next)
         × (WorksWithin load t (reckoned (task costs t).next - next_entry t) ⊎ LaterRoundsSum app (cuts t) t are.weights (reckoned (task costs t).next - next_entry t))
-    next_told t over come =
+    next_told t lt counted =
         by (cost_told (LaterRoundsSum app (cuts t) t are.weights) (λ n m. weaker (IsLaterRound app (cuts t) t) are.weights n m)
         (round_entry config app own.clean true t) (work load t) own.told.later (task costs t).next own.next
-        (told.rounds t (counted_task t over.0) (upper_counts t over come)).next
-        (λ n is. subst (λ c. LaterRoundsSum app c t are.weights n) (cut_as t over.0 own.clean own.clears)
-        (later_above app t are.weights n (counts_lighter app are.weights are.are_counts) own.clean (declaration config t).extended own.told (never t over.0) own.rounds is)))
+        (told.rounds t (counted_task t lt) counted).next
+        (λ n is. subst (λ c. LaterRoundsSum app c t are.weights n) (cut_as t lt own.clean own.clears)
+        (later_above app t are.weights n (counts_lighter app are.weights are.are_counts) own.clean (declaration config t).extended own.told (never t lt) own.rounds is)))
       where
         own : AreRunTaskCosts config app load are.weights t (task costs t)
-        own = are.tasks.each t over.0
+        own = are.tasks.each t lt
 
-        by : (round_entry config app (are.tasks.each t over.0).clean true t ≤ reckoned (task costs t).next)
-            × (WorksWithin load t (reckoned (task costs t).next - round_entry config app (are.tasks.each t over.0).clean true t)
-            ⊎ LaterRoundsSum app (cuts t) t are.weights (reckoned (task costs t).next - round_entry config app (are.tasks.each t over.0).clean true t))
+        by : (round_entry config app (are.tasks.each t lt).clean true t ≤ reckoned (task costs t).next)
+            × (WorksWithin load t (reckoned (task costs t).next - round_entry config app (are.tasks.each t lt).clean true t)
+            ⊎ LaterRoundsSum app (cuts t) t are.weights (reckoned (task costs t).next - round_entry config app (are.tasks.each t lt).clean true t))
             → (next_entry t ≤ reckoned (task costs t).next)
             × (WorksWithin load t (reckoned (task costs t).next - next_entry t) ⊎ LaterRoundsSum app (cuts t) t are.weights (reckoned (task costs t).next - next_entry t))
         by (le, inl (work_counts, said, few)) =
-            let least = resumed_least (are.tasks.each t over.0).clean t in
+            let least = resumed_least (are.tasks.each t lt).clean t in
             (omega (arith, le, least), inl (work_counts, said, omega (arith, few, least)))
         by (le, inr sums) =
-            let least = resumed_least (are.tasks.each t over.0).clean t in (
+            let least = resumed_least (are.tasks.each t lt).clean t in (
               omega (arith, le, least),
               inr (weaker (IsLaterRound app (cuts t) t) are.weights
-                  (reckoned (task costs t).next - round_entry config app (are.tasks.each t over.0).clean true t) (reckoned (task costs t).next - next_entry t)
+                  (reckoned (task costs t).next - round_entry config app (are.tasks.each t lt).clean true t) (reckoned (task costs t).next - next_entry t)
                   (omega (arith, least)) sums),
             )
 
-    first_sum : (k n : ℕ) (over : IsOfLevel config h k) (c : Counted) (b : Bool) → Decides b (IsClean app k) → (sums : RoundSums)
+    first_sum : (k n : ℕ) (lt : k < length config.tasks) (c : Counted) (b : Bool) → Decides b (IsClean app k) → (sums : RoundSums)
         → AreRounds app b (declaration config k).extended k (counted_weights c app) sums
         → sums.first ≡ sum.Counts n → FirstRoundsSum app (cuts k) k (counted_weights c app) n
-    first_sum k n over c b decides sums rounds is =
-        subst (λ v. FirstRoundsSum app v k (counted_weights c app) n) (cut_as k over.0 b decides)
-        (first_above app k (counted_weights c app) n (counted_lighter c app) b (declaration config k).extended sums (never k over.0) rounds is)
+    first_sum k n lt c b decides sums rounds is =
+        subst (λ v. FirstRoundsSum app v k (counted_weights c app) n) (cut_as k lt b decides)
+        (first_above app k (counted_weights c app) n (counted_lighter c app) b (declaration config k).extended sums (never k lt) rounds is)
 
-    next_sum : (k n : ℕ) (over : IsOfLevel config h k) (c : Counted) (b : Bool) → Decides b (IsClean app k) → (sums : RoundSums)
+    next_sum : (k n : ℕ) (lt : k < length config.tasks) (c : Counted) (b : Bool) → Decides b (IsClean app k) → (sums : RoundSums)
         → AreRounds app b (declaration config k).extended k (counted_weights c app) sums
         → sums.later ≡ sum.Counts n → LaterRoundsSum app (cuts k) k (counted_weights c app) n
-    next_sum k n over c b decides sums rounds is =
-        subst (λ v. LaterRoundsSum app v k (counted_weights c app) n) (cut_as k over.0 b decides)
-        (later_above app k (counted_weights c app) n (counted_lighter c app) b (declaration config k).extended sums (never k over.0) rounds is)
+    next_sum k n lt c b decides sums rounds is =
+        subst (λ v. LaterRoundsSum app v k (counted_weights c app) n) (cut_as k lt b decides)
+        (later_above app k (counted_weights c app) n (counted_lighter c app) b (declaration config k).extended sums (never k lt) rounds is)
 
     first_weaker : (k : ℕ) (weights : List BodyWeights) (n m : ℕ) → n ≤ m → FirstRoundsSum app (cuts k) k weights n → FirstRoundsSum app (cuts k) k weights m
     first_weaker k weights n m = weaker (IsFirstRound app (cuts k) k) weights n m
@@ -344,58 +353,78 @@ module _ (config : Config) (app : App) (w : Facts config app) (load : List Entry
     once_out k j once decides (inl g) = inl g
     once_out k j once decides (inr (is, le)) = inr (decides.0 is, le)
 
+    pub first_acts_told : (k j : ℕ) (klt : k < length config.tasks) (jlt : j < length config.tasks) → is_making_counted costs h j k ≡ true
+        → FirstRoundsSum app (cuts k) k (activation_weights app k j) (reckoned (making costs k j).first_activations) ⊎ (StaysOut config app k j × (1 ≤ reckoned (making costs k j).first_activations))
+    first_acts_told k j klt jlt counted =
+        let m = makings_of k j klt jlt in
+        let (sums, rounds, first, next) = m.activations in
+        once_out k j m.once m.is_once
+        (made_told (FirstRoundsSum app (cuts k) k (activation_weights app k j)) (first_weaker k (activation_weights app k j)) m.once sums.first (making costs k j).first_activations first
+        (told.makings j (counted_task j jlt) k (counted_task k klt) counted).first_activations
+        (λ n is. first_sum k n klt (activations_of k j) m.clean m.is_clean sums rounds is))
+
+    pub next_acts_told : (k j : ℕ) (klt : k < length config.tasks) (jlt : j < length config.tasks) → is_making_counted costs h j k ≡ true
+        → LaterRoundsSum app (cuts k) k (activation_weights app k j) (reckoned (making costs k j).next_activations) ⊎ (StaysOut config app k j × (1 ≤ reckoned (making costs k j).next_activations))
+    next_acts_told k j klt jlt counted =
+        let m = makings_of k j klt jlt in
+        let (sums, rounds, first, next) = m.activations in
+        once_out k j m.once m.is_once
+        (made_told (LaterRoundsSum app (cuts k) k (activation_weights app k j)) (next_weaker k (activation_weights app k j)) m.once sums.later (making costs k j).next_activations next
+        (told.makings j (counted_task j jlt) k (counted_task k klt) counted).next_activations
+        (λ n is. next_sum k n klt (activations_of k j) m.clean m.is_clean sums rounds is))
+
+    pub first_sets_told : (k j : ℕ) (klt : k < length config.tasks) (jlt : j < length config.tasks) → is_making_counted costs h j k ≡ true
+        → FirstRoundsSum app (cuts k) k (setting_weights app j) (reckoned (making costs k j).first_settings)
+    first_sets_told k j klt jlt counted =
+        let m = makings_of k j klt jlt in
+        let (sums, rounds, first, next) = m.settings in
+        many_told (FirstRoundsSum app (cuts k) k (setting_weights app j)) (first_weaker k (setting_weights app j)) sums.first (making costs k j).first_settings first
+        (told.makings j (counted_task j jlt) k (counted_task k klt) counted).first_settings
+        (λ n is. first_sum k n klt (counts.Settings j) m.clean m.is_clean sums rounds is)
+
+    pub next_sets_told : (k j : ℕ) (klt : k < length config.tasks) (jlt : j < length config.tasks) → is_making_counted costs h j k ≡ true
+        → LaterRoundsSum app (cuts k) k (setting_weights app j) (reckoned (making costs k j).next_settings)
+    next_sets_told k j klt jlt counted =
+        let m = makings_of k j klt jlt in
+        let (sums, rounds, first, next) = m.settings in
+        many_told (LaterRoundsSum app (cuts k) k (setting_weights app j)) (next_weaker k (setting_weights app j)) sums.later (making costs k j).next_settings next
+        (told.makings j (counted_task j jlt) k (counted_task k klt) counted).next_settings
+        (λ n is. next_sum k n klt (counts.Settings j) m.clean m.is_clean sums rounds is)
+
     pub fits_rounds : FitsRounds config app are.weights load (comes costs) h cuts law_costs
     fits_rounds = record {
       first_round = λ t. reckoned (task costs t).first - first_entry t;
       next_round = λ t. reckoned (task costs t).next - next_entry t;
-      firsts = λ t lt over come. (first_told t (lt, over) come).1;
-      nexts = λ t lt over come. (next_told t (lt, over) come).1;
+      firsts = λ t lt over come. (first_told t lt (level_counts t (lt, over) come)).1;
+      nexts = λ t lt over come. (next_told t lt (level_counts t (lt, over) come)).1;
       first = λ t come. let same = at_coming t (first_entry t + (reckoned (task costs t).first - first_entry t)) come in omega (arith, same);
       next = λ t come. let same = at_coming t (next_entry t + (reckoned (task costs t).next - next_entry t)) come in omega (arith, same);
       tick = λ c. omega arith;
       first_acts = λ k j over made come.
-          let m = makings_of k j over.0 made.0 in
-          let (sums, rounds, first, next) = m.activations in
           subst (λ n. FirstRoundsSum app (cuts k) k (activation_weights app k j) n ⊎ (StaysOut config app k j × (1 ≤ n))) (sym (at_coming k (reckoned (making costs k j).first_activations) come))
-          (once_out k j m.once m.is_once
-          (made_told (FirstRoundsSum app (cuts k) k (activation_weights app k j)) (first_weaker k (activation_weights app k j)) m.once sums.first (making costs k j).first_activations first
-          (told.makings j (counted_task j made.0) k (counted_task k over.0) (level_upper j made) (upper_counts k over come)).first_activations
-          (λ n is. first_sum k n over (activations_of k j) m.clean m.is_clean sums rounds is)));
+          (first_acts_told k j over.0 made.0 (level_makes j k made (level_counts k over come)));
       next_acts = λ k j over made come.
-          let m = makings_of k j over.0 made.0 in
-          let (sums, rounds, first, next) = m.activations in
           subst (λ n. LaterRoundsSum app (cuts k) k (activation_weights app k j) n ⊎ (StaysOut config app k j × (1 ≤ n))) (sym (at_coming k (reckoned (making costs k j).next_activations) come))
-          (once_out k j m.once m.is_once
-          (made_told (LaterRoundsSum app (cuts k) k (activation_weights app k j)) (next_weaker k (activation_weights app k j)) m.once sums.later (making costs k j).next_activations next
-          (told.makings j (counted_task j made.0) k (counted_task k over.0) (level_upper j made) (upper_counts k over come)).next_activations
-          (λ n is. next_sum k n over (activations_of k j) m.clean m.is_clean sums rounds is)));
+          (next_acts_told k j over.0 made.0 (level_makes j k made (level_counts k over come)));
       first_sets = λ k j over made come.
-          let m = makings_of k j over.0 made.0 in
-          let (sums, rounds, first, next) = m.settings in
           subst (λ n. FirstRoundsSum app (cuts k) k (setting_weights app j) n) (sym (at_coming k (reckoned (making costs k j).first_settings) come))
-          (many_told (FirstRoundsSum app (cuts k) k (setting_weights app j)) (first_weaker k (setting_weights app j)) sums.first (making costs k j).first_settings first
-          (told.makings j (counted_task j made.0) k (counted_task k over.0) (level_upper j made) (upper_counts k over come)).first_settings
-          (λ n is. first_sum k n over (counts.Settings j) m.clean m.is_clean sums rounds is));
+          (first_sets_told k j over.0 made.0 (level_makes j k made (level_counts k over come)));
       next_sets = λ k j over made come.
-          let m = makings_of k j over.0 made.0 in
-          let (sums, rounds, first, next) = m.settings in
           subst (λ n. LaterRoundsSum app (cuts k) k (setting_weights app j) n) (sym (at_coming k (reckoned (making costs k j).next_settings) come))
-          (many_told (LaterRoundsSum app (cuts k) k (setting_weights app j)) (next_weaker k (setting_weights app j)) sums.later (making costs k j).next_settings next
-          (told.makings j (counted_task j made.0) k (counted_task k over.0) (level_upper j made) (upper_counts k over come)).next_settings
-          (λ n is. next_sum k n over (counts.Settings j) m.clean m.is_clean sums rounds is));
+          (next_sets_told k j over.0 made.0 (level_makes j k made (level_counts k over come)));
       clean = λ t lt over is. ((cut t lt).0 is).0;
     }
 
     -- in the sums of a window the costs of the law are those of the record
     pub first_same : (t : ℕ) → IsOfLevel config h t → comes costs t ≡ true → law_costs.first t ≡ reckoned (task costs t).first
     first_same t over come =
-        let le = (first_told t over come).0 in
+        let le = (first_told t over.0 (level_counts t over come)).0 in
         let same = at_coming t (first_entry t + (reckoned (task costs t).first - first_entry t)) come in
         omega (arith, le, same)
 
     pub next_same : (t : ℕ) → IsOfLevel config h t → comes costs t ≡ true → law_costs.next t ≡ reckoned (task costs t).next
     next_same t over come =
-        let le = (next_told t over come).0 in
+        let le = (next_told t over.0 (level_counts t over come)).0 in
         let same = at_coming t (next_entry t + (reckoned (task costs t).next - next_entry t)) come in
         omega (arith, le, same)
 

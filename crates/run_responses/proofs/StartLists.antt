@@ -8,9 +8,9 @@ use Rattle.run_windows.specs.declared.costs.Costs.{Costs}
 use Rattle.run_windows.specs.declared.window.Start.{Start}
 use Rattle.run_windows.specs.declared.window.Start.TheVariants as start
 use Rattle.run_windows.specs.Costs.{section, no_services, no_task}
-use Rattle.run_windows.specs.Windows.{is_lower, is_below, is_boot}
+use Rattle.run_windows.specs.Windows.{is_lower, is_boot}
 use Rattle.run_windows.specs.declared.fronts.Way.{Way}
-use Rattle.run_windows.specs.RunWindows.{may_serve, services_front, is_made_in_front, activation_front, setting_front, makes, made_start, start_if, start_at, task_starts, run_task_starts, run_starts}
+use Rattle.run_windows.specs.RunWindows.{is_joined, is_apart, may_serve, services_front, is_made_in_front, activation_front, setting_front, makes, made_start, start_if, start_at, lower_starts, task_starts, run_task_starts, run_starts}
 
 -- ---- a start among others
 
@@ -67,24 +67,34 @@ module _ (costs : Costs) (h : ℕ) where
   has_activation j lt upper some =
       of_task (start.Activation j) j lt
       (has_left (start.Activation j) (made_start costs h j (activation_front costs h j) (start.Activation j))
-      (made_start costs h j (setting_front costs h j) (start.Setting j) ++ start_if (is_below costs h j && (section costs h j).exists) (start.Section j))
+      (made_start costs h j (setting_front costs h j) (start.Setting j) ++ lower_starts costs h j)
       (has_if (not (is_lower costs h j) && not (activation_front costs h j == 0)) (start.Activation j) (some_front (is_lower costs h j) (activation_front costs h j) upper some)))
 
   pub has_setting : (j : ℕ) → j < length costs.tasks → is_lower costs h j ≡ false → 0 < setting_front costs h j → Has (run_starts costs h true) (start.Setting j)
   has_setting j lt upper some =
       of_task (start.Setting j) j lt
       (has_right (start.Setting j) (made_start costs h j (activation_front costs h j) (start.Activation j))
-      (made_start costs h j (setting_front costs h j) (start.Setting j) ++ start_if (is_below costs h j && (section costs h j).exists) (start.Section j))
-      (has_left (start.Setting j) (made_start costs h j (setting_front costs h j) (start.Setting j)) (start_if (is_below costs h j && (section costs h j).exists) (start.Section j))
+      (made_start costs h j (setting_front costs h j) (start.Setting j) ++ lower_starts costs h j)
+      (has_left (start.Setting j) (made_start costs h j (setting_front costs h j) (start.Setting j)) (lower_starts costs h j)
       (has_if (not (is_lower costs h j) && not (setting_front costs h j == 0)) (start.Setting j) (some_front (is_lower costs h j) (setting_front costs h j) upper some))))
 
-  pub has_section : (k : ℕ) → k < length costs.tasks → is_below costs h k ≡ true → (section costs h k).exists ≡ true → Has (run_starts costs h true) (start.Section k)
-  has_section k lt below exists =
-      of_task (start.Section k) k lt
-      (has_right (start.Section k) (made_start costs h k (activation_front costs h k) (start.Activation k))
-      (made_start costs h k (setting_front costs h k) (start.Setting k) ++ start_if (is_below costs h k && (section costs h k).exists) (start.Section k))
-      (has_right (start.Section k) (made_start costs h k (setting_front costs h k) (start.Setting k)) (start_if (is_below costs h k && (section costs h k).exists) (start.Section k))
-      (has_if (is_below costs h k && (section costs h k).exists) (start.Section k) (ap (λ b. b && (section costs h k).exists) below ∙ exists))))
+  of_lower : (s : Start) (k : ℕ) → k < length costs.tasks → Has (lower_starts costs h k) s → Has (run_starts costs h true) s
+  of_lower s k lt has =
+      of_task s k lt
+      (has_right s (made_start costs h k (activation_front costs h k) (start.Activation k)) (made_start costs h k (setting_front costs h k) (start.Setting k) ++ lower_starts costs h k)
+      (has_right s (made_start costs h k (setting_front costs h k) (start.Setting k)) (lower_starts costs h k) has))
+
+  pub has_section : (k : ℕ) → k < length costs.tasks → is_apart costs h k ≡ true → (section costs h k).exists ≡ true → Has (run_starts costs h true) (start.Section k)
+  has_section k lt alone exists =
+      of_lower (start.Section k) k lt
+      (has_left (start.Section k) (start_if (is_apart costs h k && (section costs h k).exists) (start.Section k)) (start_if (is_joined costs h k) (start.Round k))
+      (has_if (is_apart costs h k && (section costs h k).exists) (start.Section k) (ap (λ b. b && (section costs h k).exists) alone ∙ exists)))
+
+  pub has_round : (k : ℕ) → k < length costs.tasks → is_joined costs h k ≡ true → Has (run_starts costs h true) (start.Round k)
+  has_round k lt joined =
+      of_lower (start.Round k) k lt
+      (has_right (start.Round k) (start_if (is_apart costs h k && (section costs h k).exists) (start.Section k)) (start_if (is_joined costs h k) (start.Round k))
+      (has_if (is_joined costs h k) (start.Round k) joined))
 
   -- where all starts but boot are within something, so is each of all starts that is not boot
   pub by_place : (boot : Bool) (P : Start → Type 0) → ((i : ℕ) → i < length (run_starts costs h boot) → P (start_at (run_starts costs h boot) i))

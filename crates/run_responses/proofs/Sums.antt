@@ -1,5 +1,6 @@
 -- Sums over lists, and over numbers.
-use Rattle.std.proofs.Common.{◌≡◌, ℕ, suc, ◌+◌, ◌*◌, ◌<◌, ◌≤◌, Bool, min, List, [], ◌∷◌, length, get_or, refl, ap, subst, arith}
+use Rattle.std.proofs.Common.{◌≡◌, ℕ, zero, suc, ◌+◌, ◌*◌, ◌<◌, ◌≤◌, ◌⊎◌, inl, inr, ◌==◌, cond, Bool, min, List, [], ◌∷◌, length, get_or, refl, ap, subst, arith}
+use Rattle.std.proofs.lemmas.Bool.{cases_eq, eq-eqb}
 use Rattle.run_windows.specs.declared.costs.TaskCosts.{TaskCosts}
 use Rattle.run_windows.specs.declared.costs.CounterCosts.{CounterCosts}
 use Rattle.run_windows.specs.declared.costs.AlarmCosts.{AlarmCosts}
@@ -43,6 +44,20 @@ module _ {X : Type 0} (d : X) (f : ℕ → X → ℕ) (g : ℕ → ℕ) where
       let e : 0 + length xs ≡ n = omega (arith, count) in
       let same = ap (λ m. sum_below m g) e in
       omega (arith, all, same)
+
+-- one of the numbers has something more
+pub with_one : (n : ℕ) (g : ℕ → ℕ) (b more : ℕ) → b < n → sum_below n g + more ≤ sum_below n (λ k. g k + cond (k == b) more 0)
+with_one zero g b more lt = absurd (omega (arith, lt))
+with_one (suc n) g b more lt = by (cases_eq n b) (λ less. with_one n g b more less)
+  where
+    without : (m : ℕ) → sum_below m g ≤ sum_below m (λ k. g k + cond (k == b) more 0)
+    without zero = omega arith
+    without (suc m) = let rest = without m in omega (arith, rest)
+
+    by : (n ≡ b) ⊎ (n ≡ b → ⊥) → (b < n → sum_below n g + more ≤ sum_below n (λ k. g k + cond (k == b) more 0))
+        → sum_below (suc n) g + more ≤ sum_below (suc n) (λ k. g k + cond (k == b) more 0)
+    by (inl e) f = let on = ap (λ t. cond t more 0) (eq-eqb n b e) in let rest = without n in omega (arith, on, rest)
+    by (inr ne) f = let rest = f (omega (arith, lt, ne)) in omega (arith, rest)
 
 -- ---- the sums of a window
 

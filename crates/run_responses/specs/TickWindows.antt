@@ -1,11 +1,10 @@
 -- Windows of ticks alone: within how many counts of an arrival of its counter a tick has ended.
 use Rattle.std.specs.Prelude.{ℕ, ◌+◌, ◌-◌, ◌≡◌, max, cond, Bool, true, false, List, [], ◌∷◌, Option, Some, None}
-use Rattle.sloth_base.specs.Limits.{count_limit}
 use Rattle.run_windows.specs.declared.costs.TaskCosts.{TaskCosts}
 use Rattle.run_windows.specs.declared.costs.Costs.{Costs}
 use Rattle.run_windows.specs.declared.window.Start.TheVariants as start
 use Rattle.run_windows.specs.declared.window.Window.{Window}
-use Rattle.run_windows.specs.Costs.{comes}
+use Rattle.run_windows.specs.Costs.{window_limit, comes}
 use Rattle.run_windows.specs.Windows.{IsBound}
 use Rattle.run_windows.specs.RunWindows.{margin, lead_of}
 
@@ -25,7 +24,7 @@ tick_window longest late costs opens =
 
 -- the bound of one of both
 abbrev pub IsTickBound : (longest late : ℕ) → Costs → (opens : Bool) → Option ℕ → Type 0
-IsTickBound longest late costs opens bound = IsBound count_limit (tick_costs costs) (tick_window longest late costs opens) bound
+IsTickBound longest late costs opens bound = IsBound window_limit (tick_costs costs) (tick_window longest late costs opens) bound
 
 -- the greater of the numbers of both windows, without the margin; none where one has no bound
 abbrev pub greater_number : (longest late : ℕ) → (opening serving : Option ℕ) → Option ℕ

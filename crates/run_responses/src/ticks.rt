@@ -3,11 +3,11 @@ ghost use Rattle.std.specs.Prelude.{◌≡◌, cond, true, false, length, IfOk};
 ghost use Rattle.run_windows.specs.Costs.{comes};
 ghost use Rattle.run_responses.specs.TickWindows.{tick_costs, longest_service, tick_window, IsTickBound, greater_number, IsTickNumber};
 
-use run_windows::bounds::{bound, room};
+use run_windows::bounds::{room, window_bound};
 use run_windows::level::comes;
 use run_windows::window::Window;
 use run_windows::{Costs, Made, Start, TaskCosts};
-use sloth_base::{COUNT_LIMIT, List, NoMemory};
+use sloth_base::{List, NoMemory};
 use std::alloc::Global;
 
 // The costs of counters alone.
@@ -68,17 +68,13 @@ fn tick_bound(
     ensures bound { IsTickBound longest late costs.now opens result }
     ensures count { length numbers.new ≡ 0 }
 {
-    let front = tick_front(longest, late, costs, opens);
-    if front > u64::from(COUNT_LIMIT) {
-        return None;
-    }
     let window = Window {
         target: None,
         start: Start::Free,
-        front: front as u32,
+        front: tick_front(longest, late, costs, opens),
         span: None,
     };
-    bound(ticks, &window, COUNT_LIMIT, numbers)
+    window_bound(ticks, &window, numbers)
 }
 
 fn greater_number(
@@ -103,7 +99,7 @@ fn greater_number(
 }
 
 /// Within how many counts of an arrival of its counter a tick has ended, in runs that keep these costs: the greater number of two windows. None where one has
-/// more than 1,000,000 counts.
+/// more than 2,147,483,647 counts.
 pub fn tick_number(
     alloc: Global,
     longest: u32,

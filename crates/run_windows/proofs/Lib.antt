@@ -4,3 +4,7 @@ pub mod OneBound
 pub mod OneLeast
 mod Within
 mod WindowParts
+mod Endless
+mod LowerBounds
+pub mod AllTold
+pub mod Leasts

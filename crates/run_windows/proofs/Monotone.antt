@@ -85,7 +85,7 @@ ticking_more boot sets j alarms c (counter ∷ counters) {t} {u} h =
     let rest = ticking_more boot sets j alarms (c + 1) counters h in
     omega (arith, ticks, made, rest)
 
-tick_counts_more : (counters : List CounterCosts) {t u : ℕ} → t ≤ u → tick_counts t counters ≤ tick_counts u counters
+pub tick_counts_more : (counters : List CounterCosts) {t u : ℕ} → t ≤ u → tick_counts t counters ≤ tick_counts u counters
 tick_counts_more [] h = omega arith
 tick_counts_more (counter ∷ counters) {t} {u} h =
     let here : arrivals t counter.distance * counter.tick ≤ arrivals u counter.distance * counter.tick =
@@ -122,7 +122,7 @@ round_counts_more n m h k (t ∷ ts) =
 
 -- ---- windows
 
-span_more : (w : Window) {c d : ℕ} → c ≤ d → span_of w c ≤ span_of w d
+pub span_more : (w : Window) {c d : ℕ} → c ≤ d → span_of w c ≤ span_of w d
 span_more w {c} {d} h = by w.span
   where
     by : (o : Option ℕ) → unwrap_or o c ≤ unwrap_or o d
@@ -131,6 +131,7 @@ span_more w {c} {d} h = by w.span
 
 pub counted_more : (r : Rule) {a b s t : ℕ} → a ≤ b → s ≤ t → IsAtMost (counted r a s) (counted r b t)
 counted_more rule.Out h k = record { activations = omega arith; settings = omega arith }
+counted_more rule.Settings h k = record { activations = omega arith; settings = k }
 counted_more rule.Each h k = record { activations = h; settings = k }
 counted_more rule.Once h k = record { activations = omega (arith, h, k); settings = omega arith }
 

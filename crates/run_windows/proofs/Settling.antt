@@ -9,7 +9,7 @@ use Rattle.run_windows.specs.declared.window.Window.{Window}
 use Rattle.run_windows.specs.declared.window.Made.{Made}
 use Rattle.run_windows.specs.declared.window.Rule.{Rule}
 use Rattle.run_windows.specs.declared.window.Rule.TheVariants as rule
-use Rattle.run_windows.specs.Costs.{capped, reckoned, no_task}
+use Rattle.run_windows.specs.Costs.{greatest_sum, capped, reckoned, no_task}
 use Rattle.run_windows.specs.Windows.{Numbers, none_made, numbers_of, rule_of, counted, activations, settings, made_within, round_counts, window_counts, IsAtMost, IsSolution, IsLeast}
 use Rattle.run_windows.specs.Settling.{most_made, AreBelow, capped_made, IsMet, TakeCounts}
 use Rattle.run_windows.proofs.Monotone.{counted_more, made_more, window_more}
@@ -24,14 +24,16 @@ at_most_both h k =
 
 counted_within : (r : Rule) (a s : ℕ) → IsAtMost (counted r (capped a) (capped s)) most_made
 counted_within rule.Out a s = record { activations = omega arith; settings = omega arith }
+counted_within rule.Settings a s = record { activations = omega arith; settings = omega arith }
 counted_within rule.Each a s = record { activations = omega arith; settings = omega arith }
 counted_within rule.Once a s = record { activations = omega arith; settings = omega arith }
 
-counted_exactly : (r : Rule) (a s : ℕ) (n : Made) → n.activations ≤ 4000000 → n.settings ≤ 4000000 → IsAtMost (counted r (capped a) (capped s)) n → IsAtMost (counted r a s) n
+counted_exactly : (r : Rule) (a s : ℕ) (n : Made) → n.activations < greatest_sum → n.settings < greatest_sum → IsAtMost (counted r (capped a) (capped s)) n → IsAtMost (counted r a s) n
 counted_exactly r a s n ha hs h = by r h.activations h.settings
   where
     by : (r : Rule) → (counted r (capped a) (capped s)).activations ≤ n.activations → (counted r (capped a) (capped s)).settings ≤ n.settings → IsAtMost (counted r a s) n
     by rule.Out x y = record { activations = omega arith; settings = omega arith }
+    by rule.Settings x y = record { activations = omega arith; settings = omega (arith, y, hs) }
     by rule.Each x y = record { activations = omega (arith, x, ha); settings = omega (arith, y, hs) }
     by rule.Once x y = record { activations = omega (arith, x); settings = omega arith }
 
@@ -154,9 +156,22 @@ module _ (costs : Costs) (w : Window) where
         omega (arith, le, so, e, n);
   }
 
+  -- to counts below which there is no solution
+  pub raised : (made : List Made) (counts ahead next : ℕ) → AreBelow costs w made counts → ((m : Numbers) (more : ℕ) → IsSolution costs w m more → ahead ≤ more)
+      → next ≡ max counts ahead → AreBelow costs w made next
+  raised made counts ahead next b below e = record {
+    count = b.count;
+    within = b.within;
+    numbers_below = b.numbers_below;
+    counts_below = λ m more s.
+        let so = b.counts_below m more s in
+        let least = below m more s in
+        omega (arith, so, least, e);
+  }
+
   -- ---- the end
 
-  pub settled : (made : List Made) (counts limit : ℕ) → TakeCounts costs → AreBelow costs w made counts → limit ≤ 4000000 → counts ≤ limit
+  pub settled : (made : List Made) (counts limit : ℕ) → TakeCounts costs → AreBelow costs w made counts → limit < greatest_sum → counts ≤ limit
       → ((j : ℕ) → j < length costs.tasks → IsMet costs w made counts j) → capped (window_counts costs w (numbers_of made) counts) ≤ counts
       → IsLeast costs w (numbers_of made) counts
   settled made counts limit take b top le met filled = record {
@@ -178,7 +193,7 @@ module _ (costs : Costs) (w : Window) where
   -- ---- beyond the limit
 
   -- more comes than the limit within what each solution has at least: so each has more
-  pub above : (made : List Made) (counts limit : ℕ) → limit ≤ 4000000 → AreBelow costs w made counts → limit < window_counts costs w (numbers_of made) counts
+  pub above : (made : List Made) (counts limit : ℕ) → limit < greatest_sum → AreBelow costs w made counts → limit < window_counts costs w (numbers_of made) counts
       → (m : Numbers) (more : ℕ) → IsSolution costs w m more → limit < more
   above made counts limit top b over m more s =
       let le = filled_below made counts b m more s in

@@ -1,16 +1,16 @@
 -- Of what the number of a window is made.
 use Rattle.std.specs.Prelude.{unwrap_or}
 use Rattle.std.proofs.Common.{◌≡◌, ℕ, ◌+◌, ◌-◌, ◌<◌, Bool, true, false, cond, List, Option, Some, None, sym, subst, arith}
-use Rattle.sloth_base.specs.Limits.{count_limit}
 use Rattle.run_windows.specs.declared.costs.Costs.{Costs}
 use Rattle.run_windows.specs.declared.window.Made.{Made}
 use Rattle.run_windows.specs.declared.window.Window.{Window}
 use Rattle.run_windows.specs.declared.longest.Longest.{Longest}
 use Rattle.run_windows.specs.declared.parts.Parts.{Parts}
+use Rattle.run_windows.specs.Costs.{window_limit}
 use Rattle.run_windows.specs.Arrivals.{tick_counts}
 use Rattle.run_windows.specs.Windows.{numbers_of, is_target_made, round_counts, IsLeast}
 use Rattle.run_windows.specs.Settling.{IsFound}
-use Rattle.run_windows.specs.RunWindows.{margin, lead_of, start_counts, start_service, front_of, begun_item, run_window, IsWindowIf, IsNumber}
+use Rattle.run_windows.specs.RunWindows.{margin, lead_of, start_counts, start_service, front_of, begun_item, run_window, IsNumber}
 use Rattle.run_windows.specs.Longest.{AreParts}
 use Rattle.run_windows.proofs.Settling.{least_filled}
 
@@ -19,13 +19,10 @@ module _ (longest late : ℕ) (costs : Costs) (h : ℕ) (l : Longest) where
   w = run_window longest late costs h l.opens l.start
 
   -- a window with a number has a solution within the limit
-  pub found_some : (numbers : List Made) (found : Option ℕ) → IsNumber longest late costs h l.opens l.start (Some l.number) → IsFound count_limit costs w numbers found
+  pub found_some : (numbers : List Made) (found : Option ℕ) → IsNumber longest late costs h l.opens l.start (Some l.number) → IsFound window_limit costs w numbers found
       → (counts : ℕ) → counts ≡ unwrap_or found 0 → IsLeast costs w (numbers_of numbers) counts
   found_some numbers (Some c) number (least, le) counts e = subst (IsLeast costs w (numbers_of numbers)) (sym e) least
   found_some numbers None (b, (n, d, least, few, is), e) none counts f = let over = none n d least.solves in absurd (omega (arith, over, few))
-
-  pub window_there : IsNumber longest late costs h l.opens l.start (Some l.number) → IsWindowIf longest late costs h l.opens l.start None → ⊥
-  window_there (b, (n, d, least, few, is), e) lt = let filled = least.solves.filled in omega (arith, filled, few, lt)
 
   sum_so : (opens made : Bool) (x b d counts stretch item section service rounds ticks : ℕ) → x ≡ b + lead_of opens late - margin longest late → b ≡ cond made d 0 → d ≡ counts → 0 < x
       → counts ≡ margin longest late + (begun_item longest l.start + front_of opens costs h l.start) + rounds + ticks → stretch ≡ lead_of opens late

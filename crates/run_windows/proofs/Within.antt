@@ -2,28 +2,24 @@
 use Rattle.std.proofs.Common.{◌≡◌, ◌∙◌, ℕ, ◌+◌, ◌-◌, ◌<◌, ◌≤◌, ◌⊎◌, inl, inr, Bool, true, false, cond, List, length, Some, None, refl, sym, subst, arith}
 use Rattle.std.specs.Prelude.{nat_lt}
 use Rattle.std.proofs.lemmas.Bool.{cases_eq, ltb-true, ltb-false}
-use Rattle.sloth_base.specs.Limits.{count_limit}
 use Rattle.run_windows.specs.declared.costs.Costs.{Costs}
 use Rattle.run_windows.specs.declared.window.Start.{Start}
 use Rattle.run_windows.specs.declared.window.Window.{Window}
 use Rattle.run_windows.specs.declared.longest.Longest.{Longest}
+use Rattle.run_windows.specs.Costs.{window_limit}
 use Rattle.run_windows.specs.Windows.{IsBound}
-use Rattle.run_windows.specs.RunWindows.{margin, lead_of, start_at, run_window, IsWindowIf, IsNumber, IsWindowWithin, IsStartWithin}
+use Rattle.run_windows.specs.RunWindows.{margin, lead_of, start_at, run_window, IsNumber, IsWindowWithin, IsStartWithin}
 use Rattle.run_windows.specs.Longest.{IsAmong, longer, IsLonger, IsMost}
 use Rattle.run_windows.proofs.OneBound.{one_bound}
 
 module _ (longest late : ℕ) (costs : Costs) (h : ℕ) where
-  -- a window with more counts in front than the limit has no bound
-  pub beyond : (opens : Bool) (s : Start) → IsWindowIf longest late costs h opens s None → IsNumber longest late costs h opens s None
-  beyond opens s lt n counts solves = let filled = solves.filled in omega (arith, lt, filled)
-
-  pub number_some : (opens : Bool) (s : Start) (w : Window) (l x : ℕ) → w ≡ run_window longest late costs h opens s → IsBound count_limit costs w (Some l)
+  pub number_some : (opens : Bool) (s : Start) (w : Window) (l x : ℕ) → w ≡ run_window longest late costs h opens s → IsBound window_limit costs w (Some l)
       → x ≡ l + lead_of opens late - margin longest late → IsNumber longest late costs h opens s (Some x)
-  number_some opens s w l x is bound e = (l, subst (λ v. IsBound count_limit costs v (Some l)) is bound, e)
+  number_some opens s w l x is bound e = (l, subst (λ v. IsBound window_limit costs v (Some l)) is bound, e)
 
-  pub number_none : (opens : Bool) (s : Start) (w : Window) → w ≡ run_window longest late costs h opens s → IsBound count_limit costs w None
+  pub number_none : (opens : Bool) (s : Start) (w : Window) → w ≡ run_window longest late costs h opens s → IsBound window_limit costs w None
       → IsNumber longest late costs h opens s None
-  number_none opens s w is bound = subst (λ v. IsBound count_limit costs v None) is bound
+  number_none opens s w is bound = subst (λ v. IsBound window_limit costs v None) is bound
 
   -- a window is within its number, and all that is greater
   within_number : (opens : Bool) (s : Start) (x r : ℕ) → IsNumber longest late costs h opens s (Some x) → x ≤ r → IsWindowWithin longest late costs h r opens s
@@ -33,13 +29,13 @@ module _ (longest late : ℕ) (costs : Costs) (h : ℕ) where
   number_least : (opens : Bool) (s : Start) (x r : ℕ) → h < length costs.tasks → IsNumber longest late costs h opens s (Some x) → IsWindowWithin longest late costs h r opens s
       → x ≤ r
   number_least opens s x r there (l, bound, e) (k, other, few) =
-      let same : Some l ≡ Some k = one_bound costs (run_window longest late costs h opens s) count_limit (Some l) (Some k) there bound other in
+      let same : Some l ≡ Some k = one_bound costs (run_window longest late costs h opens s) window_limit (Some l) (Some k) there bound other in
       let is : l ≡ k = cc in
       omega (arith, e, few, is)
 
   none_within : (opens : Bool) (s : Start) (r : ℕ) → h < length costs.tasks → IsNumber longest late costs h opens s None → IsWindowWithin longest late costs h r opens s → ⊥
   none_within opens s r there bound (k, other, few) =
-      let same : None ≡ Some k = one_bound costs (run_window longest late costs h opens s) count_limit None (Some k) there bound other in cc
+      let same : None ≡ Some k = one_bound costs (run_window longest late costs h opens s) window_limit None (Some k) there bound other in cc
 
   -- ---- a start
 

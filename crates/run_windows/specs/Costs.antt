@@ -1,5 +1,5 @@
 -- What response times are computed from: reading a record of costs.
-use Rattle.std.specs.Prelude.{ℕ, min, Bool, List, [], get_or, false, Option, Some, None}
+use Rattle.std.specs.Prelude.{ℕ, ◌&&◌, min, Bool, List, [], get_or, false, Option, Some, None}
 use Rattle.run_windows.specs.declared.costs.TaskCosts.{TaskCosts}
 use Rattle.run_windows.specs.declared.costs.Makings.{Makings}
 use Rattle.run_windows.specs.declared.costs.Services.{Services}
@@ -10,13 +10,20 @@ use Rattle.run_windows.specs.declared.costs.Costs.{Costs}
 
 -- ---- numbers
 
--- up to 4,000,001, for which all that is greater stands
-abbrev pub capped : ℕ → ℕ
-capped n = min n 4000001
+-- the counts above which a window has no bound
+abbrev pub window_limit : ℕ
+window_limit = 2147483647
 
--- A greatest number as a number of counts: where there is none it is above all windows and sums that are told.
+-- what stands for all that is greater, and for what has no limit: it is above all bounds that are told
+abbrev pub greatest_sum : ℕ
+greatest_sum = 8000000001
+
+abbrev pub capped : ℕ → ℕ
+capped n = min n greatest_sum
+
+-- a greatest number as a number of counts
 abbrev pub reckoned : Option ℕ → ℕ
-reckoned None = 4000001
+reckoned None = greatest_sum
 reckoned (Some n) = capped n
 
 -- ---- tasks
@@ -29,6 +36,7 @@ no_task =
       is_entered_once = false;
       is_autostarted = false;
       is_cut = false;
+      has_raised_waits = false;
       distance = None;
       first = Some 0;
       next = Some 0;
@@ -69,7 +77,7 @@ abbrev pub level : Costs → (h : ℕ) → Level
 level costs h = get_or costs.levels h no_level
 
 abbrev pub no_section : SectionCosts
-no_section = record { exists = false; counts = Some 0 }
+no_section = record { exists = false; is_endless = false; counts = Some 0 }
 
 -- the sections for task h, by the task whose they are
 abbrev pub sections_of : Costs → (h : ℕ) → List SectionCosts
@@ -78,6 +86,10 @@ sections_of costs h = (level costs h).sections
 -- those of task k
 abbrev pub section : Costs → (h k : ℕ) → SectionCosts
 section costs h k = get_or (sections_of costs h) k no_section
+
+-- Its sections have no greatest sum, but may wait: its rounds join windows of h in their place.
+abbrev pub joins : Costs → (h k : ℕ) → Bool
+joins costs h k = (task costs k).has_raised_waits && (section costs h k).is_endless
 
 -- the lesser of two greatest numbers
 abbrev pub lesser : Option ℕ → Option ℕ → Option ℕ

@@ -5,3 +5,5 @@ pub mod Settling
 pub mod RunWindows
 pub mod Longest
 pub mod Demand
+pub mod Cycles
+pub mod FirstUntold

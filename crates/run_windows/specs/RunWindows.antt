@@ -4,7 +4,6 @@ use Rattle.std.specs.Prelude.{ℕ, ◌+◌, ◌-◌, ◌<◌, ◌≤◌, ◌≡�
 use Rattle.sloth_base.specs.declared.service.Service.{Service}
 use Rattle.sloth_base.specs.declared.service.Service.TheVariants as service
 use Rattle.sloth_base.specs.ServiceCodes.{has_mask}
-use Rattle.sloth_base.specs.Limits.{count_limit}
 use Rattle.code_lengths.specs.LongestPaths.{leaving_path, served_path}
 use Rattle.run_windows.specs.declared.costs.TaskCosts.{TaskCosts}
 use Rattle.run_windows.specs.declared.costs.Services.{Services}
@@ -16,8 +15,18 @@ use Rattle.run_windows.specs.declared.fronts.Way.TheVariants as way
 use Rattle.run_windows.specs.declared.window.Start.{Start}
 use Rattle.run_windows.specs.declared.window.Start.TheVariants as start
 use Rattle.run_windows.specs.declared.window.Window.{Window}
-use Rattle.run_windows.specs.Costs.{reckoned, task, comes, making, section, section_counts, section_making}
-use Rattle.run_windows.specs.Windows.{is_lower, is_left_out, is_below, is_boot, IsBound}
+use Rattle.run_windows.specs.Costs.{window_limit, reckoned, task, comes, making, section, joins, section_counts, section_making}
+use Rattle.run_windows.specs.Windows.{is_lower, is_left_out, is_below, is_boot, greater, IsBound}
+
+-- ---- lower tasks
+
+-- a lower task that comes, whose rounds join windows of h
+abbrev pub is_joined : Costs → (h k : ℕ) → Bool
+is_joined costs h k = is_below costs h k && joins costs h k
+
+-- one whose sections count
+abbrev pub is_apart : Costs → (h k : ℕ) → Bool
+is_apart costs h k = is_below costs h k && not (joins costs h k)
 
 -- ---- services
 
@@ -65,13 +74,18 @@ activation_front costs h j =
 abbrev pub setting_front : Costs → (h j : ℕ) → ℕ
 setting_front costs h j = cond (is_made_in_front way.Setting costs h 0 (services_of costs j)) (call_path service.SetEvent) 0
 
--- the counts of other tasks with which a start begins: those of a section
+-- the counts of the longest round of task k
+abbrev pub longest_round : Costs → (k : ℕ) → ℕ
+longest_round costs k = greater (task costs k).first (task costs k).next
+
+-- the counts of other tasks with which a start begins: those of a section, or of the round that is under way
 abbrev pub start_counts : Costs → (h : ℕ) → Start → ℕ
 start_counts costs h start.Free = 0
 start_counts costs h start.Boot = 0
 start_counts costs h (start.Activation j) = 0
 start_counts costs h (start.Setting j) = 0
 start_counts costs h (start.Section k) = reckoned (section_counts costs h k)
+start_counts costs h (start.Round k) = longest_round costs k
 
 -- The service behind admissions that came while it was running: one that may stand in front, one that makes the task, or one that raises it.
 abbrev pub start_service : Costs → (h : ℕ) → Start → ℕ
@@ -80,6 +94,7 @@ start_service costs h start.Boot = 0
 start_service costs h (start.Activation j) = activation_front costs h j
 start_service costs h (start.Setting j) = setting_front costs h j
 start_service costs h (start.Section k) = (task costs k).raising
+start_service costs h (start.Round k) = 0
 
 -- A window opens with the event of its start, or with admissions in front of a service: so many counts of other tasks stand in front.
 abbrev pub front_of : (opens : Bool) → Costs → (h : ℕ) → Start → ℕ
@@ -101,11 +116,15 @@ start_if test s = cond test (s ∷ []) []
 abbrev pub made_start : Costs → (h j front : ℕ) → Start → List Start
 made_start costs h j front s = start_if (not (is_lower costs h j) && not (front == 0)) s
 
--- task j is made, or raised
+-- task j is raised, or a round of it is under way
+abbrev pub lower_starts : Costs → (h j : ℕ) → List Start
+lower_starts costs h j = start_if (is_apart costs h j && (section costs h j).exists) (start.Section j) ++ start_if (is_joined costs h j) (start.Round j)
+
+-- task j is made, or lower
 abbrev pub task_starts : Costs → (h j : ℕ) → List Start
 task_starts costs h j =
     made_start costs h j (activation_front costs h j) (start.Activation j)
-    ++ (made_start costs h j (setting_front costs h j) (start.Setting j) ++ start_if (is_below costs h j && (section costs h j).exists) (start.Section j))
+    ++ (made_start costs h j (setting_front costs h j) (start.Setting j) ++ lower_starts costs h j)
 
 -- those of these tasks, from task j on
 abbrev pub run_task_starts : Costs → (h j : ℕ) → List TaskCosts → List Start
@@ -135,21 +154,16 @@ abbrev pub run_window : (longest late : ℕ) → Costs → (h : ℕ) → (opens 
 run_window longest late costs h opens s =
     record { target = Some h; start = s; front = margin longest late + (begun_item longest s + front_of opens costs h s); span = None }
 
--- there is a window with so few counts in front
-abbrev pub IsWindowIf : (longest late : ℕ) → Costs → (h : ℕ) → (opens : Bool) → Start → Option Window → Type 0
-IsWindowIf longest late costs h opens s (Some w) = w ≡ run_window longest late costs h opens s
-IsWindowIf longest late costs h opens s None = count_limit < (run_window longest late costs h opens s).front
-
 -- The number of a window: its bound with what stands in front of its beginning, without the margin; none where it has no bound.
 abbrev pub IsNumber : (longest late : ℕ) → Costs → (h : ℕ) → (opens : Bool) → Start → Option ℕ → Type 0
 IsNumber longest late costs h opens s (Some x) =
-    (l : ℕ) × IsBound count_limit costs (run_window longest late costs h opens s) (Some l) × (x ≡ l + lead_of opens late - margin longest late)
-IsNumber longest late costs h opens s None = IsBound count_limit costs (run_window longest late costs h opens s) None
+    (l : ℕ) × IsBound window_limit costs (run_window longest late costs h opens s) (Some l) × (x ≡ l + lead_of opens late - margin longest late)
+IsNumber longest late costs h opens s None = IsBound window_limit costs (run_window longest late costs h opens s) None
 
 -- it has one, of at most r
 abbrev pub IsWindowWithin : (longest late : ℕ) → Costs → (h r : ℕ) → (opens : Bool) → Start → Type 0
 IsWindowWithin longest late costs h r opens s =
-    (l : ℕ) × IsBound count_limit costs (run_window longest late costs h opens s) (Some l) × (l + lead_of opens late ≤ r + margin longest late)
+    (l : ℕ) × IsBound window_limit costs (run_window longest late costs h opens s) (Some l) × (l + lead_of opens late ≤ r + margin longest late)
 
 -- both windows of a start have
 abbrev pub IsStartWithin : (longest late : ℕ) → Costs → (h r : ℕ) → Start → Type 0
@@ -183,13 +197,20 @@ pub record AreSectionMakingsTold (m : SectionMakings) : Type 0 where
   pub activations : IsTold m.activations
   pub settings : IsTold m.settings
 
--- All that the level of h is computed from has a number: rounds of its tasks that come, and sections of lower ones, and how often they make its tasks Ready.
+-- rounds of t count in windows of h: it is of the level and comes, or is joined
+abbrev pub is_counted : Costs → (h t : ℕ) → Bool
+is_counted costs h t = not (is_left_out costs h t) || is_joined costs h t
+
+-- how often they make j Ready counts, of rounds of k: j is of the level; or joined, and k of the level, or j itself
+abbrev pub is_making_counted : Costs → (h j k : ℕ) → Bool
+is_making_counted costs h j k = (not (is_lower costs h j) && is_counted costs h k) || (is_joined costs h j && (not (is_left_out costs h k) || (k == j)))
+
+-- All that the level of h is computed from has a number: rounds of its tasks that come and of joined ones, sections of other lower ones, and how often they make its tasks Ready.
 pub record AreTold (costs : Costs) (h : ℕ) : Type 0 where
-  pub rounds : (t : ℕ) → t < length costs.tasks → is_left_out costs h t ≡ false → AreRoundsTold (task costs t)
-  pub makings : (j : ℕ) → j < length costs.tasks → (k : ℕ) → k < length costs.tasks → is_lower costs h j ≡ false → is_left_out costs h k ≡ false
-      → AreMakingsTold (making costs k j)
-  pub sections : (k : ℕ) → k < length costs.tasks → is_below costs h k ≡ true → IsTold (section_counts costs h k)
-  pub section_makings : (j : ℕ) → j < length costs.tasks → (k : ℕ) → k < length costs.tasks → is_lower costs h j ≡ false → is_below costs h k ≡ true
+  pub rounds : (t : ℕ) → t < length costs.tasks → is_counted costs h t ≡ true → AreRoundsTold (task costs t)
+  pub makings : (j : ℕ) → j < length costs.tasks → (k : ℕ) → k < length costs.tasks → is_making_counted costs h j k ≡ true → AreMakingsTold (making costs k j)
+  pub sections : (k : ℕ) → k < length costs.tasks → is_apart costs h k ≡ true → IsTold (section_counts costs h k)
+  pub section_makings : (j : ℕ) → j < length costs.tasks → (k : ℕ) → k < length costs.tasks → is_lower costs h j ≡ false → is_apart costs h k ≡ true
       → AreSectionMakingsTold (section_making costs h k j)
 
 -- ---- response times

@@ -3,12 +3,12 @@ use Rattle.std.specs.Prelude.{ℕ, ◌+◌, ◌-◌, ◌<◌, ◌≤◌, ◌≡�
 use Rattle.run_windows.specs.declared.costs.Costs.{Costs}
 use Rattle.run_windows.specs.declared.window.Window.{Window}
 use Rattle.run_windows.specs.declared.window.Made.{Made}
-use Rattle.run_windows.specs.Costs.{capped, reckoned, task}
+use Rattle.run_windows.specs.Costs.{greatest_sum, capped, reckoned, task}
 use Rattle.run_windows.specs.Windows.{Numbers, numbers_of, rule_of, counted, activations, settings, IsAtMost, IsSolution, IsLeast}
 
 -- no greater number is told apart
 abbrev pub most_made : Made
-most_made = record { activations = 4000001; settings = 4000001 }
+most_made = record { activations = greatest_sum; settings = greatest_sum }
 
 -- numbers and counts that are at most those of every solution
 pub record AreBelow (costs : Costs) (w : Window) (made : List Made) (counts : ℕ) : Type 0 where
@@ -19,9 +19,9 @@ pub record AreBelow (costs : Costs) (w : Window) (made : List Made) (counts : �
 
 -- how far they may grow
 abbrev pub slack : List Made → ℕ
-slack made = sum_by (λ m. (4000001 - m.activations) + (4000001 - m.settings)) made
+slack made = sum_by (λ m. (greatest_sum - m.activations) + (greatest_sum - m.settings)) made
 
--- what comes of j within a window, with numbers up to 4,000,001
+-- what comes of j within a window, with numbers up to the greatest sum
 abbrev pub capped_made : Costs → Window → Numbers → (counts j : ℕ) → Made
 capped_made costs w n counts j = counted (rule_of costs w j) (capped (activations costs w n counts j)) (capped (settings costs w n counts j))
 

@@ -1,5 +1,5 @@
 -- Windows: how many counts they have, from how often their tasks are made Ready.
-use Rattle.std.specs.Prelude.{ℕ, ◌+◌, ◌*◌, ◌<◌, ◌≤◌, ◌≡◌, ◌==◌, ◌&&◌, ◌||◌, not, nat_lt, min, cond, Bool, true, false, List, [], ◌∷◌, length, get_or, Option, Some, None, unwrap_or}
+use Rattle.std.specs.Prelude.{ℕ, ◌+◌, ◌*◌, ◌<◌, ◌≤◌, ◌≡◌, ◌==◌, ◌&&◌, ◌||◌, not, nat_lt, min, max, cond, Bool, true, false, List, [], ◌∷◌, length, get_or, Option, Some, None, unwrap_or}
 use Rattle.run_windows.specs.declared.costs.TaskCosts.{TaskCosts}
 use Rattle.run_windows.specs.declared.costs.Makings.{Makings}
 use Rattle.run_windows.specs.declared.costs.SectionMakings.{SectionMakings}
@@ -10,7 +10,7 @@ use Rattle.run_windows.specs.declared.window.Window.{Window}
 use Rattle.run_windows.specs.declared.window.Made.{Made}
 use Rattle.run_windows.specs.declared.window.Rule.{Rule}
 use Rattle.run_windows.specs.declared.window.Rule.TheVariants as rule
-use Rattle.run_windows.specs.Costs.{reckoned, task, comes, makers, section_making}
+use Rattle.run_windows.specs.Costs.{reckoned, task, comes, makers, making, section_making}
 use Rattle.run_windows.specs.Arrivals.{arrivals, ticking, tick_counts}
 
 -- ---- the tasks of a window
@@ -31,20 +31,30 @@ is_left_out costs h k = is_lower costs h k || not (comes costs k)
 abbrev pub is_below : Costs → (h k : ℕ) → Bool
 is_below costs h k = is_lower costs h k && comes costs k
 
--- which makings of j count in a window of h
-abbrev pub level_rule : Costs → (h j : ℕ) → Rule
-level_rule costs h j = cond (is_left_out costs h j) rule.Out (cond ((j == h) && (task costs h).is_entered_once) rule.Once rule.Each)
+-- a round of j is under way as the window begins
+abbrev pub is_round : Start → (j : ℕ) → Bool
+is_round (start.Round k) j = k == j
+is_round _ j = false
 
-abbrev pub target_rule : Costs → Option ℕ → (j : ℕ) → Rule
-target_rule costs None j = rule.Each
-target_rule costs (Some h) j = level_rule costs h j
+-- which makings of a task count that is left out of the level: settings of one whose round is under way, each of them for a further round
+abbrev pub lower_rule : Start → (j : ℕ) → Rule
+lower_rule s j = cond (is_round s j) rule.Settings rule.Out
+
+-- which makings of j count in a window of h
+abbrev pub level_rule : Costs → (h : ℕ) → Start → (j : ℕ) → Rule
+level_rule costs h s j = cond (is_left_out costs h j) (lower_rule s j) (cond ((j == h) && (task costs h).is_entered_once) rule.Once rule.Each)
+
+abbrev pub target_rule : Costs → Option ℕ → Start → (j : ℕ) → Rule
+target_rule costs None s j = rule.Each
+target_rule costs (Some h) s j = level_rule costs h s j
 
 abbrev pub rule_of : Costs → Window → (j : ℕ) → Rule
-rule_of costs w j = target_rule costs w.target j
+rule_of costs w j = target_rule costs w.target w.start j
 
 -- of so many activations and settings these count
 abbrev pub counted : Rule → (activations settings : ℕ) → Made
 counted rule.Out a s = record { activations = 0; settings = 0 }
+counted rule.Settings a s = record { activations = 0; settings = s }
 counted rule.Each a s = record { activations = a; settings = s }
 counted rule.Once a s = record { activations = min (a + s) 1; settings = 0 }
 
@@ -67,6 +77,17 @@ set_once test = record { activations = 0; settings = cond test 1 0 }
 abbrev pub section_made : SectionMakings → Made
 section_made m = record { activations = reckoned m.activations; settings = reckoned m.settings }
 
+-- the greater of two greatest numbers
+abbrev pub greater : (one other : Option ℕ) → ℕ
+greater one other = max (reckoned one) (reckoned other)
+
+-- what a round of k, of whichever kind, makes of j at most; and of k itself an event may have been set before
+abbrev pub round_made : Costs → (k j : ℕ) → Made
+round_made costs k j = record {
+  activations = greater (making costs k j).first_activations (making costs k j).next_activations;
+  settings = greater (making costs k j).first_settings (making costs k j).next_settings + cond (k == j) 1 0;
+}
+
 -- what the start of a window makes of j; sections are those for task h
 abbrev pub begun_by : Costs → (h : ℕ) → Start → (j : ℕ) → Made
 begun_by costs h start.Free j = activated_once false
@@ -74,6 +95,7 @@ begun_by costs h start.Boot j = activated_once (task costs j).is_autostarted
 begun_by costs h (start.Activation t) j = activated_once (t == j)
 begun_by costs h (start.Setting t) j = set_once (t == j)
 begun_by costs h (start.Section k) j = section_made (section_making costs h k j)
+begun_by costs h (start.Round k) j = round_made costs k j
 
 abbrev pub begun : Costs → Window → (j : ℕ) → Made
 begun costs w j = begun_by costs (unwrap_or w.target 0) w.start j

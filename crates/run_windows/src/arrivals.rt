@@ -7,17 +7,17 @@ use crate::numbers::times;
 use crate::{AlarmCosts, CounterCosts, plus};
 
 // The least multiple's factor: a distance of 0 has none.
-fn filling(counts: u32, distance: u32) -> u32
+fn filling(counts: u64, distance: u32) -> u64
     ensures { result ≡ arrivals counts (Some distance) }
 {
-    if distance == 0 {
+    if counts == 0 || distance == 0 {
         return 0;
     }
-    ((u64::from(counts) + u64::from(distance) - 1) / u64::from(distance)) as u32
+    ((counts - 1) / u64::from(distance)).saturating_add(1)
 }
 
 /// The most arrivals within so many counts, where two are this far apart.
-pub fn arrivals(counts: u32, distance: Option<u32>) -> u32
+pub fn arrivals(counts: u64, distance: Option<u32>) -> u64
     ensures { result ≡ arrivals counts distance }
 {
     match distance {
@@ -26,29 +26,29 @@ pub fn arrivals(counts: u32, distance: Option<u32>) -> u32
     }
 }
 
-fn cycles(ticks: u32, cycle: u32) -> u32
-    requires room { ticks < 4294967295 }
+fn cycles(ticks: u64, cycle: u32) -> u64
+    requires room { ticks < 18446744073709551615 }
     requires cycle { 1 ≤ cycle }
     ensures { result ≡ 1 + ticks / cycle }
 {
-    1 + ticks / cycle
+    1 + ticks / u64::from(cycle)
 }
 
 // The first expiries behind boot of an alarm that starts with the system.
-fn booted_expiries(time: u32, cycle: u32, ticks: u32) -> u32
+fn booted_expiries(time: u32, cycle: u32, ticks: u64) -> u64
     requires { 1 ≤ time }
     ensures { result ≡ booted_expiries time cycle ticks }
 {
-    if ticks < time {
+    if ticks < u64::from(time) {
         0
     } else if cycle == 0 {
         1
     } else {
-        cycles(ticks - time, cycle)
+        cycles(ticks - u64::from(time), cycle)
     }
 }
 
-fn cyclic_expiries(cycle: u32, ticks: u32) -> u32
+fn cyclic_expiries(cycle: u32, ticks: u64) -> u64
     ensures { result ≡ cyclic_expiries cycle ticks }
 {
     if cycle == 0 {
@@ -59,7 +59,7 @@ fn cyclic_expiries(cycle: u32, ticks: u32) -> u32
 }
 
 /// The most expiries of an alarm within so many ticks.
-pub fn expiries(boot: bool, alarm: &AlarmCosts, ticks: u32) -> u32
+pub fn expiries(boot: bool, alarm: &AlarmCosts, ticks: u64) -> u64
     ensures { result ≡ expiries boot alarm.now ticks }
 {
     if alarm.is_set {
@@ -75,7 +75,8 @@ pub fn expiries(boot: bool, alarm: &AlarmCosts, ticks: u32) -> u32
     }
 }
 
-fn acts_on(sets: bool, counter: usize, task: usize, alarm: &AlarmCosts) -> bool
+/// Whether an alarm of this counter activates the task, or sets events of it.
+pub fn acts_on(sets: bool, counter: usize, task: usize, alarm: &AlarmCosts) -> bool
     ensures { result ≡ acts_on sets counter task alarm.now }
 {
     alarm.counter as usize == counter
@@ -93,9 +94,9 @@ fn expiring(
     sets: bool,
     counter: usize,
     task: usize,
-    ticks: u32,
+    ticks: u64,
     alarms: &[AlarmCosts],
-) -> u32
+) -> u64
     ensures { result ≡ capped (expiring boot sets counter task ticks alarms.now) }
 {
     let mut total = 0;
@@ -112,10 +113,10 @@ pub fn ticking(
     boot: bool,
     sets: bool,
     task: usize,
-    counts: u32,
+    counts: u64,
     alarms: &[AlarmCosts],
     counters: &[CounterCosts],
-) -> u32
+) -> u64
     ensures { result ≡ capped (ticking boot sets task counts alarms.now 0 counters.now) }
 {
     let mut total = 0;
@@ -128,13 +129,13 @@ pub fn ticking(
 }
 
 /// The counts of the ticks.
-pub fn tick_counts(counts: u32, counters: &[CounterCosts]) -> u32
+pub fn tick_counts(counts: u64, counters: &[CounterCosts]) -> u64
     ensures { result ≡ capped (tick_counts counts counters.now) }
 {
     let mut total = 0;
     for counter in counters {
         let ticks = arrivals(counts, counter.distance);
-        total = plus(total, times(ticks, counter.tick));
+        total = plus(total, times(ticks, u64::from(counter.tick)));
     }
     total
 }

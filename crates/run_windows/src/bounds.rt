@@ -1,8 +1,10 @@
 //! Bounds of windows.
-ghost use Rattle.std.specs.Prelude.{◌≡◌, ◌≤◌, length, IfOk};
+ghost use Rattle.std.specs.Prelude.{◌≡◌, ◌<◌, length, IfOk};
+ghost use Rattle.run_windows.specs.Costs.{greatest_sum, window_limit};
 ghost use Rattle.run_windows.specs.Windows.{numbers_of, is_made, is_target_made, IsBound};
 ghost use Rattle.run_windows.specs.Settling.{TakeCounts};
 
+use crate::numbers::WINDOW_LIMIT;
 use crate::rounds::number_of;
 use crate::settle::settle;
 use crate::window::Window;
@@ -27,9 +29,9 @@ fn is_target_made(target: Option<usize>, numbers: &[Made]) -> bool
 }
 
 /// The bound of a window up to a limit: the counts of its least solution, or 0 where its target is not made in it.
-pub fn bound(costs: &Costs, window: &Window, limit: u32, numbers: &mut [Made]) -> Option<u32>
+pub fn bound(costs: &Costs, window: &Window, limit: u64, numbers: &mut [Made]) -> Option<u64>
     requires costs { TakeCounts costs.now }
-    requires limit { limit ≤ 4000000 }
+    requires limit { limit < greatest_sum }
     requires count { length numbers.old ≡ length costs.now.tasks }
     ensures bound { IsBound limit costs.now window.now result }
     ensures count { length numbers.new ≡ length costs.now.tasks }
@@ -43,6 +45,19 @@ pub fn bound(costs: &Costs, window: &Window, limit: u32, numbers: &mut [Made]) -
             };
             Some(told)
         }
+        None => None,
+    }
+}
+
+/// The bound of a window up to 2,147,483,647 counts.
+pub fn window_bound(costs: &Costs, window: &Window, numbers: &mut [Made]) -> Option<u32>
+    requires costs { TakeCounts costs.now }
+    requires count { length numbers.old ≡ length costs.now.tasks }
+    ensures bound { IsBound window_limit costs.now window.now result }
+    ensures count { length numbers.new ≡ length costs.now.tasks }
+{
+    match bound(costs, window, WINDOW_LIMIT, numbers) {
+        Some(counts) => Some(counts as u32),
         None => None,
     }
 }

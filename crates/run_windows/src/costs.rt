@@ -2,7 +2,7 @@
 
 use sloth_base::List;
 
-/// A task. A greatest number that is none is 1,000,000 or more, or has no limit.
+/// A task. A greatest number that is none has no limit, or is greater than what sums of rounds and sections tell.
 #[derive(Clone, Copy)]
 pub struct TaskCosts {
     /// The static priority.
@@ -13,6 +13,8 @@ pub struct TaskCosts {
     pub is_autostarted: bool,
     /// It is extended and clean: WaitEvents cut its turns into rounds.
     pub is_cut: bool,
+    /// It is not preemptable, and clean, and waits: sections of it may have several rounds.
+    pub has_raised_waits: bool,
     /// How many counts two of its arrivals are apart at least; none where it never arrives.
     pub distance: Option<u32>,
     /// The counts of an entry and of a round that begins with the first item.
@@ -78,6 +80,8 @@ pub struct Services {
 pub struct SectionCosts {
     /// It may have some.
     pub exists: bool,
+    /// Walks of them have no greatest sum.
+    pub is_endless: bool,
     /// The counts of the longest, by walks.
     pub counts: Option<u32>,
 }

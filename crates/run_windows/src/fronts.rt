@@ -1,9 +1,9 @@
 //! The counts in front of windows.
 ghost use Rattle.std.specs.Prelude.{◌≡◌, ◌≤◌, ◌&&◌};
-ghost use Rattle.run_windows.specs.Costs.{section, lesser, section_counts};
-ghost use Rattle.run_windows.specs.RunWindows.{call_words, call_path, may_serve, services_front, makes, services_of, is_made_in_front, activation_front, setting_front, start_counts, start_service, front_of};
+ghost use Rattle.run_windows.specs.Costs.{greatest_sum, section, joins, lesser, section_counts};
+ghost use Rattle.run_windows.specs.RunWindows.{is_joined, is_apart, call_words, call_path, may_serve, services_front, makes, services_of, is_made_in_front, activation_front, setting_front, longest_round, start_counts, start_service, front_of};
 
-use crate::level::{comes, is_lower};
+use crate::level::{comes, greater, is_below, is_lower};
 use crate::numbers::reckoned;
 use crate::{Costs, SectionCosts, Services, Start, task};
 use code_lengths::{leaving_path, served_path};
@@ -114,6 +114,12 @@ pub fn setting_front(costs: &Costs, h: usize, j: usize) -> u32
     }
 }
 
+const NO_SECTION: SectionCosts = SectionCosts {
+    exists: false,
+    is_endless: false,
+    counts: Some(0),
+};
+
 /// The sections of task k for task h.
 pub fn section(costs: &Costs, h: usize, k: usize) -> SectionCosts
     ensures { result ≡ section costs.now h k }
@@ -121,19 +127,35 @@ pub fn section(costs: &Costs, h: usize, k: usize) -> SectionCosts
     match costs.levels.items().get(h) {
         Some(level) => match level.sections.items().get(k) {
             Some(section) => *section,
-            None => SectionCosts {
-                exists: false,
-                counts: Some(0),
-            },
+            None => NO_SECTION,
         },
-        None => SectionCosts {
-            exists: false,
-            counts: Some(0),
-        },
+        None => NO_SECTION,
     }
 }
 
-fn lesser(work: Option<u32>, sum: Option<u32>) -> Option<u32>
+// Whether rounds of task k join windows of task h: sections of it have no end, but wait.
+fn joins(costs: &Costs, h: usize, k: usize) -> bool
+    ensures { result ≡ joins costs.now h k }
+{
+    task(costs, k).has_raised_waits && section(costs, h, k).is_endless
+}
+
+/// Whether they do, of a lower task that comes.
+pub fn is_joined(costs: &Costs, h: usize, k: usize) -> bool
+    ensures { result ≡ is_joined costs.now h k }
+{
+    is_below(costs, h, k) && joins(costs, h, k)
+}
+
+/// Whether its sections count in their place.
+pub fn is_apart(costs: &Costs, h: usize, k: usize) -> bool
+    ensures { result ≡ is_apart costs.now h k }
+{
+    is_below(costs, h, k) && !joins(costs, h, k)
+}
+
+/// The lesser of two greatest numbers, if there is one.
+pub fn lesser(work: Option<u32>, sum: Option<u32>) -> Option<u32>
     ensures { result ≡ lesser work sum }
 {
     match work {
@@ -152,12 +174,23 @@ pub fn section_counts(costs: &Costs, h: usize, k: usize) -> Option<u32>
     lesser(task(costs, k).section_work, section(costs, h, k).counts)
 }
 
+// The counts of the longest round of a task.
+fn longest_round(costs: &Costs, k: usize) -> u64
+    ensures is { result ≡ longest_round costs.now k }
+    ensures short { result ≤ greatest_sum }
+{
+    let task = task(costs, k);
+    greater(task.first, task.next)
+}
+
 /// The counts of other tasks with which a start begins.
-pub fn start_counts(costs: &Costs, h: usize, start: Start) -> u32
-    ensures { result ≡ start_counts costs.now h start }
+pub fn start_counts(costs: &Costs, h: usize, start: Start) -> u64
+    ensures is { result ≡ start_counts costs.now h start }
+    ensures short { result ≤ greatest_sum }
 {
     match start {
         Start::Section(k) => reckoned(section_counts(costs, h, k)),
+        Start::Round(k) => longest_round(costs, k),
         Start::Free | Start::Boot | Start::Activation(_) | Start::Setting(_) => 0,
     }
 }
@@ -168,7 +201,7 @@ pub fn start_service(costs: &Costs, h: usize, start: Start) -> u32
 {
     match start {
         Start::Free => services_front(costs, h),
-        Start::Boot => 0,
+        Start::Boot | Start::Round(_) => 0,
         Start::Activation(j) => activation_front(costs, h, j),
         Start::Setting(j) => setting_front(costs, h, j),
         Start::Section(k) => task(costs, k).raising,
@@ -178,9 +211,9 @@ pub fn start_service(costs: &Costs, h: usize, start: Start) -> u32
 /// Those of other tasks in front of a window of h that opens with the event of its start; or with admissions in front of a service.
 pub fn front_of(costs: &Costs, h: usize, opens: bool, start: Start) -> u64
     ensures is { result ≡ front_of opens costs.now h start }
-    ensures short { result ≤ 8589934590 }
+    ensures short { result ≤ 12294967296 }
 {
-    let counts = u64::from(start_counts(costs, h, start));
+    let counts = start_counts(costs, h, start);
     if opens {
         counts
     } else {

@@ -1,7 +1,7 @@
 //! Which makings of a task count in a window, and what a start makes.
-ghost use Rattle.std.specs.Prelude.{◌≡◌};
-ghost use Rattle.run_windows.specs.Costs.{reckoned, task, comes, making, makers, section_makers, section_making};
-ghost use Rattle.run_windows.specs.Windows.{is_lower, is_left_out, is_below, level_rule, target_rule, rule_of, counted, section_made, activated_once, set_once, begun_by, begun, is_boot, span_of};
+ghost use Rattle.std.specs.Prelude.{◌≡◌, ◌≤◌};
+ghost use Rattle.run_windows.specs.Costs.{greatest_sum, reckoned, task, comes, making, makers, section_makers, section_making};
+ghost use Rattle.run_windows.specs.Windows.{is_lower, is_left_out, is_below, is_round, lower_rule, level_rule, target_rule, rule_of, counted, greater, section_made, round_made, activated_once, set_once, begun_by, begun, is_boot, span_of};
 
 use crate::numbers::reckoned;
 use crate::window::{Rule, Window};
@@ -18,6 +18,7 @@ pub fn task(costs: &Costs, t: usize) -> TaskCosts
             is_entered_once: false,
             is_autostarted: false,
             is_cut: false,
+            has_raised_waits: false,
             distance: None,
             first: Some(0),
             next: Some(0),
@@ -109,11 +110,32 @@ pub fn is_below(costs: &Costs, h: usize, k: usize) -> bool
     is_lower(costs, h, k) && comes(costs, k)
 }
 
-fn level_rule(costs: &Costs, h: usize, j: usize) -> Rule
-    ensures { result ≡ level_rule costs.now h j }
+/// Whether a window begins in a round of task j.
+pub fn is_round(start: Start, j: usize) -> bool
+    ensures { result ≡ is_round start j }
+{
+    match start {
+        Start::Round(k) => k == j,
+        Start::Free | Start::Boot | Start::Activation(_) | Start::Setting(_) | Start::Section(_) =>
+            false,
+    }
+}
+
+fn lower_rule(start: Start, j: usize) -> Rule
+    ensures { result ≡ lower_rule start j }
+{
+    if is_round(start, j) {
+        Rule::Settings
+    } else {
+        Rule::Out
+    }
+}
+
+fn level_rule(costs: &Costs, h: usize, start: Start, j: usize) -> Rule
+    ensures { result ≡ level_rule costs.now h start j }
 {
     if is_left_out(costs, h, j) {
-        return Rule::Out;
+        return lower_rule(start, j);
     }
     if j == h && task(costs, h).is_entered_once {
         Rule::Once
@@ -122,11 +144,11 @@ fn level_rule(costs: &Costs, h: usize, j: usize) -> Rule
     }
 }
 
-fn target_rule(costs: &Costs, target: Option<usize>, j: usize) -> Rule
-    ensures { result ≡ target_rule costs.now target j }
+fn target_rule(costs: &Costs, target: Option<usize>, start: Start, j: usize) -> Rule
+    ensures { result ≡ target_rule costs.now target start j }
 {
     match target {
-        Some(h) => level_rule(costs, h, j),
+        Some(h) => level_rule(costs, h, start, j),
         None => Rule::Each,
     }
 }
@@ -135,17 +157,21 @@ fn target_rule(costs: &Costs, target: Option<usize>, j: usize) -> Rule
 pub fn rule_of(costs: &Costs, window: &Window, j: usize) -> Rule
     ensures { result ≡ rule_of costs.now window.now j }
 {
-    target_rule(costs, window.target, j)
+    target_rule(costs, window.target, window.start, j)
 }
 
 /// Of so many activations and settings those that count.
-pub fn counted(rule: Rule, activations: u32, settings: u32) -> Made
+pub fn counted(rule: Rule, activations: u64, settings: u64) -> Made
     ensures { result ≡ counted rule activations settings }
 {
     match rule {
         Rule::Out => Made {
             activations: 0,
             settings: 0,
+        },
+        Rule::Settings => Made {
+            activations: 0,
+            settings,
         },
         Rule::Each => Made {
             activations,
@@ -168,6 +194,26 @@ fn section_made(made: SectionMakings) -> Made
     Made {
         activations: reckoned(made.activations),
         settings: reckoned(made.settings),
+    }
+}
+
+/// The greater of two greatest numbers.
+pub fn greater(one: Option<u32>, other: Option<u32>) -> u64
+    ensures is { result ≡ greater one other }
+    ensures short { result ≤ greatest_sum }
+{
+    reckoned(one).max(reckoned(other))
+}
+
+// What a round of task k makes of task j, and of itself.
+fn round_made(costs: &Costs, k: usize, j: usize) -> Made
+    ensures { result ≡ round_made costs.now k j }
+{
+    let makings = making(costs, k, j);
+    let set = if k == j { 1 } else { 0 };
+    Made {
+        activations: greater(makings.first_activations, makings.next_activations),
+        settings: greater(makings.first_settings, makings.next_settings) + set,
     }
 }
 
@@ -198,6 +244,7 @@ fn begun_by(costs: &Costs, h: usize, start: Start, j: usize) -> Made
         Start::Activation(t) => activated(t == j),
         Start::Setting(t) => signalled(t == j),
         Start::Section(k) => section_made(section_making(costs, h, k, j)),
+        Start::Round(k) => round_made(costs, k, j),
     }
 }
 
@@ -214,12 +261,16 @@ pub fn is_boot(start: Start) -> bool
 {
     match start {
         Start::Boot => true,
-        Start::Free | Start::Activation(_) | Start::Setting(_) | Start::Section(_) => false,
+        Start::Free
+        | Start::Activation(_)
+        | Start::Setting(_)
+        | Start::Section(_)
+        | Start::Round(_) => false,
     }
 }
 
 /// The counts within which a window of so many counts counts arrivals.
-pub fn span_of(window: &Window, counts: u32) -> u32
+pub fn span_of(window: &Window, counts: u64) -> u64
     ensures { result ≡ span_of window.now counts }
 {
     window.span.unwrap_or(counts)

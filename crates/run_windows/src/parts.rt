@@ -7,10 +7,11 @@ ghost use Rattle.run_windows.specs.Longest.{AreParts};
 
 use crate::bounds::room;
 use crate::fronts::{start_counts, start_service};
+use crate::numbers::WINDOW_LIMIT;
 use crate::responses::{begun_item, window_of};
 use crate::settle::settle;
 use crate::{Costs, Longest, Made};
-use sloth_base::{COUNT_LIMIT, List, NoMemory};
+use sloth_base::{List, NoMemory};
 use std::alloc::Global;
 
 /// What a window has in front, and what comes within it.
@@ -20,11 +21,11 @@ pub struct Parts {
     /// The item that a lower task has begun.
     pub item: u32,
     /// The section of a lower task.
-    pub section: u32,
+    pub section: u64,
     /// The service behind admissions.
     pub service: u32,
     /// Within how many counts arrivals are counted.
-    pub counts: u32,
+    pub counts: u64,
     /// How often each task is made.
     pub numbers: List<Made>,
 }
@@ -68,17 +69,15 @@ fn settled_counts(
     h: usize,
     window: Longest,
     numbers: &mut [Made],
-) -> u32
+) -> u64
     requires costs { TakeCounts costs.now }
     requires count { length numbers.old ≡ length costs.now.tasks }
     requires number { IsNumber longest late costs.now h window.opens window.start (Some window.number) }
     ensures least { IsLeast costs.now (run_window longest late costs.now h window.opens window.start) (numbers_of numbers.new) result }
     ensures count { length numbers.new ≡ length costs.now.tasks }
 {
-    match window_of(longest, late, costs, h, window.opens, window.start) {
-        Some(bounded) => settle(costs, &bounded, COUNT_LIMIT, numbers).unwrap_or(0),
-        None => 0,
-    }
+    let bounded = window_of(longest, late, costs, h, window.opens, window.start);
+    settle(costs, &bounded, WINDOW_LIMIT, numbers).unwrap_or(0)
 }
 
 /// Those of a window of a task whose number is not 0.

@@ -1,16 +1,16 @@
 //! Response times by windows of runs.
 ghost use Rattle.std.specs.Prelude.{◌≡◌, ◌<◌, ◌+◌, ◌-◌, Bool, length, IfOk};
 ghost use Rattle.run_windows.specs.Settling.{TakeCounts};
-ghost use Rattle.run_windows.specs.RunWindows.{margin, begun_item, lead_of, run_window, run_starts, IsWindowIf, IsNumber};
+ghost use Rattle.run_windows.specs.RunWindows.{margin, begun_item, lead_of, run_window, run_starts, IsNumber};
 ghost use Rattle.run_windows.specs.Longest.{longer, IsLongerIf, IsMostIf, IsLongest};
 
-use crate::bounds::{bound, room};
+use crate::bounds::{room, window_bound};
 use crate::fronts::front_of;
 use crate::starts::run_starts;
 use crate::told::are_told;
 use crate::window::Window;
 use crate::{Costs, Longest, Made, Start};
-use sloth_base::{COUNT_LIMIT, NoMemory};
+use sloth_base::NoMemory;
 use std::alloc::Global;
 
 /// The item that a lower task has begun where a window begins.
@@ -19,7 +19,11 @@ pub fn begun_item(longest: u32, start: Start) -> u32
 {
     match start {
         Start::Boot => 0,
-        Start::Free | Start::Activation(_) | Start::Setting(_) | Start::Section(_) => longest,
+        Start::Free
+        | Start::Activation(_)
+        | Start::Setting(_)
+        | Start::Section(_)
+        | Start::Round(_) => longest,
     }
 }
 
@@ -32,7 +36,7 @@ fn window_front(longest: u32, late: u32, costs: &Costs, h: usize, opens: bool, s
     items + stretches + front_of(costs, h, opens, start)
 }
 
-/// The window of a start; none where it has more counts in front than 1,000,000.
+/// The window of a start.
 pub fn window_of(
     longest: u32,
     late: u32,
@@ -40,19 +44,15 @@ pub fn window_of(
     h: usize,
     opens: bool,
     start: Start,
-) -> Option<Window>
-    ensures { IsWindowIf longest late costs.now h opens start result }
+) -> Window
+    ensures { result ≡ run_window longest late costs.now h opens start }
 {
-    let front = window_front(longest, late, costs, h, opens, start);
-    if front > u64::from(COUNT_LIMIT) {
-        return None;
-    }
-    Some(Window {
+    Window {
         target: Some(h),
         start,
-        front: front as u32,
+        front: window_front(longest, late, costs, h, opens, start),
         span: None,
-    })
+    }
 }
 
 // A bound with what stands in front of where its window begins, without the margin.
@@ -82,11 +82,9 @@ fn window_number(
     ensures number { IsNumber longest late costs.now h opens start result }
     ensures count { length numbers.new ≡ length costs.now.tasks }
 {
-    match window_of(longest, late, costs, h, opens, start) {
-        Some(window) => match bound(costs, &window, COUNT_LIMIT, numbers) {
-            Some(bound) => Some(number_of(longest, late, opens, bound)),
-            None => None,
-        },
+    let window = window_of(longest, late, costs, h, opens, start);
+    match window_bound(costs, &window, numbers) {
+        Some(bound) => Some(number_of(longest, late, opens, bound)),
         None => None,
     }
 }
@@ -181,7 +179,7 @@ fn told_longest(
 /// The longest window of a task, less than their number, and within how many counts the task leaves the processor behind what makes it Ready, in runs that
 /// keep these costs, where no item has more instructions than the longest, and no stretch takes more counts than `late`: the least number that all windows
 /// allow; or, where what makes it is behind boot, all but boot's. None where something that it is computed from has no number, or a window has more than
-/// 1,000,000 counts.
+/// 2,147,483,647 counts.
 pub fn longest_window(
     alloc: Global,
     longest: u32,

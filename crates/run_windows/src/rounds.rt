@@ -23,7 +23,7 @@ pub fn number_of(numbers: &[Made], k: usize) -> Made
 }
 
 // A number for each activation and one for each setting.
-fn shared(made: Made, first: Option<u32>, next: Option<u32>) -> u32
+fn shared(made: Made, first: Option<u32>, next: Option<u32>) -> u64
     ensures { result ≡ capped (shared made first next) }
 {
     plus(
@@ -32,7 +32,8 @@ fn shared(made: Made, first: Option<u32>, next: Option<u32>) -> u32
     )
 }
 
-fn of_makings(sets: bool, made: Made, makings: &Makings) -> u32
+/// How often the rounds of a task that is made so often activate another one, or set its events.
+pub fn of_makings(sets: bool, made: Made, makings: &Makings) -> u64
     ensures { result ≡ capped (of_makings sets made makings.now) }
 {
     if sets {
@@ -42,8 +43,8 @@ fn of_makings(sets: bool, made: Made, makings: &Makings) -> u32
     }
 }
 
-// How often rounds activate a task, or set its events.
-fn round_makings(sets: bool, numbers: &[Made], makers: &[Makings]) -> u32
+/// How often rounds activate a task, or set its events.
+pub fn round_makings(sets: bool, numbers: &[Made], makers: &[Makings]) -> u64
     ensures { result ≡ capped (round_makings sets (numbers_of numbers.now) 0 makers.now) }
 {
     let mut total = 0;
@@ -54,7 +55,7 @@ fn round_makings(sets: bool, numbers: &[Made], makers: &[Makings]) -> u32
 }
 
 // The counts of rounds.
-fn round_counts(numbers: &[Made], tasks: &[TaskCosts]) -> u32
+fn round_counts(numbers: &[Made], tasks: &[TaskCosts]) -> u64
     ensures { result ≡ capped (round_counts (numbers_of numbers.now) 0 tasks.now) }
 {
     let mut total = 0;
@@ -64,7 +65,7 @@ fn round_counts(numbers: &[Made], tasks: &[TaskCosts]) -> u32
     total
 }
 
-fn activations(costs: &Costs, window: &Window, numbers: &[Made], counts: u32, j: usize) -> u32
+pub fn activations(costs: &Costs, window: &Window, numbers: &[Made], counts: u64, j: usize) -> u64
     ensures { result ≡ capped (activations costs.now window.now (numbers_of numbers.now) counts j) }
 {
     let span = span_of(window, counts);
@@ -79,7 +80,7 @@ fn activations(costs: &Costs, window: &Window, numbers: &[Made], counts: u32, j:
     plus(plus(arrived, ticked), made)
 }
 
-fn settings(costs: &Costs, window: &Window, numbers: &[Made], counts: u32, j: usize) -> u32
+pub fn settings(costs: &Costs, window: &Window, numbers: &[Made], counts: u64, j: usize) -> u64
     ensures { result ≡ capped (settings costs.now window.now (numbers_of numbers.now) counts j) }
 {
     let span = span_of(window, counts);
@@ -92,7 +93,7 @@ fn settings(costs: &Costs, window: &Window, numbers: &[Made], counts: u32, j: us
 }
 
 /// How often a task is made within a window of so many counts, in which all are made that often.
-pub fn made_within(costs: &Costs, window: &Window, numbers: &[Made], counts: u32, j: usize) -> Made
+pub fn made_within(costs: &Costs, window: &Window, numbers: &[Made], counts: u64, j: usize) -> Made
     ensures { result ≡ counted (rule_of costs.now window.now j) (capped (activations costs.now window.now (numbers_of numbers.now) counts j))
         (capped (settings costs.now window.now (numbers_of numbers.now) counts j)) }
 {
@@ -102,7 +103,7 @@ pub fn made_within(costs: &Costs, window: &Window, numbers: &[Made], counts: u32
 }
 
 /// The counts of a window of so many counts, in which tasks are made that often.
-pub fn window_counts(costs: &Costs, window: &Window, numbers: &[Made], counts: u32) -> u32
+pub fn window_counts(costs: &Costs, window: &Window, numbers: &[Made], counts: u64) -> u64
     ensures { result ≡ capped (window_counts costs.now window.now (numbers_of numbers.now) counts) }
 {
     let rounds = round_counts(numbers, costs.tasks.items());

@@ -1,12 +1,9 @@
 //! The starts of a task's windows.
-ghost use Rattle.std.specs.Prelude.{◌≡◌, ◌++◌, ◌&&◌, OnOk, IfOk};
-ghost use Rattle.run_windows.specs.declared.window.Start.TheVariants as start;
-ghost use Rattle.run_windows.specs.Costs.{section};
-ghost use Rattle.run_windows.specs.Windows.{is_below};
-ghost use Rattle.run_windows.specs.RunWindows.{activation_front, setting_front, start_if, made_start, task_starts, run_task_starts, run_starts};
+ghost use Rattle.std.specs.Prelude.{◌≡◌, ◌++◌, OnOk, IfOk};
+ghost use Rattle.run_windows.specs.RunWindows.{activation_front, setting_front, start_if, made_start, lower_starts, task_starts, run_task_starts, run_starts};
 
-use crate::fronts::{activation_front, section, setting_front};
-use crate::level::{is_below, is_lower};
+use crate::fronts::{activation_front, is_apart, is_joined, section, setting_front};
+use crate::level::is_lower;
 use crate::{Costs, Start};
 use sloth_base::NoMemory;
 use std::alloc::Global;
@@ -36,11 +33,13 @@ fn push_made(
     push_if(starts, upper && front != 0, start)
 }
 
-fn push_section(starts: &mut Vec<Start>, costs: &Costs, h: usize, k: usize) -> Result<(), NoMemory>
-    ensures { OnOk result (starts.new.items ≡ starts.old.items ++ start_if (is_below costs.now h k && (section costs.now h k).exists) (start.Section k)) }
+// A lower task is raised, or a round of it is under way.
+fn push_lower(starts: &mut Vec<Start>, costs: &Costs, h: usize, k: usize) -> Result<(), NoMemory>
+    ensures { OnOk result (starts.new.items ≡ starts.old.items ++ lower_starts costs.now h k) }
 {
-    let has_some = is_below(costs, h, k) && section(costs, h, k).exists;
-    push_if(starts, has_some, Start::Section(k))
+    let has_some = is_apart(costs, h, k) && section(costs, h, k).exists;
+    push_if(starts, has_some, Start::Section(k))?;
+    push_if(starts, is_joined(costs, h, k), Start::Round(k))
 }
 
 fn push_task(starts: &mut Vec<Start>, costs: &Costs, h: usize, j: usize) -> Result<(), NoMemory>
@@ -50,7 +49,7 @@ fn push_task(starts: &mut Vec<Start>, costs: &Costs, h: usize, j: usize) -> Resu
     push_made(starts, costs, h, j, activation, Start::Activation(j))?;
     let setting = setting_front(costs, h, j);
     push_made(starts, costs, h, j, setting, Start::Setting(j))?;
-    push_section(starts, costs, h, j)
+    push_lower(starts, costs, h, j)
 }
 
 fn push_tasks(starts: &mut Vec<Start>, costs: &Costs, h: usize) -> Result<(), NoMemory>

@@ -13,6 +13,8 @@ pub enum Start {
     Setting(usize),
     /// This lower task is raised.
     Section(usize),
+    /// A round of this lower task is under way, which is not preemptable, and further ones may follow.
+    Round(usize),
 }
 
 /// A window.
@@ -22,17 +24,17 @@ pub struct Window {
     pub target: Option<usize>,
     pub start: Start,
     /// The counts in front, which no task of the level has.
-    pub front: u32,
+    pub front: u64,
     /// Within how many counts arrivals are counted; none: within those of the window.
-    pub span: Option<u32>,
+    pub span: Option<u64>,
 }
 
 /// How often a task is made Ready.
 #[derive(Clone, Copy)]
 pub struct Made {
-    pub activations: u32,
+    pub activations: u64,
     /// By setting its events.
-    pub settings: u32,
+    pub settings: u64,
 }
 
 /// Which makings of a task count.
@@ -40,6 +42,8 @@ pub struct Made {
 pub enum Rule {
     /// None: it is lower, or never comes.
     Out,
+    /// Each setting of its events: it is lower, and a round of it is under way.
+    Settings,
     /// Each.
     Each,
     /// One.

@@ -1,4 +1,4 @@
 pub mod SectionWays
 pub mod Trials
 pub mod Standings
-pub mod WantedWays
+pub mod ShownWays

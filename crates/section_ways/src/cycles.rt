@@ -1,9 +1,7 @@
 //! Cycles within sections.
 use crate::frames::{Frame, Mode};
-use crate::orders::searched;
-use crate::starts::call_from;
 use crate::tables::Tables;
-use crate::walking::points_on;
+use crate::walking::push_points;
 use sloth_base::NoMemory;
 use std::alloc::Global;
 use text_pieces::push;
@@ -12,13 +10,21 @@ use walk_sums::Point;
 /// The most points of a cycle that is given.
 pub const LONGEST: usize = 1_000_000;
 
-// A function that was reached: whether raised, at which item of which one before.
+// A function that was reached: whether raised, at which item of which one before, if not first.
 #[derive(Clone, Copy)]
 struct Reached {
     func: usize,
     whole: bool,
     item: usize,
-    before: usize,
+    before: Option<usize>,
+}
+
+fn least_frame(func: usize, item: usize, whole: bool) -> Frame {
+    Frame {
+        point: Point { func, item },
+        whole,
+        mode: Mode::Least,
+    }
 }
 
 fn is_known(reached: &[Reached], func: usize, whole: bool) -> bool {
@@ -34,93 +40,49 @@ fn reach_all(
     turn: usize,
     from: Reached,
 ) -> Result<(), NoMemory> {
-    let Some(body) = tables.walks.bodies().get(from.func) else {
+    let Some(place) = tables.place(from.func, from.whole) else {
         return Ok(());
     };
-    for (item, mark) in body.reached.items().iter().enumerate() {
-        if *mark {
-            reach(tables, reached, turn, from, item)?;
+    let before = Some(turn);
+    for item in 0..place.func.items.items().len() {
+        if let Some((func, whole)) = place.call(item) {
+            if !is_known(reached.as_slice(), func, whole) {
+                push(
+                    reached,
+                    Reached {
+                        func,
+                        whole,
+                        item,
+                        before,
+                    },
+                )?;
+            }
         }
     }
     Ok(())
 }
 
-// Reaches what an item calls.
-fn reach(
-    tables: &Tables,
-    reached: &mut Vec<Reached>,
-    before: usize,
-    from: Reached,
-    item: usize,
-) -> Result<(), NoMemory> {
-    let Some((func, whole)) = call_from(tables, from.func, from.whole, item) else {
-        return Ok(());
-    };
-    if is_known(reached.as_slice(), func, whole) {
-        return Ok(());
-    }
-    push(
-        reached,
-        Reached {
-            func,
-            whole,
-            item,
-            before,
-        },
-    )
-}
-
-// The items of a cycle of a function, if it has one.
-fn cycle_in(tables: &Tables, func: usize, whole: bool) -> Result<Vec<usize>, NoMemory> {
-    let alloc = tables.walks.alloc();
-    match tables.place(func, whole) {
-        Some(place) => {
-            let search = searched(alloc, &place)?;
-            Ok(search.into_cycle())
-        },
-        None => Ok(Vec::new(alloc)),
-    }
-}
-
-fn frame_at(from: Reached, item: usize) -> Frame {
-    let func = from.func;
-    Frame {
-        point: Point { func, item },
-        whole: from.whole,
-        mode: Mode::Least,
-    }
-}
-
-// These the other way round.
-fn turned(alloc: Global, back: &[Frame]) -> Result<Vec<Frame>, NoMemory> {
-    let mut frames = Vec::new(alloc);
-    for number in 0..back.len() {
-        push(&mut frames, back[back.len() - 1 - number])?;
-    }
-    Ok(frames)
-}
-
 // The functions in progress at an item of one that was reached: it, and the calls that lead to it; the outermost first.
-fn frames_at(
+fn reached_frames(
     alloc: Global,
     reached: &[Reached],
     turn: usize,
     item: usize,
 ) -> Result<Vec<Frame>, NoMemory> {
-    let mut back = Vec::new(alloc);
-    let (mut at, mut item) = (turn, item);
-    for _turn in 0..reached.len() + 1 {
-        if at < reached.len() {
-            push(&mut back, frame_at(reached[at], item))?;
-            item = reached[at].item;
-            at = if at == 0 {
-                reached.len()
-            } else {
-                reached[at].before
-            };
+    let mut frames = Vec::new(alloc);
+    let (mut next, mut item) = (Some(turn), item);
+    for _turn in 0..reached.len() {
+        if let Some(turn) = next {
+            if turn < reached.len() {
+                let at = reached[turn];
+                push(&mut frames, least_frame(at.func, item, at.whole))?;
+                item = at.item;
+                next = at.before;
+            }
         }
     }
-    turned(alloc, back.as_slice())
+    frames.reverse();
+    Ok(frames)
 }
 
 /// The functions in progress at a cycle, the innermost at its first item.
@@ -133,7 +95,7 @@ pub fn cycle_start(tables: &Tables, body: usize, whole: bool) -> Result<Vec<Fram
             func: body,
             whole,
             item: 0,
-            before: 0,
+            before: None,
         },
     )?;
     for turn in 0..2 * tables.walks.app().funcs.items().len() + 1 {
@@ -141,47 +103,25 @@ pub fn cycle_start(tables: &Tables, body: usize, whole: bool) -> Result<Vec<Fram
             return Ok(Vec::new(alloc));
         }
         let from = reached[turn];
-        let cycle = cycle_in(tables, from.func, from.whole)?;
-        if let Some(item) = cycle.as_slice().first() {
-            return frames_at(alloc, reached.as_slice(), turn, *item);
+        if let Some(item) = tables.cycle(from.func, from.whole).first() {
+            return reached_frames(alloc, reached.as_slice(), turn, *item);
         }
         reach_all(tables, &mut reached, turn, from)?;
     }
     Ok(Vec::new(alloc))
 }
 
-// The points of a function from its first item to its `ret`, by the shortest way.
-fn push_passage(tables: &Tables, points: &mut Vec<Point>, func: usize) -> Result<(), NoMemory> {
-    let mut frames = Vec::new(tables.walks.alloc());
-    push(
-        &mut frames,
-        Frame {
-            point: Point { func, item: 0 },
-            whole: true,
-            mode: Mode::Least,
-        },
-    )?;
-    let left = if points.len() < LONGEST {
-        LONGEST - points.len()
-    } else {
-        0
-    };
-    let passage = points_on(tables, &mut frames, left)?;
-    for point in passage.as_slice() {
-        push(points, *point)?;
-    }
-    Ok(())
-}
-
-/// The points of the positions of a cycle, its first item at both ends.
+/// The points of the positions of a cycle, its first item at both ends; through what it calls by the shortest way.
 pub fn cycle_points(tables: &Tables, at: Frame) -> Result<Vec<Point>, NoMemory> {
-    let mut points = Vec::new(tables.walks.alloc());
+    let alloc = tables.walks.alloc();
+    let mut points = Vec::new(alloc);
     let func = at.point.func;
-    let cycle = cycle_in(tables, func, at.whole)?;
-    for item in cycle.as_slice() {
+    for item in tables.cycle(func, at.whole) {
         push(&mut points, Point { func, item: *item })?;
-        if let Some((other, _raised)) = call_from(tables, func, at.whole, *item) {
-            push_passage(tables, &mut points, other)?;
+        if let Some((other, _raised)) = tables.call(func, at.whole, *item) {
+            let mut frames = Vec::new(alloc);
+            push(&mut frames, least_frame(other, 0, true))?;
+            push_points(tables, &mut points, &mut frames, LONGEST)?;
         }
     }
     push(&mut points, at.point)?;

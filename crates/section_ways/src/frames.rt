@@ -21,7 +21,7 @@ pub struct Frame {
 }
 
 /// The points of these, the outermost first.
-pub fn points_of(alloc: Global, frames: &[Frame]) -> Result<Vec<Point>, NoMemory> {
+pub fn frame_points(alloc: Global, frames: &[Frame]) -> Result<Vec<Point>, NoMemory> {
     let mut points = Vec::new(alloc);
     for frame in frames {
         push(&mut points, frame.point)?;

@@ -1,18 +1,18 @@
 //! Ways through raised sections: the items of a greatest one, and those of a cycle.
 //!
-//! `way_of` gives a lower task and the items of a section of it for another task, as many as are asked for, or the
-//! items of a cycle within one section (`specs/SectionWays`). They are read back from sizes by function, item and level
-//! (`tables`, `parts`), position by position and by no more of them than the way has; and what is given was
-//! tried step by step (`steps`, `trial`). Walks and sections: `raised_sections`; what is known of bodies: `walk_sums`.
+//! `lower_way` gives of a bound of a task a lower task and the items of a section of it of an item less, or the items
+//! of a cycle within one section (`specs/ShownWays`, `specs/SectionWays`). They are read back from sizes by function,
+//! item and level (`tables`, `search`), position by position and by no more of them than the way has; and what is given
+//! was tried step by step (`steps`, `trial`). Walks and sections: `raised_sections`; what is known of bodies:
+//! `walk_sums`.
 #![tactic(auto)]
 
 mod cycles;
 mod frames;
-mod items;
-mod orders;
 mod pair;
-mod parts;
-mod starts;
+mod place;
+mod search;
+mod sizes;
 mod steps;
 mod tables;
 mod trial;
@@ -20,4 +20,4 @@ mod tried;
 mod walking;
 pub mod ways;
 
-pub use ways::{Wanted, Way, way_of};
+pub use ways::{Way, lower_way};

@@ -15,10 +15,10 @@ use raised_sections::chains_itself;
 use sloth_base::{App, Func, NoMemory, Op};
 use task_verify::way;
 use text_pieces::push;
-use walk_sums::{Point, Standing, falls_to};
+use walk_sums::{Point, Standing, is_next_item};
 
 /// The operation of an item, if there is one.
-pub fn op_at(app: &App, point: Point) -> Option<Op>
+pub fn point_op(app: &App, point: Point) -> Option<Op>
     ensures { IfSome result (λ o. IsItem app.now point.func point.item o) }
 {
     let funcs = app.funcs.items();
@@ -40,7 +40,7 @@ fn is_place(func: &Func, label: u32, to: usize) -> bool
     (label as usize) < labels.len() && labels[label as usize].item as usize == to
 }
 
-fn jumps_to(func: &Func, from: usize, to: usize) -> bool
+fn jumps(func: &Func, from: usize, to: usize) -> bool
     requires { from < length func.now.items }
     ensures { result ≡ true → IsPathStep func.now from to }
 {
@@ -50,21 +50,15 @@ fn jumps_to(func: &Func, from: usize, to: usize) -> bool
     }
 }
 
-/// Whether a path goes on from an item to another one.
-fn goes(func: &Func, from: usize, to: usize) -> bool
-    requires { from < length func.now.items }
-    ensures { result ≡ true → IsPathStep func.now from to }
-{
-    falls_to(func.items.items()[from].op, from, to) || jumps_to(func, from, to)
-}
-
-// Whether it does, and a walk goes on with it.
-fn goes_on(func: &Func, from: usize, to: usize) -> bool
+// Whether a path goes on from an item to another one, and a walk with it.
+fn continues(func: &Func, from: usize, to: usize) -> bool
     requires { from < length func.now.items }
     ensures path { result ≡ true → IsPathStep func.now from to }
     ensures stays { result ≡ true → chains_itself func.now (item_of func.now from).op ≡ false }
 {
-    goes(func, from, to) && !chains_itself(func, func.items.items()[from].op)
+    let items = func.items.items();
+    (is_next_item(items[from].op, from, to) || jumps(func, from, to))
+        && !chains_itself(func, items[from].op)
 }
 
 // The same between points of the task code.
@@ -73,9 +67,10 @@ fn goes_inside(app: &App, from: Point, to: Point) -> bool
     requires inside { from.item < length (function app.now from.func).items }
     ensures same { result ≡ true → from.func ≡ to.func }
     ensures path { result ≡ true → IsPathStep (function app.now from.func) from.item to.item }
-    ensures stays { result ≡ true → chains_itself (function app.now from.func) (item_of (function app.now from.func) from.item).op ≡ false }
+    ensures stays { result ≡ true → chains_itself (function app.now from.func) (item_of (function app.now from.func)
+        from.item).op ≡ false }
 {
-    from.func == to.func && goes_on(&app.funcs.items()[from.func], from.item, to.item)
+    from.func == to.func && continues(&app.funcs.items()[from.func], from.item, to.item)
 }
 
 fn is_entry(called: usize, to: Point) -> bool
@@ -173,7 +168,7 @@ impl Trial<'_> {
     }
 
     // From a position behind which only the functions around it are on the stack.
-    fn advance_from(
+    fn advance_inner(
         &self,
         stack: &mut Vec<Standing>,
         at: Standing,
@@ -186,7 +181,7 @@ impl Trial<'_> {
             → IsAdvance self.now.config self.now.app self.now.above self.now.task
             (place_of at.point ∷ position_of stack.old.items) stack.new.items to) }
     {
-        let Some(op) = op_at(self.app(), at.point) else {
+        let Some(op) = point_op(self.app(), at.point) else {
             return Ok(false);
         };
         match op {
@@ -206,6 +201,6 @@ impl Trial<'_> {
         let Some(at) = stack.pop() else {
             return Ok(false);
         };
-        self.advance_from(stack, at, to)
+        self.advance_inner(stack, at, to)
     }
 }

@@ -1,15 +1,15 @@
 //! Whether points are those of a section.
 ghost use Rattle.std.specs.Prelude.{◌≡◌, ◌<◌, ◌++◌, ◌∷◌, [], get_or, length, true, false, IfOk, IfSome};
-ghost use Rattle.sloth_base.specs.Named.{function, operation, body_of};
+ghost use Rattle.sloth_base.specs.Named.{function, operation};
 ghost use Rattle.sloth_base.specs.declared.app.Op.TheVariants as op_is;
 ghost use Rattle.code_rules.specs.Code.{IsItem};
-ghost use Rattle.raised_sections.specs.Sections.{is_counted, is_schedule};
+ghost use Rattle.raised_sections.specs.Sections.{IsLower, is_counted, is_schedule};
 ghost use Rattle.walk_sums.specs.Activations.{ReachesItem};
 ghost use Rattle.walk_sums.specs.Positions.{no_point, position_of};
 ghost use Rattle.section_ways.specs.Standings.{AreTold, IsStart, IsRaisedAt, IsSectionStep, IsStretch, is_raised_at};
 
 use crate::pair::Trial;
-use crate::steps::op_at;
+use crate::steps::point_op;
 use bound_rules::{is_marked, is_schedule};
 use sloth_base::{App, NoMemory, Op, Service};
 use std::alloc::Global;
@@ -20,7 +20,7 @@ use walk_sums::{Point, Standing, is_same};
 fn is_call(app: &App, from: Point, func: usize) -> bool
     ensures { result ≡ true → IsItem app.now from.func from.item (op_is.Invoke func) }
 {
-    let Some(op) = op_at(app, from) else {
+    let Some(op) = point_op(app, from) else {
         return false;
     };
     match op {
@@ -29,7 +29,8 @@ fn is_call(app: &App, from: Point, func: usize) -> bool
     }
 }
 
-fn counts(op: Op) -> bool
+/// Whether an operation counts.
+pub fn counts(op: Op) -> bool
     ensures { result ≡ is_counted op }
 {
     match op {
@@ -38,23 +39,11 @@ fn counts(op: Op) -> bool
     }
 }
 
-// Whether the item counts.
-fn counts_at(app: &App, point: Point) -> bool
-    ensures known { result ≡ true → point.func < length app.now.funcs }
-    ensures inside { result ≡ true → point.item < length (function app.now point.func).items }
-    ensures counts { result ≡ true → is_counted (operation app.now point.func point.item) ≡ true }
-{
-    match op_at(app, point) {
-        Some(op) => counts(op),
-        None => false,
-    }
-}
-
 // Whether it is there, and no Schedule.
-fn goes_at(app: &App, point: Point) -> bool
+fn is_calm(app: &App, point: Point) -> bool
     ensures { result ≡ true → is_schedule (operation app.now point.func point.item) ≡ false }
 {
-    match op_at(app, point) {
+    match point_op(app, point) {
         Some(op) => !is_schedule(op),
         None => false,
     }
@@ -67,11 +56,14 @@ fn counts_here(app: &App, at: Point, point: Point) -> bool
     ensures inside { result ≡ true → at.item < length (function app.now at.func).items }
     ensures counts { result ≡ true → is_counted (operation app.now at.func at.item) ≡ true }
 {
-    is_same(at, point) && counts_at(app, at)
+    match point_op(app, at) {
+        Some(op) => is_same(at, point) && counts(op),
+        None => false,
+    }
 }
 
 // The stack of one function in progress.
-fn stack_of(alloc: Global, at: Standing) -> Result<Vec<Standing>, NoMemory>
+fn single_stack(alloc: Global, at: Standing) -> Result<Vec<Standing>, NoMemory>
     ensures { IfOk result (λ stack. stack.items ≡ at ∷ []) }
 {
     let mut stack = Vec::new(alloc);
@@ -98,7 +90,7 @@ impl Trial<'_> {
 
     // A further function in progress, which the one at this point calls, in front of which the stack is that of those
     // around it.
-    fn take_from(
+    fn take_call(
         &self,
         stack: &mut Vec<Standing>,
         at: Standing,
@@ -117,7 +109,7 @@ impl Trial<'_> {
         Ok(true)
     }
 
-    fn take_on(&self, stack: &mut Vec<Standing>, to: Point) -> Result<bool, NoMemory>
+    fn take_next(&self, stack: &mut Vec<Standing>, to: Point) -> Result<bool, NoMemory>
         requires { IsStart self.now.config self.now.app self.now.above self.now.task stack.old.items }
         ensures { IfOk result (λ taken. taken ≡ true
             → IsStart self.now.config self.now.app self.now.above self.now.task stack.new.items) }
@@ -125,7 +117,7 @@ impl Trial<'_> {
         let Some(at) = stack.pop() else {
             return Ok(false);
         };
-        self.take_from(stack, at, to)
+        self.take_call(stack, at, to)
     }
 
     fn take_all(&self, stack: &mut Vec<Standing>, points: &[Point]) -> Result<bool, NoMemory>
@@ -134,7 +126,7 @@ impl Trial<'_> {
             → IsStart self.now.config self.now.app self.now.above self.now.task stack.new.items) }
     {
         for number in 1..points.len() {
-            if !self.take_on(stack, points[number])? {
+            if !self.take_next(stack, points[number])? {
                 return Ok(false);
             }
         }
@@ -149,19 +141,13 @@ impl Trial<'_> {
         point.func == body && self.is_reached(point)
     }
 
-    /// The position of these points, the outermost first, if walks lead to it; `raised` says that the task is raised
-    /// wherever it stands.
-    pub fn standing_at(
-        &self,
-        body: usize,
-        raised: bool,
-        points: &[Point],
-    ) -> Result<Option<Vec<Standing>>, NoMemory>
-        requires body { body ≡ body_of self.now.app.funcs self.now.task }
-        requires raised { raised ≡ is_raised_at self.now.config self.now.app self.now.above self.now.task [] }
-        ensures { IfOk result (λ found. IfSome found (λ stack.
+    /// The position of these points, the outermost first, if walks lead to it.
+    pub fn walked_stack(&self, points: &[Point]) -> Result<Option<Vec<Standing>>, NoMemory>
+        ensures found { IfOk result (λ found. IfSome found (λ stack.
             IsStart self.now.config self.now.app self.now.above self.now.task stack.items)) }
+        ensures lower { IsLower self.now.config self.now.above self.now.task }
     {
+        let body = self.body();
         if points.is_empty() {
             return Ok(None);
         }
@@ -169,7 +155,8 @@ impl Trial<'_> {
         if !self.begins(body, point) {
             return Ok(None);
         }
-        let mut stack = stack_of(self.walks.alloc(), Standing { point, raised })?;
+        let raised = self.is_always_raised();
+        let mut stack = single_stack(self.walks.alloc(), Standing { point, raised })?;
         if self.take_all(&mut stack, points)? {
             Ok(Some(stack))
         } else {
@@ -178,7 +165,7 @@ impl Trial<'_> {
     }
 
     // Whether this one, behind these, is at the point, which counts, and the task is raised there.
-    fn stands_at(
+    fn stands_there(
         &self,
         stack: &mut Vec<Standing>,
         at: Standing,
@@ -197,7 +184,7 @@ impl Trial<'_> {
     }
 
     // Whether the innermost point is this one, counts, and the task is raised there.
-    fn is_at(&self, stack: &mut Vec<Standing>, point: Point) -> Result<bool, NoMemory>
+    fn is_there(&self, stack: &mut Vec<Standing>, point: Point) -> Result<bool, NoMemory>
         requires { AreTold self.now.config self.now.app self.now.above self.now.task stack.old.items }
         ensures { IfOk result (λ stands. stands ≡ true → (stack.new.items ≡ stack.old.items)
             × IsRaisedAt self.now.config self.now.app self.now.above self.now.task stack.old.items point) }
@@ -205,24 +192,29 @@ impl Trial<'_> {
         let Some(at) = stack.pop() else {
             return Ok(false);
         };
-        self.stands_at(stack, at, point)
+        self.stands_there(stack, at, point)
     }
 
     // Whether a section goes on from one point to the next.
-    fn goes_on(&self, stack: &mut Vec<Standing>, from: Point, to: Point) -> Result<bool, NoMemory>
+    fn goes_further(
+        &self,
+        stack: &mut Vec<Standing>,
+        from: Point,
+        to: Point,
+    ) -> Result<bool, NoMemory>
         requires at { IsRaisedAt self.now.config self.now.app self.now.above self.now.task stack.old.items from }
         requires told { AreTold self.now.config self.now.app self.now.above self.now.task stack.old.items }
         ensures { IfOk result (λ goes. goes ≡ true
             → IsSectionStep self.now.config self.now.app self.now.above self.now.task
             stack.old.items stack.new.items from to) }
     {
-        if !goes_at(self.app(), from) {
+        if !is_calm(self.app(), from) {
             return Ok(false);
         }
         if !self.advance(stack, to)? {
             return Ok(false);
         }
-        self.is_at(stack, to)
+        self.is_there(stack, to)
     }
 
     // Whether a section goes on from the first of these points to the others.
@@ -236,7 +228,7 @@ impl Trial<'_> {
             stack.old.items stack.new.items points.now) }
     {
         for number in 1..points.len() {
-            if !self.goes_on(stack, points[number - 1], points[number])? {
+            if !self.goes_further(stack, points[number - 1], points[number])? {
                 return Ok(false);
             }
         }
@@ -254,7 +246,7 @@ impl Trial<'_> {
         if points.is_empty() {
             return Ok(false);
         }
-        if !self.is_at(stack, points[0])? {
+        if !self.is_there(stack, points[0])? {
             return Ok(false);
         }
         self.goes_through(stack, points)

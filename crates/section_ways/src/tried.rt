@@ -1,15 +1,13 @@
 //! Whether points are those of a section of a lower task, or of a cycle within one.
-ghost use Rattle.std.specs.Prelude.{◌≡◌, ◌<◌, ◌≤◌, [], length, true, IfOk, IfSome};
+ghost use Rattle.std.specs.Prelude.{◌≡◌, ◌<◌, [], length, true, IfOk};
 ghost use Rattle.sloth_base.specs.Named.{body_of, declaration};
-ghost use Rattle.call_graph.specs.Tables.{HasTaskBody};
 ghost use Rattle.raised_sections.specs.Sections.{IsLower};
 ghost use Rattle.section_ways.specs.SectionWays.{IsSectionWay};
 ghost use Rattle.section_ways.specs.Standings.{IsStart, IsClosedWay, is_raised_at};
 
 use crate::pair::Trial;
-use sloth_base::{App, Config, NoMemory};
+use sloth_base::{Config, NoMemory};
 use stack_bounds::body_of;
-use std::alloc::Global;
 use walk_sums::{Point, Standing, is_standing};
 
 fn is_non(config: &Config, task: usize) -> bool
@@ -19,54 +17,28 @@ fn is_non(config: &Config, task: usize) -> bool
     config.tasks.items()[task].non
 }
 
-/// The number of the task's body.
-pub fn body_in(app: &App, task: usize) -> usize
-    requires { HasTaskBody app.now.funcs task }
-    ensures { result ≡ body_of app.now.funcs task }
-{
-    body_of(app.funcs.items(), task)
-}
-
-fn are_several(points: &[Point]) -> bool
-    ensures { result ≡ true → 2 ≤ length points.now }
-{
-    2 <= points.len()
-}
-
-fn copy_of(alloc: Global, stack: &[Standing]) -> Result<Vec<Standing>, NoMemory>
-    ensures { IfOk result (λ copy. copy.items ≡ stack.now) }
-{
-    let copy = stack.to_vec(alloc)?;
-    Ok(copy)
-}
-
 impl Trial<'_> {
-    // Whether the lower task is raised wherever it stands.
-    fn is_always_raised(&self) -> bool
+    /// Whether the lower task is raised wherever it stands.
+    pub fn is_always_raised(&self) -> bool
         ensures { result ≡ is_raised_at self.now.config self.now.app self.now.above self.now.task [] }
     {
         is_non(self.walks.config(), self.task)
     }
 
-    // The number of the lower task's body.
-    fn body(&self) -> usize
+    /// The number of the lower task's body.
+    pub fn body(&self) -> usize
         ensures is { result ≡ body_of self.now.app.funcs self.now.task }
         ensures lower { IsLower self.now.config self.now.above self.now.task }
     {
-        body_in(self.walks.app(), self.task)
-    }
-
-    // The position of these points, if walks lead to it.
-    fn stack_at(&self, start: &[Point]) -> Result<Option<Vec<Standing>>, NoMemory>
-        ensures found { IfOk result (λ found. IfSome found (λ stack.
-            IsStart self.now.config self.now.app self.now.above self.now.task stack.items)) }
-        ensures lower { IsLower self.now.config self.now.above self.now.task }
-    {
-        self.standing_at(self.body(), self.is_always_raised(), start)
+        body_of(self.walks.app().funcs.items(), self.task)
     }
 
     // Whether they are the points of a section from this position on.
-    fn is_section_from(&self, stack: &mut Vec<Standing>, points: &[Point]) -> Result<bool, NoMemory>
+    fn is_section_behind(
+        &self,
+        stack: &mut Vec<Standing>,
+        points: &[Point],
+    ) -> Result<bool, NoMemory>
         requires lower { IsLower self.now.config self.now.above self.now.task }
         requires start { IsStart self.now.config self.now.app self.now.above self.now.task stack.old.items }
         ensures { IfOk result (λ is. is ≡ true
@@ -81,14 +53,14 @@ impl Trial<'_> {
         ensures { IfOk result (λ is. is ≡ true
             → IsSectionWay self.now.config self.now.app self.now.above self.now.task points.now) }
     {
-        let Some(mut stack) = self.stack_at(start)? else {
+        let Some(mut stack) = self.walked_stack(start)? else {
             return Ok(false);
         };
-        self.is_section_from(&mut stack, points)
+        self.is_section_behind(&mut stack, points)
     }
 
     // Whether they are those of a section from this position back to it; `first` is its stack.
-    fn is_closed_from(
+    fn is_closed(
         &self,
         first: &[Standing],
         stack: &mut Vec<Standing>,
@@ -99,7 +71,7 @@ impl Trial<'_> {
         ensures { IfOk result (λ is. is ≡ true
             → IsClosedWay self.now.config self.now.app self.now.above self.now.task points.now) }
     {
-        if !are_several(points) {
+        if points.len() < 2 {
             return Ok(false);
         }
         if !self.is_section(stack, points)? {
@@ -114,10 +86,10 @@ impl Trial<'_> {
         ensures closed { IfOk result (λ is. is ≡ true
             → IsClosedWay self.now.config self.now.app self.now.above self.now.task points.now) }
     {
-        let Some(mut stack) = self.stack_at(start)? else {
+        let Some(mut stack) = self.walked_stack(start)? else {
             return Ok(false);
         };
-        let first = copy_of(self.walks.alloc(), stack.as_slice())?;
-        self.is_closed_from(first.as_slice(), &mut stack, points)
+        let first = stack.as_slice().to_vec(self.walks.alloc())?;
+        self.is_closed(first.as_slice(), &mut stack, points)
     }
 }

@@ -1,22 +1,13 @@
 //! Calls in an order in which those of callers stand first.
-ghost use Rattle.std.specs.Prelude.{◌≡◌, ◌++◌, get_or, filter, OnOk, IfOk};
+ghost use Rattle.std.specs.Prelude.{◌≡◌, ◌++◌, filter, OnOk, IfOk};
 ghost use Rattle.osek_scheduler.specs.Priority.{greatest};
 ghost use Rattle.shares_text.specs.Sites.{is_of_rank, down_from};
 
+use crate::sets::entry;
 use crate::sites::CallSite;
 use sloth_base::NoMemory;
 use std::alloc::Global;
 use text_pieces::push;
-
-// The rank of this function, 0 where the table has none.
-fn rank_of(ranks: &[u32], func: usize) -> u32
-    ensures { result ≡ get_or ranks.now func 0 }
-{
-    match ranks.get(func) {
-        Some(rank) => *rank,
-        None => 0,
-    }
-}
 
 // The greatest rank.
 fn greatest_rank(ranks: &[u32]) -> u32
@@ -39,7 +30,7 @@ fn push_rank(
     ensures { OnOk result (ordered.new.items ≡ ordered.old.items ++ filter (is_of_rank ranks.now rank) calls.now) }
 {
     for call in calls {
-        if rank_of(ranks, call.caller) == rank {
+        if entry(ranks, call.caller, 0) == rank {
             push(ordered, *call)?;
         }
     }

@@ -3,12 +3,14 @@ ghost use Rattle.std.specs.Prelude.{◌≡◌, ◌<◌, ℕ, length, get_or, set
 ghost use Rattle.shares_text.specs.Contexts.{no_call, no_context, through, joined, spread, spread_all, start_context};
 
 use crate::held::Held;
+use crate::sets::entry;
 use crate::sites::CallSite;
 use sloth_base::{List, NoMemory};
 use std::alloc::Global;
 use text_pieces::push;
 
-/// What is known of a task in a function: whether calls lead there, what it holds as it enters on each way, and its least current priority there.
+/// What is known of a task in a function: whether calls lead there, what it holds as it enters on each way, and its
+/// least current priority there.
 #[derive(Clone, Copy)]
 pub struct Context {
     pub reached: bool,
@@ -22,8 +24,8 @@ pub struct Contexts {
     pub table: List<Context>,
 }
 
-// Where no calls lead.
-const NO_CONTEXT: Context = Context {
+/// Where no calls lead.
+pub const NO_CONTEXT: Context = Context {
     reached: false,
     held: 0,
     least: 0,
@@ -57,23 +59,13 @@ fn joined(one: Context, other: Context) -> Context
     }
 }
 
-/// The context of a function in a table.
-pub fn context_at(table: &[Context], func: usize) -> Context
-    ensures { result ≡ get_or table.now func no_context }
-{
-    match table.get(func) {
-        Some(context) => *context,
-        None => NO_CONTEXT,
-    }
-}
-
 // The table with the ways through one more call.
 fn spread(table: &mut [Context], call: &CallSite)
     requires { call.now.callee < length table.old }
     ensures { table.new ≡ spread table.old call.now }
 {
-    let entered = through(context_at(table, call.caller), call.held);
-    table[call.callee] = joined(context_at(table, call.callee), entered);
+    let entered = through(entry(table, call.caller, NO_CONTEXT), call.held);
+    table[call.callee] = joined(entry(table, call.callee, NO_CONTEXT), entered);
 }
 
 // The table with the ways through these calls, in their order.
@@ -97,7 +89,7 @@ fn no_contexts(alloc: Global, count: usize) -> Result<Vec<Context>, NoMemory>
 }
 
 /// The contexts of a task: its body is entered at this priority, holding nothing, and the calls lead on from there.
-pub fn contexts_of(
+pub fn body_contexts(
     alloc: Global,
     count: usize,
     calls: &[CallSite],
@@ -106,7 +98,8 @@ pub fn contexts_of(
 ) -> Result<Contexts, NoMemory>
     requires body { body < count }
     requires callees { (k : ℕ) → k < length calls.now → (get_or calls.now k no_call).callee < count }
-    ensures { IfOk result (λ contexts. contexts.table ≡ spread_all (set (replicate count no_context) body (start_context priority)) calls.now) }
+    ensures { IfOk result (λ contexts. contexts.table
+        ≡ spread_all (set (replicate count no_context) body (start_context priority)) calls.now) }
 {
     let mut table = no_contexts(alloc, count)?;
     table[body] = Context {

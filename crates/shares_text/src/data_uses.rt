@@ -2,7 +2,8 @@
 ghost use Rattle.std.specs.Prelude.{◌≡◌, ◌++◌, OnOk, IfOk};
 ghost use Rattle.shares_text.specs.Computed.{use_of, use_in, uses_by, uses_among};
 
-use crate::contexts::{Context, Contexts, context_at, through};
+use crate::contexts::{Context, Contexts, NO_CONTEXT, through};
+use crate::sets::entry;
 use crate::sites::Access;
 use sloth_base::NoMemory;
 use std::alloc::Global;
@@ -21,7 +22,7 @@ pub struct Use {
 }
 
 // The use of an access in this context.
-fn use_of(access: &Access, task: usize, context: Context) -> Use
+fn access_use(access: &Access, task: usize, context: Context) -> Use
     ensures { result ≡ use_of access.now task context }
 {
     let here = through(context, access.held);
@@ -46,7 +47,7 @@ fn add_use(
     ensures { OnOk result (uses.new.items ≡ uses.old.items ++ use_in access.now task context) }
 {
     if context.reached {
-        push(uses, use_of(access, task, context))?;
+        push(uses, access_use(access, task, context))?;
     }
     Ok(())
 }
@@ -56,18 +57,14 @@ fn add_uses(uses: &mut Vec<Use>, access: &Access, tasks: &[Contexts]) -> Result<
     ensures { OnOk result (uses.new.items ≡ uses.old.items ++ uses_by access.now 0 tasks.now) }
 {
     for (task, contexts) in tasks.iter().enumerate() {
-        add_use(
-            uses,
-            access,
-            task,
-            context_at(contexts.table.items(), access.func),
-        )?;
+        let context = entry(contexts.table.items(), access.func, NO_CONTEXT);
+        add_use(uses, access, task, context)?;
     }
     Ok(())
 }
 
 /// The uses of a symbol.
-pub fn uses_of(
+pub fn symbol_uses(
     alloc: Global,
     accesses: &[Access],
     tasks: &[Contexts],

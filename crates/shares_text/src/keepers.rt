@@ -1,6 +1,5 @@
 //! What keeps higher users of a symbol out while lower ones use it.
-ghost use Rattle.std.specs.Prelude.{◌≡◌, ◌<◌, ◌==◌, ◌&&◌, ◌||◌, not, ℕ, Some, length, get_or, IfOk};
-ghost use Rattle.sloth_base.specs.Named.{undeclared_task};
+ghost use Rattle.std.specs.Prelude.{◌≡◌, ◌<◌, ◌==◌, ◌&&◌, ◌||◌, not, ℕ, Some, length, IfOk};
 ghost use Rattle.call_graph.specs.Bits.{is_member};
 ghost use Rattle.shares_text.specs.Computed.{is_under, IsNextUser, is_held_at_some, is_reaching, IsKeeperBy, AreKeepersBy, higher_of};
 
@@ -11,20 +10,13 @@ use sloth_base::{NoMemory, TaskDecl};
 use std::alloc::Global;
 use text_pieces::push;
 
-/// A user of a symbol, with what keeps those above it out: that it is not preemptable, or resources that it holds at accesses.
+/// A user of a symbol, with what keeps those above it out: that it is not preemptable, or resources that it holds at
+/// accesses.
 #[derive(Clone, Copy)]
 pub struct Keeper {
     pub task: usize,
     pub non: bool,
     pub held: u64,
-}
-
-// Whether the task is of the set.
-fn is_user(users: u32, task: usize) -> bool
-    requires { task < 32 }
-    ensures { result ≡ is_member users task }
-{
-    has(u64::from(users), task)
 }
 
 // Whether the priority is below the other one, if there is one.
@@ -38,7 +30,7 @@ fn is_under(priority: u32, above: Option<u32>) -> bool
 }
 
 // The one of higher priority.
-fn higher_of(tasks: &[TaskDecl], best: Option<usize>, task: usize) -> Option<usize>
+fn higher_user(tasks: &[TaskDecl], best: Option<usize>, task: usize) -> Option<usize>
     requires inside { task < length tasks.now }
     requires best { (t : ℕ) → best ≡ Some t → t < length tasks.now }
     ensures { result ≡ higher_of tasks.now best task }
@@ -62,8 +54,8 @@ fn next_user(tasks: &[TaskDecl], users: u32, above: Option<u32>) -> Option<usize
 {
     let mut best = None;
     for (number, task) in tasks.iter().enumerate() {
-        if is_under(task.priority, above) && is_user(users, number) {
-            best = higher_of(tasks, best, number);
+        if is_under(task.priority, above) && has(u64::from(users), number) {
+            best = higher_user(tasks, best, number);
         }
     }
     best
@@ -83,8 +75,9 @@ fn reaching(ceilings: &[u32], priority: u32) -> u64
 }
 
 // The same, with what it holds at one use more.
-fn held_with(held: u64, used: &Use, task: usize) -> u64
-    ensures { (r : ℕ) → is_member result r ≡ (is_member held r || ((used.now.task == task) && is_member used.now.held r)) }
+fn held_once_more(held: u64, used: &Use, task: usize) -> u64
+    ensures { (r : ℕ) → is_member result r
+        ≡ (is_member held r || ((used.now.task == task) && is_member used.now.held r)) }
 {
     if used.task == task {
         union(held, used.held)
@@ -99,14 +92,15 @@ fn held_at_some(uses: &[Use], task: usize) -> u64
 {
     let mut held = 0;
     for used in uses {
-        held = held_with(held, used, task);
+        held = held_once_more(held, used, task);
     }
     held
 }
 
 // What the task holds that keeps the next higher user out, whose priority is this; nothing where it is not preemptable.
 fn held_below(ceilings: &[u32], uses: &[Use], task: usize, priority: u32, non: bool) -> u64
-    ensures { (r : ℕ) → r < 64 → is_member result r ≡ (not non && (is_held_at_some uses.now task r && is_reaching ceilings.now priority r)) }
+    ensures { (r : ℕ) → r < 64 → is_member result r
+        ≡ (not non && (is_held_at_some uses.now task r && is_reaching ceilings.now priority r)) }
 {
     if non {
         0
@@ -115,34 +109,8 @@ fn held_below(ceilings: &[u32], uses: &[Use], task: usize, priority: u32, non: b
     }
 }
 
-fn is_non(tasks: &[TaskDecl], task: usize) -> bool
-    requires { task < length tasks.now }
-    ensures { result ≡ (get_or tasks.now task undeclared_task).non }
-{
-    tasks[task].non
-}
-
-// What keeps the next higher user out, whose priority is this.
-fn keeper_below(
-    tasks: &[TaskDecl],
-    ceilings: &[u32],
-    uses: &[Use],
-    task: usize,
-    priority: u32,
-) -> Keeper
-    requires { task < length tasks.now }
-    ensures { IsKeeperBy tasks.now ceilings.now uses.now task (Some priority) result }
-{
-    let non = is_non(tasks, task);
-    Keeper {
-        task,
-        non,
-        held: held_below(ceilings, uses, task, priority, non),
-    }
-}
-
-// The same, of the highest user too.
-fn keeper_of(
+// What keeps the next higher user out, whose priority this is, if there is one.
+fn user_keeper(
     tasks: &[TaskDecl],
     ceilings: &[u32],
     uses: &[Use],
@@ -158,7 +126,14 @@ fn keeper_of(
             non: false,
             held: 0,
         },
-        Some(priority) => keeper_below(tasks, ceilings, uses, task, priority),
+        Some(priority) => {
+            let non = tasks[task].non;
+            Keeper {
+                task,
+                non,
+                held: held_below(ceilings, uses, task, priority, non),
+            }
+        },
     }
 }
 
@@ -178,7 +153,7 @@ pub fn keepers(
     loop {
         match next_user(tasks, users, above) {
             Some(task) => {
-                push(&mut list, keeper_of(tasks, ceilings, uses, task, above))?;
+                push(&mut list, user_keeper(tasks, ceilings, uses, task, above))?;
                 above = Some(tasks[task].priority);
             }
             None => return Ok(list),

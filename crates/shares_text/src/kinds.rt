@@ -31,7 +31,7 @@ pub fn kind_word(kind: Kind) -> &'static [u8]
 }
 
 /// How many there are of a kind.
-pub fn count_of(config: &Config, app: &App, kind: Kind) -> usize
+pub fn kind_count(config: &Config, app: &App, kind: Kind) -> usize
     ensures { result ≡ count_of config.now app.now kind }
 {
     match kind {
@@ -49,10 +49,7 @@ pub fn object_name<'t>(config: &'t Config, app: &'t App, kind: Kind, number: usi
     ensures { result.now ≡ object_name config.now app.now kind number }
 {
     match kind {
-        Kind::Task => match config.tasks.items().get(number) {
-            Some(task) => task.name.bytes(),
-            None => b"",
-        },
+        Kind::Task => config.task_name(number),
         Kind::Resource => match config.resources.items().get(number) {
             Some(name) => name.bytes(),
             None => b"",

@@ -28,7 +28,8 @@ fn push_task(text: &mut Vec<u8>, config: &Config, task: usize) -> Result<(), NoM
 }
 
 fn resource_name(config: &Config, resource: usize) -> &[u8]
-    ensures { result.now ≡ cond (resource == scheduler_number) (codes "RES_SCHEDULER") (get_or config.now.resources resource []) }
+    ensures { result.now
+        ≡ cond (resource == scheduler_number) (codes "RES_SCHEDULER") (get_or config.now.resources resource []) }
 {
     if resource == RES_SCHEDULER as usize {
         return b"RES_SCHEDULER";
@@ -37,13 +38,6 @@ fn resource_name(config: &Config, resource: usize) -> &[u8]
         Some(name) => name.bytes(),
         None => b"",
     }
-}
-
-// A space and a resource's name.
-fn push_resource(text: &mut Vec<u8>, config: &Config, resource: usize) -> Result<(), NoMemory>
-    ensures { OnOk result (text.new.items ≡ text.old.items ++ resource_word config.now resource) }
-{
-    push_word(text, resource_name(config, resource))
 }
 
 // The tasks of a set, by number.
@@ -67,10 +61,11 @@ fn push_member(
     resource: usize,
 ) -> Result<(), NoMemory>
     requires { resource < 64 }
-    ensures { OnOk result (text.new.items ≡ text.old.items ++ cond (is_member set resource) (resource_word config.now resource) []) }
+    ensures { OnOk result (text.new.items ≡ text.old.items
+        ++ cond (is_member set resource) (resource_word config.now resource) []) }
 {
     if has(set, resource) {
-        push_resource(text, config, resource)?;
+        push_word(text, resource_name(config, resource))?;
     }
     Ok(())
 }
@@ -96,21 +91,13 @@ fn has_resource(set: u64) -> bool
     found
 }
 
-// The resources behind `under`.
-fn push_named(text: &mut Vec<u8>, config: &Config, set: u64) -> Result<(), NoMemory>
-    ensures { OnOk result (text.new.items ≡ text.old.items ++ (codes " under" ++ resource_words config.now set)) }
-{
-    text.extend_from_slice(b" under")?;
-    push_resources(text, config, set)?;
-    Ok(())
-}
-
-// The same, if there are any.
+// The resources behind `under`, if there are any.
 fn push_under(text: &mut Vec<u8>, config: &Config, set: u64) -> Result<(), NoMemory>
     ensures { OnOk result (text.new.items ≡ text.old.items ++ under_words config.now set) }
 {
     if has_resource(set) {
-        push_named(text, config, set)?;
+        line!(text; Word(b" under"))?;
+        push_resources(text, config, set)?;
     }
     Ok(())
 }

@@ -1,9 +1,10 @@
 //! Open pairs: accesses of two tasks, one a store, between which nothing keeps the higher task out.
-ghost use Rattle.std.specs.Prelude.{◌≡◌, None, get_or, IfOk};
+ghost use Rattle.std.specs.Prelude.{◌≡◌, None, IfOk};
 ghost use Rattle.shares_text.specs.Verdicts.{is_before};
 ghost use Rattle.shares_text.specs.Computed.{no_firsts, least_line, firsts_with, firsts_of, high_line, pair_of, first_of, first_pair, first_pairs, AreFirsts, IsPairBy};
 
 use crate::data_uses::Use;
+use crate::sets::entry;
 use sloth_base::{NoMemory, TaskDecl};
 use std::alloc::Global;
 use text_pieces::push;
@@ -39,7 +40,7 @@ fn least_line(least: Option<u32>, line: u32) -> Option<u32>
     }
 }
 
-fn firsts_with(firsts: Firsts, used: &Use) -> Firsts
+fn lesser_firsts(firsts: Firsts, used: &Use) -> Firsts
     ensures { result ≡ firsts_with firsts used.now }
 {
     Firsts {
@@ -53,13 +54,13 @@ fn firsts_with(firsts: Firsts, used: &Use) -> Firsts
 }
 
 // Those of a task.
-fn firsts_of(uses: &[Use], task: usize) -> Firsts
+fn task_firsts(uses: &[Use], task: usize) -> Firsts
     ensures { result ≡ firsts_of task no_firsts uses.now }
 {
     let mut firsts = NO_FIRSTS;
     for used in uses {
         if used.task == task {
-            firsts = firsts_with(firsts, used);
+            firsts = lesser_firsts(firsts, used);
         }
     }
     firsts
@@ -70,7 +71,7 @@ fn all_firsts(alloc: Global, uses: &[Use], count: usize) -> Result<Vec<Firsts>, 
 {
     let mut table = Vec::new(alloc);
     for task in 0..count {
-        push(&mut table, firsts_of(uses, task))?;
+        push(&mut table, task_firsts(uses, task))?;
     }
     Ok(table)
 }
@@ -87,7 +88,7 @@ fn high_line(firsts: Firsts, low_stores: bool) -> Option<u32>
 }
 
 // The pair of this use with the higher task, if it is open.
-fn pair_of(low: &Use, high: usize, priority: u32, firsts: Firsts) -> Option<OpenPair>
+fn use_pair(low: &Use, high: usize, priority: u32, firsts: Firsts) -> Option<OpenPair>
     ensures { result ≡ pair_of low.now high priority firsts }
 {
     if priority <= low.least {
@@ -121,7 +122,7 @@ fn is_before(one: &OpenPair, other: &OpenPair) -> bool
 }
 
 // The one that stands before the other, if there are two.
-fn first_of(one: Option<OpenPair>, other: Option<OpenPair>) -> Option<OpenPair>
+fn earlier_pair(one: Option<OpenPair>, other: Option<OpenPair>) -> Option<OpenPair>
     ensures { result ≡ first_of one other }
 {
     match (one, other) {
@@ -137,15 +138,6 @@ fn first_of(one: Option<OpenPair>, other: Option<OpenPair>) -> Option<OpenPair>
     }
 }
 
-fn firsts_at(firsts: &[Firsts], task: usize) -> Firsts
-    ensures { result ≡ get_or firsts.now task no_firsts }
-{
-    match firsts.get(task) {
-        Some(entry) => *entry,
-        None => NO_FIRSTS,
-    }
-}
-
 // The first of the pairs of this use, if one is open.
 fn first_pair(
     tasks: &[TaskDecl],
@@ -157,10 +149,8 @@ fn first_pair(
 {
     let mut first = found;
     for (high, task) in tasks.iter().enumerate() {
-        first = first_of(
-            first,
-            pair_of(low, high, task.priority, firsts_at(firsts, high)),
-        );
+        let lines = entry(firsts, high, NO_FIRSTS);
+        first = earlier_pair(first, use_pair(low, high, task.priority, lines));
     }
     first
 }

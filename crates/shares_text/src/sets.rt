@@ -1,5 +1,5 @@
 //! Sets of tasks and of resources as bits.
-ghost use Rattle.std.specs.Prelude.{◌≡◌, ◌==◌, ◌<◌, ◌&&◌, ◌||◌, ltb, ℕ};
+ghost use Rattle.std.specs.Prelude.{◌≡◌, ◌==◌, ◌<◌, ◌&&◌, ◌||◌, ltb, ℕ, get_or};
 ghost use Rattle.sloth_base.specs.Limits.{ceiling_count};
 ghost use Rattle.code_rules.specs.Code.{is_in};
 ghost use Rattle.call_graph.specs.Bits.{is_member};
@@ -36,7 +36,7 @@ pub fn with_task(set: u32, task: usize) -> u32
 }
 
 /// The resources of a list.
-pub fn set_of(held: &[u32]) -> u64
+pub fn resource_set(held: &[u32]) -> u64
     ensures { (r : ℕ) → r < 64 → is_member result r ≡ is_in r held.now }
 {
     let mut set = 0;
@@ -51,4 +51,14 @@ pub fn all_resources() -> u64
     ensures { (r : ℕ) → is_member result r ≡ ltb r ceiling_count }
 {
     0x1_ffff_ffff
+}
+
+/// What stands at a place of a table; `none` behind its end.
+pub fn entry<T: Copy>(table: &[T], place: usize, none: T) -> T
+    ensures { result ≡ get_or table.now place none }
+{
+    match table.get(place) {
+        Some(found) => *found,
+        None => none,
+    }
 }

@@ -1,9 +1,10 @@
 //! The items of all functions that call a function or use a symbol, with what their own function holds there.
 ghost use Rattle.std.specs.Prelude.{◌≡◌, ◌<◌, ◌++◌, get_or, length, OnOk, IfOk};
-ghost use Rattle.shares_text.specs.Sites.{no_held, call_at, access_at, gather_items, gather, no_row};
+ghost use Rattle.shares_text.specs.Accesses.{symbol_of, is_store};
+ghost use Rattle.shares_text.specs.Sites.{call_at, access_at, gather_items, gather, no_row};
 
-use crate::accesses::{is_store, symbol_of};
 use crate::held::{Held, HeldRow};
+use crate::sets::entry;
 use sloth_base::{Func, Item, NoMemory, Op};
 use std::alloc::Global;
 use text_pieces::push;
@@ -28,16 +29,27 @@ pub struct Access {
     pub held: Held,
 }
 
-const NOTHING_HELD: Held = Held { members: 0, top: 0 };
-
-fn held_at(rows: &[Held], item: usize) -> Held
-    ensures { result ≡ get_or rows.now item no_held }
+/// The symbol that an operation loads or stores.
+pub fn accessed_symbol(op: Op) -> Option<u32>
+    ensures { result ≡ symbol_of op }
 {
-    match rows.get(item) {
-        Some(held) => *held,
-        None => NOTHING_HELD,
+    match op {
+        Op::Load { symbol, .. } => Some(symbol.0),
+        Op::Store { symbol, .. } => Some(symbol.0),
+        Op::LoadAt { symbol, .. } => Some(symbol.0),
+        Op::StoreAt { symbol, .. } => Some(symbol.0),
+        _ => None,
     }
 }
+
+/// Whether it stores.
+pub fn is_store(op: Op) -> bool
+    ensures { result ≡ is_store op }
+{
+    matches!(op, Op::Store { .. } | Op::StoreAt { .. })
+}
+
+const NOTHING_HELD: Held = Held { members: 0, top: 0 };
 
 // One more call, if the item is one.
 fn add_call(
@@ -73,7 +85,7 @@ fn add_access(
 ) -> Result<(), NoMemory>
     ensures { OnOk result (accesses.new.items ≡ accesses.old.items ++ access_at func number item.now held) }
 {
-    match symbol_of(item.op) {
+    match accessed_symbol(item.op) {
         Some(symbol) => push(
             accesses,
             Access {
@@ -99,7 +111,13 @@ fn add_calls(
     ensures { OnOk result (calls.new.items ≡ calls.old.items ++ gather_items call_at caller 0 items.now rows.now) }
 {
     for (number, item) in items.iter().enumerate() {
-        add_call(calls, caller, number, item, held_at(rows, number))?;
+        add_call(
+            calls,
+            caller,
+            number,
+            item,
+            entry(rows, number, NOTHING_HELD),
+        )?;
     }
     Ok(())
 }
@@ -111,15 +129,22 @@ fn add_accesses(
     items: &[Item],
     rows: &[Held],
 ) -> Result<(), NoMemory>
-    ensures { OnOk result (accesses.new.items ≡ accesses.old.items ++ gather_items access_at func 0 items.now rows.now) }
+    ensures { OnOk result (accesses.new.items ≡ accesses.old.items
+        ++ gather_items access_at func 0 items.now rows.now) }
 {
     for (number, item) in items.iter().enumerate() {
-        add_access(accesses, func, number, item, held_at(rows, number))?;
+        add_access(
+            accesses,
+            func,
+            number,
+            item,
+            entry(rows, number, NOTHING_HELD),
+        )?;
     }
     Ok(())
 }
 
-fn row_of(table: &[HeldRow], func: usize) -> &[Held]
+fn held_row(table: &[HeldRow], func: usize) -> &[Held]
     requires { func < length table.now }
     ensures { result.now ≡ (get_or table.now func no_row).items }
 {
@@ -127,7 +152,11 @@ fn row_of(table: &[HeldRow], func: usize) -> &[Held]
 }
 
 /// The calls of all functions.
-pub fn calls_of(alloc: Global, funcs: &[Func], table: &[HeldRow]) -> Result<Vec<CallSite>, NoMemory>
+pub fn all_calls(
+    alloc: Global,
+    funcs: &[Func],
+    table: &[HeldRow],
+) -> Result<Vec<CallSite>, NoMemory>
     requires { length table.now ≡ length funcs.now }
     ensures { IfOk result (λ calls. calls.items ≡ gather call_at 0 funcs.now table.now) }
 {
@@ -137,14 +166,14 @@ pub fn calls_of(alloc: Global, funcs: &[Func], table: &[HeldRow]) -> Result<Vec<
             &mut calls,
             number,
             func.items.items(),
-            row_of(table, number),
+            held_row(table, number),
         )?;
     }
     Ok(calls)
 }
 
 /// Their accesses.
-pub fn accesses_of(
+pub fn all_accesses(
     alloc: Global,
     funcs: &[Func],
     table: &[HeldRow],
@@ -158,7 +187,7 @@ pub fn accesses_of(
             &mut accesses,
             number,
             func.items.items(),
-            row_of(table, number),
+            held_row(table, number),
         )?;
     }
     Ok(accesses)

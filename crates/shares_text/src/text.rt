@@ -14,15 +14,17 @@ use sloth_base::{App, BuildError, Config, NoMemory, Symbol};
 use sloth_source::read_checked;
 use std::alloc::Global;
 use task_verify::Verified;
+use text_pieces::line;
+use text_pieces::pieces::Piece::Word;
 
-fn symbol_at(app: &App, number: usize) -> &Symbol
+fn numbered_symbol(app: &App, number: usize) -> &Symbol
     requires { number < length app.now.symbols }
     ensures { result.now ≡ get_or app.now.symbols number no_symbol }
 {
     &app.symbols.items()[number]
 }
 
-fn verdict_at(verdicts: &[Verdict], number: usize) -> &Verdict
+fn numbered_verdict(verdicts: &[Verdict], number: usize) -> &Verdict
     requires { number < length verdicts.now }
     ensures { result.now ≡ get_or verdicts.now number Verdict.Unused }
 {
@@ -37,12 +39,12 @@ fn push_line(
     verdict: &Verdict,
 ) -> Result<(), NoMemory>
     requires { length config.now.tasks ≤ task_limit }
-    ensures { OnOk result (text.new.items ≡ text.old.items ++ ((symbol.now.name ++ verdict_words config.now verdict.now) ++ codes "\n")) }
+    ensures { OnOk result (text.new.items ≡ text.old.items
+        ++ ((symbol.now.name ++ verdict_words config.now verdict.now) ++ codes "\n")) }
 {
-    text.extend_from_slice(symbol.name.bytes())?;
+    line!(text; Word(symbol.name.bytes()))?;
     push_verdict(text, config, verdict)?;
-    text.extend_from_slice(b"\n")?;
-    Ok(())
+    line!(text; Word(b"\n"))
 }
 
 // The lines of all symbols.
@@ -58,37 +60,26 @@ fn share_lines(
 {
     let mut text = Vec::new(alloc);
     for number in 0..app.symbols.items().len() {
-        push_line(
-            &mut text,
-            config,
-            symbol_at(app, number),
-            verdict_at(verdicts, number),
-        )?;
+        let symbol = numbered_symbol(app, number);
+        let verdict = numbered_verdict(verdicts, number);
+        push_line(&mut text, config, symbol, verdict)?;
     }
     Ok(text)
 }
 
 // The lines of task code that keeps all rules.
-fn checked_text(alloc: Global, verified: &Verified, ranks: &Ranks) -> Result<Vec<u8>, NoMemory>
-    requires { RanksOf verified.now.app ranks.now }
-    ensures text { IfOk result (λ text. HasShares verified.now.config verified.now.app text.items) }
-{
-    let verdicts = data_verdicts(alloc, verified, ranks)?;
-    share_lines(alloc, verified.config(), verified.app(), verdicts.items())
-}
-
-// The same, as an answer.
-fn text_of(alloc: Global, verified: &Verified, ranks: &Ranks) -> Result<Vec<u8>, BuildError>
+fn answer_text(alloc: Global, verified: &Verified, ranks: &Ranks) -> Result<Vec<u8>, BuildError>
     requires { RanksOf verified.now.app ranks.now }
     ensures text { IfOk result (λ text. HasShares verified.now.config verified.now.app text.items) }
     ensures memory { IfErr result (λ error. error ≡ BuildError.Memory) }
 {
-    let text = checked_text(alloc, verified, ranks)?;
+    let verdicts = data_verdicts(alloc, verified, ranks)?;
+    let text = share_lines(alloc, verified.config(), verified.app(), verdicts.items())?;
     Ok(text)
 }
 
-/// The lines of what keeps the users of each symbol apart, of texts of at most 4,294,967,294 bytes; or the first refusal (O1 to O15, A1 to A7,
-/// V1 to V12).
+/// The lines of what keeps the users of each symbol apart, of texts of at most 4,294,967,294 bytes; or the first
+/// refusal (O1 to O15, A1 to A7, V1 to V12).
 pub fn shares_text(alloc: Global, oil: &[u8], src: &[u8]) -> Result<Vec<u8>, BuildError>
     requires oil { length oil.now < 4294967295 }
     requires src { length src.now < 4294967295 }
@@ -96,5 +87,5 @@ pub fn shares_text(alloc: Global, oil: &[u8], src: &[u8]) -> Result<Vec<u8>, Bui
     ensures refused { IfErr result (SourcesErrorIs oil.now src.now) }
 {
     let checked = read_checked(alloc, oil, src)?;
-    text_of(alloc, &checked.verified, &checked.ranks)
+    answer_text(alloc, &checked.verified, &checked.ranks)
 }

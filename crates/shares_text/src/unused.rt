@@ -6,7 +6,7 @@ ghost use Rattle.sloth_source.specs.Texts.{SourcesErrorIs};
 ghost use Rattle.shares_text.specs.UnusedText.{kind_word, object_name, further_words, unused_line, lines_of, unused_lines, HasUnused, IsUnusedText};
 ghost use Rattle.shares_text.specs.UsesBy.{is_used_by};
 
-use crate::kinds::{Kind, count_of, header_line, kind_word, object_name};
+use crate::kinds::{Kind, header_line, kind_count, kind_word, object_name};
 use crate::uses::is_used;
 use call_graph::Ranks;
 use sloth_base::{App, BuildError, Config, NoMemory};
@@ -50,7 +50,8 @@ fn push_unless(
     kind: Kind,
     number: usize,
 ) -> Result<(), NoMemory>
-    ensures { OnOk result (text.new.items ≡ text.old.items ++ cond used [] (unused_line config.now app.now kind number)) }
+    ensures { OnOk result (text.new.items ≡ text.old.items
+        ++ cond used [] (unused_line config.now app.now kind number)) }
 {
     if !used {
         push_line(text, config, app, kind, number)?;
@@ -67,9 +68,10 @@ fn push_kind(
     kind: Kind,
 ) -> Result<(), NoMemory>
     requires { length config.now.tasks ≤ task_limit }
-    ensures { OnOk result (text.new.items ≡ text.old.items ++ lines_of config.now app.now (is_used_by config.now app.now users.now) kind) }
+    ensures { OnOk result (text.new.items ≡ text.old.items
+        ++ lines_of config.now app.now (is_used_by config.now app.now users.now) kind) }
 {
-    for number in 0..count_of(config, app, kind) {
+    for number in 0..kind_count(config, app, kind) {
         let used = is_used(config, app, users, kind, number);
         push_unless(text, config, app, used, kind, number)?;
     }
@@ -84,7 +86,8 @@ fn unused_lines(
     users: &[u32],
 ) -> Result<Vec<u8>, NoMemory>
     requires { length config.now.tasks ≤ task_limit }
-    ensures { IfOk result (λ text. text.items ≡ unused_lines config.now app.now (is_used_by config.now app.now users.now)) }
+    ensures { IfOk result (λ text. text.items
+        ≡ unused_lines config.now app.now (is_used_by config.now app.now users.now)) }
 {
     let mut text = Vec::new(alloc);
     push_kind(&mut text, config, app, users, Kind::Task)?;
@@ -97,26 +100,19 @@ fn unused_lines(
 }
 
 // The lines of task code that keeps all rules.
-fn checked_lines(alloc: Global, verified: &Verified, ranks: &Ranks) -> Result<Vec<u8>, NoMemory>
-    requires { RanksOf verified.now.app ranks.now }
-    ensures { IfOk result (λ text. HasUnused verified.now.config verified.now.app text.items) }
-{
-    let users = ranks.users.items();
-    unused_lines(alloc, verified.config(), verified.app(), users)
-}
-
-// The same, as an answer.
-fn text_of(alloc: Global, verified: &Verified, ranks: &Ranks) -> Result<Vec<u8>, BuildError>
+fn answer_text(alloc: Global, verified: &Verified, ranks: &Ranks) -> Result<Vec<u8>, BuildError>
     requires { RanksOf verified.now.app ranks.now }
     ensures text { IfOk result (λ text. HasUnused verified.now.config verified.now.app text.items) }
     ensures memory { IfErr result (λ error. error ≡ BuildError.Memory) }
 {
-    let text = checked_lines(alloc, verified, ranks)?;
+    let users = ranks.users.items();
+    let text = unused_lines(alloc, verified.config(), verified.app(), users)?;
     Ok(text)
 }
 
-/// The lines of the tasks that nothing but arrivals activates, and of the resources, events, alarms, symbols and functions that nothing uses, of
-/// texts of at most 4,294,967,294 bytes; or the first refusal (O1 to O15, A1 to A7, V1 to V12).
+/// The lines of the tasks that nothing but arrivals activates, and of the resources, events, alarms, symbols and
+/// functions that nothing uses, of texts of at most 4,294,967,294 bytes; or the first refusal (O1 to O15, A1 to A7, V1
+/// to V12).
 pub fn unused_text(alloc: Global, oil: &[u8], src: &[u8]) -> Result<Vec<u8>, BuildError>
     requires oil { length oil.now < 4294967295 }
     requires src { length src.now < 4294967295 }
@@ -124,5 +120,5 @@ pub fn unused_text(alloc: Global, oil: &[u8], src: &[u8]) -> Result<Vec<u8>, Bui
     ensures refused { IfErr result (SourcesErrorIs oil.now src.now) }
 {
     let checked = read_checked(alloc, oil, src)?;
-    text_of(alloc, &checked.verified, &checked.ranks)
+    answer_text(alloc, &checked.verified, &checked.ranks)
 }

@@ -1,36 +1,19 @@
 //! Whether something uses an object, a symbol or a function.
-ghost use Rattle.std.specs.Prelude.{◌≡◌, ◌==◌, ◌≤◌, ◌||◌, ◌&&◌, not, is_some, get_or, length};
+ghost use Rattle.std.specs.Prelude.{◌≡◌, ◌==◌, ◌≤◌, ◌||◌, ◌&&◌, not, is_some, length};
 ghost use Rattle.std.specs.List.{list_any};
 ghost use Rattle.sloth_base.specs.Limits.{task_limit};
 ghost use Rattle.sloth_base.specs.Named.{declaration, alarm_declaration, function};
-ghost use Rattle.call_graph.specs.Rows.{is_call, is_get, is_taking};
-ghost use Rattle.shares_text.specs.Uses.{is_activating, is_starting, has_bits, is_activation, has_event, is_start, is_access, is_use, activates, sets, is_declared_use};
+ghost use Rattle.call_graph.specs.Rows.{is_call, is_taking};
+ghost use Rattle.shares_text.specs.Uses.{has_bits, is_activation, has_event, is_start, is_access, is_use, activates, sets, is_declared_use};
 ghost use Rattle.shares_text.specs.UsesBy.{has_task, is_function_use, is_code_use, is_used_by};
 
-use crate::accesses::symbol_of;
 use crate::kinds::{Kind, event_mask};
+use crate::sets::entry;
+use crate::sites::accessed_symbol;
 use call_graph::has;
 use sloth_base::{Action, App, Config, Func, Item, Op, Service};
 
 // ---- items
-
-fn is_activating(service: Service) -> bool
-    ensures { result ≡ is_activating service }
-{
-    matches!(service, Service::ActivateTask | Service::ChainTask)
-}
-
-fn is_starting(service: Service) -> bool
-    ensures { result ≡ is_starting service }
-{
-    matches!(service, Service::SetRelAlarm | Service::SetAbsAlarm)
-}
-
-fn is_get(service: Service) -> bool
-    ensures { result ≡ is_get service }
-{
-    matches!(service, Service::GetResource)
-}
 
 fn has_bits(mask: u32, bits: u32) -> bool
     ensures { result ≡ has_bits mask bits }
@@ -43,7 +26,10 @@ fn is_activation(task: usize, op: Op) -> bool
     ensures { result ≡ is_activation task op }
 {
     match op {
-        Op::Serve(call) => is_activating(call.service) && call.object as usize == task,
+        Op::Serve(call) => {
+            matches!(call.service, Service::ActivateTask | Service::ChainTask)
+                && call.object as usize == task
+        }
         _ => false,
     }
 }
@@ -53,7 +39,9 @@ fn is_taking(resource: usize, op: Op) -> bool
     ensures { result ≡ is_taking resource op }
 {
     match op {
-        Op::Serve(call) => is_get(call.service) && call.object as usize == resource,
+        Op::Serve(call) => {
+            matches!(call.service, Service::GetResource) && call.object as usize == resource
+        }
         _ => false,
     }
 }
@@ -73,7 +61,10 @@ fn is_start(alarm: usize, op: Op) -> bool
     ensures { result ≡ is_start alarm op }
 {
     match op {
-        Op::Serve(call) => is_starting(call.service) && call.object as usize == alarm,
+        Op::Serve(call) => {
+            matches!(call.service, Service::SetRelAlarm | Service::SetAbsAlarm)
+                && call.object as usize == alarm
+        }
         _ => false,
     }
 }
@@ -82,7 +73,7 @@ fn is_start(alarm: usize, op: Op) -> bool
 fn is_access(symbol: usize, op: Op) -> bool
     ensures { result ≡ is_access symbol op }
 {
-    match symbol_of(op) {
+    match accessed_symbol(op) {
         Some(accessed) => accessed as usize == symbol,
         None => false,
     }
@@ -199,15 +190,6 @@ fn has_task(tasks: usize, set: u32) -> bool
     found
 }
 
-fn set_at(users: &[u32], number: usize) -> u32
-    ensures { result ≡ get_or users.now number 0 }
-{
-    match users.get(number) {
-        Some(set) => *set,
-        None => 0,
-    }
-}
-
 // Whether one of these items uses it.
 fn is_item_use(config: &Config, kind: Kind, number: usize, items: &[Item]) -> bool
     ensures { result ≡ list_any (λ item. is_use config.now kind number item.op) items.now }
@@ -238,7 +220,7 @@ fn is_code_use(config: &Config, funcs: &[Func], users: &[u32], kind: Kind, numbe
     let tasks = config.tasks.items().len();
     let mut used = false;
     for (place, func) in funcs.iter().enumerate() {
-        let reached = has_task(tasks, set_at(users, place));
+        let reached = has_task(tasks, entry(users, place, 0));
         used = with_function(used, reached, config, kind, number, func);
     }
     used

@@ -1,7 +1,7 @@
 //! What keeps the users of one symbol apart.
 ghost use Rattle.std.specs.Prelude.{◌≡◌, ◌==◌, ◌<◌, true, length, IfOk};
 ghost use Rattle.std.specs.List.{list_any, list_all};
-ghost use Rattle.shares_text.specs.VerdictsBy.{has_store, AreTasksOf, AreCommon, HaveNoCommon, AreOfTwo, IsVerdictBy};
+ghost use Rattle.shares_text.specs.VerdictsBy.{has_store, AreTasksOf, AreCommon, AreOfTwo, IsVerdictBy};
 
 use crate::data_uses::Use;
 use crate::keepers::{Keeper, keepers};
@@ -39,7 +39,7 @@ fn has_store(uses: &[Use]) -> bool
     uses.iter().any(|used| used.stores)
 }
 
-fn users_of(uses: &[Use]) -> u32
+fn user_set(uses: &[Use]) -> u32
     ensures { AreTasksOf uses.now result }
 {
     let mut users = 0;
@@ -49,7 +49,7 @@ fn users_of(uses: &[Use]) -> u32
     users
 }
 
-fn guards_of(uses: &[Use]) -> u64
+fn guard_set(uses: &[Use]) -> u64
     ensures { AreCommon uses.now result }
 {
     let mut guards = all_resources();
@@ -67,46 +67,7 @@ fn first_user(uses: &[Use]) -> usize
     uses[0].task
 }
 
-// Of a symbol that some tasks share and store into, which no resource guards.
-fn order_or_pair(
-    alloc: Global,
-    tasks: &[TaskDecl],
-    ceilings: &[u32],
-    uses: &[Use],
-) -> Result<Verdict, NoMemory>
-    requires few { length tasks.now < 33 }
-    requires two { AreOfTwo uses.now }
-    requires written { has_store uses.now ≡ true }
-    requires none { HaveNoCommon uses.now }
-    ensures { IfOk result (IsVerdictBy tasks.now ceilings.now uses.now) }
-{
-    if let Some(pair) = open_pair(alloc, tasks, uses)? {
-        return Ok(Verdict::Open(pair));
-    }
-    let list = keepers(alloc, tasks, ceilings, users_of(uses), uses)?;
-    Ok(Verdict::Ordered(List::from_vec(list)))
-}
-
-// Of one that some tasks share and store into.
-fn written_verdict(
-    alloc: Global,
-    tasks: &[TaskDecl],
-    ceilings: &[u32],
-    uses: &[Use],
-) -> Result<Verdict, NoMemory>
-    requires few { length tasks.now < 33 }
-    requires two { AreOfTwo uses.now }
-    requires written { has_store uses.now ≡ true }
-    ensures { IfOk result (IsVerdictBy tasks.now ceilings.now uses.now) }
-{
-    let guards = guards_of(uses);
-    if guards == 0 {
-        return order_or_pair(alloc, tasks, ceilings, uses);
-    }
-    Ok(Verdict::Guarded(guards))
-}
-
-// Of one that some tasks share.
+// Of a symbol that some tasks share.
 fn shared_verdict(
     alloc: Global,
     tasks: &[TaskDecl],
@@ -117,14 +78,22 @@ fn shared_verdict(
     requires two { AreOfTwo uses.now }
     ensures { IfOk result (IsVerdictBy tasks.now ceilings.now uses.now) }
 {
-    if has_store(uses) {
-        return written_verdict(alloc, tasks, ceilings, uses);
+    if !has_store(uses) {
+        return Ok(Verdict::Reads(user_set(uses)));
     }
-    Ok(Verdict::Reads(users_of(uses)))
+    let guards = guard_set(uses);
+    if guards != 0 {
+        return Ok(Verdict::Guarded(guards));
+    }
+    if let Some(pair) = open_pair(alloc, tasks, uses)? {
+        return Ok(Verdict::Open(pair));
+    }
+    let list = keepers(alloc, tasks, ceilings, user_set(uses), uses)?;
+    Ok(Verdict::Ordered(List::from_vec(list)))
 }
 
 /// The verdict by the uses of a symbol.
-pub fn verdict_by(
+pub fn uses_verdict(
     alloc: Global,
     tasks: &[TaskDecl],
     ceilings: &[u32],

@@ -16,6 +16,7 @@ kept config app image text told built has = record {
   longest = has.has.costs.longest;
   late = has.has.costs.late;
   responses = has.has.responses;
+  reasons = has.has.reasons;
   tick = has.has.tick;
   demand = has.has.demand;
   is = has.has.is;

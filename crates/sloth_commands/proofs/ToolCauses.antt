@@ -70,7 +70,7 @@ after-kept (tool_answer.NotAnElf f) old mid new output kept h = stays-behind old
 after-kept (tool_answer.Explained kind f) old mid new output kept h = stays-behind old mid new kept h
 after-kept (tool_answer.BadTrace f) old mid new output kept h = stays-behind old mid new kept h
 after-kept tool_answer.NoHolds old mid new output kept h = stays-behind old mid new kept h
-after-kept (tool_answer.OpenDeadline lines) old mid new output kept h = stays-behind old mid new kept h
+after-kept (tool_answer.Unmet lines) old mid new output kept h = stays-behind old mid new kept h
 after-kept tool_answer.NoTask old mid new output kept h = stays-behind old mid new kept h
 
 unwritten-kept : (old mid new : Files) (output : Option (List ℕ)) (bytes : List ℕ) → KeepsFiles old mid → IsUnwrittenOutput mid new output bytes
@@ -107,7 +107,7 @@ module _ (old mid : Files) (sink : Output) (new : World) (u : ToolUse) (kept : K
   tell-ends failure.WriteFile (tool_answer.Explained kind e) is h = absurd h
   tell-ends failure.WriteFile (tool_answer.BadTrace e) is h = absurd h
   tell-ends failure.WriteFile tool_answer.NoHolds is h = absurd h
-  tell-ends failure.WriteFile (tool_answer.OpenDeadline lines) is h = absurd h
+  tell-ends failure.WriteFile (tool_answer.Unmet lines) is h = absurd h
   tell-ends failure.WriteFile tool_answer.NoTask is h = absurd h
   tell-ends (failure.Refused r) a is h = absurd h
   tell-ends failure.ReadFault a is h = absurd h

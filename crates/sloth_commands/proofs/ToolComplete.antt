@@ -74,7 +74,7 @@ IsUnwrittenFor (tool_answer.NotAnElf f) output old new = ⊥
 IsUnwrittenFor (tool_answer.Explained kind f) output old new = ⊥
 IsUnwrittenFor (tool_answer.BadTrace f) output old new = ⊥
 IsUnwrittenFor tool_answer.NoHolds output old new = ⊥
-IsUnwrittenFor (tool_answer.OpenDeadline lines) output old new = ⊥
+IsUnwrittenFor (tool_answer.Unmet lines) output old new = ⊥
 IsUnwrittenFor tool_answer.NoTask output old new = ⊥
 
 -- what a failed write leaves to be said
@@ -144,8 +144,8 @@ module _ (words : List (List ℕ)) (old new : World) (answer : Status) (u : Tool
   told-by (status.Explained kind) text q p = ended (status.Explained kind) (tool_answer.Explained kind q.2) text (own (Uses q.0) (tool_answer.Explained kind q.2) q.1 q.3) refl q.4 q.5 p
   told-by status.BadTrace text q p = ended status.BadTrace (tool_answer.BadTrace q.2) text (own (Uses q.0) (tool_answer.BadTrace q.2) q.1 q.3) refl q.4 q.5 p
   told-by status.NoHolds text q p = ended status.NoHolds tool_answer.NoHolds text (own (Uses q.0) tool_answer.NoHolds q.1 q.2) refl q.3 q.4 p
-  told-by status.OpenDeadline text q p =
-      ended status.OpenDeadline (tool_answer.OpenDeadline q.2) text (own (Uses q.0) (tool_answer.OpenDeadline q.2) q.1 q.3) refl q.4 q.5 p
+  told-by status.Unmet text q p =
+      ended status.Unmet (tool_answer.Unmet q.2) text (own (Uses q.0) (tool_answer.Unmet q.2) q.1 q.3) refl q.4 q.5 p
   told-by status.NoMemory text q (inl p) = (a, is_answer, Wanting (p.0, (text, q, p.1)))
   told-by status.NoMemory text q (inr p) = (a, is_answer, BrokeWanting p.0 (subst (λ x. IsTextBrokenOff old.sink new.sink x) q.2 p.1))
   told-by status.WriteFault text q p =
@@ -181,7 +181,7 @@ rose-for (tool_answer.NotAnElf f) output old new h = absurd h
 rose-for (tool_answer.Explained kind f) output old new h = absurd h
 rose-for (tool_answer.BadTrace f) output old new h = absurd h
 rose-for tool_answer.NoHolds output old new h = absurd h
-rose-for (tool_answer.OpenDeadline lines) output old new h = absurd h
+rose-for (tool_answer.Unmet lines) output old new h = absurd h
 rose-for tool_answer.NoTask output old new h = absurd h
 
 not-unwritten-output : (outcome : Outcome) (output : Option (List ℕ)) (old new : Files) → OutputWorks (tool_answer.Done outcome) output old new
@@ -198,7 +198,7 @@ not-unwritten (tool_answer.NotAnElf f) output old new works h = h
 not-unwritten (tool_answer.Explained kind f) output old new works h = h
 not-unwritten (tool_answer.BadTrace f) output old new works h = h
 not-unwritten tool_answer.NoHolds output old new works h = h
-not-unwritten (tool_answer.OpenDeadline lines) output old new works h = h
+not-unwritten (tool_answer.Unmet lines) output old new works h = h
 not-unwritten tool_answer.NoTask output old new works h = h
 
 answers-tool : (words : List (List ℕ)) (a : ToolAnswer) (output : Option (List ℕ)) (old new : World) (answer : Status) → Told words a output old new answer

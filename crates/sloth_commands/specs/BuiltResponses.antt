@@ -7,6 +7,7 @@ use Rattle.sloth_source.specs.Texts.{AreAccepted}
 use Rattle.load_text.specs.declared.entry.Entry.{Entry}
 use Rattle.response_text.specs.declared.told.Told.{Told}
 use Rattle.response_text.specs.declared.told.Response.{Response}
+use Rattle.response_reasons.specs.declared.reasons.Reason.{Reason}
 use Rattle.response_text.specs.Inputs.{IsLoadOf}
 use Rattle.response_text.specs.ResponseText.{told_of, KeepsResponses, IsResponseText}
 use Rattle.core_commands.specs.Top.{IsBuiltImage}
@@ -18,9 +19,10 @@ pub record TellsKept (config : Config) (app : App) (image : Image) (text : List 
   pub longest : ℕ
   pub late : ℕ
   pub responses : List Response
+  pub reasons : List (Option Reason)
   pub tick : Option ℕ
   pub demand : Option ℕ
-  pub is : told ≡ told_of config app load responses tick demand
+  pub is : told ≡ told_of config app load responses reasons tick demand
   pub kept : KeepsResponses config app load longest late responses tick image
 
 -- an image that is built keeps what is told of its texts

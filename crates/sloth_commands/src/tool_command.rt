@@ -131,7 +131,7 @@ fn tell_text<F: Store, S: Sink>(
         ToolAnswer::NotAnElf(fault) => tell_line(out, no_elf_line(*fault).bytes()),
         ToolAnswer::BadTrace(fault) => tell_line(out, bad_trace_line(*fault).bytes()),
         ToolAnswer::NoHolds => tell_line(out, b"no holds\n"),
-        ToolAnswer::OpenDeadline(text) => tell_line(out, text.items()),
+        ToolAnswer::Unmet(text) => tell_line(out, text.items()),
         ToolAnswer::Explained { text, .. } => tell_line(out, text.items()),
         ToolAnswer::NoTask => tell_line(out, b"usage\n"),
     }

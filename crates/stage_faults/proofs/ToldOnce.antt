@@ -1,7 +1,6 @@
 -- Sorted faults, told in order and once.
 use Rattle.std.proofs.Common.{◌≡◌, ◌∙◌, ◌≤◌, ◌<◌, ◌+◌, ◌⊎◌, inl, inr, ⊎_elim, ℕ, suc, zero, Bool, true, false, cond, List, [], ◌∷◌, length, get_or, refl, ap, sym, subst, arith, true≢false, ltb-true, ltb-false}
 use Rattle.std.specs.Prelude.{◌||◌, nat_lt}
-use Rattle.std.specs.List.{Contains}
 use Rattle.std.specs.List.Sorted.{IsNonDecreasingBy}
 use Rattle.std.proofs.lemmas.List.Elements.{Contains-push}
 use Rattle.sloth_base.specs.declared.refusal.Code.{Code}

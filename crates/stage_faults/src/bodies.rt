@@ -8,8 +8,8 @@ ghost use Rattle.stage_faults.specs.ToldNames.{is_header_beyond, is_line_beyond,
 ghost use Rattle.stage_faults.specs.Told.{Adds};
 
 use crate::Note;
-use crate::earlier_lines::{line_of_first, push_if};
-use crate::notes::{add_if, add_named};
+use crate::earlier_lines::{Before, line_of_first, push_line};
+use crate::notes::{add_bare, add_named};
 use asm_forms::Mnemonic;
 use asm_lines::{Operand, SourceLine};
 use asm_parse::{
@@ -47,13 +47,15 @@ fn add_header_faults<'t>(
     number: u32,
     header: &'t SourceLine,
 ) -> Result<(), NoMemory>
-    ensures { OnOk result (Adds Src (ToldHeader scope.now (take count scope.now.functions) count number header.now) notes.old.items notes.new.items) }
+    ensures { OnOk result
+        (Adds Src (ToldHeader scope.now (take count scope.now.functions) count number header.now) notes.old.items
+        notes.new.items) }
 {
     let name = name_of(header);
     let doubled = scope.functions.is_among_first(count, name);
     let first = line_of_first(&scope.functions, earlier, name);
     add_named(notes, doubled, number, Code::A5, name, first)?;
-    add_if(notes, is_header_beyond(count, header), number, Code::A6)?;
+    add_bare(notes, is_header_beyond(count, header), number, Code::A6)?;
     let strange = is_strange(scope, header);
     let name = strange_name(lacking, number, name);
     add_named(notes, strange, number, Code::A7, name, None)
@@ -114,24 +116,25 @@ fn is_line_beyond(items: usize, line: &SourceLine) -> bool
     is_beyond(items, line) || (is_item(line) && items > ITEM_LIMIT)
 }
 
-// Behind the first `count` labels, which stand on the lines `earlier`, and so many items.
+// Behind the first labels, so many, which stand on the lines `earlier`.
 fn add_line_faults<'t>(
     notes: &mut Vec<Note<'t>>,
     scope: &Scope,
     labels: &Names,
     earlier: &[u32],
-    count: usize,
-    items: usize,
+    before: Before,
     number: u32,
     line: &'t SourceLine,
 ) -> Result<(), NoMemory>
-    ensures { OnOk result (Adds Src (ToldBodyLine scope.now labels.now (take count labels.now) items number line.now) notes.old.items notes.new.items) }
+    ensures { OnOk result
+        (Adds Src (ToldBodyLine scope.now labels.now (take before.count labels.now) before.items number line.now)
+        notes.old.items notes.new.items) }
 {
-    let test = is_misnamed(scope, labels, count, line);
+    let test = is_misnamed(scope, labels, before.count, line);
     let first = first_label(labels, earlier, line);
     let name = misnamed(scope, labels, first, line);
     add_named(notes, test, number, Code::A5, name, first)?;
-    add_if(notes, is_line_beyond(items, line), number, Code::A6)
+    add_bare(notes, is_line_beyond(before.items, line), number, Code::A6)
 }
 
 // The faults of the lines of a body, whose header stands on line `number` behind so many items.
@@ -147,15 +150,18 @@ fn line_faults<'t>(
     requires few { number + length lines.now < 2 ^ 32 }
     requires items { items + length lines.now < 2 ^ 64 }
     requires labels { labels.now ≡ label_names lines.now }
-    ensures { OnOk result (Adds Src (Somewhere (ToldLineName scope.now labels.now items number) lines.now) notes.old.items notes.new.items) }
+    ensures { OnOk result
+        (Adds Src (Somewhere (ToldLineName scope.now labels.now items number) lines.now) notes.old.items
+        notes.new.items) }
 {
     let mut earlier = Vec::new(alloc);
     let mut count = 0;
     let mut items = items;
     for (n, line) in lines.iter().enumerate() {
         let number = number + n as u32 + 1;
-        add_line_faults(notes, scope, labels, &earlier, count, items, number, line)?;
-        push_if(&mut earlier, is_label(line), number)?;
+        let before = Before { count, items };
+        add_line_faults(notes, scope, labels, &earlier, before, number, line)?;
+        push_line(&mut earlier, is_label(line), number)?;
         count += count_label(line);
         items += count_item(line);
     }
@@ -164,42 +170,28 @@ fn line_faults<'t>(
 
 // ---- bodies
 
-// The faults of a body behind the first `count` bodies, which begin on the lines `earlier` and have so many items.
+// The faults of a body behind the first bodies, so many, which begin on the lines `earlier`.
 fn body_faults<'t>(
     alloc: Global,
     notes: &mut Vec<Note<'t>>,
     scope: &Scope,
     lacking: Option<&'t [u8]>,
     earlier: &[u32],
-    count: usize,
-    items: usize,
+    before: Before,
     body: &Body<'t>,
 ) -> Result<(), NoMemory>
     requires few { body.now.line + length body.now.lines < 2 ^ 32 }
-    requires items { items + length body.now.lines < 2 ^ 64 }
+    requires items { before.items + length body.now.lines < 2 ^ 64 }
     ensures { OnOk result (Adds Src (λ r.
-        ToldHeader scope.now (take count scope.now.functions) count body.now.line body.now.header r
-        ⊎ Somewhere (ToldLineName scope.now (label_names body.now.lines) items body.now.line) body.now.lines r) notes.old.items notes.new.items) }
+        ToldHeader scope.now (take before.count scope.now.functions) before.count body.now.line body.now.header r
+        ⊎ Somewhere (ToldLineName scope.now (label_names body.now.lines) before.items body.now.line) body.now.lines r) notes.old.items notes.new.items) }
 {
     let labels = label_names(alloc, body.lines())?;
-    add_header_faults(
-        notes,
-        scope,
-        lacking,
-        earlier,
-        count,
-        body.line(),
-        body.header(),
-    )?;
-    line_faults(
-        alloc,
-        notes,
-        scope,
-        &labels,
-        items,
-        body.line(),
-        body.lines(),
-    )
+    let number = body.line();
+    let count = before.count;
+    add_header_faults(notes, scope, lacking, earlier, count, number, body.header())?;
+    let items = before.items;
+    line_faults(alloc, notes, scope, &labels, items, number, body.lines())
 }
 
 /// The faults of these bodies. `lacking`: the first task without a body, if there is one.
@@ -218,7 +210,8 @@ pub fn body_notes<'t>(
     let mut earlier = Vec::new(alloc);
     let mut items = 0;
     for (n, body) in bodies.iter().enumerate() {
-        body_faults(alloc, notes, scope, lacking, &earlier, n, items, body)?;
+        let before = Before { count: n, items };
+        body_faults(alloc, notes, scope, lacking, &earlier, before, body)?;
         push(&mut earlier, body.line())?;
         items += count_items(body.lines());
     }

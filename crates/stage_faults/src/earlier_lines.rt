@@ -3,6 +3,13 @@
 use sloth_base::NoMemory;
 use text_pieces::{Names, push};
 
+/// What stands before a line or a body: so many labels or bodies, and so many items.
+#[derive(Clone, Copy)]
+pub struct Before {
+    pub count: usize,
+    pub items: usize,
+}
+
 /// The line of the first thing of this name, if it is among the first, which stand on these lines.
 pub fn line_of_first(names: &Names, lines: &[u32], name: &[u8]) -> Option<u32> {
     match names.number(name) {
@@ -18,7 +25,7 @@ pub fn line_of_first(names: &Names, lines: &[u32], name: &[u8]) -> Option<u32> {
 }
 
 /// One line more, where a test says so.
-pub fn push_if(lines: &mut Vec<u32>, test: bool, line: u32) -> Result<(), NoMemory> {
+pub fn push_line(lines: &mut Vec<u32>, test: bool, line: u32) -> Result<(), NoMemory> {
     if test {
         return push(lines, line);
     }

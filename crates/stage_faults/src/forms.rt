@@ -12,7 +12,7 @@ use asm_lines::{SourceLine, read_lines};
 use sloth_base::NoMemory;
 use std::alloc::Global;
 
-fn notes_of<'t>(alloc: Global, text: &[u8], lines: &[SourceLine]) -> Result<Vec<Note<'t>>, NoMemory>
+fn faults<'t>(alloc: Global, text: &[u8], lines: &[SourceLine]) -> Result<Vec<Note<'t>>, NoMemory>
     requires few { length text.now < 4294967295 }
     requires lines { lines.now ≡ source_lines text.now }
     ensures { IfOk result (λ notes. AreAll Src (ToldForm text.now) notes.items) }
@@ -29,5 +29,5 @@ pub fn line_notes<'t>(alloc: Global, text: &[u8]) -> Result<Vec<Note<'t>>, NoMem
     ensures { IfOk result (λ notes. AreAll Src (ToldForm text.now) notes.items) }
 {
     let lines = read_lines(alloc, text)?;
-    notes_of(alloc, text, lines.items())
+    faults(alloc, text, lines.items())
 }

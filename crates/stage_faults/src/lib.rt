@@ -1,7 +1,8 @@
 //! The faults of a stage, each and no other, with the names that they concern.
 //!
-//! Of an OIL tree `model_notes` (O7 to O15, `specs/ToldModel`), of lines `line_notes` (A1 to A4, `specs/ToldLines`, `specs/ToldNarrow`), of names and limits `name_notes` (A5 to A7, `specs/ToldNames`). That a list has all
-//! faults of a set: `specs/Told`. In order, one for each line and code: `told_list`.
+//! Of an OIL tree `model_notes` (O7 to O15, `specs/ToldModel`), of lines `line_notes` (A1 to A4, `specs/ToldLines`,
+//! `specs/ToldNarrow`), of names and limits `name_notes` (A5 to A7, `specs/ToldNames`). That a list has all faults of a
+//! set: `specs/Told`. In order, one for each line and code: `told_list`.
 #![tactic(auto)]
 
 mod bodies;
@@ -17,6 +18,7 @@ mod oil_objects;
 mod oil_stage;
 mod oil_tasks;
 mod symbols;
+mod tables;
 pub mod told_list;
 
 pub use forms::line_notes;

@@ -6,7 +6,7 @@ ghost use Rattle.stage_faults.specs.Told.{Adds};
 ghost use Rattle.stage_faults.specs.ToldLines.{is_misplaced, is_told_a1, is_counted, is_told_a4, ToldLine, ToldFault};
 
 use crate::Note;
-use crate::notes::add_if;
+use crate::notes::add_bare;
 use asm_forms::takes;
 use asm_lines::{SourceLine, after_line, is_a1, is_a2, is_a3, is_a4};
 use sloth_base::{Code, NoMemory};
@@ -59,10 +59,10 @@ fn add_faults<'t>(
 ) -> Result<(), NoMemory>
     ensures { OnOk result (Adds Src (ToldLine inside earlier number line.now) notes.old.items notes.new.items) }
 {
-    add_if(notes, is_told_a1(inside, earlier, line), number, Code::A1)?;
-    add_if(notes, is_a2(inside, line), number, Code::A2)?;
-    add_if(notes, is_a3(line), number, Code::A3)?;
-    add_if(notes, is_told_a4(line), number, Code::A4)
+    add_bare(notes, is_told_a1(inside, earlier, line), number, Code::A1)?;
+    add_bare(notes, is_a2(inside, line), number, Code::A2)?;
+    add_bare(notes, is_a3(line), number, Code::A3)?;
+    add_bare(notes, is_told_a4(line), number, Code::A4)
 }
 
 fn is_earlier(earlier: bool, inside: bool, line: &SourceLine) -> bool
@@ -89,10 +89,6 @@ pub fn add_all<'t>(notes: &mut Vec<Note<'t>>, lines: &[SourceLine]) -> Result<()
         earlier = is_earlier(earlier, inside, line);
         inside = after_line(inside, line);
     }
-    add_if(
-        notes,
-        is_open(inside, earlier),
-        lines.len() as u32,
-        Code::A1,
-    )
+    let open = is_open(inside, earlier);
+    add_bare(notes, open, lines.len() as u32, Code::A1)
 }

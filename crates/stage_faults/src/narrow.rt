@@ -1,5 +1,5 @@
 //! A4 of lines that load or store less than a word, whose places may be words of the frame in form alone.
-ghost use Rattle.std.specs.Prelude.{◌≡◌, ◌<◌, ◌^◌, ◌++◌, map, length, codes, IfOk, OnOk};
+ghost use Rattle.std.specs.Prelude.{◌≡◌, ◌<◌, ◌^◌, map, length, IfOk, OnOk};
 ghost use Rattle.std.specs.List.{list_any, take_while};
 ghost use Rattle.sloth_base.specs.ImageRange.{continues_word};
 ghost use Rattle.sloth_base.specs.declared.refusal.Part.TheVariants.{Src};
@@ -8,16 +8,17 @@ ghost use Rattle.text_pieces.specs.Names.{referent};
 ghost use Rattle.asm_lines.specs.Bytes.{is_blank, trim_start};
 ghost use Rattle.text_pieces.specs.Lines.{lines};
 ghost use Rattle.stage_faults.specs.Told.{Adds};
-ghost use Rattle.stage_faults.specs.ToldNarrow.{loads_narrow, stores_narrow, is_narrow, first_word, behind_word, is_word_a4, is_narrow_a4, NarrowFault};
+ghost use Rattle.stage_faults.specs.ToldNarrow.{is_narrow, first_word, behind_word, is_word_a4, is_narrow_a4, NarrowFault};
 ghost use Rattle.stage_faults.specs.ToldLines.{is_told_a4};
 
 use crate::Note;
 use crate::lines::is_told_a4;
-use crate::notes::add_if;
+use crate::notes::add_bare;
 use asm_lines::{SourceLine, read_lines};
 use sloth_base::{Code, NoMemory};
 use std::alloc::Global;
-use text_pieces::{after, continues_word, front, lines, same};
+use text_pieces::pieces::Piece::Word;
+use text_pieces::{after, continues_word, front, lines, same, text};
 
 // ---- words
 
@@ -61,34 +62,14 @@ fn behind_word(line: &[u8]) -> &[u8]
     after(text, word_length(text))
 }
 
-fn loads_narrow(word: &[u8]) -> bool
-    ensures { result ≡ loads_narrow word.now }
-{
-    same(word, b"lb") || same(word, b"lbu") || same(word, b"lh") || same(word, b"lhu")
-}
-
-fn stores_narrow(word: &[u8]) -> bool
-    ensures { result ≡ stores_narrow word.now }
-{
-    same(word, b"sb") || same(word, b"sh")
-}
-
 fn is_narrow(word: &[u8]) -> bool
     ensures { result ≡ is_narrow word.now }
 {
-    loads_narrow(word) || stores_narrow(word)
+    (same(word, b"lb") || same(word, b"lbu") || same(word, b"lh") || same(word, b"lhu"))
+        || (same(word, b"sb") || same(word, b"sh"))
 }
 
 // ---- a line
-
-fn as_word_load(alloc: Global, line: &[u8]) -> Result<Vec<u8>, NoMemory>
-    ensures { IfOk result (λ text. text.items ≡ codes "lw" ++ behind_word line.now) }
-{
-    let mut text = Vec::new(alloc);
-    text.extend_from_slice(b"lw")?;
-    text.extend_from_slice(behind_word(line))?;
-    Ok(text)
-}
 
 fn any_told_a4(lines: &[SourceLine]) -> bool
     ensures { result ≡ list_any is_told_a4 lines.now }
@@ -99,7 +80,7 @@ fn any_told_a4(lines: &[SourceLine]) -> bool
 fn is_word_a4(alloc: Global, line: &[u8]) -> Result<bool, NoMemory>
     ensures { IfOk result (λ test. test ≡ is_word_a4 line.now) }
 {
-    let text = as_word_load(alloc, line)?;
+    let text = text!(alloc; Word(b"lw"), Word(behind_word(line)))?;
     let lines = read_lines(alloc, &text)?;
     Ok(any_told_a4(lines.items()))
 }
@@ -121,7 +102,7 @@ fn add_lines<'t>(alloc: Global, notes: &mut Vec<Note<'t>>, lines: &[&[u8]]) -> R
 {
     for (n, line) in lines.iter().enumerate() {
         let test = is_narrow_a4(alloc, *line)?;
-        add_if(notes, test, n as u32 + 1, Code::A4)?;
+        add_bare(notes, test, n as u32 + 1, Code::A4)?;
     }
     Ok(())
 }

@@ -57,7 +57,8 @@ fn add<'t>(
     first: Option<u32>,
     position: Position,
 ) -> Result<(), NoMemory>
-    ensures { OnOk result ((part : Part) → Adds part (λ r. r ≡ fault_at part line code) notes.old.items notes.new.items) }
+    ensures { OnOk result
+        ((part : Part) → Adds part (λ r. r ≡ fault_at part line code) notes.old.items notes.new.items) }
 {
     push(
         notes,
@@ -90,7 +91,7 @@ pub fn add_named<'t>(
 }
 
 /// One fault more at a position where a test says so, with the name that it concerns.
-pub fn add_at<'t>(
+pub fn add_placed<'t>(
     notes: &mut Vec<Note<'t>>,
     test: bool,
     line: u32,
@@ -131,7 +132,7 @@ pub fn add_following<'t>(
 }
 
 /// One fault more where a test says so, with no name.
-pub fn add_if<'t>(
+pub fn add_bare<'t>(
     notes: &mut Vec<Note<'t>>,
     test: bool,
     line: u32,

@@ -7,7 +7,8 @@ ghost use Rattle.oil_table.specs.Cases.{OilCase};
 ghost use Rattle.stage_faults.specs.Told.{Adds};
 ghost use Rattle.stage_faults.specs.ToldModel.{is_at_fault, is_inside, fault_behind, ToldRow, ToldAttribute};
 
-use crate::notes::{add_at, add_following, add_named};
+use crate::notes::{add_following, add_named, add_placed};
+use crate::tables::Tables;
 use crate::{Note, Position};
 use oil_parse::{OilAttr, OilValue};
 use oil_rules::attribute_faults::is_unlisted;
@@ -17,7 +18,7 @@ use sloth_base::{Code, NoMemory};
 use std::alloc::Global;
 
 /// The word that a value is; none where it is no word.
-pub fn word_of(value: &OilValue) -> &[u8] {
+pub fn value_word(value: &OilValue) -> &[u8] {
     match value {
         OilValue::Word(word) => word.bytes(),
         _ => b"",
@@ -68,7 +69,8 @@ fn add_unlisted<'t>(
     follows: bool,
     attr: &'t OilAttr,
 ) -> Result<(), NoMemory>
-    ensures { OnOk result (Adds Oil (OilCase (is_none row && not follows) attr.now.line O8) notes.old.items notes.new.items) }
+    ensures { OnOk result
+        (Adds Oil (OilCase (is_none row && not follows) attr.now.line O8) notes.old.items notes.new.items) }
 {
     let name = attr.name.bytes();
     let unlisted = is_unlisted(row);
@@ -80,8 +82,7 @@ fn add_unlisted<'t>(
 
 fn add_row_faults<'t>(
     notes: &mut Vec<Note<'t>>,
-    objects: &Front,
-    scheduler: bool,
+    tables: &Tables,
     row: Option<Attribute>,
     follows: bool,
     before: &EarlierUses,
@@ -89,38 +90,36 @@ fn add_row_faults<'t>(
     attr: &'t OilAttr,
 ) -> Result<(), NoMemory>
     requires { before.now.depth ≡ 0 }
-    ensures { OnOk result (Adds Oil (ToldRow objects.now scheduler row follows before.now.attrs attr.now) notes.old.items notes.new.items) }
+    ensures { OnOk result
+        (Adds Oil (ToldRow tables.now.objects.now tables.now.scheduler row follows before.now.attrs attr.now)
+        notes.old.items notes.new.items) }
 {
     let line = attr.line;
     let name = attr.name.bytes();
     add_unlisted(notes, row, follows, attr)?;
     let second = is_second(row, before, attr);
-    add_at(notes, second, line, Code::O9, name, position)?;
-    let missing = refers_to_none(objects, scheduler, row, &attr.value);
-    add_at(
-        notes,
-        missing,
-        line,
-        Code::O10,
-        word_of(&attr.value),
-        position,
-    )?;
+    add_placed(notes, second, line, Code::O9, name, position)?;
+    let missing = refers_to_none(tables.objects, tables.scheduler, row, &attr.value);
+    let word = value_word(&attr.value);
+    add_placed(notes, missing, line, Code::O10, word, position)?;
     let refused = is_refused(row, &attr.value);
-    add_at(notes, refused, line, Code::O12, name, position)
+    add_placed(notes, refused, line, Code::O12, name, position)
 }
 
-/// O8, O9, O10 and O12 of the attributes of an object with this position; O8 in the block of one that is at fault itself follows from that.
+/// O8, O9, O10 and O12 of the attributes of an object with this position; O8 in the block of one that is at fault
+/// itself follows from that.
 pub fn add_attributes<'t>(
     alloc: Global,
     notes: &mut Vec<Note<'t>>,
-    objects: &Front,
-    scheduler: bool,
+    tables: &Tables,
     limits: Limits,
     place: Place,
     own: Position,
     attrs: &'t [OilAttr],
 ) -> Result<(), NoMemory>
-    ensures { OnOk result (Adds Oil (Somewhere (ToldAttribute objects.now scheduler limits place) attrs.now) notes.old.items notes.new.items) }
+    ensures { OnOk result
+        (Adds Oil (Somewhere (ToldAttribute tables.now.objects.now tables.now.scheduler limits place) attrs.now)
+        notes.old.items notes.new.items) }
 {
     let mut before = EarlierUses::new(alloc, 0);
     let mut inner = Place::Nowhere;
@@ -129,10 +128,8 @@ pub fn add_attributes<'t>(
         let row = attribute_of(place_by(place, inner, attr), attr.name.bytes());
         let follows = is_inside(fault, attr);
         let position = own.behind(number + 1);
-        add_row_faults(
-            notes, objects, scheduler, row, follows, &before, position, attr,
-        )?;
-        let at_fault = is_at_fault(objects, scheduler, limits, row, attr);
+        add_row_faults(notes, tables, row, follows, &before, position, attr)?;
+        let at_fault = is_at_fault(tables.objects, tables.scheduler, limits, row, attr);
         fault = fault_behind(fault, at_fault, attr);
         inner = opened(place, inner, attr);
         before = before.with(&attrs[..=number], attr)?;

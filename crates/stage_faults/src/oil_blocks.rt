@@ -4,11 +4,11 @@ ghost use Rattle.sloth_base.specs.declared.refusal.Part.TheVariants.{Oil};
 ghost use Rattle.least_fault.specs.Search.{Somewhere};
 ghost use Rattle.oil_rules.specs.Blocks.{blocks_of};
 ghost use Rattle.oil_table.specs.AlarmCounters.{limits_of};
-ghost use Rattle.oil_rules.specs.AlarmFaults.{InsideFault, BlockFault, PartFault, AlarmFault};
+ghost use Rattle.oil_rules.specs.AlarmFaults.{InsideFault, BlockFault, AlarmFault};
 ghost use Rattle.stage_faults.specs.Told.{Adds};
 
-use crate::notes::{add_at, add_if};
-use crate::oil_attributes::word_of;
+use crate::notes::{add_bare, add_placed};
+use crate::oil_attributes::value_word;
 use crate::{Note, Position};
 use oil_parse::{OilAttr, OilObject};
 use oil_rules::alarm_faults::is_unlisted;
@@ -34,17 +34,20 @@ fn add_inner_fault<'t>(
     attr: &'t OilAttr,
 ) -> Result<(), NoMemory>
     requires { before.now.depth ≡ 1 }
-    ensures { OnOk result (Adds Oil (InsideFault block.now.objects limits place block.now.inner before.now.attrs attr.now) notes.old.items notes.new.items) }
+    ensures { OnOk result
+        (Adds Oil (InsideFault block.now.objects limits place block.now.inner before.now.attrs attr.now)
+        notes.old.items notes.new.items) }
 {
     let line = attr.line;
     let name = attr.name.bytes();
     let row = attribute_of(place, name);
     let second = is_second(row, before, attr);
-    add_at(notes, second, line, Code::O9, name, position)?;
+    add_placed(notes, second, line, Code::O9, name, position)?;
     let unlisted = is_unlisted(place, block, attr);
-    add_at(notes, unlisted, line, Code::O10, word_of(&attr.value), end)?;
+    let word = value_word(&attr.value);
+    add_placed(notes, unlisted, line, Code::O10, word, end)?;
     let beyond = is_beyond(limits, row, attr);
-    add_at(notes, beyond, line, Code::O12, name, position)
+    add_placed(notes, beyond, line, Code::O12, name, position)
 }
 
 fn add_inner_faults<'t>(
@@ -57,7 +60,9 @@ fn add_inner_faults<'t>(
     attrs: &'t [OilAttr],
 ) -> Result<(), NoMemory>
     requires { attrs.now ≡ block.now.inner }
-    ensures { OnOk result (Adds Oil (Somewhere (InsideFault block.now.objects limits place block.now.inner) block.now.inner) notes.old.items notes.new.items) }
+    ensures { OnOk result
+        (Adds Oil (Somewhere (InsideFault block.now.objects limits place block.now.inner) block.now.inner)
+        notes.old.items notes.new.items) }
 {
     let end = head.behind(attrs.len());
     let mut before = EarlierUses::new(alloc, 1);
@@ -100,7 +105,8 @@ fn add_blocks<'t>(
     own: Position,
     blocks: &[Block<'t>],
 ) -> Result<(), NoMemory>
-    ensures { OnOk result (Adds Oil (Somewhere (BlockFault tasks.now limits) blocks.now) notes.old.items notes.new.items) }
+    ensures { OnOk result
+        (Adds Oil (Somewhere (BlockFault tasks.now limits) blocks.now) notes.old.items notes.new.items) }
 {
     let mut head = own.behind(1);
     for block in blocks {
@@ -121,28 +127,14 @@ fn add_in_blocks<'t>(
     alarm: &'t OilObject,
 ) -> Result<(), NoMemory>
     requires { counters.now ≡ tasks.now }
-    ensures { OnOk result (Adds Oil (Somewhere (BlockFault tasks.now (limits_of tasks.now alarm.now.attrs)) (blocks_of alarm.now.attrs)) notes.old.items notes.new.items) }
+    ensures { OnOk result
+        (Adds Oil (Somewhere (BlockFault tasks.now (limits_of tasks.now alarm.now.attrs)) (blocks_of alarm.now.attrs))
+        notes.old.items notes.new.items) }
 {
     let attrs = alarm.attrs.items();
     let limits = counters.limits_of(attrs);
     let blocks = blocks_of(alloc, attrs)?;
     add_blocks(alloc, notes, tasks, limits, own, blocks.as_slice())
-}
-
-fn add_part<'t>(
-    alloc: Global,
-    notes: &mut Vec<Note<'t>>,
-    tasks: &TaskEvents,
-    counters: &CounterLimits,
-    own: Position,
-    alarm: &'t OilObject,
-) -> Result<(), NoMemory>
-    requires { counters.now ≡ tasks.now }
-    ensures { OnOk result (Adds Oil (PartFault tasks.now alarm.now) notes.old.items notes.new.items) }
-{
-    let lacking = lacks_part(alarm.attrs.items());
-    add_if(notes, lacking, alarm.line, Code::O11)?;
-    add_in_blocks(alloc, notes, tasks, counters, own, alarm)
 }
 
 fn add_alarm<'t>(
@@ -156,10 +148,12 @@ fn add_alarm<'t>(
     requires { counters.now ≡ tasks.now }
     ensures { OnOk result (Adds Oil (AlarmFault tasks.now [] object.now) notes.old.items notes.new.items) }
 {
-    if is_of_kind(object, b"ALARM") {
-        return add_part(alloc, notes, tasks, counters, own, object);
+    if !is_of_kind(object, b"ALARM") {
+        return Ok(());
     }
-    Ok(())
+    let lacking = lacks_part(object.attrs.items());
+    add_bare(notes, lacking, object.line, Code::O11)?;
+    add_in_blocks(alloc, notes, tasks, counters, own, object)
 }
 
 /// The faults in the blocks of the alarms among these objects.

@@ -8,13 +8,14 @@ ghost use Rattle.oil_rules.specs.ObjectFaults.{is_known, KindFault};
 ghost use Rattle.stage_faults.specs.Told.{Adds};
 ghost use Rattle.stage_faults.specs.ToldModel.{is_far_above, is_told_above, ToldKnown, ToldInner, ToldObject, ToldTree};
 
-use crate::notes::{add_at, add_if, add_named};
+use crate::notes::{add_bare, add_named, add_placed};
 use crate::oil_attributes::add_attributes;
 use crate::oil_tasks::{add_events, add_of_task};
+use crate::tables::Tables;
 use crate::{Note, Position};
 use oil_parse::{OilObject, OilTree};
 use oil_rules::{Front, is_above, is_doubled, is_strange_mode, lacks_attribute};
-use oil_table::{CounterLimits, EventTable, is_nowhere, is_of_kind, place_of};
+use oil_table::{is_nowhere, is_of_kind, place_of};
 use sloth_base::{
     ALARM_LIMIT, COUNTER_LIMIT, Code, EVENT_LIMIT, NoMemory, RESOURCE_LIMIT, TASK_LIMIT,
 };
@@ -56,55 +57,35 @@ fn add_known<'t>(
     let line = object.line;
     let name = object.name.bytes();
     let doubled = is_doubled(scheduler, front, object);
-    add_at(notes, doubled, line, Code::O9, name, own)?;
-    add_if(notes, lacks_attribute(object), line, Code::O11)?;
-    add_at(notes, is_strange_mode(object), line, Code::O12, name, own)?;
+    add_placed(notes, doubled, line, Code::O9, name, own)?;
+    add_bare(notes, lacks_attribute(object), line, Code::O11)?;
+    add_placed(notes, is_strange_mode(object), line, Code::O12, name, own)?;
     let above = is_told_above(front, object);
     add_named(notes, above, line, Code::O14, name, None)
 }
 
-fn add_inner<'t>(
+fn add_known_object<'e, 't: 'e>(
     alloc: Global,
     notes: &mut Vec<Note<'t>>,
-    table: &Front,
-    counters: &CounterLimits,
-    scheduler: bool,
-    events: &EventTable,
+    tables: &Tables<'e>,
     front: &Front,
     own: Position,
     object: &'t OilObject,
 ) -> Result<(), NoMemory>
-    requires { counters.now ≡ table.now }
-    ensures { OnOk result (Adds Oil (ToldInner table.now scheduler events.now front.now object.now) notes.old.items notes.new.items) }
+    requires { tables.now.counters.now ≡ tables.now.objects.now }
+    ensures { OnOk result (Adds Oil (λ r.
+        (is_known object.now ≡ true) × ToldInner tables.now.objects.now tables.now.scheduler tables.now.events.now front.now object.now r)
+        notes.old.items notes.new.items) }
 {
-    add_known(notes, scheduler, front, own, object)?;
-    let attrs = object.attrs.items();
-    let limits = counters.limits_of(attrs);
     let place = place_of(object.kind.bytes());
-    add_attributes(alloc, notes, table, scheduler, limits, place, own, attrs)?;
-    add_of_task(alloc, notes, events, front, object)
-}
-
-fn add_known_object<'t>(
-    alloc: Global,
-    notes: &mut Vec<Note<'t>>,
-    table: &Front,
-    counters: &CounterLimits,
-    scheduler: bool,
-    events: &EventTable,
-    front: &Front,
-    own: Position,
-    object: &'t OilObject,
-) -> Result<(), NoMemory>
-    requires { counters.now ≡ table.now }
-    ensures { OnOk result (Adds Oil (λ r. (is_known object.now ≡ true) × ToldInner table.now scheduler events.now front.now object.now r) notes.old.items notes.new.items) }
-{
-    if is_nowhere(place_of(object.kind.bytes())) {
+    if is_nowhere(place) {
         return Ok(());
     }
-    add_inner(
-        alloc, notes, table, counters, scheduler, events, front, own, object,
-    )
+    add_known(notes, tables.scheduler, front, own, object)?;
+    let attrs = object.attrs.items();
+    let limits = tables.counters.limits_of(attrs);
+    add_attributes(alloc, notes, tables, limits, place, own, attrs)?;
+    add_of_task(alloc, notes, tables.events, front, object)
 }
 
 fn add_kind<'t>(notes: &mut Vec<Note<'t>>, object: &'t OilObject) -> Result<(), NoMemory>
@@ -117,55 +98,43 @@ fn add_kind<'t>(notes: &mut Vec<Note<'t>>, object: &'t OilObject) -> Result<(), 
 
 // ---- all
 
-fn add_objects<'t>(
+fn add_objects<'e, 't: 'e>(
     alloc: Global,
     notes: &mut Vec<Note<'t>>,
     objects: &'t [OilObject],
-    table: &Front,
-    counters: &CounterLimits,
-    scheduler: bool,
-    events: &EventTable,
+    tables: &Tables<'e>,
 ) -> Result<(), NoMemory>
-    requires { counters.now ≡ table.now }
-    ensures { OnOk result (Adds Oil (Somewhere (ToldObject table.now scheduler events.now) objects.now) notes.old.items notes.new.items) }
+    requires { tables.now.counters.now ≡ tables.now.objects.now }
+    ensures { OnOk result
+        (Adds Oil (Somewhere (ToldObject tables.now.objects.now tables.now.scheduler tables.now.events.now) objects.now)
+        notes.old.items notes.new.items) }
 {
     let mut front = Front::new(alloc);
     for (number, object) in objects.iter().enumerate() {
         let own = Position::of(number);
         add_kind(notes, object)?;
-        add_known_object(
-            alloc, notes, table, counters, scheduler, events, &front, own, object,
-        )?;
+        add_known_object(alloc, notes, tables, &front, own, object)?;
         front = front.with(&objects[..=number], object)?;
     }
     Ok(())
 }
 
 /// The faults that are told of a tree's objects, but those in the blocks of alarms.
-pub fn add_tree<'t>(
+pub fn add_tree<'e, 't: 'e>(
     alloc: Global,
     notes: &mut Vec<Note<'t>>,
     tree: &'t OilTree,
-    table: &Front,
-    counters: &CounterLimits,
-    scheduler: bool,
-    events: &EventTable,
+    tables: &Tables<'e>,
 ) -> Result<(), NoMemory>
-    requires objects { table.now ≡ tree.now.objects }
-    requires counters { counters.now ≡ table.now }
-    requires scheduler { scheduler ≡ has_scheduler tree.now.objects }
-    requires events { events.now ≡ events_of tree.now.objects }
+    requires objects { tables.now.objects.now ≡ tree.now.objects }
+    requires counters { tables.now.counters.now ≡ tables.now.objects.now }
+    requires scheduler { tables.now.scheduler ≡ has_scheduler tree.now.objects }
+    requires events { tables.now.events.now ≡ events_of tree.now.objects }
     ensures { OnOk result (Adds Oil (ToldTree tree.now) notes.old.items notes.new.items) }
 {
     let objects = tree.objects.items();
     add_events(notes, objects)?;
-    add_objects(alloc, notes, objects, table, counters, scheduler, events)?;
-    add_named(
-        notes,
-        !table.has_os(),
-        tree.cpu_line,
-        Code::O11,
-        b"OS",
-        None,
-    )
+    add_objects(alloc, notes, objects, tables)?;
+    let lacking = !tables.objects.has_os();
+    add_named(notes, lacking, tree.cpu_line, Code::O11, b"OS", None)
 }

@@ -9,6 +9,7 @@ ghost use Rattle.stage_faults.specs.ToldModel.{ToldModel};
 use crate::Note;
 use crate::oil_blocks::add_alarms;
 use crate::oil_objects::add_tree;
+use crate::tables::Tables;
 use oil_parse::OilTree;
 use oil_rules::Front;
 use oil_table::{CounterLimits, EventTable, TaskEvents, events_of, has_scheduler, names_of};
@@ -16,24 +17,30 @@ use sloth_base::{EventDecl, NoMemory};
 use std::alloc::Global;
 use text_pieces::Names;
 
-fn notes_by<'t>(
+fn tabled_notes<'e, 't: 'e>(
     alloc: Global,
     tree: &'t OilTree,
-    table: &Front,
-    counters: &CounterLimits,
+    objects: &'e Front<'e>,
+    counters: &'e CounterLimits<'e>,
     tasks: &TaskEvents,
     scheduler: bool,
-    events: &EventTable,
+    events: &'e EventTable<'e>,
 ) -> Result<Vec<Note<'t>>, NoMemory>
-    requires objects { table.now ≡ tree.now.objects }
+    requires objects { objects.now ≡ tree.now.objects }
     requires counters { counters.now ≡ tree.now.objects }
     requires tasks { tasks.now ≡ tree.now.objects }
     requires scheduler { scheduler ≡ has_scheduler tree.now.objects }
     requires events { events.now ≡ events_of tree.now.objects }
     ensures { IfOk result (λ notes. AreAll Oil (ToldModel tree.now) notes.items) }
 {
+    let tables = Tables {
+        objects,
+        counters,
+        scheduler,
+        events,
+    };
     let mut notes = Vec::new(alloc);
-    add_tree(alloc, &mut notes, tree, table, counters, scheduler, events)?;
+    add_tree(alloc, &mut notes, tree, &tables)?;
     add_alarms(alloc, &mut notes, tasks, counters, tree.objects.items())?;
     Ok(notes)
 }
@@ -54,7 +61,7 @@ fn notes_with_events<'t>(
     let counters = CounterLimits::of(alloc, objects)?;
     let tasks = TaskEvents::of(alloc, objects)?;
     let scheduler = has_scheduler(objects);
-    notes_by(alloc, tree, &table, &counters, &tasks, scheduler, &events)
+    tabled_notes(alloc, tree, &table, &counters, &tasks, scheduler, &events)
 }
 
 /// The faults that are told of a tree. O11 of an object and O13 are without names.

@@ -1,4 +1,5 @@
-//! The faults of the attributes of a task that rest on other tasks and on events (O13, O15), and events without a bit (O15).
+//! The faults of the attributes of a task that rest on other tasks and on events (O13, O15), and events without a bit
+//! (O15).
 ghost use Rattle.std.specs.Prelude.{◌≡◌, codes, OnOk};
 ghost use Rattle.sloth_base.specs.declared.refusal.Part.TheVariants.{Oil};
 ghost use Rattle.least_fault.specs.Search.{Somewhere};
@@ -9,8 +10,8 @@ ghost use Rattle.oil_rules.specs.TreeFaults.{TaskFaults};
 ghost use Rattle.stage_faults.specs.Told.{Adds};
 
 use crate::Note;
-use crate::notes::{add_if, add_named};
-use crate::oil_attributes::word_of;
+use crate::notes::{add_bare, add_named};
+use crate::oil_attributes::value_word;
 use oil_parse::{OilAttr, OilObject};
 use oil_rules::{Front, References, is_given_with, repeats_priority};
 use oil_table::{EventTable, is_of_kind, lacks_bit, number_masks, taken_more};
@@ -25,13 +26,15 @@ fn add_task_faults<'t>(
     attr: &'t OilAttr,
 ) -> Result<(), NoMemory>
     requires { given ≡ is_used before.now.attrs (codes "PRIORITY") }
-    ensures { OnOk result (Adds Oil (TaskFault before.now.events front.now before.now.attrs attr.now) notes.old.items notes.new.items) }
+    ensures { OnOk result
+        (Adds Oil (TaskFault before.now.events front.now before.now.attrs attr.now) notes.old.items notes.new.items) }
 {
     let line = attr.line;
     let repeated = repeats_priority(front, given, attr);
-    add_if(notes, repeated, line, Code::O13)?;
+    add_bare(notes, repeated, line, Code::O13)?;
     let shared = before.shares_bit(attr);
-    add_named(notes, shared, line, Code::O15, word_of(&attr.value), None)
+    let word = value_word(&attr.value);
+    add_named(notes, shared, line, Code::O15, word, None)
 }
 
 fn add_of_attributes<'e, 't: 'e>(
@@ -41,7 +44,8 @@ fn add_of_attributes<'e, 't: 'e>(
     front: &Front,
     attrs: &'t [OilAttr],
 ) -> Result<(), NoMemory>
-    ensures { OnOk result (Adds Oil (Somewhere (TaskFault events.now front.now) attrs.now) notes.old.items notes.new.items) }
+    ensures { OnOk result
+        (Adds Oil (Somewhere (TaskFault events.now front.now) attrs.now) notes.old.items notes.new.items) }
 {
     let mut before = References::new(alloc, events);
     let mut given = false;

@@ -7,8 +7,8 @@ ghost use Rattle.stage_faults.specs.ToldNames.{is_symbol_beyond, ToldSymbol, Tol
 ghost use Rattle.stage_faults.specs.Told.{Adds};
 
 use crate::Note;
-use crate::earlier_lines::{line_of_first, push_if};
-use crate::notes::{add_if, add_named};
+use crate::earlier_lines::{line_of_first, push_line};
+use crate::notes::{add_bare, add_named};
 use asm_lines::SourceLine;
 use asm_parse::{bytes_of, count_data, is_taken, is_too_much};
 use asm_scopes::{is_data, name_of};
@@ -35,18 +35,15 @@ fn add_faults<'t>(
     line: &'t SourceLine,
 ) -> Result<(), NoMemory>
     requires { bytes < 2 ^ 63 }
-    ensures { OnOk result (Adds Src (ToldSymbol (take count symbols.now) count bytes number line.now) notes.old.items notes.new.items) }
+    ensures { OnOk result
+        (Adds Src (ToldSymbol (take count symbols.now) count bytes number line.now) notes.old.items notes.new.items) }
 {
     let name = name_of(line);
     let first = line_of_first(symbols, earlier, name);
     let taken = is_taken(symbols, count, line);
     add_named(notes, taken, number, Code::A5, name, first)?;
-    add_if(
-        notes,
-        is_symbol_beyond(count, bytes, line),
-        number,
-        Code::A6,
-    )
+    let beyond = is_symbol_beyond(count, bytes, line);
+    add_bare(notes, beyond, number, Code::A6)
 }
 
 /// The faults of the symbols that these lines declare.
@@ -66,7 +63,7 @@ pub fn symbol_notes<'t>(
     for (n, line) in lines.iter().enumerate() {
         let number = n as u32 + 1;
         add_faults(notes, symbols, &earlier, count, bytes, number, line)?;
-        push_if(&mut earlier, is_data(line), number)?;
+        push_line(&mut earlier, is_data(line), number)?;
         count += count_data(line);
         bytes += bytes_of(line);
     }

@@ -51,7 +51,8 @@ fn distinct<'t>(alloc: Global, notes: &[Note<'t>]) -> Result<Vec<Note<'t>>, NoMe
     Ok(list)
 }
 
-/// These faults by line, and on one line by code, one for each line and code; those that follow from others are left out. Sorts the list that is given.
+/// These faults by line, and on one line by code, one for each line and code; those that follow from others are left
+/// out. Sorts the list that is given.
 pub fn told_list<'t>(alloc: Global, notes: &mut Vec<Note<'t>>) -> Result<Vec<Note<'t>>, NoMemory>
     ensures in_order { IfOk result (λ list. AreInOrder list.items) }
     ensures same { IfOk result (λ list. TellSame notes.old.items list.items) }

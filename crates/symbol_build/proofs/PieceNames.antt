@@ -9,7 +9,7 @@ use Rattle.code_rules.specs.AppRange.{AreOperands, IsObject, IsOp}
 use Rattle.code_rules.specs.WellFormed.{WellFormed}
 use Rattle.map_text.proofs.ExactRows.{rows_exact}
 use Rattle.map_text.specs.ExactRows.{behind_symbols, exact_rows, function_bytes, row_alone, rows_of}
-use Rattle.map_text.specs.Rows.{has_basic, map_rows, own_rows, row_of, shared_rows}
+use Rattle.map_text.specs.Rows.{has_basic, map_rows, own_rows, extent_row, shared_rows}
 use Rattle.map_text.specs.declared.piece_rows.Kind.{Kind}
 use Rattle.map_text.specs.declared.piece_rows.Kind.TheVariants as kind
 use Rattle.map_text.specs.declared.piece_rows.Row.{Row}
@@ -127,12 +127,12 @@ module _ (config : Config) (range : InRange config) where
 
   -- ---- stacks
 
-  shared : (b : Bool) (m : Map) → Rises config 1700 1800 (locals (cond b (row_of kind.Shared 0 (get_or m.extents 3 no_extent) ∷ []) []))
+  shared : (b : Bool) (m : Map) → Rises config 1700 1800 (locals (cond b (extent_row kind.Shared 0 (get_or m.extents 3 no_extent) ∷ []) []))
   shared false m = omega arith
   shared true m = record { key = 1700; above = omega arith; is = local config range Kernel 6 _ (omega arith) refl; rest = omega arith }
 
   own_stack : (b : Bool) (m : Map) (t : ℕ) → t < length config.tasks
-      → Rises config (1800 + t) (1800 + suc t) (locals (cond b (row_of kind.Stack t (stack_of m t) ∷ []) []))
+      → Rises config (1800 + t) (1800 + suc t) (locals (cond b (extent_row kind.Stack t (stack_of m t) ∷ []) []))
   own_stack false m t inside = omega arith
   own_stack true m t inside =
       record { key = 1800 + t; above = omega arith; is = local config range OwnStack t _ inside refl; rest = omega arith }
@@ -141,7 +141,7 @@ module _ (config : Config) (range : InRange config) where
   unfolding own_rows
   own_stacks m zero le = omega arith
   own_stacks m (suc t) le =
-      both 1800 (1800 + t) (1800 + suc t) (own_rows config m t) (cond (is_extended config.tasks t) (row_of kind.Stack t (stack_of m t) ∷ []) [])
+      both 1800 (1800 + t) (1800 + suc t) (own_rows config m t) (cond (is_extended config.tasks t) (extent_row kind.Stack t (stack_of m t) ∷ []) [])
       (own_stacks m t (omega (arith, le))) (own_stack (is_extended config.tasks t) m t (omega (arith, le)))
 
 -- ---- all of them

@@ -8,7 +8,7 @@ use Rattle.map_text.specs.LineRows.{line_rows}
 use Rattle.symbol_image.specs.LineSection.{line_section}
 use Rattle.map_text.specs.Rows.{map_rows}
 use Rattle.map_text.specs.declared.piece_rows.Row.{Row}
-use Rattle.map_text.specs.Borders.{borders_of}
+use Rattle.map_text.specs.Borders.{image_borders}
 use Rattle.symbol_image.specs.FileParts.{FileParts}
 use Rattle.symbol_image.specs.Frames.{frame_section}
 use Rattle.symbol_image.specs.Headers.{elf_header, segment_headers}
@@ -23,7 +23,7 @@ abbrev pub rows_of : FileParts → List Row
 rows_of parts = map_rows parts.config parts.map
 
 abbrev pub parts_borders : FileParts → Borders
-parts_borders parts = borders_of parts.map (length parts.memory)
+parts_borders parts = image_borders parts.map (length parts.memory)
 
 -- ---- sections
 

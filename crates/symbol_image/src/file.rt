@@ -26,7 +26,7 @@ use crate::piece_symbols::{push_globals, push_locals};
 use crate::symbol::Symbol;
 use crate::symbol_table::{Tables, tables_of};
 use crate::word_symbols::push_words;
-use map_text::{Borders, Range, Row, borders_of, code_range};
+use map_text::{Borders, Range, Row, code_range, image_borders};
 use sloth_base::{MEMORY_BASE, NoMemory, VECTORS_BASE};
 use std::alloc::Global;
 
@@ -340,7 +340,7 @@ pub fn symbol_file(alloc: Global, parts: &Parts, rows: &[Row]) -> Result<Vec<u8>
     requires rows { rows.now ≡ rows_of parts.now }
     ensures { IfOk result (λ file. file.items ≡ symbol_file parts.now) }
 {
-    let borders = borders_of(parts.map, parts.memory.len());
+    let borders = image_borders(parts.map, parts.memory.len());
     let laid = laid_parts(alloc, parts, &borders, rows)?;
     file_of(alloc, &borders, &laid)
 }

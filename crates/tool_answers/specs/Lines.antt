@@ -39,6 +39,6 @@ tool_text (answer.NotAnImage fault) = no_image_line fault
 tool_text (answer.NotAnElf fault) = no_elf_line fault
 tool_text (answer.BadTrace fault) = bad_trace_line fault
 tool_text answer.NoHolds = codes "no holds\n"
-tool_text (answer.OpenDeadline lines) = lines
+tool_text (answer.Unmet lines) = lines
 tool_text (answer.Explained kind text) = text
 tool_text answer.NoTask = codes "usage\n"

@@ -27,7 +27,7 @@ exit_status status.NotAnImage = 8
 exit_status status.NotAnElf = 9
 exit_status status.BadTrace = 10
 exit_status status.NoHolds = 11
-exit_status status.OpenDeadline = 12
+exit_status status.Unmet = 12
 exit_status (status.Explained kind) = explained_status kind
 
 -- the status of an answer
@@ -39,6 +39,6 @@ tool_status (tool_answer.NotAnImage fault) = status.NotAnImage
 tool_status (tool_answer.NotAnElf fault) = status.NotAnElf
 tool_status (tool_answer.BadTrace fault) = status.BadTrace
 tool_status tool_answer.NoHolds = status.NoHolds
-tool_status (tool_answer.OpenDeadline lines) = status.OpenDeadline
+tool_status (tool_answer.Unmet lines) = status.Unmet
 tool_status (tool_answer.Explained kind text) = status.Explained kind
 tool_status tool_answer.NoTask = status.Usage

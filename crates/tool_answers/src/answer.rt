@@ -34,8 +34,8 @@ pub enum ToolAnswer {
     NotAnElf(ElfFault),
     BadTrace(TraceFault),
     NoHolds,
-    /// A text that says of a deadline that it is not met.
-    OpenDeadline(List<u8>),
+    /// A text that says what is not met: a deadline, or the load of a run.
+    Unmet(List<u8>),
     /// The whole text of an answer with what stands behind it.
     Explained { kind: Explanation, text: List<u8> },
     /// No task has the name that is asked for.
@@ -57,7 +57,7 @@ impl ToolAnswer {
             ToolAnswer::NotAnElf(_) => Status::NotAnElf,
             ToolAnswer::BadTrace(_) => Status::BadTrace,
             ToolAnswer::NoHolds => Status::NoHolds,
-            ToolAnswer::OpenDeadline(_) => Status::OpenDeadline,
+            ToolAnswer::Unmet(_) => Status::Unmet,
             ToolAnswer::Explained { kind, .. } => Status::Explained(*kind),
             ToolAnswer::NoTask => Status::Usage,
         }

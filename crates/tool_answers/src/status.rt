@@ -42,7 +42,7 @@ pub enum Status {
     NotAnElf,
     BadTrace,
     NoHolds,
-    OpenDeadline,
+    Unmet,
     /// Ended so, with what stands behind it.
     Explained(Explanation),
 }
@@ -67,7 +67,7 @@ impl Status {
             Status::NotAnElf => 9,
             Status::BadTrace => 10,
             Status::NoHolds => 11,
-            Status::OpenDeadline => 12,
+            Status::Unmet => 12,
             Status::Explained(kind) => kind.code(),
         }
     }

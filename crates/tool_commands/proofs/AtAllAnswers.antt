@@ -44,7 +44,7 @@ all-view img arr k (answer.Refused refusal) h = AllView.refuses refusal refl h
 all-view img arr k (answer.NotAnElf fault) h = absurd h
 all-view img arr k (answer.BadTrace fault) h = absurd h
 all-view img arr k answer.NoHolds h = absurd h
-all-view img arr k (answer.OpenDeadline text) h = absurd h
+all-view img arr k (answer.Unmet text) h = absurd h
 all-view img arr k (answer.Explained kind lines) h = absurd h
 all-view img arr k answer.NoTask h = absurd h
 

@@ -37,7 +37,7 @@ at-view img arr k (answer.Refused refusal) h = AtView.refuses refusal refl h
 at-view img arr k (answer.NotAnElf fault) h = absurd h
 at-view img arr k (answer.BadTrace fault) h = absurd h
 at-view img arr k answer.NoHolds h = absurd h
-at-view img arr k (answer.OpenDeadline lines) h = absurd h
+at-view img arr k (answer.Unmet lines) h = absurd h
 at-view img arr k (answer.Explained kind lines) h = absurd h
 at-view img arr k answer.NoTask h = absurd h
 

@@ -44,7 +44,7 @@ elf-view file (answer.Stopped pc stop) h = absurd h
 elf-view file (answer.NotAnElf fault) h = absurd h
 elf-view file (answer.BadTrace fault) h = absurd h
 elf-view file answer.NoHolds h = absurd h
-elf-view file (answer.OpenDeadline lines) h = absurd h
+elf-view file (answer.Unmet lines) h = absurd h
 elf-view file (answer.Explained kind lines) h = absurd h
 elf-view file answer.NoTask h = absurd h
 
@@ -74,7 +74,7 @@ unelf-view file (answer.Stopped pc stop) h = absurd h
 unelf-view file (answer.NotAnImage fault) h = absurd h
 unelf-view file (answer.BadTrace fault) h = absurd h
 unelf-view file answer.NoHolds h = absurd h
-unelf-view file (answer.OpenDeadline lines) h = absurd h
+unelf-view file (answer.Unmet lines) h = absurd h
 unelf-view file (answer.Explained kind lines) h = absurd h
 unelf-view file answer.NoTask h = absurd h
 

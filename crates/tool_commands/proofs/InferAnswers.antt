@@ -27,7 +27,7 @@ infer-view oil src (answer.Stopped pc stop) h = absurd h
 infer-view oil src (answer.NotAnImage fault) h = absurd h
 infer-view oil src (answer.NotAnElf fault) h = absurd h
 infer-view oil src (answer.BadTrace fault) h = absurd h
-infer-view oil src (answer.OpenDeadline lines) h = absurd h
+infer-view oil src (answer.Unmet lines) h = absurd h
 infer-view oil src answer.NoTask h = absurd h
 
 pub infer-one : (oil src : List ℕ) (a b : ToolAnswer) → IsInferAnswer oil src a → IsInferAnswer oil src b → a ≡ b

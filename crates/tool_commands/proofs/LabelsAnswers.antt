@@ -27,5 +27,5 @@ as_labels oil src r early (answer.NotAnImage fault) h = absurd h
 as_labels oil src r early (answer.NotAnElf fault) h = absurd h
 as_labels oil src r early (answer.BadTrace fault) h = absurd h
 as_labels oil src r early answer.NoHolds h = absurd h
-as_labels oil src r early (answer.OpenDeadline lines) h = absurd h
+as_labels oil src r early (answer.Unmet lines) h = absurd h
 as_labels oil src r early answer.NoTask h = absurd h

@@ -24,7 +24,7 @@ module _ (oil src : List ℕ) where
   view (answer.NotAnElf fault) h = absurd h
   view (answer.BadTrace fault) h = absurd h
   view answer.NoHolds h = absurd h
-  view (answer.OpenDeadline lines) h = absurd h
+  view (answer.Unmet lines) h = absurd h
   view (answer.Explained kind lines) h = absurd h
   view answer.NoTask h = absurd h
 

@@ -33,13 +33,13 @@ module _ (oil src load : List ℕ) where
 
   pub one_response_answer : (one other : ToolAnswer) → Is one → Is other → one ≡ other
   one_response_answer (answer.Done o) (answer.Done p) a b = ap answer.Done (same-outcome o p (a.1 ∙ sym b.1) (same_text o.text p.text false a.0 b.0))
-  one_response_answer (answer.Done o) (answer.OpenDeadline l) a b = absurd (never_open o.text l a.0 b)
+  one_response_answer (answer.Done o) (answer.Unmet l) a b = absurd (never_open o.text l a.0 b)
   one_response_answer (answer.Done o) (answer.Refused s) a b = absurd (not_both (record { text = o.text; is_open = false }) s a.0 b)
-  one_response_answer (answer.OpenDeadline l) (answer.Done p) a b = absurd (never_open p.text l b.0 a)
-  one_response_answer (answer.OpenDeadline l) (answer.OpenDeadline m) a b = ap answer.OpenDeadline (same_text l m true a b)
-  one_response_answer (answer.OpenDeadline l) (answer.Refused s) a b = absurd (not_both (record { text = l; is_open = true }) s a b)
+  one_response_answer (answer.Unmet l) (answer.Done p) a b = absurd (never_open p.text l b.0 a)
+  one_response_answer (answer.Unmet l) (answer.Unmet m) a b = ap answer.Unmet (same_text l m true a b)
+  one_response_answer (answer.Unmet l) (answer.Refused s) a b = absurd (not_both (record { text = l; is_open = true }) s a b)
   one_response_answer (answer.Refused r) (answer.Done p) a b = absurd (not_both (record { text = p.text; is_open = false }) r b.0 a)
-  one_response_answer (answer.Refused r) (answer.OpenDeadline m) a b = absurd (not_both (record { text = m; is_open = true }) r b a)
+  one_response_answer (answer.Refused r) (answer.Unmet m) a b = absurd (not_both (record { text = m; is_open = true }) r b a)
   one_response_answer (answer.Refused r) (answer.Refused s) a b = ap answer.Refused (one_way oil src load r s a b)
   one_response_answer (answer.Stopped pc stop) other a b = absurd a
   one_response_answer (answer.NotAnImage fault) other a b = absurd a
@@ -55,13 +55,13 @@ module _ (oil src load : List ℕ) where
   one_response_answer (answer.Done o) answer.NoHolds a b = absurd b
   one_response_answer (answer.Done o) (answer.Explained kind lines) a b = absurd b
   one_response_answer (answer.Done o) answer.NoTask a b = absurd b
-  one_response_answer (answer.OpenDeadline l) (answer.Stopped pc stop) a b = absurd b
-  one_response_answer (answer.OpenDeadline l) (answer.NotAnImage fault) a b = absurd b
-  one_response_answer (answer.OpenDeadline l) (answer.NotAnElf fault) a b = absurd b
-  one_response_answer (answer.OpenDeadline l) (answer.BadTrace fault) a b = absurd b
-  one_response_answer (answer.OpenDeadline l) answer.NoHolds a b = absurd b
-  one_response_answer (answer.OpenDeadline l) (answer.Explained kind lines) a b = absurd b
-  one_response_answer (answer.OpenDeadline l) answer.NoTask a b = absurd b
+  one_response_answer (answer.Unmet l) (answer.Stopped pc stop) a b = absurd b
+  one_response_answer (answer.Unmet l) (answer.NotAnImage fault) a b = absurd b
+  one_response_answer (answer.Unmet l) (answer.NotAnElf fault) a b = absurd b
+  one_response_answer (answer.Unmet l) (answer.BadTrace fault) a b = absurd b
+  one_response_answer (answer.Unmet l) answer.NoHolds a b = absurd b
+  one_response_answer (answer.Unmet l) (answer.Explained kind lines) a b = absurd b
+  one_response_answer (answer.Unmet l) answer.NoTask a b = absurd b
   one_response_answer (answer.Refused r) (answer.Stopped pc stop) a b = absurd b
   one_response_answer (answer.Refused r) (answer.NotAnImage fault) a b = absurd b
   one_response_answer (answer.Refused r) (answer.NotAnElf fault) a b = absurd b

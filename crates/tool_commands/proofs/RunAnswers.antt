@@ -86,7 +86,7 @@ module _ (Shows : Image → List Arrival → List ℕ → Type 0) (img arr : Lis
   run-view (answer.NotAnElf fault) h = absurd h
   run-view (answer.BadTrace fault) h = absurd h
   run-view answer.NoHolds h = absurd h
-  run-view (answer.OpenDeadline lines) h = absurd h
+  run-view (answer.Unmet lines) h = absurd h
   run-view (answer.Explained kind lines) h = absurd h
   run-view answer.NoTask h = absurd h
 

@@ -24,7 +24,7 @@ module _ (oil src : List ℕ) (Says : List ℕ → Type 0) (text : IsOneMeaning 
   one_source (answer.Done o) (answer.NotAnElf fault) a b = absurd b
   one_source (answer.Done o) (answer.BadTrace fault) a b = absurd b
   one_source (answer.Done o) answer.NoHolds a b = absurd b
-  one_source (answer.Done o) (answer.OpenDeadline lines) a b = absurd b
+  one_source (answer.Done o) (answer.Unmet lines) a b = absurd b
   one_source (answer.Done o) (answer.Explained kind lines) a b = absurd b
   one_source (answer.Done o) answer.NoTask a b = absurd b
   one_source (answer.Refused r) (answer.Stopped pc stop) a b = absurd b
@@ -32,7 +32,7 @@ module _ (oil src : List ℕ) (Says : List ℕ → Type 0) (text : IsOneMeaning 
   one_source (answer.Refused r) (answer.NotAnElf fault) a b = absurd b
   one_source (answer.Refused r) (answer.BadTrace fault) a b = absurd b
   one_source (answer.Refused r) answer.NoHolds a b = absurd b
-  one_source (answer.Refused r) (answer.OpenDeadline lines) a b = absurd b
+  one_source (answer.Refused r) (answer.Unmet lines) a b = absurd b
   one_source (answer.Refused r) (answer.Explained kind lines) a b = absurd b
   one_source (answer.Refused r) answer.NoTask a b = absurd b
   one_source (answer.Stopped pc stop) other a b = absurd a
@@ -40,6 +40,6 @@ module _ (oil src : List ℕ) (Says : List ℕ → Type 0) (text : IsOneMeaning 
   one_source (answer.NotAnElf fault) other a b = absurd a
   one_source (answer.BadTrace fault) other a b = absurd a
   one_source answer.NoHolds other a b = absurd a
-  one_source (answer.OpenDeadline lines) other a b = absurd a
+  one_source (answer.Unmet lines) other a b = absurd a
   one_source (answer.Explained kind lines) other a b = absurd a
   one_source answer.NoTask other a b = absurd a

@@ -54,6 +54,6 @@ IsAtAllAnswer img arr k (answer.Refused refusal) = IsRunRefused img arr refusal
 IsAtAllAnswer img arr k (answer.NotAnElf fault) = ⊥
 IsAtAllAnswer img arr k (answer.BadTrace fault) = ⊥
 IsAtAllAnswer img arr k answer.NoHolds = ⊥
-IsAtAllAnswer img arr k (answer.OpenDeadline text) = ⊥
+IsAtAllAnswer img arr k (answer.Unmet text) = ⊥
 IsAtAllAnswer img arr k (answer.Explained kind lines) = ⊥
 IsAtAllAnswer img arr k answer.NoTask = ⊥

@@ -41,6 +41,6 @@ IsAtAnswer img arr k (answer.Refused refusal) = IsRunRefused img arr refusal
 IsAtAnswer img arr k (answer.NotAnElf fault) = ⊥
 IsAtAnswer img arr k (answer.BadTrace fault) = ⊥
 IsAtAnswer img arr k answer.NoHolds = ⊥
-IsAtAnswer img arr k (answer.OpenDeadline lines) = ⊥
+IsAtAnswer img arr k (answer.Unmet lines) = ⊥
 IsAtAnswer img arr k (answer.Explained kind lines) = ⊥
 IsAtAnswer img arr k answer.NoTask = ⊥

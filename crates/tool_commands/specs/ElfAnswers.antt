@@ -22,7 +22,7 @@ IsElfAnswer file (answer.Stopped pc stop) = ⊥
 IsElfAnswer file (answer.NotAnElf fault) = ⊥
 IsElfAnswer file (answer.BadTrace fault) = ⊥
 IsElfAnswer file answer.NoHolds = ⊥
-IsElfAnswer file (answer.OpenDeadline lines) = ⊥
+IsElfAnswer file (answer.Unmet lines) = ⊥
 IsElfAnswer file (answer.Explained kind lines) = ⊥
 IsElfAnswer file answer.NoTask = ⊥
 
@@ -35,6 +35,6 @@ IsUnelfAnswer file (answer.Stopped pc stop) = ⊥
 IsUnelfAnswer file (answer.NotAnImage fault) = ⊥
 IsUnelfAnswer file (answer.BadTrace fault) = ⊥
 IsUnelfAnswer file answer.NoHolds = ⊥
-IsUnelfAnswer file (answer.OpenDeadline lines) = ⊥
+IsUnelfAnswer file (answer.Unmet lines) = ⊥
 IsUnelfAnswer file (answer.Explained kind lines) = ⊥
 IsUnelfAnswer file answer.NoTask = ⊥

@@ -16,5 +16,5 @@ IsInferAnswer oil src (answer.Stopped pc stop) = ⊥
 IsInferAnswer oil src (answer.NotAnImage fault) = ⊥
 IsInferAnswer oil src (answer.NotAnElf fault) = ⊥
 IsInferAnswer oil src (answer.BadTrace fault) = ⊥
-IsInferAnswer oil src (answer.OpenDeadline lines) = ⊥
+IsInferAnswer oil src (answer.Unmet lines) = ⊥
 IsInferAnswer oil src answer.NoTask = ⊥

@@ -30,5 +30,5 @@ IsLabelsAnswer oil src (answer.NotAnImage fault) = ⊥
 IsLabelsAnswer oil src (answer.NotAnElf fault) = ⊥
 IsLabelsAnswer oil src (answer.BadTrace fault) = ⊥
 IsLabelsAnswer oil src answer.NoHolds = ⊥
-IsLabelsAnswer oil src (answer.OpenDeadline lines) = ⊥
+IsLabelsAnswer oil src (answer.Unmet lines) = ⊥
 IsLabelsAnswer oil src answer.NoTask = ⊥

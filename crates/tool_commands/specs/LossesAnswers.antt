@@ -14,6 +14,6 @@ IsLossesAnswer oil src arr n (answer.NotAnImage fault) = ⊥
 IsLossesAnswer oil src arr n (answer.NotAnElf fault) = ⊥
 IsLossesAnswer oil src arr n (answer.BadTrace fault) = ⊥
 IsLossesAnswer oil src arr n answer.NoHolds = ⊥
-IsLossesAnswer oil src arr n (answer.OpenDeadline lines) = ⊥
+IsLossesAnswer oil src arr n (answer.Unmet lines) = ⊥
 IsLossesAnswer oil src arr n (answer.Explained kind lines) = ⊥
 IsLossesAnswer oil src arr n answer.NoTask = ⊥

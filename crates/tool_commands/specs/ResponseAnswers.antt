@@ -14,7 +14,7 @@ use Rattle.tool_answers.specs.declared.answer.ToolAnswer.TheVariants as answer
 abbrev pub IsResponseAnswer : (oil src load : List ℕ) → ToolAnswer → Type 0
 IsResponseAnswer oil src load (answer.Done outcome) =
     IsResponseText oil src load (record { text = outcome.text; is_open = false }) × (outcome.file ≡ [])
-IsResponseAnswer oil src load (answer.OpenDeadline lines) = IsResponseText oil src load (record { text = lines; is_open = true })
+IsResponseAnswer oil src load (answer.Unmet lines) = IsResponseText oil src load (record { text = lines; is_open = true })
 IsResponseAnswer oil src load (answer.Refused refusal) = IsRefusal oil src load refusal
 IsResponseAnswer oil src load (answer.Stopped pc stop) = ⊥
 IsResponseAnswer oil src load (answer.NotAnImage fault) = ⊥
@@ -28,7 +28,7 @@ IsResponseAnswer oil src load answer.NoTask = ⊥
 abbrev pub IsTaskResponseAnswer : (oil src load name : List ℕ) → ToolAnswer → Type 0
 IsTaskResponseAnswer oil src load name (answer.Done outcome) =
     IsTaskText oil src load name (Some (record { text = outcome.text; is_open = false })) × (outcome.file ≡ [])
-IsTaskResponseAnswer oil src load name (answer.OpenDeadline lines) = IsTaskText oil src load name (Some (record { text = lines; is_open = true }))
+IsTaskResponseAnswer oil src load name (answer.Unmet lines) = IsTaskText oil src load name (Some (record { text = lines; is_open = true }))
 IsTaskResponseAnswer oil src load name (answer.Refused refusal) = IsRefusal oil src load refusal
 IsTaskResponseAnswer oil src load name answer.NoTask = IsTaskText oil src load name None
 IsTaskResponseAnswer oil src load name (answer.Stopped pc stop) = ⊥
@@ -40,13 +40,13 @@ IsTaskResponseAnswer oil src load name (answer.Explained kind lines) = ⊥
 
 -- the answer that says what is told
 abbrev pub response_answer : Told → ToolAnswer
-response_answer told = cond told.is_open (answer.OpenDeadline told.text) (answer.Done (record { file = []; text = told.text }))
+response_answer told = cond told.is_open (answer.Unmet told.text) (answer.Done (record { file = []; text = told.text }))
 
 -- `response` of a run: its lines, where it keeps the load; those of one that does not; or the first refusal of the four texts
 abbrev pub IsRunResponseAnswer : (oil src load arr : List ℕ) → ℕ → ToolAnswer → Type 0
 IsRunResponseAnswer oil src load arr n (answer.Done outcome) =
     IsRunText oil src load arr n (record { text = outcome.text; keeps = true }) × (outcome.file ≡ [])
-IsRunResponseAnswer oil src load arr n (answer.OpenDeadline lines) = IsRunText oil src load arr n (record { text = lines; keeps = false })
+IsRunResponseAnswer oil src load arr n (answer.Unmet lines) = IsRunText oil src load arr n (record { text = lines; keeps = false })
 IsRunResponseAnswer oil src load arr n (answer.Refused refusal) = run.IsRefusal oil src load arr refusal
 IsRunResponseAnswer oil src load arr n (answer.Stopped pc stop) = ⊥
 IsRunResponseAnswer oil src load arr n (answer.NotAnImage fault) = ⊥
@@ -58,4 +58,4 @@ IsRunResponseAnswer oil src load arr n answer.NoTask = ⊥
 
 -- what is told of a run, as an answer
 abbrev pub run_answer : ToldRun → ToolAnswer
-run_answer told = cond told.keeps (answer.Done (record { file = []; text = told.text })) (answer.OpenDeadline told.text)
+run_answer told = cond told.keeps (answer.Done (record { file = []; text = told.text })) (answer.Unmet told.text)

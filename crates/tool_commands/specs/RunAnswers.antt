@@ -36,6 +36,6 @@ IsRunAnswer Shows img arr n (answer.Refused refusal) = IsRunRefused img arr refu
 IsRunAnswer Shows img arr n (answer.NotAnElf fault) = ⊥
 IsRunAnswer Shows img arr n (answer.BadTrace fault) = ⊥
 IsRunAnswer Shows img arr n answer.NoHolds = ⊥
-IsRunAnswer Shows img arr n (answer.OpenDeadline lines) = ⊥
+IsRunAnswer Shows img arr n (answer.Unmet lines) = ⊥
 IsRunAnswer Shows img arr n (answer.Explained kind lines) = ⊥
 IsRunAnswer Shows img arr n answer.NoTask = ⊥

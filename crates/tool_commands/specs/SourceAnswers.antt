@@ -15,7 +15,7 @@ IsSourceAnswer Says oil src (answer.NotAnImage fault) = ⊥
 IsSourceAnswer Says oil src (answer.NotAnElf fault) = ⊥
 IsSourceAnswer Says oil src (answer.BadTrace fault) = ⊥
 IsSourceAnswer Says oil src answer.NoHolds = ⊥
-IsSourceAnswer Says oil src (answer.OpenDeadline lines) = ⊥
+IsSourceAnswer Says oil src (answer.Unmet lines) = ⊥
 IsSourceAnswer Says oil src (answer.Explained kind lines) = ⊥
 IsSourceAnswer Says oil src answer.NoTask = ⊥
 
@@ -28,6 +28,6 @@ IsFileAnswer Says oil src (answer.NotAnImage fault) = ⊥
 IsFileAnswer Says oil src (answer.NotAnElf fault) = ⊥
 IsFileAnswer Says oil src (answer.BadTrace fault) = ⊥
 IsFileAnswer Says oil src answer.NoHolds = ⊥
-IsFileAnswer Says oil src (answer.OpenDeadline lines) = ⊥
+IsFileAnswer Says oil src (answer.Unmet lines) = ⊥
 IsFileAnswer Says oil src (answer.Explained kind lines) = ⊥
 IsFileAnswer Says oil src answer.NoTask = ⊥

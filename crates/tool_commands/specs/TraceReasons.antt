@@ -19,5 +19,5 @@ IsTraceReasonAnswer oil src arr text n (answer.NotAnImage fault) = ⊥
 IsTraceReasonAnswer oil src arr text n (answer.NotAnElf fault) = ⊥
 IsTraceReasonAnswer oil src arr text n (answer.BadTrace fault) = ⊥
 IsTraceReasonAnswer oil src arr text n answer.NoHolds = ⊥
-IsTraceReasonAnswer oil src arr text n (answer.OpenDeadline lines) = ⊥
+IsTraceReasonAnswer oil src arr text n (answer.Unmet lines) = ⊥
 IsTraceReasonAnswer oil src arr text n answer.NoTask = ⊥

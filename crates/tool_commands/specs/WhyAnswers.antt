@@ -27,7 +27,7 @@ IsWhyAnswer oil src (answer.NotAnImage fault) = ⊥
 IsWhyAnswer oil src (answer.NotAnElf fault) = ⊥
 IsWhyAnswer oil src (answer.BadTrace fault) = ⊥
 IsWhyAnswer oil src answer.NoHolds = ⊥
-IsWhyAnswer oil src (answer.OpenDeadline lines) = ⊥
+IsWhyAnswer oil src (answer.Unmet lines) = ⊥
 IsWhyAnswer oil src answer.NoTask = ⊥
 
 -- `why` of one task: its bound, and of what that is made; the first refusal; or no task has the name
@@ -40,5 +40,5 @@ IsTaskBoundAnswer oil src name (answer.NotAnImage fault) = ⊥
 IsTaskBoundAnswer oil src name (answer.NotAnElf fault) = ⊥
 IsTaskBoundAnswer oil src name (answer.BadTrace fault) = ⊥
 IsTaskBoundAnswer oil src name answer.NoHolds = ⊥
-IsTaskBoundAnswer oil src name (answer.OpenDeadline lines) = ⊥
+IsTaskBoundAnswer oil src name (answer.Unmet lines) = ⊥
 IsTaskBoundAnswer oil src name (answer.Explained kind lines) = ⊥

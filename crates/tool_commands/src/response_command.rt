@@ -16,7 +16,7 @@ fn answer_of(alloc: Global, told: Told) -> ToolAnswer
 {
     let Told { text, is_open } = told;
     if is_open {
-        return ToolAnswer::OpenDeadline(text);
+        return ToolAnswer::Unmet(text);
     }
     ToolAnswer::Done(Outcome {
         file: List::from_vec(Vec::new(alloc)),
@@ -67,7 +67,7 @@ fn run_answer(alloc: Global, told: ToldRun) -> ToolAnswer
 {
     let ToldRun { text, keeps } = told;
     if !keeps {
-        return ToolAnswer::OpenDeadline(text);
+        return ToolAnswer::Unmet(text);
     }
     ToolAnswer::Done(Outcome {
         file: List::from_vec(Vec::new(alloc)),

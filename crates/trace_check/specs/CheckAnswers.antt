@@ -25,6 +25,6 @@ IsCheckAnswer oil src arr text n (answer.Stopped pc stop) = ⊥
 IsCheckAnswer oil src arr text n (answer.NotAnImage fault) = ⊥
 IsCheckAnswer oil src arr text n (answer.NotAnElf fault) = ⊥
 IsCheckAnswer oil src arr text n answer.NoHolds = ⊥
-IsCheckAnswer oil src arr text n (answer.OpenDeadline lines) = ⊥
+IsCheckAnswer oil src arr text n (answer.Unmet lines) = ⊥
 IsCheckAnswer oil src arr text n (answer.Explained kind lines) = ⊥
 IsCheckAnswer oil src arr text n answer.NoTask = ⊥

@@ -1,32 +1,32 @@
 mod Unseen
 mod Diving
 mod Lengths
-mod Ordering
+pub mod Ordering
 mod Ordered
 mod Spreading
 mod Settling
 mod Ranking
 mod CallOrdering
-mod Leading
+pub mod Leading
 pub mod Reached
 pub mod Bodily
 pub mod Counting
 mod Looping
 mod Ranked
 mod Shaped
-mod Stopping
+pub mod Stopping
 pub mod LevelsAt
 pub mod Callers
 mod KnownRaised
 mod Beginning
-mod Measured
+pub mod Measured
 mod Covering
 mod Endless
 mod Limited
 mod Summed
 mod Small
 mod Filling
-mod Mapping
+pub mod Mapping
 mod OrderSummaries
 mod Summaries
 mod Climbing

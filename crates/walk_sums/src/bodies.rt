@@ -19,7 +19,7 @@ use std::alloc::Global;
 use text_pieces::push;
 
 /// A function by its number.
-pub fn function_at(app: &App, number: usize) -> &Func
+pub fn numbered_function(app: &App, number: usize) -> &Func
     requires { number < length app.now.funcs }
     ensures { result.now ≡ function app.now number }
 {
@@ -89,7 +89,7 @@ fn is_return(op: Op) -> bool
 }
 
 /// Whether one of the marked items is a `ret`.
-fn returns_of(func: &Func, reached: &[bool]) -> bool
+fn has_return(func: &Func, reached: &[bool]) -> bool
     ensures { result ≡ returns_of func.now reached.now }
 {
     let mut returns = false;
@@ -108,13 +108,14 @@ fn returning(
 ) -> Result<Vec<bool>, NoMemory>
     requires well_formed { WellFormed config.now app.now }
     requires order { IsCallOrder app.now order.now }
-    ensures { IfOk result (λ returns. (g : ℕ) → g < length app.now.funcs → Decides (get_or returns.items g false) (CanReturn app.now g)) }
+    ensures { IfOk result (λ returns. (g : ℕ) → g < length app.now.funcs
+        → Decides (get_or returns.items g false) (CanReturn app.now g)) }
 {
     let mut returns = crate::graph::no_marks(alloc, app.funcs.items().len())?;
     for number in order {
-        let func = function_at(app, *number);
+        let func = numbered_function(app, *number);
         let reached = reached_items(alloc, config, app, &returns, *number, func)?;
-        returns[*number] = returns_of(func, &reached);
+        returns[*number] = has_return(func, &reached);
     }
     Ok(returns)
 }
@@ -134,7 +135,7 @@ fn known_body(
     requires known { number < length app.now.funcs }
     ensures { IfOk result (IsKnownBody config.now app.now number) }
 {
-    let func = function_at(app, number);
+    let func = numbered_function(app, number);
     let reached = reached_items(alloc, config, app, returns, number, func)?;
     let ceilings = ceilings_before(alloc, config, table, func)?;
     Ok(Body {

@@ -25,7 +25,7 @@ pub fn ceilings(alloc: Global, config: &Config) -> Result<Vec<u32>, NoMemory>
 }
 
 /// The ceiling of a resource by the table, where it has it.
-fn ceiling_by(config: &Config, table: &[u32], resource: u32) -> u32
+fn table_ceiling(config: &Config, table: &[u32], resource: u32) -> u32
     requires { AreResourceCeilings config.now table.now }
     ensures { result ≡ ceiling config.now resource }
 {
@@ -42,13 +42,13 @@ pub fn greatest_ceiling(config: &Config, table: &[u32], held: &[u32]) -> u32
 {
     let mut top = 0;
     for resource in held {
-        top = ceiling_by(config, table, *resource).max(top);
+        top = table_ceiling(config, table, *resource).max(top);
     }
     top
 }
 
 /// The same before each item, by the last label at each place.
-fn ceilings_at(
+fn item_ceilings(
     alloc: Global,
     config: &Config,
     table: &[u32],
@@ -57,7 +57,8 @@ fn ceilings_at(
 ) -> Result<Vec<u32>, NoMemory>
     requires table { AreResourceCeilings config.now table.now }
     requires count { length last.now ≡ length func.now.items + 1 }
-    requires lasts { (place : ℕ) → place ≤ length func.now.items → get_or last.now place None ≡ last_label_below func.now.labels place (length func.now.labels) }
+    requires lasts { (place : ℕ) → place ≤ length func.now.items
+        → get_or last.now place None ≡ last_label_below func.now.labels place (length func.now.labels) }
     ensures count { IfOk result (λ ceilings. length ceilings.items ≡ length func.now.items) }
     ensures exact { IfOk result (λ ceilings. (i : ℕ) → i < length func.now.items
         → get_or ceilings.items i 0 ≡ greatest (map (ceiling config.now) (held_list_at func.now i))) }
@@ -86,6 +87,6 @@ pub fn ceilings_before(
         → get_or ceilings.items i 0 ≡ greatest (map (ceiling config.now) (held_list_at func.now i))) }
 {
     let last = last_labels(alloc, func)?;
-    let ceilings = ceilings_at(alloc, config, table, func, &last)?;
+    let ceilings = item_ceilings(alloc, config, table, func, &last)?;
     Ok(ceilings)
 }

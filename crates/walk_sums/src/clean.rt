@@ -1,9 +1,6 @@
 //! Which tasks clear what they wait for (OSEK OS 2.2.3, sections 13.5.3.2 and 13.5.3.4).
 ghost use Rattle.std.specs.Prelude.{◌≡◌, ◌<◌, ◌+◌, ◌^◌, ◌&&◌, ℕ, None, true, false, get_or, length, Decides, IfOk};
-ghost use Rattle.code_rules.specs.WellFormed.{WellFormed};
 ghost use Rattle.call_graph.specs.Tables.{HasTaskBody};
-ghost use Rattle.walk_sums.specs.CallOrder.{IsCallOrder};
-ghost use Rattle.walk_sums.specs.KnownBodies.{AreKnownBodies};
 ghost use Rattle.walk_sums.specs.declared.kinds.Kind.TheVariants as kinds;
 ghost use Rattle.walk_sums.specs.declared.counted.Counted.TheVariants as counts;
 ghost use Rattle.walk_sums.specs.Rounds.{IsClean};
@@ -11,9 +8,9 @@ ghost use Rattle.walk_sums.specs.Counted.{counted_weights};
 ghost use Rattle.walk_sums.specs.Known.{AreSums};
 ghost use Rattle.walk_sums.specs.Clears.{clears_it, AreClearing, AreAlsoClearing};
 
-use crate::tasks::summary_at;
+use crate::tasks::body_summary;
 use crate::{Counted, Kind, Walks, counted_weights};
-use bound_rules::{Body, Summary, is_marked};
+use bound_rules::{Summary, is_marked};
 use sloth_base::{App, Config, NoMemory};
 use std::alloc::Global;
 use text_pieces::push;
@@ -24,10 +21,10 @@ fn clears_it(app: &App, table: &[Summary], task: usize) -> bool
     requires count { length table.now ≡ length app.now.funcs }
     ensures { result ≡ clears_it app.now.funcs table.now task }
 {
-    summary_at(app, table, task).most <= 1
+    body_summary(app, table, task).most <= 1
 }
 
-fn mask_of(bit: u32) -> u32
+fn bit_mask(bit: u32) -> u32
     requires { bit < 32 }
     ensures { result ≡ 2 ^ bit }
 {
@@ -91,7 +88,7 @@ impl Walks<'_> {
         requires marks { AreClearing self.now.app (length self.now.config.tasks) bit marks.now }
         ensures { IfOk result (λ both. AreClearing self.now.app (length self.now.config.tasks) (bit + 1) both.items) }
     {
-        let table = self.uncleared(mask_of(bit))?;
+        let table = self.uncleared(bit_mask(bit))?;
         also_clear(self.alloc(), self.config(), self.app(), &table, marks)
     }
 
@@ -108,22 +105,4 @@ impl Walks<'_> {
         }
         Ok(clean)
     }
-}
-
-/// The same, of these parts.
-pub fn clean_tasks(
-    alloc: Global,
-    config: &Config,
-    app: &App,
-    bodies: &[Body],
-    order: &[usize],
-) -> Result<Vec<bool>, NoMemory>
-    requires well_formed { WellFormed config.now app.now }
-    requires bodies { AreKnownBodies config.now app.now bodies.now }
-    requires order { IsCallOrder app.now order.now }
-    ensures count { IfOk result (λ clean. length clean.items ≡ length config.now.tasks) }
-    ensures exact { IfOk result (λ clean. (t : ℕ) → t < length config.now.tasks
-        → Decides (get_or clean.items t false) (IsClean app.now t)) }
-{
-    Walks::new(alloc, config, app, order, bodies).clean_tasks()
 }

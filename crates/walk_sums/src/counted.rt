@@ -1,7 +1,8 @@
 //! Weights by which walks are counted for what they do: each item that does it weighs 1, all others 0.
 ghost use Rattle.std.specs.Prelude.{◌≡◌, ◌||◌, map, IfOk};
 ghost use Rattle.walk_sums.specs.Weights.{AreWeights};
-ghost use Rattle.walk_sums.specs.Counted.{one_if, calls, calls_for, awaits, is_going_counted, is_ending_counted, body_counts, counted_weights};
+ghost use Rattle.walk_sums.specs.Counted.{one_if, calls, calls_for, awaits, is_going_counted, is_ending_counted};
+ghost use Rattle.walk_sums.specs.Counted.{body_counts, counted_weights};
 ghost use Rattle.sloth_base.specs.declared.service.Service.TheVariants as service;
 
 use bound_rules::{BodyWeights, is_schedule};
@@ -39,7 +40,7 @@ fn calls(wanted: Service, op: Op) -> bool
 }
 
 /// Whether it is one for a task, or another object of this number.
-fn calls_for(task: u32, wanted: Service, op: Op) -> bool
+pub fn calls_object(task: u32, wanted: Service, op: Op) -> bool
     ensures { result ≡ calls_for task wanted op }
 {
     match op {
@@ -78,8 +79,8 @@ fn is_going_counted(counted: Counted, op: Op) -> bool
     ensures { result ≡ is_going_counted counted op }
 {
     match counted {
-        Counted::Activations(task) => calls_for(task, Service::ActivateTask, op),
-        Counted::Settings(task) => calls_for(task, Service::SetEvent, op),
+        Counted::Activations(task) => calls_object(task, Service::ActivateTask, op),
+        Counted::Settings(task) => calls_object(task, Service::SetEvent, op),
         Counted::Chains(_)
         | Counted::Waits(_)
         | Counted::Schedules
@@ -89,21 +90,21 @@ fn is_going_counted(counted: Counted, op: Op) -> bool
 }
 
 /// Whether it counts where the walk ends with it.
-fn is_ending_counted(counted: Counted, op: Op) -> bool
+pub fn is_ending_counted(counted: Counted, op: Op) -> bool
     ensures { result ≡ is_ending_counted counted op }
 {
     match counted {
         Counted::Activations(task) => activates_or_chains(task, op),
-        Counted::Chains(task) => calls_for(task, Service::ChainTask, op),
-        Counted::Settings(task) => calls_for(task, Service::SetEvent, op),
+        Counted::Chains(task) => calls_object(task, Service::ChainTask, op),
+        Counted::Settings(task) => calls_object(task, Service::SetEvent, op),
         Counted::Waits(events) => awaits(events, op),
         Counted::Schedules => is_schedule(op),
         Counted::Calls(wanted) => calls(wanted, op),
-        Counted::CallsFor(wanted, object) => calls_for(object, wanted, op),
+        Counted::CallsFor(wanted, object) => calls_object(object, wanted, op),
     }
 }
 
-fn number_of(is: bool) -> u32
+fn counted_weight(is: bool) -> u32
     ensures { result ≡ one_if is }
 {
     u32::from(is)
@@ -114,17 +115,24 @@ fn going(alloc: Global, counted: Counted, items: &[Item]) -> Result<Vec<u32>, No
 {
     let mut counts = Vec::new(alloc);
     for item in items {
-        push(&mut counts, number_of(is_going_counted(counted, item.op)))?;
+        push(
+            &mut counts,
+            counted_weight(is_going_counted(counted, item.op)),
+        )?;
     }
     Ok(counts)
 }
 
 fn ending(alloc: Global, counted: Counted, items: &[Item]) -> Result<Vec<u32>, NoMemory>
-    ensures { IfOk result (λ counts. counts.items ≡ map (λ item. one_if (is_ending_counted counted item.op)) items.now) }
+    ensures { IfOk result (λ counts.
+        counts.items ≡ map (λ item. one_if (is_ending_counted counted item.op)) items.now) }
 {
     let mut counts = Vec::new(alloc);
     for item in items {
-        push(&mut counts, number_of(is_ending_counted(counted, item.op)))?;
+        push(
+            &mut counts,
+            counted_weight(is_ending_counted(counted, item.op)),
+        )?;
     }
     Ok(counts)
 }

@@ -1,6 +1,7 @@
 //! Nodes with two ways on at most: an order in which every node stands behind those that it leads to, or a loop.
 ghost use Rattle.std.specs.Prelude.{◌≡◌, ℕ, ◌<◌, [], ◌∷◌, ◌++◌, length, get_or, set, true, false, IfOk, OnOk};
-ghost use Rattle.walk_sums.specs.Graph.{unseen_way, unseen_of, is_open, leads_to_open, AreInside, IsSearching, IsSearchEnd, IsSearched, IsFound};
+ghost use Rattle.walk_sums.specs.Graph.{unseen_way, unseen_of, is_open, leads_to_open, AreInside, IsSearching};
+ghost use Rattle.walk_sums.specs.Graph.{IsSearchEnd, IsSearched, IsFound};
 
 use sloth_base::{List, NoMemory};
 use std::alloc::Global;
@@ -34,7 +35,7 @@ fn unseen_way(seen: &[bool], way: Option<usize>) -> Option<usize>
 }
 
 /// A node that this one leads to and that is not seen yet.
-pub fn unseen_of(ways: &[Ways], seen: &[bool], from: usize) -> Option<usize>
+pub fn unseen_next(ways: &[Ways], seen: &[bool], from: usize) -> Option<usize>
     requires inside { AreInside ways.now }
     requires count { length seen.now ≡ length ways.now }
     requires known { from < length ways.now }
@@ -92,7 +93,7 @@ fn dive(
     loop {
         match stack.pop() {
             None => return Ok(false),
-            Some(from) => match unseen_of(ways, seen, from) {
+            Some(from) => match unseen_next(ways, seen, from) {
                 Some(node) => {
                     push(stack, from)?;
                     keep(seen, stack, node)?;

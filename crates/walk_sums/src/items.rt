@@ -29,7 +29,8 @@ pub fn alive_items(
     level: Option<u32>,
 ) -> Result<Vec<bool>, NoMemory>
     ensures count { IfOk result (λ alive. length alive.items ≡ length func.now.items) }
-    ensures exact { IfOk result (λ alive. (i : ℕ) → i < length func.now.items → get_or alive.items i false ≡ is_alive body.now level i) }
+    ensures exact { IfOk result (λ alive. (i : ℕ) → i < length func.now.items
+        → get_or alive.items i false ≡ is_alive body.now level i) }
 {
     let mut alive = Vec::new(alloc);
     for number in 0..func.items.items().len() {
@@ -46,7 +47,8 @@ pub fn going_items(
     alive: &[bool],
 ) -> Result<Vec<bool>, NoMemory>
     ensures count { IfOk result (λ going. length going.items ≡ length func.now.items) }
-    ensures exact { IfOk result (λ going. (i : ℕ) → i < length func.now.items → get_or going.items i false ≡ is_going func.now kind alive.now i) }
+    ensures exact { IfOk result (λ going. (i : ℕ) → i < length func.now.items
+        → get_or going.items i false ≡ is_going func.now kind alive.now i) }
 {
     let mut going = Vec::new(alloc);
     for number in 0..func.items.items().len() {
@@ -115,7 +117,7 @@ fn if_alive(alive: bool, size: u32) -> u32
     if alive { size } else { 0 }
 }
 
-fn op_at(func: &Func, number: usize) -> Op
+fn numbered_op(func: &Func, number: usize) -> Op
     requires { number < length func.now.items }
     ensures { result ≡ (item_of func.now number).op }
 {
@@ -138,7 +140,7 @@ pub fn going_sizes(
     let mut sizes = Vec::new(alloc);
     for number in 0..func.items.items().len() {
         let weight = number_at(weights, number);
-        let size = going_size(whole, weight, op_at(func, number));
+        let size = going_size(whole, weight, numbered_op(func, number));
         push(&mut sizes, size)?;
     }
     Ok(sizes)
@@ -156,12 +158,13 @@ pub fn ending_sizes(
     requires small { AreSizesInLimit weights.now }
     ensures count { IfOk result (λ sizes. length sizes.items ≡ length func.now.items) }
     ensures exact { IfOk result (λ sizes. (i : ℕ) → i < length func.now.items
-        → get_or sizes.items i 0 ≡ cond (get_or alive.now i false) (ending_size whole.now (get_or weights.now i 0) (item_of func.now i).op) 0) }
+        → get_or sizes.items i 0 ≡ cond (get_or alive.now i false)
+        (ending_size whole.now (get_or weights.now i 0) (item_of func.now i).op) 0) }
 {
     let mut sizes = Vec::new(alloc);
     for number in 0..func.items.items().len() {
         let weight = number_at(weights, number);
-        let size = ending_size(whole, weight, op_at(func, number));
+        let size = ending_size(whole, weight, numbered_op(func, number));
         push(&mut sizes, if_alive(is_marked(alive, number), size))?;
     }
     Ok(sizes)
@@ -177,12 +180,13 @@ pub fn leaving_sizes(
     requires small { AreSizesInLimit weights.now }
     ensures count { IfOk result (λ sizes. length sizes.items ≡ length func.now.items) }
     ensures exact { IfOk result (λ sizes. (i : ℕ) → i < length func.now.items
-        → get_or sizes.items i 0 ≡ cond (get_or alive.now i false) (leaving_size (get_or weights.now i 0) (item_of func.now i).op) 0) }
+        → get_or sizes.items i 0 ≡ cond (get_or alive.now i false)
+        (leaving_size (get_or weights.now i 0) (item_of func.now i).op) 0) }
 {
     let mut sizes = Vec::new(alloc);
     for number in 0..func.items.items().len() {
         let weight = number_at(weights, number);
-        let size = leaving_size(weight, op_at(func, number));
+        let size = leaving_size(weight, numbered_op(func, number));
         push(&mut sizes, if_alive(is_marked(alive, number), size))?;
     }
     Ok(sizes)

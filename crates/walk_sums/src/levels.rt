@@ -1,17 +1,15 @@
 //! The summaries of all functions at a level, by weights that may be 0.
 ghost use Rattle.std.specs.Prelude.{◌≡◌, ℕ, ◌<◌, None, Some, length, get_or, IfOk};
-ghost use Rattle.code_rules.specs.WellFormed.{WellFormed};
 ghost use Rattle.bound_rules.specs.Summaries.{IsCountedUp, summary_of, unknown};
-ghost use Rattle.walk_sums.specs.CallOrder.{IsCallOrder};
-ghost use Rattle.walk_sums.specs.KnownBodies.{no_body, AreKnownBodies};
+ghost use Rattle.walk_sums.specs.KnownBodies.{no_body};
 ghost use Rattle.walk_sums.specs.Weights.{AreWeights};
 ghost use Rattle.walk_sums.specs.declared.kinds.Kind.TheVariants as kinds;
 ghost use Rattle.walk_sums.specs.Known.{AreSums, IsSummed, IsBefore, IsSummaryFor, caller_code};
 
 use crate::caller::Caller;
-use crate::{Kind, Walks, function_at};
+use crate::{Kind, Walks, numbered_function};
 use bound_rules::{Body, BodyWeights, Summary, UNKNOWN};
-use sloth_base::{App, Config, NoMemory};
+use sloth_base::NoMemory;
 use std::alloc::Global;
 use text_pieces::push;
 
@@ -27,7 +25,7 @@ fn unknown(alloc: Global, count: usize) -> Result<Vec<Summary>, NoMemory>
 }
 
 /// What is known of a body.
-fn body_at(bodies: &[Body], number: usize) -> &Body
+pub fn numbered_body(bodies: &[Body], number: usize) -> &Body
     requires { number < length bodies.now }
     ensures { result.now ≡ get_or bodies.now number no_body }
 {
@@ -36,7 +34,7 @@ fn body_at(bodies: &[Body], number: usize) -> &Body
 
 impl Walks<'_> {
     /// The summary of function `number`, from those of the functions that it calls.
-    fn summary_of(
+    fn function_summary(
         &self,
         weights: &[BodyWeights],
         kind: Kind,
@@ -56,8 +54,8 @@ impl Walks<'_> {
             weights: &*weights,
             kind,
             number,
-            func: function_at(self.app(), number),
-            body: body_at(self.bodies(), number),
+            func: numbered_function(self.app(), number),
+            body: numbered_body(self.bodies(), number),
             level,
             whole: &*whole,
             own: &*own,
@@ -73,7 +71,7 @@ impl Walks<'_> {
     {
         let mut whole = unknown(self.alloc(), self.app().funcs.items().len())?;
         for number in self.order() {
-            let summary = self.summary_of(&*weights, kind, None, *number, &whole, &whole)?;
+            let summary = self.function_summary(&*weights, kind, None, *number, &whole, &whole)?;
             whole[*number] = summary;
         }
         Ok(whole)
@@ -95,50 +93,16 @@ impl Walks<'_> {
         let kind = Kind::Sections;
         let mut own = unknown(self.alloc(), self.app().funcs.items().len())?;
         for number in self.order() {
-            let summary = self.summary_of(&*weights, kind, Some(priority), *number, &*whole, &own)?;
+            let summary = self.function_summary(
+                &*weights,
+                kind,
+                Some(priority),
+                *number,
+                &*whole,
+                &own,
+            )?;
             own[*number] = summary;
         }
         Ok(own)
     }
-}
-
-/// The summaries of all functions where their callers have raised the task, of these parts.
-pub fn whole_sums(
-    alloc: Global,
-    config: &Config,
-    app: &App,
-    weights: &[BodyWeights],
-    kind: Kind,
-    bodies: &[Body],
-    order: &[usize],
-) -> Result<Vec<Summary>, NoMemory>
-    requires well_formed { WellFormed config.now app.now }
-    requires weights { AreWeights app.now weights.now }
-    requires summed { IsSummed weights.now kind None }
-    requires bodies { AreKnownBodies config.now app.now bodies.now }
-    requires order { IsCallOrder app.now order.now }
-    ensures { IfOk result (λ whole. AreSums config.now app.now weights.now kind None whole.items) }
-{
-    Walks::new(alloc, config, app, order, bodies).whole_sums(weights, kind)
-}
-
-/// Those of raised sections, of these parts.
-pub fn own_sums(
-    alloc: Global,
-    config: &Config,
-    app: &App,
-    weights: &[BodyWeights],
-    bodies: &[Body],
-    order: &[usize],
-    priority: u32,
-    whole: &[Summary],
-) -> Result<Vec<Summary>, NoMemory>
-    requires well_formed { WellFormed config.now app.now }
-    requires weights { AreWeights app.now weights.now }
-    requires bodies { AreKnownBodies config.now app.now bodies.now }
-    requires order { IsCallOrder app.now order.now }
-    requires whole { AreSums config.now app.now weights.now kinds.Sections None whole.now }
-    ensures { IfOk result (λ own. AreSums config.now app.now weights.now kinds.Sections (Some priority) own.items) }
-{
-    Walks::new(alloc, config, app, order, bodies).own_sums(weights, priority, whole)
 }

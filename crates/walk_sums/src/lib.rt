@@ -2,7 +2,7 @@
 //!
 //! Task code that is walked is one value, `Walks`: well formed, its functions in an order of calls, and what is known
 //! of each body; with weights and sums of them it is `Weighed`. Of it, exactly: of the turns of a task, of the rounds
-//! into which its WaitEvents cut them, and of its raised sections (`turn_sum`, `round_sums`, `section_sum`; those of
+//! into which its WaitEvents cut them, and of its raised sections (`turn_sum`, `round_sums`, `sums_above`; those of
 //! the sections of all tasks for one another: `section_sums`); where a cycle of the walks has a weight, that there is
 //! none. They are found function by function, by tables of weights (`whole_sums`, `own_sums`): each body is searched in
 //! an order of finish, or in passes where nothing weighs along its loops (`Caller`, `shape`), functions behind those
@@ -23,8 +23,8 @@ mod caller;
 pub mod ceilings;
 pub mod clean;
 pub mod counted;
-mod graph;
-mod items;
+pub mod graph;
+pub mod items;
 pub mod kinds;
 pub mod levels;
 pub mod links;
@@ -33,7 +33,7 @@ mod loops;
 pub mod order;
 mod paths;
 mod ranks;
-mod search;
+pub mod search;
 pub mod sections;
 mod settle;
 mod shape;
@@ -46,18 +46,17 @@ pub mod walks;
 pub mod weighed;
 pub mod weights;
 
-pub use bodies::function_at;
+pub use bodies::numbered_function;
 pub use ceilings::greatest_ceiling;
-pub use clean::clean_tasks;
-pub use counted::{Counted, counted_weights};
+pub use counted::{Counted, calls_object, counted_weights, is_ending_counted};
 pub use kinds::Kind;
-pub use levels::{own_sums, whole_sums};
-pub use links::falls_to;
+pub use levels::numbered_body;
+pub use links::is_next_item;
 pub use order::callees_first;
-pub use sections::greatest_of;
+pub use sections::greatest_sum;
 pub use standing::{Point, Standing, is_same, is_standing};
-pub use steady::steady_tasks;
 pub use sum::Sum;
-pub use tasks::{RoundSums, round_sums, section_sum, turn_sum};
+pub use tasks::RoundSums;
 pub use walks::{Walks, known_code};
+pub use weighed::Weighed;
 pub use weights::item_weights;

@@ -14,7 +14,7 @@ use task_verify::{falls, way};
 use text_pieces::push;
 
 /// Whether a path goes on to the next item, which is this one.
-pub fn falls_to(op: Op, from: usize, to: usize) -> bool
+pub fn is_next_item(op: Op, from: usize, to: usize) -> bool
     ensures goes { result ≡ true → is_followed op ≡ true }
     ensures next { result ≡ true → to ≡ from + 1 }
 {

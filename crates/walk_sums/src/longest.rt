@@ -35,7 +35,7 @@ fn along(table: &[u32], step: u32, way: Option<usize>) -> u32
     }
 }
 
-pub fn longest_from(ways: &[Ways], table: &[u32], steps: &[u32], ends: &[u32], node: usize) -> u32
+pub fn longest_size(ways: &[Ways], table: &[u32], steps: &[u32], ends: &[u32], node: usize) -> u32
     requires inside { (j : ℕ) → HasWay ways.now node j → j < length table.now }
     requires small { AreSizesInLimit table.now }
     requires sizes { AreSizes ways.now steps.now ends.now }
@@ -76,7 +76,7 @@ pub fn longest(
 {
     let mut table = zeros(alloc, ways.len())?;
     for node in order {
-        table[*node] = longest_from(ways, &table, steps, ends, *node);
+        table[*node] = longest_size(ways, &table, steps, ends, *node);
     }
     Ok(table)
 }

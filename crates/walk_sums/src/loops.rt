@@ -5,14 +5,19 @@ ghost use Rattle.walk_sums.specs.Search.{IsReachable};
 ghost use Rattle.walk_sums.specs.Loops.{LeadsBack, IsWeighingLoop, HasWeighingLoop};
 
 use crate::graph::Ways;
-use crate::ranks::{ranks_of, some_raises};
+use crate::ranks::{passed_ranks, some_raises};
 use crate::search::reachable;
 use bound_rules::{is_marked, number_at};
 use sloth_base::NoMemory;
 use std::alloc::Global;
 
 /// Whether a way leads to where a node is reached from.
-fn leads_on(alloc: Global, ways: &[Ways], way: Option<usize>, node: usize) -> Result<bool, NoMemory>
+fn way_reaches(
+    alloc: Global,
+    ways: &[Ways],
+    way: Option<usize>,
+    node: usize,
+) -> Result<bool, NoMemory>
     requires inside { AreInside ways.now }
     requires way { (j : ℕ) → way ≡ Some j → j < length ways.now }
     ensures { IfOk result (λ leads. Decides leads ((j : ℕ) × (way ≡ Some j) × IsReachable ways.now j node)) }
@@ -32,8 +37,8 @@ fn leads_back(alloc: Global, ways: &[Ways], node: usize) -> Result<bool, NoMemor
     requires known { node < length ways.now }
     ensures { IfOk result (λ back. Decides back (LeadsBack ways.now node)) }
 {
-    let next = leads_on(alloc, ways, ways[node].next, node)?;
-    let jump = leads_on(alloc, ways, ways[node].jump, node)?;
+    let next = way_reaches(alloc, ways, ways[node].next, node)?;
+    let jump = way_reaches(alloc, ways, ways[node].jump, node)?;
     Ok(next || jump)
 }
 
@@ -107,7 +112,7 @@ fn is_some_behind(
     requires count { length steps.now ≡ length ways.now }
     ensures { IfOk result (λ found. Decides found (HasWeighingLoop ways.now steps.now)) }
 {
-    let more = ranks_of(alloc, ways, steps, RANKINGS + 1)?;
+    let more = passed_ranks(alloc, ways, steps, RANKINGS + 1)?;
     if is_some_raised(alloc, ways, steps, ranks, &more)? {
         return Ok(true);
     }
@@ -120,7 +125,7 @@ pub fn has_weighing_loop(alloc: Global, ways: &[Ways], steps: &[u32]) -> Result<
     requires count { length steps.now ≡ length ways.now }
     ensures { IfOk result (λ found. Decides found (HasWeighingLoop ways.now steps.now)) }
 {
-    let ranks = ranks_of(alloc, ways, steps, RANKINGS)?;
+    let ranks = passed_ranks(alloc, ways, steps, RANKINGS)?;
     if some_raises(ways, steps, &ranks) {
         is_some_behind(alloc, ways, steps, &ranks)
     } else {

@@ -11,7 +11,7 @@ use sloth_base::{App, NoMemory};
 use std::alloc::Global;
 
 /// The one of lesser rank.
-fn lesser_of(ranks: &[u32], best: Option<usize>, func: usize) -> Option<usize>
+fn lesser_rank(ranks: &[u32], best: Option<usize>, func: usize) -> Option<usize>
     ensures { result ≡ lesser_of ranks.now best func }
 {
     match best {
@@ -33,7 +33,7 @@ fn lesser(ranks: &[u32], done: &[bool], best: Option<usize>, func: usize) -> Opt
     if is_marked(done, func) {
         best
     } else {
-        lesser_of(ranks, best, func)
+        lesser_rank(ranks, best, func)
     }
 }
 

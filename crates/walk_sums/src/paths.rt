@@ -13,7 +13,7 @@ use crate::items::{
     alive_items, ending_sizes, going_items, going_sizes, leaving_sizes, passed_functions,
 };
 use crate::links::body_ways;
-use crate::shape::{Shape, longest_by, shape_of};
+use crate::shape::{Shape, longest_sizes, trail_shape};
 use bound_rules::{BodyWeights, weights_at};
 use sloth_base::{List, NoMemory};
 
@@ -76,7 +76,7 @@ impl Caller<'_> {
         let alive = alive_items(self.alloc, self.func, self.body, self.level)?;
         let ways = self.ways(&alive)?;
         let steps = self.steps()?;
-        let shape = shape_of(self.alloc, &ways, &steps)?;
+        let shape = trail_shape(self.alloc, &ways, &steps)?;
         Ok(Paths {
             alive: List::from_vec(alive),
             ways: List::from_vec(ways),
@@ -100,7 +100,7 @@ impl Caller<'_> {
             paths.alive.items(),
             self.whole,
         )?;
-        longest_by(
+        longest_sizes(
             self.alloc,
             paths.ways.items(),
             &paths.shape,
@@ -123,7 +123,7 @@ impl Caller<'_> {
             weights.going.items(),
             paths.alive.items(),
         )?;
-        longest_by(
+        longest_sizes(
             self.alloc,
             paths.ways.items(),
             &paths.shape,

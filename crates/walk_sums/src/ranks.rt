@@ -9,7 +9,8 @@ use bound_rules::number_at;
 use sloth_base::{COUNT_LIMIT, NoMemory};
 use std::alloc::Global;
 
-/// The rank that a way asks of its node: that of the node to which it leads, and one more where its own node weighs something.
+/// The rank that a way asks of its node: that of the node to which it leads, and one more where its own node weighs
+/// something.
 fn asked(ranks: &[u32], step: u32, way: Option<usize>) -> u32 {
     match way {
         Some(to) => {
@@ -46,7 +47,7 @@ fn rank_all(ways: &[Ways], steps: &[u32], ranks: &mut [u32]) {
 }
 
 /// Ranks behind so many passes. That they are right is not promised: `some_raises` tells it.
-pub fn ranks_of(
+pub fn passed_ranks(
     alloc: Global,
     ways: &[Ways],
     steps: &[u32],
@@ -73,7 +74,7 @@ fn raises(ranks: &[u32], step: u32, from: u32, way: Option<usize>) -> bool
 }
 
 /// Whether one of a node's ways does.
-fn raises_at(ways: &[Ways], steps: &[u32], ranks: &[u32], node: usize) -> bool
+fn node_raises(ways: &[Ways], steps: &[u32], ranks: &[u32], node: usize) -> bool
     requires { node < length ways.now }
     ensures { result ≡ raises_at ways.now steps.now ranks.now node }
 {
@@ -88,7 +89,7 @@ pub fn some_raises(ways: &[Ways], steps: &[u32], ranks: &[u32]) -> bool
 {
     let mut some = false;
     for node in 0..ways.len() {
-        some = some || raises_at(ways, steps, ranks, node);
+        some = some || node_raises(ways, steps, ranks, node);
     }
     some
 }

@@ -3,7 +3,7 @@ ghost use Rattle.std.specs.Prelude.{◌≡◌, ℕ, ◌<◌, ◌↔◌, [], fals
 ghost use Rattle.walk_sums.specs.Graph.{AreInside, HasMark};
 ghost use Rattle.walk_sums.specs.Search.{IsReachable, IsSpreading};
 
-use crate::graph::{Ways, keep, no_marks, unseen_of};
+use crate::graph::{Ways, keep, no_marks, unseen_next};
 use sloth_base::NoMemory;
 use std::alloc::Global;
 use text_pieces::push;
@@ -22,7 +22,7 @@ fn spread(
     loop {
         match stack.pop() {
             None => return Ok(()),
-            Some(from) => match unseen_of(ways, marks, from) {
+            Some(from) => match unseen_next(ways, marks, from) {
                 Some(node) => {
                     push(stack, from)?;
                     keep(marks, stack, node)?;

@@ -1,27 +1,17 @@
 //! The greatest sums of the sections of all tasks for one another.
 ghost use Rattle.std.specs.Prelude.{◌≡◌, ◌<◌, Some, length, IfOk};
-ghost use Rattle.code_rules.specs.WellFormed.{WellFormed};
-ghost use Rattle.call_graph.specs.Ranks.{RanksOf};
 ghost use Rattle.osek_scheduler.specs.Apart.{static_priority};
 ghost use Rattle.walk_sums.specs.declared.kinds.Kind.TheVariants as kinds;
 ghost use Rattle.walk_sums.specs.Known.{AreSums};
 ghost use Rattle.walk_sums.specs.Weights.{AreWeights};
 ghost use Rattle.walk_sums.specs.Sections.{IsSumFor, AreToldSums, AreAllSums, greater, greatest_of};
 
+use crate::tasks::section_sum;
 use crate::weighed::Weighed;
-use crate::{Kind, Sum, Walks, known_code, section_sum};
+use crate::{Kind, Sum, Walks};
 use bound_rules::{BodyWeights, Summary};
-use call_graph::Ranks;
-use sloth_base::{App, Config, List, NoMemory};
-use std::alloc::Global;
+use sloth_base::{List, NoMemory};
 use text_pieces::push;
-
-fn priority_of(config: &Config, task: usize) -> u32
-    requires { task < length config.now.tasks }
-    ensures { result ≡ static_priority config.now task }
-{
-    config.tasks.items()[task].priority
-}
 
 impl Weighed<'_> {
     /// The sum of the sections of a task for task `above`: 0 where it is no lower one.
@@ -34,33 +24,25 @@ impl Weighed<'_> {
     {
         let walks = self.walks();
         let config = walks.config();
-        let priority = priority_of(config, task);
-        let other = priority_of(config, above);
-        if priority < other {
-            section_sum(
-                config,
-                walks.app(),
-                self.weights(),
-                self.whole(),
-                own,
-                above,
-                task,
-            )
+        if walks.priority(task) < walks.priority(above) {
+            let (app, weights, whole) = (walks.app(), self.weights(), self.whole());
+            section_sum(config, app, weights, whole, own, above, task)
         } else {
             Sum::Counts(0)
         }
     }
 
     /// Those of all tasks for task `above`.
-    fn sums_above(&self, above: usize) -> Result<Vec<Sum>, NoMemory>
+    pub fn sums_above(&self, above: usize) -> Result<Vec<Sum>, NoMemory>
         requires { above < length self.now.walks.config.tasks }
         ensures { IfOk result (λ sums.
             AreToldSums self.now.walks.config self.now.walks.app self.now.weights above sums.items) }
     {
         let config = self.walks().config();
+        let priority = self.walks().priority(above);
         let own = self
             .walks()
-            .own_sums(self.weights(), priority_of(config, above), self.whole())?;
+            .own_sums(self.weights(), priority, self.whole())?;
         let mut sums = Vec::new(self.walks().alloc());
         for task in 0..config.tasks.items().len() {
             push(&mut sums, self.sum_for_task(&own, above, task))?;
@@ -92,23 +74,16 @@ impl Walks<'_> {
         let whole = self.whole_sums(weights, Kind::Sections)?;
         Weighed::new(self, weights, &whole).all_sums()
     }
-}
 
-/// The same, of verified task code.
-pub fn section_sums(
-    alloc: Global,
-    config: &Config,
-    app: &App,
-    ranks: &Ranks,
-    weights: &[BodyWeights],
-) -> Result<Vec<List<Sum>>, NoMemory>
-    requires well_formed { WellFormed config.now app.now }
-    requires belong { RanksOf app.now ranks.now }
-    requires weights { AreWeights app.now weights.now }
-    ensures { IfOk result (λ table. AreAllSums config.now app.now weights.now table.items) }
-{
-    let known = known_code(alloc, config, app, ranks)?;
-    Walks::of(alloc, config, app, &known).section_sums(weights)
+    /// For one task the greatest sums, by these weights, of the sections of all tasks.
+    pub fn sums_above(&self, weights: &[BodyWeights], above: usize) -> Result<Vec<Sum>, NoMemory>
+        requires weights { AreWeights self.now.app weights.now }
+        requires above { above < length self.now.config.tasks }
+        ensures { IfOk result (λ sums. AreToldSums self.now.config self.now.app weights.now above sums.items) }
+    {
+        let whole = self.whole_sums(weights, Kind::Sections)?;
+        Weighed::new(self, weights, &whole).sums_above(above)
+    }
 }
 
 /// The greater of two sums.
@@ -130,7 +105,7 @@ fn greater(one: Sum, other: Sum) -> Sum
 }
 
 /// The greatest of these sums.
-pub fn greatest_of(sums: &[Sum]) -> Sum
+pub fn greatest_sum(sums: &[Sum]) -> Sum
     ensures { result ≡ greatest_of sums.now (length sums.now) }
 {
     let mut greatest = Sum::Counts(0);

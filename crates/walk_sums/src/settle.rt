@@ -5,7 +5,7 @@ ghost use Rattle.walk_sums.specs.Trails.{longest_from, AreSizes, IsLongest};
 ghost use Rattle.walk_sums.specs.Loops.{AreAttained, HasGrown};
 
 use crate::graph::Ways;
-use crate::longest::{longest_from, zeros};
+use crate::longest::{longest_size, zeros};
 use sloth_base::NoMemory;
 use std::alloc::Global;
 
@@ -16,10 +16,12 @@ fn grow(ways: &[Ways], table: &mut [u32], steps: &[u32], ends: &[u32], node: usi
     requires attained { AreAttained ways.now steps.now ends.now table.old }
     requires known { node < length ways.now }
     ensures attained { AreAttained ways.now steps.now ends.now table.new }
-    ensures grown { result ≡ true → (get_or table.old node 0 < get_or table.new node 0) × (table.new ≡ set table.old node (get_or table.new node 0)) }
-    ensures same { result ≡ false → (table.new ≡ table.old) × (longest_from ways.now table.old steps.now ends.now node ≤ get_or table.old node 0) }
+    ensures grown { result ≡ true → (get_or table.old node 0 < get_or table.new node 0)
+        × (table.new ≡ set table.old node (get_or table.new node 0)) }
+    ensures same { result ≡ false → (table.new ≡ table.old)
+        × (longest_from ways.now table.old steps.now ends.now node ≤ get_or table.old node 0) }
 {
-    let size = longest_from(ways, table, steps, ends, node);
+    let size = longest_size(ways, table, steps, ends, node);
     if table[node] < size {
         table[node] = size;
         true
@@ -46,8 +48,8 @@ fn pass(ways: &[Ways], table: &mut [u32], steps: &[u32], ends: &[u32]) -> bool
     grown
 }
 
-/// For each node the size of the longest trail from it, whatever loops there are: where something weighs along one, that may be the greatest size that is
-/// counted.
+/// For each node the size of the longest trail from it, whatever loops there are: where something weighs along one,
+/// that may be the greatest size that is counted.
 pub fn settled(
     alloc: Global,
     ways: &[Ways],

@@ -1,4 +1,5 @@
-//! How trails go along the ways of a body, and the longest ones: by an order, or by passes where nothing weighs along loops.
+//! How trails go along the ways of a body, and the longest ones: by an order, or by passes where nothing weighs along
+//! loops.
 ghost use Rattle.std.specs.Prelude.{◌≡◌, ℕ, ◌<◌, length, get_or, IfOk};
 ghost use Rattle.walk_sums.specs.Graph.{AreInside};
 ghost use Rattle.walk_sums.specs.Trails.{AreSizes, IsLongest};
@@ -35,7 +36,7 @@ fn looped(alloc: Global, ways: &[Ways], steps: &[u32]) -> Result<Shape, NoMemory
 }
 
 /// How the trails along these ways go, by what their nodes weigh.
-pub fn shape_of(alloc: Global, ways: &[Ways], steps: &[u32]) -> Result<Shape, NoMemory>
+pub fn trail_shape(alloc: Global, ways: &[Ways], steps: &[u32]) -> Result<Shape, NoMemory>
     requires inside { AreInside ways.now }
     requires count { length steps.now ≡ length ways.now }
     ensures { IfOk result (IsShape ways.now steps.now) }
@@ -57,7 +58,7 @@ pub fn is_endless(shape: &Shape) -> bool
 }
 
 /// For each node the size of the longest trail from it.
-pub fn longest_by(
+pub fn longest_sizes(
     alloc: Global,
     ways: &[Ways],
     shape: &Shape,

@@ -1,18 +1,15 @@
 //! Which tasks are not preemptable and reach no Schedule (OSEK OS 2.2.3, section 13.2.3.4).
 ghost use Rattle.std.specs.Prelude.{◌≡◌, ◌<◌, ℕ, None, false, get_or, length, Decides, IfOk};
-ghost use Rattle.code_rules.specs.WellFormed.{WellFormed};
 ghost use Rattle.call_graph.specs.Tables.{HasTaskBody};
-ghost use Rattle.walk_sums.specs.CallOrder.{IsCallOrder};
-ghost use Rattle.walk_sums.specs.KnownBodies.{AreKnownBodies};
 ghost use Rattle.walk_sums.specs.declared.kinds.Kind.TheVariants as kinds;
 ghost use Rattle.walk_sums.specs.Counted.{counted_weights};
 ghost use Rattle.walk_sums.specs.Known.{AreSums};
 ghost use Rattle.walk_sums.specs.Rounds.{IsSteady};
 ghost use Rattle.walk_sums.specs.Clears.{is_steady, AreSteadyMarks};
 
-use crate::tasks::summary_at;
+use crate::tasks::body_summary;
 use crate::{Counted, Kind, Walks, counted_weights};
-use bound_rules::{Body, Summary};
+use bound_rules::Summary;
 use sloth_base::{App, Config, NoMemory};
 use std::alloc::Global;
 use text_pieces::push;
@@ -23,7 +20,7 @@ fn is_steady(config: &Config, app: &App, table: &[Summary], task: usize) -> bool
     requires count { length table.now ≡ length app.now.funcs }
     ensures { result ≡ is_steady config.now.tasks app.now.funcs table.now task }
 {
-    config.tasks.items()[task].non && summary_at(app, table, task).on <= 1
+    config.tasks.items()[task].non && body_summary(app, table, task).on <= 1
 }
 
 fn marks(
@@ -62,21 +59,4 @@ impl Walks<'_> {
         let table = self.counted_turns(Counted::Schedules)?;
         marks(self.alloc(), self.config(), self.app(), &table)
     }
-}
-
-/// The same, of these parts.
-pub fn steady_tasks(
-    alloc: Global,
-    config: &Config,
-    app: &App,
-    bodies: &[Body],
-    order: &[usize],
-) -> Result<Vec<bool>, NoMemory>
-    requires well_formed { WellFormed config.now app.now }
-    requires bodies { AreKnownBodies config.now app.now bodies.now }
-    requires order { IsCallOrder app.now order.now }
-    ensures { IfOk result (λ steady. (t : ℕ) → t < length config.now.tasks
-        → Decides (get_or steady.items t false) (IsSteady config.now app.now t)) }
-{
-    Walks::new(alloc, config, app, order, bodies).steady_tasks()
 }

@@ -145,7 +145,7 @@ impl Caller<'_> {
     }
 
     /// The summary by the longest trails.
-    fn summary_by(&self, sizes: &TrailSizes) -> Summary
+    fn trail_summary(&self, sizes: &TrailSizes) -> Summary
         requires on_small { AreSizesInLimit sizes.now.on }
         requires back_small { AreSizesInLimit sizes.now.back }
         ensures { result ≡ summary_by self.now.known self.now.kind sizes.now.on sizes.now.back }
@@ -172,7 +172,7 @@ impl Caller<'_> {
             return Ok(ENDLESS);
         }
         let sizes = self.trail_sizes(paths)?;
-        Ok(self.summary_by(&sizes))
+        Ok(self.trail_summary(&sizes))
     }
 
     /// The summary of the function.

@@ -12,13 +12,14 @@ ghost use Rattle.walk_sums.specs.Rounds.{IsTurn};
 ghost use Rattle.walk_sums.specs.Known.{AreSums};
 ghost use Rattle.walk_sums.specs.Told.{told, told_rounds, told_turn, told_section, IsToldSum, AreToldRounds};
 
-use crate::Sum;
 use crate::items::less_one;
+use crate::{Sum, Walks};
 use bound_rules::{BodyWeights, Summary, task_summary};
 use sloth_base::{App, COUNT_LIMIT, Config};
 use stack_bounds::body_of;
 
-/// The greatest sums of the rounds of a task that begin with its first item, and of those that begin behind a WaitEvent.
+/// The greatest sums of the rounds of a task that begin with its first item, and of those that begin behind a
+/// WaitEvent.
 #[derive(Clone, Copy)]
 pub struct RoundSums {
     pub first: Sum,
@@ -37,7 +38,7 @@ fn told(size: u32) -> Sum
 }
 
 /// The summary of a task's body.
-pub fn summary_at(app: &App, table: &[Summary], task: usize) -> Summary
+pub fn body_summary(app: &App, table: &[Summary], task: usize) -> Summary
     requires body { HasTaskBody app.now.funcs task }
     requires count { length table.now ≡ length app.now.funcs }
     ensures { result ≡ summary_of table.now (body_of app.now.funcs task) }
@@ -50,7 +51,7 @@ fn told_rounds(app: &App, table: &[Summary], task: usize) -> RoundSums
     requires count { length table.now ≡ length app.now.funcs }
     ensures { result ≡ told_rounds app.now.funcs table.now task }
 {
-    let summary = summary_at(app, table, task);
+    let summary = body_summary(app, table, task);
     if summary.is_endless {
         RoundSums {
             first: Sum::Endless,
@@ -69,7 +70,7 @@ fn told_turn(app: &App, table: &[Summary], task: usize) -> Sum
     requires count { length table.now ≡ length app.now.funcs }
     ensures { result ≡ told_turn app.now.funcs table.now task }
 {
-    let summary = summary_at(app, table, task);
+    let summary = body_summary(app, table, task);
     if summary.is_endless {
         Sum::Endless
     } else {
@@ -92,43 +93,32 @@ fn told_section(config: &Config, app: &App, whole: &[Summary], own: &[Summary], 
     }
 }
 
-/// The greatest sums of the rounds of a task, from the summaries of all functions, of rounds. A task of whose WaitEvents one goes on without its events
-/// cleared before has no rounds but its turns (`clean_tasks`, `turn_sum`).
-pub fn round_sums(
-    config: &Config,
-    app: &App,
-    weights: &[BodyWeights],
-    table: &[Summary],
-    task: usize,
-) -> RoundSums
-    requires well_formed { WellFormed config.now app.now }
-    requires weights { AreWeights app.now weights.now }
-    requires table { AreSums config.now app.now weights.now kinds.Rounds None table.now }
-    requires inside { task < length config.now.tasks }
-    ensures { AreToldRounds app.now task weights.now result }
-{
-    told_rounds(app, table, task)
+impl Walks<'_> {
+    /// The greatest sums of the rounds of a task, from the summaries of all functions, of rounds. A task of whose
+    /// WaitEvents one goes on without its events cleared before has no rounds but its turns (`clean_tasks`,
+    /// `turn_sum`).
+    pub fn round_sums(&self, weights: &[BodyWeights], table: &[Summary], task: usize) -> RoundSums
+        requires weights { AreWeights self.now.app weights.now }
+        requires table { AreSums self.now.config self.now.app weights.now kinds.Rounds None table.now }
+        requires inside { task < length self.now.config.tasks }
+        ensures { AreToldRounds self.now.app task weights.now result }
+    {
+        told_rounds(self.app(), table, task)
+    }
+
+    /// That of its turns, from the summaries of turns.
+    pub fn turn_sum(&self, weights: &[BodyWeights], table: &[Summary], task: usize) -> Sum
+        requires weights { AreWeights self.now.app weights.now }
+        requires table { AreSums self.now.config self.now.app weights.now kinds.Turns None table.now }
+        requires inside { task < length self.now.config.tasks }
+        ensures { IsToldSum (IsTurn self.now.app task) weights.now result }
+    {
+        told_turn(self.app(), table, task)
+    }
 }
 
-/// That of its turns, from the summaries of turns.
-pub fn turn_sum(
-    config: &Config,
-    app: &App,
-    weights: &[BodyWeights],
-    table: &[Summary],
-    task: usize,
-) -> Sum
-    requires well_formed { WellFormed config.now app.now }
-    requires weights { AreWeights app.now weights.now }
-    requires table { AreSums config.now app.now weights.now kinds.Turns None table.now }
-    requires inside { task < length config.now.tasks }
-    ensures { IsToldSum (IsTurn app.now task) weights.now result }
-{
-    told_turn(app, table, task)
-}
-
-/// That of its raised sections for task `above`, of which it is a lower one: from the summaries of sections where callers have raised it, and where
-/// functions raise it to the priority of that task themselves.
+/// That of its raised sections for task `above`, of which it is a lower one: from the summaries of sections where
+/// callers have raised it, and where functions raise it to the priority of that task themselves.
 pub fn section_sum(
     config: &Config,
     app: &App,
@@ -141,7 +131,8 @@ pub fn section_sum(
     requires well_formed { WellFormed config.now app.now }
     requires weights { AreWeights app.now weights.now }
     requires whole { AreSums config.now app.now weights.now kinds.Sections None whole.now }
-    requires own { AreSums config.now app.now weights.now kinds.Sections (Some (static_priority config.now above)) own.now }
+    requires own { AreSums config.now app.now weights.now kinds.Sections (Some
+        (static_priority config.now above)) own.now }
     requires above { above < length config.now.tasks }
     requires lower { IsLower config.now above task }
     ensures { IsToldSum (IsSection config.now app.now above task) weights.now result }

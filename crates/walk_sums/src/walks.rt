@@ -1,7 +1,9 @@
 //! Task code that is walked, as one value.
-ghost use Rattle.std.specs.Prelude.{◌≡◌, IfOk};
+ghost use Rattle.std.specs.Prelude.{◌≡◌, ◌<◌, length, IfOk};
+ghost use Rattle.sloth_base.specs.Named.{body_of, declaration};
 ghost use Rattle.code_rules.specs.WellFormed.{WellFormed};
 ghost use Rattle.call_graph.specs.Ranks.{RanksOf};
+ghost use Rattle.osek_scheduler.specs.Apart.{static_priority};
 ghost use Rattle.walk_sums.specs.CallOrder.{IsCallOrder};
 ghost use Rattle.walk_sums.specs.KnownBodies.{AreKnownBodies};
 ghost use Rattle.walk_sums.specs.WalkedCode.{IsWalked, IsKnownCode, walked_code};
@@ -10,7 +12,8 @@ use crate::bodies::bodies;
 use crate::callees_first;
 use bound_rules::Body;
 use call_graph::Ranks;
-use sloth_base::{App, Config, List, NoMemory};
+use sloth_base::{App, Config, List, NoMemory, TaskDecl};
+use stack_bounds::body_of;
 use std::alloc::Global;
 use std::marker::Model;
 
@@ -146,5 +149,39 @@ impl<'a> Walks<'a> {
         ensures walked { IsWalked self.now }
     {
         self.bodies
+    }
+
+    /// How many tasks there are.
+    pub fn tasks(&self) -> usize
+        ensures is { result ≡ length self.now.config.tasks }
+        ensures well_formed { WellFormed self.now.config self.now.app }
+    {
+        self.config.tasks.items().len()
+    }
+
+    /// The declaration of a task.
+    pub fn task(&self, task: usize) -> &'a TaskDecl
+        requires { task < length self.now.config.tasks }
+        ensures is { result.now ≡ declaration self.now.config task }
+        ensures well_formed { WellFormed self.now.config self.now.app }
+    {
+        &self.config.tasks.items()[task]
+    }
+
+    /// The static priority of a task.
+    pub fn priority(&self, task: usize) -> u32
+        requires { task < length self.now.config.tasks }
+        ensures { result ≡ static_priority self.now.config task }
+    {
+        self.config.tasks.items()[task].priority
+    }
+
+    /// The number of a task's body.
+    pub fn body(&self, task: usize) -> usize
+        requires { task < length self.now.config.tasks }
+        ensures is { result ≡ body_of self.now.app.funcs task }
+        ensures known { result < length self.now.app.funcs }
+    {
+        body_of(self.app().funcs.items(), task)
     }
 }

@@ -13,13 +13,13 @@ section_sums-requires c =
     subst (AreWeights c.args.walks.now.app) (sym c.deref.ensures.value)
     (subst (λ (a : App). AreWeights a c.in_ok-weights.weights.items) c.app-app.ensures.is c.in_ok-weights.ensures.fit)
 
-pub bounds_by-requires-clause-well_formed : goal.bounds_by-requires-clause-well_formed
-bounds_by-requires-clause-well_formed c =
+pub proven_bounds-requires-clause-well_formed : goal.proven_bounds-requires-clause-well_formed
+proven_bounds-requires-clause-well_formed c =
     subst (WellFormed c.config.result.now) (sym c.app-app.ensures.is)
     (subst (λ (g : Config). WellFormed g c.args.walks.now.app) (sym c.config.ensures.is) c.config.ensures.well_formed)
 
-pub bounds_by-requires-clause-table : goal.bounds_by-requires-clause-table
-bounds_by-requires-clause-table c =
+pub proven_bounds-requires-clause-table : goal.proven_bounds-requires-clause-table
+proven_bounds-requires-clause-table c =
     let config = c.config.result.now in
     let app = c.app-app.result.now in
     let table = c.in_ok-table.table.items in

@@ -15,7 +15,7 @@ returns c =
     IfOk-weaker c.count_lines.result _ _ (λ text lines.
     let of_tasks : text.items ≡ count_lines config.tasks c.heaviest.result c.deref.result.now (length config.tasks) =
     subst (λ (tasks : List TaskDecl). text.items ≡ count_lines tasks c.heaviest.result c.deref.result.now (length tasks))
-    (c.items.ensures ∙ ap (λ (g : Config). g.tasks) c.config-config.ensures.is) lines in
+    (c.items-tasks.ensures ∙ ap (λ (g : Config). g.tasks) c.config-config.ensures.is) lines in
     let of_weights : text.items ≡ count_lines config.tasks (heaviest weights) c.deref.result.now (length config.tasks) =
     subst (λ (weight : ℕ). text.items ≡ count_lines config.tasks weight c.deref.result.now (length config.tasks)) c.heaviest.ensures of_tasks in
     let of_table : text.items ≡ count_lines config.tasks (heaviest weights) table (length config.tasks) =

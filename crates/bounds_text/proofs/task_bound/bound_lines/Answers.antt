@@ -5,20 +5,21 @@ use Rattle.sloth_base.specs.declared.app.App.{App}
 use Rattle.bound_rules.specs.declared.bound.Bound.{Bound}
 use Rattle.bound_rules.specs.declared.bound.Bound.TheVariants as bound
 use Rattle.bounds_text.specs.Bounds.{AreToldBounds}
-use Rattle.bounds_text.specs.TaskBound.{IsShown, HasBoundLines}
+use Rattle.section_ways.specs.ShownWays.{IsShown}
+use Rattle.bounds_text.specs.TaskBound.{HasBoundLines}
 use Rattle.bounds_text.proofs.task_bound.bound_lines.Goals as goal
 
-pub lines_with-requires-clause-bounds : goal.lines_with-requires-clause-bounds
-lines_with-requires-clause-bounds c =
+pub way_bound_lines-requires-clause-bounds : goal.way_bound_lines-requires-clause-bounds
+way_bound_lines-requires-clause-bounds c =
     let bounds = c.args.bounds.now in
     subst (λ (a : App). AreToldBounds c.config-config.result.now a bounds) (sym c.app-app.ensures.is)
     (subst (λ (g : Config). AreToldBounds g c.args.walks.now.app bounds) (sym c.config-config.ensures.is) c.requires.bounds)
 
-pub lines_with-requires-clause-there : goal.lines_with-requires-clause-there
-lines_with-requires-clause-there c = subst (λ (g : Config). c.args.task < length g.tasks) (sym c.config-config.ensures.is) c.requires.there
+pub way_bound_lines-requires-clause-there : goal.way_bound_lines-requires-clause-there
+way_bound_lines-requires-clause-there c = subst (λ (g : Config). c.args.task < length g.tasks) (sym c.config-config.ensures.is) c.requires.there
 
-pub lines_with-requires-clause-way : goal.lines_with-requires-clause-way
-lines_with-requires-clause-way c =
+pub way_bound_lines-requires-clause-way : goal.way_bound_lines-requires-clause-way
+way_bound_lines-requires-clause-way c =
     let w = c.args.walks.now in
     let task = c.args.task in
     let bounds = c.args.bounds.now in

@@ -4,7 +4,7 @@ use Rattle.sloth_base.specs.Named.{undeclared_task}
 use Rattle.sloth_base.specs.declared.config.TaskDecl.{TaskDecl}
 use Rattle.mem_map.specs.StackParts.{is_extended}
 use Rattle.mem_map.specs.Zones.{stack_of}
-use Rattle.map_text.specs.Rows.{row_of}
+use Rattle.map_text.specs.Rows.{extent_row}
 use Rattle.map_text.specs.declared.piece_rows.Kind.TheVariants as kind
 use Rattle.map_text.proofs.OneRow.{own_begin, own_more, own_passed}
 use Rattle.map_text.proofs.rows.push_own.Goals as goal
@@ -25,7 +25,7 @@ loop-task-preserved c =
     in
     elim c.if-tasks-task.branch [
       | then-tasks-task+in_ok-push w ↦
-          let more : c.if-tasks-task.rows.items ≡ c.loop-task.rows.items ++ row_of kind.Stack t (stack_of c.args.map.now t) ∷ [] = search rules in
+          let more : c.if-tasks-task.rows.items ≡ c.loop-task.rows.items ++ extent_row kind.Stack t (stack_of c.args.map.now t) ∷ [] = search rules in
           own_more config c.args.map.now t old c.loop-task.rows.items c.loop-task.invariant c.if-tasks-task.rows.items (sym is ∙ w.if-tasks-task.true) more
       | else-tasks-task w ↦
           ap (λ r. r.items) w.rows-is

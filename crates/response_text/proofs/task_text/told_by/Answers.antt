@@ -1,9 +1,15 @@
-use Rattle.std.proofs.Common.{◌≡◌, ◌∙◌, ℕ, ◌<◌, List, sym, ap, subst}
+use Rattle.std.proofs.Common.{◌≡◌, ◌∙◌, ℕ, ◌<◌, Bool, false, List, length, get_or, Option, sym, ap, subst, arith}
+use Rattle.std.specs.Prelude.{Decides}
 use Rattle.std.proofs.lemmas.Result.{IfOk-weaker}
+use Rattle.sloth_base.specs.declared.config.Config.{Config}
+use Rattle.sloth_base.specs.declared.app.App.{App}
+use Rattle.response_reasons.specs.declared.reasons.Reason.{Reason}
 use Rattle.response_text.specs.declared.told.Told.{Told}
 use Rattle.response_text.specs.declared.told.Response.{Response}
+use Rattle.walk_sums.specs.Rounds.{IsClean}
 use Rattle.run_windows.specs.Costs.{comes}
-use Rattle.response_text.specs.TaskText.{response_of, task_lines, HasParts}
+use Rattle.response_text.specs.Reasons.{IsReason}
+use Rattle.response_text.specs.TaskText.{response_of, task_lines, HasParts, AreBothParts}
 use Rattle.response_text.proofs.task_text.told_by.Goals as goal
 
 pub both_parts-requires-clause-anywhere : goal.both_parts-requires-clause-anywhere
@@ -12,26 +18,42 @@ both_parts-requires-clause-anywhere c = c.in_ok-anywhere.ensures (subst (λ n. c
 pub both_parts-requires-clause-behind : goal.both_parts-requires-clause-behind
 both_parts-requires-clause-behind c = c.in_ok-behind.ensures (subst (λ n. c.args.task < n) (sym c.requires.costs.count) c.requires.there)
 
+pub reason-requires-clause-small : goal.reason-requires-clause-small
+reason-requires-clause-small c = let few = c.config-config.ensures.well_formed.in_range.configuration.few_tasks in omega (arith, few)
+
+pub reason-requires-clause-clean : goal.reason-requires-clause-clean
+reason-requires-clause-clean c =
+    let w = c.args.walks.now in
+    subst (λ (l : List Bool). (t : ℕ) → t < length w.config.tasks → Decides (get_or l t false) (IsClean w.app t)) (sym c.deref.ensures.value) c.in_ok-clean.ensures.exact
+
 pub returns : goal.returns
 returns c =
-    let config = c.args.config.now in
-    let app = c.args.app.now in
+    let w = c.args.walks.now in
     let load = c.args.load.now in
-    let there = subst (λ n. c.args.task < n) (sym c.requires.costs.count) c.requires.there in
+    let task = c.args.task in
+    let costs = c.args.found.now in
+    let there = subst (λ n. task < n) (sym c.requires.costs.count) c.requires.there in
     let anywhere = c.in_ok-anywhere.anywhere in
     let behind = c.in_ok-behind.behind in
-    let made : (told : Told) → told ≡ task_lines config app load c.args.task c.response_of-response.result c.deref.result.now → HasParts config app load c.args.task told =
+    let why = c.in_ok-why.why in
+    let parts = c.in_ok-parts.parts.items in
+    let same : c.response_of-response.result ≡ response_of (comes costs.costs task) anywhere behind =
+    c.response_of-response.ensures ∙ ap (λ b. response_of b anywhere behind) c.comes-is_made.ensures in
+    let made : (told : Told) → told ≡ task_lines c.config-config.result.now c.app-app.result.now load task c.response_of-response.result why c.deref-2.result.now → HasParts w.config w.app load task told =
     λ told is. record {
-      costs = c.args.found.now;
+      costs = costs;
       are_costs = c.requires.costs;
       anywhere = anywhere;
       is_longest = c.in_ok-anywhere.ensures there;
       behind = behind;
       is_behind = c.in_ok-behind.ensures there;
-      parts = c.in_ok-parts.parts.items;
-      are_parts = c.in_ok-parts.ensures;
-      is = is
-          ∙ (ap (λ (r : Response). task_lines config app load c.args.task r c.deref.result.now) (c.response_of-response.ensures ∙ ap (λ b. response_of b anywhere behind) c.comes-is_made.ensures)
-          ∙ ap (λ (l : List ℕ). task_lines config app load c.args.task (response_of (comes c.args.found.now.costs c.args.task) anywhere behind) l) c.deref.ensures.value);
+      why = why;
+      is_why = subst (λ (r : Response). IsReason w.config w.app costs.costs task r why) same c.in_ok-why.ensures;
+      parts = parts;
+      are_parts = subst (λ (g : Config). AreBothParts g costs task anywhere behind parts) c.config-config.ensures.is c.in_ok-parts.ensures;
+      is = subst (λ (g : Config). told ≡ task_lines g w.app load task (response_of (comes costs.costs task) anywhere behind) why parts) c.config-config.ensures.is
+          (subst (λ (a : App). told ≡ task_lines c.config-config.result.now a load task (response_of (comes costs.costs task) anywhere behind) why parts) c.app-app.ensures.is
+          (subst (λ (r : Response). told ≡ task_lines c.config-config.result.now c.app-app.result.now load task r why parts) same
+          (subst (λ (l : List ℕ). told ≡ task_lines c.config-config.result.now c.app-app.result.now load task c.response_of-response.result why l) c.deref-2.ensures.value is)));
     } in
     IfOk-weaker _ _ _ (λ told is. made _ is) c.task_lines.ensures

@@ -3,4 +3,4 @@ use Rattle.run_costs.specs.CostsOf.{AreEach}
 use Rattle.run_costs.proofs.closure.all_setting_tops.Given as goal
 
 abbrev pub invariant-loop-alarm : goal.invariant-loop-alarm
-invariant-loop-alarm l = AreEach l.alarm (no_setting) (λ a tops. AreSettingTops l.config l.app a tops) l.all.items
+invariant-loop-alarm l = AreEach l.alarm (no_setting) (λ a tops. AreSettingTops l.walks.config l.walks.app a tops) l.all.items

@@ -6,8 +6,8 @@ use Rattle.run_costs.proofs.closure.pass.Goals.{then-mark, else-mark}
 
 pub loop-task-preserved : goal.loop-task-preserved
 loop-task-preserved c =
-    let config = c.args.config.now in
-    let app = c.args.app.now in
+    let config = c.args.walks.now.config in
+    let app = c.args.walks.now.app in
     let load = c.args.load.now in
     let old : List Bool = c.args.marks.now in
     let mid : List Bool = c.loop-task.marks in

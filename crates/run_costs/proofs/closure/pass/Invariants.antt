@@ -4,7 +4,7 @@ use Rattle.run_costs.proofs.closure.pass.Given as goal
 
 abbrev pub invariant-loop-task : goal.invariant-loop-task
 invariant-loop-task l = record {
-  count : length l.marks ≡ length l.config.tasks;
-  within : AreInAll l.config l.app l.load l.marks;
-  marked : HasMarked l.config l.app l.load l.initial.marks l.marks l.task l.grown;
+  count : length l.marks ≡ length l.walks.config.tasks;
+  within : AreInAll l.walks.config l.walks.app l.load l.marks;
+  marked : HasMarked l.walks.config l.walks.app l.load l.initial.marks l.marks l.task l.grown;
 }

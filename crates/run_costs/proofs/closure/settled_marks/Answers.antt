@@ -1,14 +1,13 @@
-use Rattle.std.proofs.Common.{◌≡◌, ◌∙◌, ◌++◌, ℕ, Bool, List, length, take, drop, ap, sym, subst, arith}
+use Rattle.std.proofs.Common.{◌≡◌, ◌∙◌, ◌++◌, Bool, List, length, take, drop, ap, sym, subst, arith}
 use Rattle.std.proofs.Math.Seq.{take-append_seam}
-use Rattle.sloth_base.specs.declared.config.TaskDecl.{TaskDecl}
 use Rattle.run_costs.specs.Coming.{AreInAll, AreComing, IsSettled}
 use Rattle.run_costs.proofs.Closing.{none_in, settled_coming}
 use Rattle.run_costs.proofs.closure.settled_marks.Goals as goal
 
 pub returns-then-not-pass : goal.returns-then-not-pass
 returns-then-not-pass c =
-    let config = c.args.config.now in
-    let app = c.args.app.now in
+    let config = c.args.walks.now.config in
+    let app = c.args.walks.now.app in
     let load = c.args.load.now in
     let new : List Bool = c.pass.new.marks in
     let rest : List Bool = drop (length new) c.loop-marks.marks.items in
@@ -32,11 +31,11 @@ loop-marks-preserved c =
     let same : take c.loop-marks.marks.len (new ++ rest) ≡ new = ap (λ n. take n (new ++ rest)) e ∙ take-append_seam new rest in
     record {
       count = ap (λ (l : List Bool). length l) same ∙ count;
-      within = subst (λ (l : List Bool). AreInAll c.args.config.now c.args.app.now c.args.load.now l) (sym same) c.pass.ensures.within;
+      within = subst (λ (l : List Bool). AreInAll c.args.walks.now.config c.args.walks.now.app c.args.load.now l) (sym same) c.pass.ensures.within;
     }
 
 pub loop-marks-init : goal.loop-marks-init
 loop-marks-init c = record {
-  count = (let made = c.in_ok-marks.ensures.count in let tasks = ap (λ (l : List TaskDecl). length l) c.items.ensures in omega (arith, made, tasks));
-  within = none_in c.args.config.now c.args.app.now c.args.load.now c.in_ok-marks.marks.items c.in_ok-marks.ensures.none;
+  count = c.in_ok-marks.ensures.count ∙ c.tasks.ensures.is;
+  within = none_in c.args.walks.now.config c.args.walks.now.app c.args.load.now c.in_ok-marks.marks.items c.in_ok-marks.ensures.none;
 }

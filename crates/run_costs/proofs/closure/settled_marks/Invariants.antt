@@ -4,8 +4,8 @@ use Rattle.run_costs.proofs.closure.settled_marks.Given as goal
 
 abbrev pub invariant-loop-marks : goal.invariant-loop-marks
 invariant-loop-marks l = record {
-  count : length l.marks.items ≡ length l.config.tasks;
-  within : AreInAll l.config l.app l.load l.marks.items;
+  count : length l.marks.items ≡ length l.walks.config.tasks;
+  within : AreInAll l.walks.config l.walks.app l.load l.marks.items;
 }
 
 abbrev pub decreases-loop-marks : goal.decreases-loop-marks

@@ -1,11 +1,27 @@
-use Rattle.std.proofs.Common.{None, List, inl, refl, sym, subst}
+use Rattle.std.proofs.Common.{◌≤◌, ℕ, None, List, arith, inl, length, refl, subst, sym}
 use Rattle.bound_rules.specs.declared.sizes.Summary.{Summary}
 use Rattle.walk_sums.specs.declared.kinds.Kind.TheVariants as kinds
 use Rattle.walk_sums.specs.Known.{AreSums}
+use Rattle.run_windows.specs.declared.costs.Level.{Level}
+use Rattle.run_windows.specs.Costs.{no_level}
+use Rattle.run_costs.specs.RunCosts.{IsRunLevel}
+use Rattle.run_costs.proofs.Growing.{each_more, each_of}
 use Rattle.run_costs.proofs.levels.levels.Goals as goal
 
 pub whole_sums-requires-clause-summed : goal.whole_sums-requires-clause-summed
 whole_sums-requires-clause-summed c = inl refl
 
-pub levels_by-requires-clause-whole : goal.levels_by-requires-clause-whole
-levels_by-requires-clause-whole c = subst (λ (l : List Summary). AreSums c.args.config.now c.args.app.now c.args.weights.now kinds.Sections None l) (sym c.deref.ensures.value) c.in_ok-whole.ensures
+pub level-requires-clause-whole : goal.level-requires-clause-whole
+level-requires-clause-whole c =
+    subst (λ (l : List Summary). AreSums c.args.walks.now.config c.args.walks.now.app c.args.weights.now kinds.Sections None l) (sym c.deref.ensures.value) c.in_ok-whole.ensures
+
+pub loop-above-preserved : goal.loop-above-preserved
+loop-above-preserved c =
+    each_more (Level) (IsRunLevel c.args.walks.now.config c.args.walks.now.app c.args.weights.now) c.loop-above.list.items c.push.new.list.items c.in_ok-level.level (no_level) c.loop-above.above c.loop-above.invariant c.in_ok-push.ensures
+    (c.in_ok-level.ensures)
+
+pub returns : goal.returns
+returns c =
+    let over = subst (λ (n : ℕ). n ≤ c.loop-above.above) c.tasks-above-end.ensures.is c.loop-above-test.false in
+    let most = subst (λ (n : ℕ). c.loop-above.above ≤ n) c.tasks-above-end.ensures.is c.loop-above.auto.above-end in
+    each_of (Level) (IsRunLevel c.args.walks.now.config c.args.walks.now.app c.args.weights.now) c.loop-above.list.items (no_level) c.loop-above.above (length c.args.walks.now.config.tasks) (omega (arith, over, most)) c.loop-above.invariant

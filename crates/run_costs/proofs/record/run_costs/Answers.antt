@@ -1,6 +1,7 @@
-use Rattle.std.proofs.Common.{sym, subst}
-use Rattle.walk_sums.specs.CallOrder.{IsCallOrder}
+use Rattle.std.proofs.Common.{subst}
+use Rattle.walk_sums.specs.WalkedCode.{WalkedCode}
+use Rattle.run_costs.specs.RunRecord.{IsRunRecord}
 use Rattle.run_costs.proofs.record.run_costs.Goals as goal
 
-pub record_in-requires-clause-order : goal.record_in-requires-clause-order
-record_in-requires-clause-order c = subst (IsCallOrder c.args.app.now) (sym c.deref.ensures.value) c.in_ok-order.ensures
+pub returns : goal.returns
+returns c = subst (λ (w : WalkedCode). IsRunRecord w.config w.app c.args.load.now c.in_ok-record.record) c.of-walks.ensures c.in_ok-record.ensures

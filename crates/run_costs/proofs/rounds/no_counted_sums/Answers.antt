@@ -1,5 +1,4 @@
-use Rattle.sloth_base.specs.declared.config.TaskDecl.{TaskDecl}
-use Rattle.std.proofs.Common.{List, arith, false, get_or, length, refl, subst, sym, ◌≡◌, ◌≤◌}
+use Rattle.std.proofs.Common.{arith, false, get_or, refl, subst, sym, ◌≡◌, ◌≤◌, ℕ}
 use Rattle.walk_sums.proofs.Bodily.{facts_of}
 use Rattle.sloth_base.specs.Named.{declaration}
 use Rattle.walk_sums.specs.declared.tasks.RoundSums.{RoundSums}
@@ -16,14 +15,14 @@ loop-task-preserved c =
 
 pub returns : goal.returns
 returns c =
-    let config = c.args.config.now in
-    let app = c.args.app.now in
-    let over = subst (λ (x : List TaskDecl). length x ≤ c.loop-task._task) c.items-task-end.ensures c.loop-task-test.false in
-    let most = subst (λ (x : List TaskDecl). c.loop-task._task ≤ length x) c.items-task-end.ensures c.loop-task.auto._task-end in
+    let config = c.args.walks.now.config in
+    let app = c.args.walks.now.app in
+    let over = subst (λ (n : ℕ). n ≤ c.loop-task._task) c.tasks-task-end.ensures.is c.loop-task-test.false in
+    let most = subst (λ (n : ℕ). c.loop-task._task ≤ n) c.tasks-task-end.ensures.is c.loop-task.auto._task-end in
     let count = c.loop-task.invariant.count in
     record {
       count = omega (arith, over, most, count);
       each = λ t lt.
           subst (AreRounds app (get_or c.args.clean.now t false) (declaration config t).extended t (counted_weights c.args.counted app)) (sym (c.loop-task.invariant.each t (omega (arith, over, lt))))
-          (uncounted config app (facts_of config app c.requires.well_formed) t lt c.args.counted (get_or c.args.tops.now t 0) (c.requires.tops.each t lt) (c.requires.none t) _ _);
+          (uncounted config app (facts_of config app c.tasks-task-end.ensures.well_formed) t lt c.args.counted (get_or c.args.tops.now t 0) (c.requires.tops.each t lt) (c.requires.none t) _ _);
     }

@@ -5,4 +5,4 @@ use Rattle.run_costs.proofs.services.service_tops.Goals as goal
 
 pub loop-code-preserved : goal.loop-code-preserved
 loop-code-preserved c =
-    each_more (List ℕ) (AreServiceTops c.args.config.now c.args.app.now) c.loop-code.all.items c.push.new.list.items c.from_vec.result ([]) c.loop-code.code c.loop-code.invariant c.in_ok-push.ensures (subst (AreServiceTops c.args.config.now c.args.app.now c.loop-code.code) (sym c.from_vec.ensures) c.in_ok-tops.ensures)
+    each_more (List ℕ) (AreServiceTops c.args.walks.now.config c.args.walks.now.app) c.loop-code.all.items c.push.new.list.items c.from_vec.result ([]) c.loop-code.code c.loop-code.invariant c.in_ok-push.ensures (subst (AreServiceTops c.args.walks.now.config c.args.walks.now.app c.loop-code.code) (sym c.from_vec.ensures) c.in_ok-tops.ensures)

@@ -5,4 +5,4 @@ use Rattle.run_costs.specs.CostsOf.{AreEach}
 use Rattle.run_costs.proofs.services.services.Given as goal
 
 abbrev pub invariant-loop-named : goal.invariant-loop-named
-invariant-loop-named l = AreEach l.named ([]) (λ j. AreEach (length l.config.tasks) no_services (AreServices l.app j)) l.table.items
+invariant-loop-named l = AreEach l.named ([]) (λ j. AreEach (length l.walks.config.tasks) no_services (AreServices l.walks.app j)) l.table.items

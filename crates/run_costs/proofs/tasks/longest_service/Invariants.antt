@@ -3,4 +3,4 @@ use Rattle.run_windows.specs.RunWindows.{call_path}
 use Rattle.run_costs.proofs.tasks.longest_service.Given as goal
 
 abbrev pub invariant-loop-code : goal.invariant-loop-code
-invariant-loop-code l = IsGreatestTo l.app l.task call_path l.code l.most
+invariant-loop-code l = IsGreatestTo l.walks.app l.task call_path l.code l.most

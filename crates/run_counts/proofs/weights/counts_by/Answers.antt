@@ -12,7 +12,7 @@ loop-number-preserved c =
     let lengths = c.args.lengths.now.bodies in
     let app = c.args.app.now in
     let own = c.in_ok-own.own in
-    let here = subst (λ (f : Func). AreBodyCounts lengths c.loop-number.number f own) c.function_at.ensures c.in_ok-own.ensures in
+    let here = subst (λ (f : Func). AreBodyCounts lengths c.loop-number.number f own) c.numbered_function.ensures c.in_ok-own.ensures in
     let g =
     held_more BodyWeights (λ f w. AreBodyCounts lengths f (function app f) w) c.loop-number.weights.items c.push.new.list.items own no_weights c.loop-number.number
     c.loop-number.invariant.count c.loop-number.invariant.each c.in_ok-push.ensures here in

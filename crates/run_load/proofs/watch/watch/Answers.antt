@@ -40,10 +40,10 @@ loop-event-preserved c =
     let made = made-is config config app t start m.system c.follow.new.osek.system e c.is_made.result c.found-before.result.ready c.is_made.ensures c.found-before.ensures.ready leads refl in
     let quiet = quiet-is config m.config t m.system c.found-before.result.quiet c.found-before.ensures.quiet same in
     record {
-      seen = watched-more config app t start c.end_of-start.result c.loop-event.moments c.note.new.moments m.system c.follow.new.osek.system e c.loop-event.rest.now c.in-Some.behind.now _
+      seen = watched-more config app t start c.end_count-start.result c.loop-event.moments c.note.new.moments m.system c.follow.new.osek.system e c.loop-event.rest.now c.in-Some.behind.now _
           c.loop-event.watched.items c.push.new.list.items _ c.in-Some.ensures.cases.0
           (seen-is config t c.loop-event.moments (stage config app start m.system e) c.own_counts.result c.is_made.result c.found-before.result.quiet c.edge.result own made quiet c.edge.ensures)
-          c.end_of-start.ensures leads c.note.ensures c.loop-event.invariant.seen c.in_ok-push.ensures;
+          c.end_count-start.ensures leads c.note.ensures c.loop-event.invariant.seen c.in_ok-push.ensures;
       config = c.follow.ensures.config ∙ same;
       app = c.follow.ensures.app ∙ c.loop-event.invariant.app;
     }

@@ -16,6 +16,6 @@ returns c =
     let tasks = ap (λ (l : List TaskCosts). length l) c.items.ensures in
     let len = c.in_ok-numbers.numbers.ok.0 in
     let made : new ≡ c.from_vec.result = sym (c.from_vec.ensures ∙ take_at new _ c.in_ok-numbers.numbers.len (omega (arith, many, room, tasks, len))) in
-    are_parts c.args.longest c.args.late costs c.args.h c.args.window _ c.requires.number c.requires.some c.lead_of.ensures c.begun_item.ensures c.start_counts.ensures c.service_of.ensures
+    are_parts c.args.longest c.args.late costs c.args.h c.args.window _ c.requires.number c.requires.some c.lead_of.ensures c.begun_item.ensures c.start_counts.ensures.is c.service_of.ensures
     (subst (λ (n : List Made). IsLeast costs (run_window c.args.longest c.args.late costs c.args.h c.args.window.opens c.args.window.start) (numbers_of n) c.settled_counts-counts.result)
     made c.settled_counts-counts.ensures.least)

@@ -16,9 +16,9 @@ loop-task-preserved c = λ rest are.
     let tasks = c.args.tasks.now in
     let next = c.in-Some.ensures in
     let read = priority_read tasks c.in-Some.task c.index-tasks-task.result next.0 in
-    subst (λ (l : List Keeper). AreKeepersBy tasks c.args.ceilings.now c.args.users c.args.uses.now None (l ++ rest)) (sym c.in_ok-push-in-Some.ensures)
-    (fronts_more tasks c.args.ceilings.now c.args.users c.args.uses.now c.loop-task.above c.loop-task.list.items c.keeper_of.result c.in-Some.task c.loop-task.invariant next
-    c.keeper_of.ensures rest
+    subst (λ (l : List Keeper). AreKeepersBy tasks c.args.ceilings.now c.args.users c.args.uses.now None (l ++ rest)) (sym {A = List Keeper} c.in_ok-push-in-Some.ensures)
+    (fronts_more tasks c.args.ceilings.now c.args.users c.args.uses.now c.loop-task.above c.loop-task.list.items c.user_keeper.result c.in-Some.task c.loop-task.invariant next
+    c.user_keeper.ensures rest
     (subst (λ x. AreKeepersBy tasks c.args.ceilings.now c.args.users c.args.uses.now (Some x) rest) read are))
 
 pub returns-in-None : goal.returns-in-None

@@ -8,7 +8,7 @@ returns-clause-kept c =
     let config = c.args.verified.now.config in
     let app = c.args.verified.now.app in
     let are : AreVerdicts config app c.from_vec.result =
-    subst (λ x. AreVerdicts x app c.from_vec.result) c.config.ensures.is
-    (subst (λ x. AreVerdicts c.config.result.now x c.from_vec.result) c.app.ensures.is
-    (subst (λ x. AreVerdicts c.config.result.now c.app.result.now x) (sym c.from_vec.ensures) c.in_ok-list.ensures)) in
-    keeps_verdicts config app c.from_vec.result c.config.ensures.well_formed are
+    subst (λ x. AreVerdicts x app c.from_vec.result) c.config-config.ensures.is
+    (subst (λ x. AreVerdicts c.config-config.result.now x c.from_vec.result) c.app-app.ensures.is
+    (subst (λ x. AreVerdicts c.config-config.result.now c.app-app.result.now x) (sym c.from_vec.ensures) c.in_ok-list.ensures)) in
+    keeps_verdicts config app c.from_vec.result c.config-config.ensures.well_formed are

@@ -13,5 +13,5 @@ loop-number-preserved c =
     let verdicts = c.args.verdicts.now in
     let number = c.loop-number.number in
     c.in_ok-push_line.ensures
-    ∙ (ap (λ line. c.loop-number.text.items ++ line) (line-is config app verdicts number c.symbol_at.result.now c.verdict_at.result.now c.symbol_at.ensures c.verdict_at.ensures)
+    ∙ (ap (λ line. c.loop-number.text.items ++ line) (line-is config app verdicts number c.numbered_symbol-symbol.result.now c.numbered_verdict-verdict.result.now c.numbered_symbol-symbol.ensures c.numbered_verdict-verdict.ensures)
     ∙ (ap (λ text. text ++ share_line config app verdicts number) c.loop-number.invariant ∙ sym (one-line-more config app verdicts number)))

@@ -4,5 +4,5 @@ use Rattle.shares_text.proofs.text.shares_text.Goals as goal
 pub returns-clause-text : goal.returns-clause-text
 returns-clause-text c =
     let code = c.in_ok-checked.checked.verified in
-    IfOk-weaker c.text_of.result _ _ (λ text has. record { config = code.config; app = code.app; accepted = c.in_ok-checked.ensures.accepted; has_shares = has })
-    c.text_of.ensures.text
+    IfOk-weaker c.answer_text.result _ _ (λ text has. record { config = code.config; app = code.app; accepted = c.in_ok-checked.ensures.accepted; has_shares = has })
+    c.answer_text.ensures.text

@@ -21,11 +21,11 @@ returns c =
     let s = is_strange c.args.scope.now h in
     let a = c.args.notes.now.items in
     let b = c.add_named.new.notes.items in
-    let d = c.add_if.new.notes.items in
+    let d = c.add_bare.new.notes.items in
     let e = c.add_named-2.new.notes.items in
     let same = c.is_among_first-doubled.ensures ∙ ap (λ (w : List ℕ). list_any (bytes_eq w) earlier) c.name_of-name.ensures in
     let doubled = case_is Src t c.is_among_first-doubled.result n A5 a b same (c.in_ok-add_named.ensures Src) in
-    let great = case_is Src g c.is_header_beyond.result n A6 b d c.is_header_beyond.ensures (c.in_ok-add_if.ensures Src) in
+    let great = case_is Src g c.is_header_beyond.result n A6 b d c.is_header_beyond.ensures (c.in_ok-add_bare.ensures Src) in
     on_ok_weaker c.add_named-2.result
     (λ told.
     adds_both Src (SourceCase t n A5) (λ r. SourceCase g n A6 r ⊎ SourceCase s n A7 r) a b e doubled

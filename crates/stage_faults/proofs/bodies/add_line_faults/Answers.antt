@@ -12,13 +12,13 @@ pub returns : goal.returns
 returns c =
     let l = c.args.line.now in
     let n = c.args.number in
-    let t = is_misnamed c.args.scope.now c.args.labels.now (take c.args.count c.args.labels.now) l in
-    let m = is_line_beyond c.args.items l in
+    let t = is_misnamed c.args.scope.now c.args.labels.now (take c.args.before.count c.args.labels.now) l in
+    let m = is_line_beyond c.args.before.items l in
     let a = c.args.notes.now.items in
     let b = c.add_named.new.notes.items in
-    let d = c.add_if.new.notes.items in
-    on_ok_weaker c.add_if.result
+    let d = c.add_bare.new.notes.items in
+    on_ok_weaker c.add_bare.result
     (λ told.
     adds_both Src (SourceCase t n A5) (SourceCase m n A6) a b d (case_is Src t c.is_misnamed-test.result n A5 a b c.is_misnamed-test.ensures (c.in_ok-add_named.ensures Src))
     (case_is Src m c.is_line_beyond.result n A6 b d c.is_line_beyond.ensures (told Src)))
-    c.add_if.ensures
+    c.add_bare.ensures

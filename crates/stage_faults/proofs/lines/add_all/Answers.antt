@@ -1,4 +1,4 @@
-use Rattle.std.proofs.Common.{◌≡◌, ◌∙◌, ◌⊎◌, ℕ, ◌+◌, Bool, false, List, ap, sym, subst, take, length, refl, arith}
+use Rattle.std.proofs.Common.{◌≡◌, ◌∙◌, ℕ, ◌+◌, Bool, false, ap, sym, subst, take, length, refl, arith}
 use Rattle.std.specs.Prelude.{◌||◌, ◌&&◌, not}
 use Rattle.std.specs.List.{fold}
 use Rattle.std.proofs.lemmas.List.{length-take-le}
@@ -45,14 +45,14 @@ returns c =
     let k = c.loop-n.invariant in
     let a = c.args.notes.now.items in
     let b = c.loop-n.notes.items in
-    let d = c.add_if.new.notes.items in
+    let d = c.add_bare.new.notes.items in
     let e : c.loop-n.n ≡ length xs = omega arith in
     let all : take c.loop-n.n xs ≡ xs = ap (λ n. take n xs) e ∙ take-length xs in
-    let end : c.is_open.result ≡ is_told_end xs =
-    c.is_open.ensures ∙ (ap (λ t. t && not c.loop-n.earlier) (k.inside ∙ ap (fold after_line false) all)
+    let end : c.is_open-open.result ≡ is_told_end xs =
+    c.is_open-open.ensures ∙ (ap (λ t. t && not c.loop-n.earlier) (k.inside ∙ ap (fold after_line false) all)
     ∙ ap (λ t. is_end_inside xs && not t) (k.earlier ∙ ap (any_misplaced false) all)) in
-    on_ok_weaker c.add_if.result
+    on_ok_weaker c.add_bare.result
     (λ told.
     adds_both Src (Somewhere ToldAt xs) (SourceCase (is_told_end xs) (length xs) A1) a b d (adds_end Src ToldAt xs c.loop-n.n a b e k.told)
-    (case_is Src (is_told_end xs) c.is_open.result (length xs) A1 b d end (told Src)))
-    c.add_if.ensures
+    (case_is Src (is_told_end xs) c.is_open-open.result (length xs) A1 b d end (told Src)))
+    c.add_bare.ensures

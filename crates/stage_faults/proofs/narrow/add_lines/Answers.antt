@@ -21,12 +21,12 @@ loop-n-preserved c =
     let none : Bor (List ℕ) = record { ref_ptr = (0, 0); now = [] } in
     let x = (get_or refs i none).now in
     let a = c.loop-n.notes.items in
-    let b = c.add_if.new.notes.items in
+    let b = c.add_bare.new.notes.items in
     let long = length-map refs referent in
     let within : i < length xs = let t = c.loop-n-test.true in omega (arith, long, t) in
     let at : x ≡ get_or xs i x = sym (get_or-map referent refs i none x c.loop-n-test.true) in
     let place : i ≡ length (take i xs) = let t = c.loop-n-test.true in sym (length-take-le i xs (omega (arith, long, t))) in
-    let one = case_is Src (is_narrow_a4 x) c.in_ok-test.test (i + 1) A4 a b c.in_ok-test.ensures (c.in_ok-add_if.ensures Src) in
+    let one = case_is Src (is_narrow_a4 x) c.in_ok-test.test (i + 1) A4 a b c.in_ok-test.ensures (c.in_ok-add_bare.ensures Src) in
     let found = subst (λ (n : ℕ). Adds Src (SourceCase (is_narrow_a4 x) (n + 1) A4) a b) place one in
     adds_more Src NarrowFault xs i x c.args.notes.now.items a b within at c.loop-n.invariant found
 

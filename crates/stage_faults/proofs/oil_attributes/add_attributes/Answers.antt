@@ -1,4 +1,4 @@
-use Rattle.std.proofs.Common.{◌≡◌, ◌∙◌, ◌+◌, Bool, Option, None, List, ℕ, ap, sym, subst, take, length, refl, arith}
+use Rattle.std.proofs.Common.{◌≡◌, ◌∙◌, Bool, Option, None, List, ap, sym, subst, take, length, refl, arith}
 use Rattle.std.proofs.lemmas.List.Sums.{fold_more}
 use Rattle.sloth_base.specs.declared.refusal.Part.TheVariants.{Oil}
 use Rattle.oil_parse.specs.declared.tree.OilAttr.{OilAttr}
@@ -7,13 +7,13 @@ use Rattle.oil_table.specs.declared.table.Place.TheVariants.{Nowhere}
 use Rattle.oil_table.specs.Table.{attribute_of}
 use Rattle.oil_rules.specs.AttributeFaults.{opened_place, place_by}
 use Rattle.stage_faults.specs.Told.{Adds}
-use Rattle.stage_faults.specs.ToldModel.{Opened, row_by, is_at_fault, is_inside, fault_behind, opened_more, opened_by, ToldRow, ToldOpened, ToldAttribute}
+use Rattle.stage_faults.specs.ToldModel.{Opened, row_by, is_at_fault, fault_behind, opened_more, opened_by, ToldRow, ToldOpened, ToldAttribute}
 use Rattle.stage_faults.proofs.Telling.{adds_nowhere, adds_more, adds_end}
 use Rattle.stage_faults.proofs.oil_attributes.add_attributes.Goals as goal
 
 pub loop-number-init : goal.loop-number-init
 loop-number-init c = record {
-  told = adds_nowhere Oil (ToldAttribute c.args.objects.now c.args.scheduler c.args.limits c.args.place) c.args.notes.now.items;
+  told = adds_nowhere Oil (ToldAttribute c.args.tables.now.objects.now c.args.tables.now.scheduler c.args.limits c.args.place) c.args.notes.now.items;
   opens = refl;
   depth = c.new-before.ensures.depth;
   behind = c.new-before.ensures.attrs;
@@ -22,8 +22,8 @@ loop-number-init c = record {
 pub loop-number-preserved : goal.loop-number-preserved
 loop-number-preserved c =
     let attrs = c.args.attrs.now in
-    let objects = c.args.objects.now in
-    let scheduler = c.args.scheduler in
+    let objects = c.args.tables.now.objects.now in
+    let scheduler = c.args.tables.now.scheduler in
     let limits = c.args.limits in
     let place = c.args.place in
     let x = c.index-attrs-number.result in
@@ -59,4 +59,4 @@ pub returns : goal.returns
 returns c =
     let xs = c.args.attrs.now in
     let e : c.loop-number.number ≡ length xs = omega arith in
-    adds_end Oil (ToldAttribute c.args.objects.now c.args.scheduler c.args.limits c.args.place) xs c.loop-number.number c.args.notes.now.items c.loop-number.notes.items e c.loop-number.invariant.told
+    adds_end Oil (ToldAttribute c.args.tables.now.objects.now c.args.tables.now.scheduler c.args.limits c.args.place) xs c.loop-number.number c.args.notes.now.items c.loop-number.notes.items e c.loop-number.invariant.told

@@ -23,15 +23,15 @@ returns c =
     let left = is_unlisted c.args.block.now.objects c.args.place c.args.block.now.inner x in
     let beyond = is_beyond limits row x in
     let a = c.args.notes.now.items in
-    let b = c.add_at.new.notes.items in
-    let d = c.add_at-2.new.notes.items in
-    let e = c.add_at-3.new.notes.items in
+    let b = c.add_placed.new.notes.items in
+    let d = c.add_placed-2.new.notes.items in
+    let e = c.add_placed-3.new.notes.items in
     let one = case_is Oil second c.is_second-second.result n O9 a b
-    (c.is_second-second.ensures ∙ ap (λ depth. is_second depth c.attribute_of-row.result before x) c.requires ∙ ap (λ (r : Option Attribute). is_second 1 r before x) is_row) (c.in_ok-add_at.ensures Oil) in
-    let two = case_is Oil left c.is_unlisted-unlisted.result n O10 b d c.is_unlisted-unlisted.ensures (c.in_ok-add_at-2.ensures Oil) in
-    on_ok_weaker c.add_at-3.result
+    (c.is_second-second.ensures ∙ ap (λ depth. is_second depth c.attribute_of-row.result before x) c.requires ∙ ap (λ (r : Option Attribute). is_second 1 r before x) is_row) (c.in_ok-add_placed.ensures Oil) in
+    let two = case_is Oil left c.is_unlisted-unlisted.result n O10 b d c.is_unlisted-unlisted.ensures (c.in_ok-add_placed-2.ensures Oil) in
+    on_ok_weaker c.add_placed-3.result
     (λ told.
     adds_both Oil (OilCase second n O9) (λ r. OilCase left n O10 r ⊎ OilCase beyond n O12 r) a b e one
     (adds_both Oil (OilCase left n O10) (OilCase beyond n O12) b d e two
     (case_is Oil beyond c.is_beyond-beyond.result n O12 d e (c.is_beyond-beyond.ensures ∙ ap (λ (r : Option Attribute). is_beyond limits r x) is_row) (told Oil))))
-    c.add_at-3.ensures
+    c.add_placed-3.ensures

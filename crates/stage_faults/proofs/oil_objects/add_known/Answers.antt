@@ -18,13 +18,13 @@ returns c =
     let strange = is_strange_mode o in
     let above = is_told_above front o in
     let a = c.args.notes.now.items in
-    let b = c.add_at.new.notes.items in
-    let d = c.add_if.new.notes.items in
-    let e = c.add_at-2.new.notes.items in
+    let b = c.add_placed.new.notes.items in
+    let d = c.add_bare.new.notes.items in
+    let e = c.add_placed-2.new.notes.items in
     let f = c.add_named.new.notes.items in
-    let one = case_is Oil doubled c.is_doubled-doubled.result n O9 a b c.is_doubled-doubled.ensures (c.in_ok-add_at.ensures Oil) in
-    let two = case_is Oil lacks c.lacks_attribute.result n O11 b d c.lacks_attribute.ensures (c.in_ok-add_if.ensures Oil) in
-    let three = case_is Oil strange c.is_strange_mode.result n O12 d e c.is_strange_mode.ensures (c.in_ok-add_at-2.ensures Oil) in
+    let one = case_is Oil doubled c.is_doubled-doubled.result n O9 a b c.is_doubled-doubled.ensures (c.in_ok-add_placed.ensures Oil) in
+    let two = case_is Oil lacks c.lacks_attribute.result n O11 b d c.lacks_attribute.ensures (c.in_ok-add_bare.ensures Oil) in
+    let three = case_is Oil strange c.is_strange_mode.result n O12 d e c.is_strange_mode.ensures (c.in_ok-add_placed-2.ensures Oil) in
     on_ok_weaker c.add_named.result
     (λ told.
     adds_both Oil (OilCase doubled n O9) (λ r. OilCase lacks n O11 r ⊎ (OilCase strange n O12 r ⊎ OilCase above n O14 r)) a b f one

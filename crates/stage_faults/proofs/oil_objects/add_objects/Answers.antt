@@ -9,16 +9,16 @@ use Rattle.stage_faults.proofs.oil_objects.add_objects.Goals as goal
 
 pub loop-number-init : goal.loop-number-init
 loop-number-init c = record {
-  told = adds_nowhere Oil (ToldObject c.args.table.now c.args.scheduler c.args.events.now) c.args.notes.now.items;
+  told = adds_nowhere Oil (ToldObject c.args.tables.now.objects.now c.args.tables.now.scheduler c.args.tables.now.events.now) c.args.notes.now.items;
   behind = c.new-front.ensures;
 }
 
 pub loop-number-preserved : goal.loop-number-preserved
 loop-number-preserved c =
     let objects = c.args.objects.now in
-    let table = c.args.table.now in
-    let events = c.args.events.now in
-    let scheduler = c.args.scheduler in
+    let table = c.args.tables.now.objects.now in
+    let events = c.args.tables.now.events.now in
+    let scheduler = c.args.tables.now.scheduler in
     let x = c.index-objects-number.result in
     let i = c.loop-number.number in
     let k = c.loop-number.invariant in
@@ -36,4 +36,4 @@ pub returns : goal.returns
 returns c =
     let xs = c.args.objects.now in
     let e : c.loop-number.number ≡ length xs = omega arith in
-    adds_end Oil (ToldObject c.args.table.now c.args.scheduler c.args.events.now) xs c.loop-number.number c.args.notes.now.items c.loop-number.notes.items e c.loop-number.invariant.told
+    adds_end Oil (ToldObject c.args.tables.now.objects.now c.args.tables.now.scheduler c.args.tables.now.events.now) xs c.loop-number.number c.args.notes.now.items c.loop-number.notes.items e c.loop-number.invariant.told

@@ -27,10 +27,10 @@ returns c =
     let Bits = Somewhere (BitFault objects) objects in
     let bits = subst (λ (x : List OilObject). Adds Oil (Somewhere (BitFault x) x) a b) own c.in_ok-add_events.ensures in
     let of_objects = subst (λ (x : List EventDecl). Adds Oil (Somewhere (ToldObject objects (has_scheduler objects) x) objects) b d) c.requires.events
-    (subst (λ (t : Bool). Adds Oil (Somewhere (ToldObject objects t c.args.events.now) objects) b d) c.requires.scheduler
-    (subst (λ (x : List OilObject). Adds Oil (Somewhere (ToldObject x c.args.scheduler c.args.events.now) objects) b d) c.requires.objects
-    (subst (λ (x : List OilObject). Adds Oil (Somewhere (ToldObject c.args.table.now c.args.scheduler c.args.events.now) x) b d) own c.in_ok-add_objects.ensures))) in
-    let without = ap not c.has_os.ensures ∙ ap lacks_os c.requires.objects in
+    (subst (λ (t : Bool). Adds Oil (Somewhere (ToldObject objects t c.args.tables.now.events.now) objects) b d) c.requires.scheduler
+    (subst (λ (x : List OilObject). Adds Oil (Somewhere (ToldObject x c.args.tables.now.scheduler c.args.tables.now.events.now) objects) b d) c.requires.objects
+    (subst (λ (x : List OilObject). Adds Oil (Somewhere (ToldObject c.args.tables.now.objects.now c.args.tables.now.scheduler c.args.tables.now.events.now) x) b d) own c.in_ok-add_objects.ensures))) in
+    let without = ap not c.has_os-lacking.ensures ∙ ap lacks_os c.requires.objects in
     on_ok_weaker c.add_named.result
-    (λ told. adds_turned Oil Bits Objects (OilCase (lacks_os objects) tree.cpu_line O11) a b d e bits of_objects (case_is Oil (lacks_os objects) (not c.has_os.result) tree.cpu_line O11 d e without (told Oil)))
+    (λ told. adds_turned Oil Bits Objects (OilCase (lacks_os objects) tree.cpu_line O11) a b d e bits of_objects (case_is Oil (lacks_os objects) (not c.has_os-lacking.result) tree.cpu_line O11 d e without (told Oil)))
     c.add_named.ensures

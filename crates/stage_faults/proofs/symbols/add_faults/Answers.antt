@@ -16,9 +16,9 @@ returns c =
     let m = is_symbol_beyond c.args.count c.args.bytes l in
     let a = c.args.notes.now.items in
     let b = c.add_named.new.notes.items in
-    let d = c.add_if.new.notes.items in
-    on_ok_weaker c.add_if.result
+    let d = c.add_bare.new.notes.items in
+    on_ok_weaker c.add_bare.result
     (λ told.
     adds_both Src (SourceCase t n A5) (SourceCase m n A6) a b d (case_is Src t c.is_taken-taken.result n A5 a b c.is_taken-taken.ensures (c.in_ok-add_named.ensures Src))
-    (case_is Src m c.is_symbol_beyond.result n A6 b d c.is_symbol_beyond.ensures (told Src)))
-    c.add_if.ensures
+    (case_is Src m c.is_symbol_beyond-beyond.result n A6 b d c.is_symbol_beyond-beyond.ensures (told Src)))
+    c.add_bare.ensures

@@ -1,7 +1,6 @@
-use Rattle.std.proofs.Common.{◌≡◌, List, sym, subst}
+use Rattle.std.proofs.Common.{◌≡◌, sym, subst}
 use Rattle.std.specs.List.Sorted.{IsNonDecreasingBy}
 use Rattle.std.proofs.lemmas.Result.{IfOk-weaker}
-use Rattle.stage_faults.specs.declared.notes.Note.{Note}
 use Rattle.stage_faults.specs.Told.{note_order, told_from, AreInOrder, TellSame}
 use Rattle.stage_faults.proofs.Places.{tell_permuted}
 use Rattle.stage_faults.proofs.ToldOnce.{once_in_order, once_same}

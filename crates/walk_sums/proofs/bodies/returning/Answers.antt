@@ -8,8 +8,8 @@ use Rattle.walk_sums.specs.KnownBodies.{returns_of}
 use Rattle.walk_sums.proofs.Bodily.{returns_is, number_known, number_inside, knows_more}
 use Rattle.walk_sums.proofs.bodies.returning.Goals as goal
 
-pub function_at-func-requires : goal.function_at-func-requires
-function_at-func-requires c =
+pub numbered_function-func-requires : goal.numbered_function-func-requires
+numbered_function-func-requires c =
     number_known c.args.app.now c.args.order.now c.requires.order c.loop-number.number-index c.loop-number-test.true c.loop-number.returns.items
     c.loop-number.invariant.count c.loop-number.invariant.each
 
@@ -31,13 +31,13 @@ loop-number-preserved c =
     let there = number_known c.args.app.now c.args.order.now c.requires.order c.loop-number.number-index c.loop-number-test.true c.loop-number.returns.items
     c.loop-number.invariant.count c.loop-number.invariant.each in
     let same =
-    c.returns_of.ensures ∙ ap (λ (g : Func). returns_of g c.deref-in-loop-number.result.now) c.function_at-func.ensures
+    c.has_return.ensures ∙ ap (λ (g : Func). returns_of g c.deref-in-loop-number.result.now) c.numbered_function-func.ensures
     ∙ ap (λ (m : List Bool). returns_of (function c.args.app.now f) m) c.deref-in-loop-number.ensures.value in
     let decides =
     subst (λ (b : Bool). Decides b (CanReturn c.args.app.now f)) (sym same)
     (returns_is c.args.config.now c.args.app.now c.requires.well_formed f there c.in_ok-reached.reached.items c.in_ok-reached.ensures.exact) in
     record {
-      count = length-set c.loop-number.returns.items f c.returns_of.result ∙ c.loop-number.invariant.count;
+      count = length-set c.loop-number.returns.items f c.has_return.result ∙ c.loop-number.invariant.count;
       each = knows_more c.args.app.now c.args.order.now c.requires.order c.loop-number.number-index c.loop-number-test.true c.loop-number.returns.items
-          c.loop-number.invariant.count c.loop-number.invariant.each c.returns_of.result decides;
+          c.loop-number.invariant.count c.loop-number.invariant.each c.has_return.result decides;
     }

@@ -1,5 +1,4 @@
-use Rattle.std.proofs.Common.{ℕ, List, sym, subst}
-use Rattle.bound_rules.specs.declared.bodies.Body.{Body}
+use Rattle.std.proofs.Common.{sym, subst}
 use Rattle.walk_sums.specs.CallOrder.{IsCallOrder}
 use Rattle.walk_sums.specs.KnownBodies.{AreKnownBodies}
 use Rattle.walk_sums.proofs.Bodily.{facts_of}

@@ -3,5 +3,5 @@ use Rattle.walk_sums.specs.Graph.{AreInside}
 use Rattle.walk_sums.proofs.Filling.{paths_inside}
 use Rattle.walk_sums.proofs.caller.Caller.ending_trails.Goals as goal
 
-pub longest_by-requires-clause-inside : goal.longest_by-requires-clause-inside
-longest_by-requires-clause-inside c = subst AreInside (sym c.items-3.ensures) (paths_inside c.args.self.now c.args.paths.now c.requires.paths)
+pub longest_sizes-requires-clause-inside : goal.longest_sizes-requires-clause-inside
+longest_sizes-requires-clause-inside c = subst AreInside (sym c.items-3.ensures) (paths_inside c.args.self.now c.args.paths.now c.requires.paths)

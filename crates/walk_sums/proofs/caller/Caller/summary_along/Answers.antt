@@ -15,7 +15,7 @@ pub returns-clause-is : goal.returns-clause-is
 returns-clause-is c =
     let paths = c.args.paths.now in
     let no_loop = loop_none paths.ways paths.steps paths.shape c.requires.paths.shape (sym c.is_endless.ensures ∙ c.if-is_endless.false) in
-    subst (IsSummaryFor c.args.self.now) (sym c.summary_by.ensures)
+    subst (IsSummaryFor c.args.self.now) (sym c.trail_summary.ensures)
     (exact_by c.args.self.now c.requires.before c.requires.bounded paths c.requires.paths no_loop c.in_ok-sizes.sizes c.in_ok-sizes.ensures.trails)
 
 pub returns-clause-small : goal.returns-clause-small
@@ -23,6 +23,6 @@ returns-clause-small c =
     let v = c.args.self.now in
     let paths = c.args.paths.now in
     let no_loop = loop_none paths.ways paths.steps paths.shape c.requires.paths.shape (sym c.is_endless.ensures ∙ c.if-is_endless.false) in
-    subst IsCountedUp (sym c.summary_by.ensures)
+    subst IsCountedUp (sym c.trail_summary.ensures)
     (exact_small v.config v.app v.weights v.kind v.known.level v.number _
     (exact_by v c.requires.before c.requires.bounded paths c.requires.paths no_loop c.in_ok-sizes.sizes c.in_ok-sizes.ensures.trails))

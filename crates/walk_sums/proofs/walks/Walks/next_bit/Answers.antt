@@ -27,5 +27,5 @@ returns c =
     subst (λ (l : List Summary). AreAlsoClearing w.app.funcs (length w.config.tasks) l marks both) c.deref.ensures.value
     (subst (λ (p : App). AreAlsoClearing p.funcs (length w.config.tasks) c.deref.result.now marks both) c.app.ensures.is
     (subst (λ (g : Config). AreAlsoClearing c.app.result.now.funcs (length g.tasks) c.deref.result.now marks both) c.config.ensures.is a)) in
-    bit_more w.config w.app c.config.ensures.well_formed c.args.bit c.mask_of.result table marks both c.mask_of.ensures c.in_ok-table.ensures c.requires.marks also.count also.exact in
+    bit_more w.config w.app c.config.ensures.well_formed c.args.bit c.bit_mask.result table marks both c.bit_mask.ensures c.in_ok-table.ensures c.requires.marks also.count also.exact in
     IfOk-weaker _ _ _ (λ v a. made _ a) c.also_clear.ensures

@@ -6,8 +6,8 @@ use Rattle.walk_sums.proofs.OrderSummaries.{AreSummariesOf}
 use Rattle.walk_sums.proofs.Summaries.{next_known, next_inside, called_summed, one_summed}
 use Rattle.walk_sums.proofs.walks.Walks.whole_sums.Goals as goal
 
-pub summary_of-requires : goal.summary_of-requires
-summary_of-requires c =
+pub function_summary-requires : goal.function_summary-requires
+function_summary-requires c =
     let w = c.args.self.now in
     let weights = c.args.weights.now in
     let walked = c.order-number-items.ensures.walked in

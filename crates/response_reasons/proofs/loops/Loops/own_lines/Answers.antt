@@ -1,0 +1,39 @@
+use Rattle.std.proofs.Common.{◌≡◌, ◌∙◌, ℕ, ◌+◌, ◌<◌, List, get_or, length, set, take, Option, None, Some, ap, sym, subst, arith}
+use Rattle.response_reasons.specs.LoopCode.{LoopCode, IsLoopCode, IsLeastLine}
+use Rattle.response_reasons.proofs.Tables.{AreLinesOf, next_known, next_inside, one_more_line}
+use Rattle.response_reasons.proofs.loops.Loops.own_lines.Goals as goal
+
+pub line-requires-clause-known : goal.line-requires-clause-known
+line-requires-clause-known c =
+    let v = c.args.self.now in
+    let is = subst IsLoopCode c.self.view_is c.self.invariant in
+    let order : c.self.inside.order.now ≡ v.walks.order = ap (λ (x : LoopCode). x.walks.order) c.self.view_is in
+    let k = c.loop-number.number-index in
+    let lt = subst (λ (l : List ℕ). k < length l) order c.loop-number-test.true in
+    subst (λ (l : List ℕ). get_or l k 0 < length v.walks.app.funcs) (sym order)
+    (next_known v (Some c.args.priority) v.walks.order is.walked.order c.loop-number.lines.items k c.loop-number.invariant lt)
+
+pub index_mut-requires : goal.index_mut-requires
+index_mut-requires c =
+    let v = c.args.self.now in
+    let is = subst IsLoopCode c.self.view_is c.self.invariant in
+    let order : c.self.inside.order.now ≡ v.walks.order = ap (λ (x : LoopCode). x.walks.order) c.self.view_is in
+    let k = c.loop-number.number-index in
+    let lt = subst (λ (l : List ℕ). k < length l) order c.loop-number-test.true in
+    let inside = subst (λ (l : List ℕ). get_or l k 0 < length c.loop-number.lines.items) (sym order)
+    (next_inside v (Some c.args.priority) v.walks.order is.walked.order c.loop-number.lines.items k c.loop-number.invariant lt) in
+    let len = c.loop-number.lines.ok.0 in
+    omega (arith, inside, len)
+
+pub loop-number-preserved : goal.loop-number-preserved
+loop-number-preserved c =
+    let v = c.args.self.now in
+    let is = subst IsLoopCode c.self.view_is c.self.invariant in
+    let order : c.self.inside.order.now ≡ v.walks.order = ap (λ (x : LoopCode). x.walks.order) c.self.view_is in
+    let k = c.loop-number.number-index in
+    let lines = c.loop-number.lines.items in
+    let line = c.in_ok-line.line in
+    let lt = subst (λ (l : List ℕ). k < length l) order c.loop-number-test.true in
+    let here = subst (λ (l : List ℕ). IsLeastLine v (Some c.args.priority) (get_or l k 0) line) order c.in_ok-line.ensures in
+    subst (λ (l : List ℕ). AreLinesOf v (Some c.args.priority) (take (k + 1) v.walks.order) (set lines (get_or l k 0) line)) (sym order)
+    (one_more_line v (Some c.args.priority) v.walks.order is.walked.order lines k c.loop-number.invariant lt line here)

@@ -1,0 +1,4 @@
+pub mod Doubled
+pub mod Loops
+pub mod LoopCode
+pub mod Reasons

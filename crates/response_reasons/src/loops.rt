@@ -1,0 +1,249 @@
+//! Loops in bodies, function by function.
+ghost use Rattle.std.specs.Prelude.{◌≡◌, ◌+◌, ◌<◌, ℕ, None, Some, false, length, get_or, IfOk};
+ghost use Rattle.sloth_base.specs.Named.{function, item_of};
+ghost use Rattle.code_rules.specs.Code.{HasCall};
+ghost use Rattle.bound_rules.specs.Summaries.{summary_of};
+ghost use Rattle.run_windows.specs.Costs.{lesser};
+ghost use Rattle.run_windows.specs.RunWindows.{IsLeastOf};
+ghost use Rattle.walk_sums.specs.Graph.{AreInside};
+ghost use Rattle.walk_sums.specs.Known.{AreSums};
+ghost use Rattle.walk_sums.specs.Weights.{AreWeights};
+ghost use Rattle.response_reasons.specs.LoopCode.{IsLoopCode, is_limited, AreLoopWays, IsLineOfLoop, line_at, called_line, IsLeastLine, AreLeastLines};
+
+use crate::doubled::{doubled, is_on_loop};
+use bound_rules::{Body, BodyWeights, Summary, is_marked, number_at, reaches_level, weights_at};
+use run_windows::fronts::lesser;
+use sloth_base::{App, Config, Func, NoMemory, Op};
+use std::alloc::Global;
+use std::marker::Model;
+use text_pieces::push;
+use walk_sums::graph::Ways;
+use walk_sums::items::{alive_items, going_items, going_sizes};
+use walk_sums::links::body_ways;
+use walk_sums::{Kind, Walks, numbered_body, numbered_function};
+
+/// Task code with weights, and by them the summaries of its functions where their callers have raised the task.
+pub struct Loops<'a> {
+    alloc: Global,
+    config: &'a Config,
+    app: &'a App,
+    order: &'a [usize],
+    bodies: &'a [Body],
+    weights: &'a [BodyWeights],
+    kind: Kind,
+    whole: &'a [Summary],
+}
+
+// Written out: what is derived is proved anew wherever a value is let go.
+impl Drop for Loops<'_> {
+    fn drop(self) {
+        let Loops {
+            alloc: _,
+            config: _,
+            app: _,
+            order: _,
+            bodies: _,
+            weights: _,
+            kind: _,
+            whole: _,
+        } = self;
+    }
+}
+
+impl<'a> Model for Loops<'a> {
+    ghost use Rattle.response_reasons.specs.LoopCode.{LoopCode, IsLoopCode};
+
+    ghost Value = { LoopCode };
+
+    ghost view = { λ l. record {
+      walks = record { config = l.config.now; app = l.app.now; order = l.order.now; bodies = l.bodies.now };
+      weights = l.weights.now;
+      kind = l.kind;
+      whole = l.whole.now;
+    } };
+
+    ghost invariant = { λ l. IsLoopCode (record {
+      walks = record { config = l.config.now; app = l.app.now; order = l.order.now; bodies = l.bodies.now };
+      weights = l.weights.now;
+      kind = l.kind;
+      whole = l.whole.now;
+    }) };
+}
+
+fn is_limited(summary: &Summary) -> bool
+    ensures { result ≡ is_limited summary.now }
+{
+    !summary.is_endless && 0 < summary.back
+}
+
+/// The functions through which a part may go, and whose parts have a limit.
+fn limited_functions(alloc: Global, whole: &[Summary]) -> Result<Vec<bool>, NoMemory>
+    ensures { IfOk result (λ limited. (g : ℕ) → get_or limited.items g false ≡ is_limited (summary_of whole.now g)) }
+{
+    let mut limited = Vec::new(alloc);
+    for summary in whole {
+        push(&mut limited, is_limited(summary))?;
+    }
+    Ok(limited)
+}
+
+/// The line of an item that lies on a loop.
+fn own_line(
+    alloc: Global,
+    func: &Func,
+    twice: &[Ways],
+    item: usize,
+) -> Result<Option<u32>, NoMemory>
+    requires inside { AreInside twice.now }
+    requires both { length twice.now ≡ length func.now.items + length func.now.items }
+    requires known { item < length func.now.items }
+    ensures { IfOk result (IsLeastOf (IsLineOfLoop func.now twice.now item)) }
+{
+    let items = func.items.items();
+    if is_on_loop(alloc, twice, items.len(), item)? {
+        Ok(Some(items[item].line))
+    } else {
+        Ok(None)
+    }
+}
+
+/// The line of a function, by a table.
+pub fn line_at(lines: &[Option<u32>], number: usize) -> Option<u32>
+    ensures { result ≡ line_at lines.now number }
+{
+    match lines.get(number) {
+        Some(line) => *line,
+        None => None,
+    }
+}
+
+/// That of the function that an item calls.
+fn called_line(
+    func: &Func,
+    body: &Body,
+    level: Option<u32>,
+    whole: &[Option<u32>],
+    own: &[Option<u32>],
+    item: usize,
+) -> Option<u32>
+    requires { item < length func.now.items }
+    ensures { result ≡ called_line body.now level whole.now own.now item (item_of func.now item).op }
+{
+    match func.items.items()[item].op {
+        Op::Invoke { func } => {
+            if !is_marked(body.reached.items(), item) {
+                None
+            } else if reaches_level(level, number_at(body.ceilings.items(), item)) {
+                line_at(whole, func.0 as usize)
+            } else {
+                line_at(own, func.0 as usize)
+            }
+        }
+        _ => None,
+    }
+}
+
+fn no_lines(alloc: Global, count: usize) -> Result<Vec<Option<u32>>, NoMemory>
+    ensures count { IfOk result (λ lines. length lines.items ≡ count) }
+{
+    let mut lines = Vec::new(alloc);
+    for _number in 0..count {
+        push(&mut lines, None)?;
+    }
+    Ok(lines)
+}
+
+impl<'a> Loops<'a> {
+    /// Of task code that is walked.
+    pub fn of(
+        walks: &'a Walks<'a>,
+        weights: &'a [BodyWeights],
+        kind: Kind,
+        whole: &'a [Summary],
+    ) -> Loops<'a>
+        requires weights { AreWeights walks.now.app weights.now }
+        requires whole { AreSums walks.now.config walks.now.app weights.now kind None whole.now }
+        ensures { result ≡ record { walks = walks.now; weights = weights.now; kind = kind; whole = whole.now } }
+    {
+        Loops {
+            alloc: walks.alloc(),
+            config: walks.config(),
+            app: walks.app(),
+            order: walks.order(),
+            bodies: walks.bodies(),
+            weights,
+            kind,
+            whole,
+        }
+    }
+
+    /// The nodes of a body, twice, and the ways between them.
+    fn ways(&self, level: Option<u32>, number: usize) -> Result<Vec<Ways>, NoMemory>
+        requires { number < length self.now.walks.app.funcs }
+        ensures { IfOk result (λ twice. AreLoopWays self.now level number twice.items) }
+    {
+        let func = numbered_function(self.app, number);
+        let alive = alive_items(self.alloc, func, numbered_body(self.bodies, number), level)?;
+        let going = going_items(self.alloc, func, self.kind, &alive)?;
+        let limited = limited_functions(self.alloc, self.whole)?;
+        let ways = body_ways(self.alloc, func, &limited, &going, &alive)?;
+        let weights = weights_at(self.weights, number);
+        let steps = going_sizes(self.alloc, func, weights.going.items(), self.whole)?;
+        doubled(self.alloc, &ways, &steps)
+    }
+
+    /// The least line of an item on a loop in function `number`, or in one that it calls: by those of these, where the
+    /// task is raised as they are called, and where not.
+    fn line(
+        &self,
+        level: Option<u32>,
+        number: usize,
+        whole: &[Option<u32>],
+        own: &[Option<u32>],
+    ) -> Result<Option<u32>, NoMemory>
+        requires known { number < length self.now.walks.app.funcs }
+        requires whole { (g : ℕ) → HasCall self.now.walks.app number g → IsLeastLine self.now None g (line_at whole.now g) }
+        requires own { (g : ℕ) → HasCall self.now.walks.app number g → IsLeastLine self.now level g (line_at own.now g) }
+        ensures { IfOk result (IsLeastLine self.now level number) }
+    {
+        let func = numbered_function(self.app, number);
+        let body = numbered_body(self.bodies, number);
+        let twice = self.ways(level, number)?;
+        let mut least = None;
+        for item in 0..func.items.items().len() {
+            let here = own_line(self.alloc, func, &twice, item)?;
+            let called = called_line(func, body, level, whole, own, item);
+            least = lesser(least, lesser(here, called));
+        }
+        Ok(least)
+    }
+
+    /// Those of all functions where their callers have raised the task.
+    pub fn whole_lines(&self) -> Result<Vec<Option<u32>>, NoMemory>
+        ensures { IfOk result (λ lines. AreLeastLines self.now None lines.items) }
+    {
+        let mut lines = no_lines(self.alloc, self.app.funcs.items().len())?;
+        for number in self.order {
+            let line = self.line(None, *number, &lines, &lines)?;
+            lines[*number] = line;
+        }
+        Ok(lines)
+    }
+
+    /// Those where functions raise it to a priority by what they hold themselves.
+    pub fn own_lines(
+        &self,
+        priority: u32,
+        whole: &[Option<u32>],
+    ) -> Result<Vec<Option<u32>>, NoMemory>
+        requires { AreLeastLines self.now None whole.now }
+        ensures { IfOk result (λ lines. AreLeastLines self.now (Some priority) lines.items) }
+    {
+        let mut lines = no_lines(self.alloc, self.app.funcs.items().len())?;
+        for number in self.order {
+            let line = self.line(Some(priority), *number, whole, &lines)?;
+            lines[*number] = line;
+        }
+        Ok(lines)
+    }
+}

@@ -1,0 +1,338 @@
+-- What comes within windows by rates, and by curves.
+use Rattle.std.proofs.Common.{◌≡◌, ◌∙◌, ℕ, ◌+◌, ◌-◌, ◌*◌, ◌/◌, ◌<◌, ◌≤◌, ◌⊎◌, inl, inr, min, Bool, true, false, cond, List, [], ◌∷◌, length, drop, get_or, set, replicate, Option, Some, None, refl, sym, subst, ap, true≢false, arith}
+use Rattle.std.specs.Prelude.{◌==◌, unwrap_or, is_some}
+use Rattle.std.proofs.Math.Nat.{add-mul, mul-add, mul_assoc, mul_comm, mul_right_comm, mul-le-mul_left, mul-le-mul_right, le_of_mul-le-mul_left, div-mul-le_self, lt-mul-div-succ, div-le_of_le-mul, div-zero}
+use Rattle.std.proofs.lemmas.Bool.{cases_lt}
+use Rattle.std.proofs.lemmas.Bool.Decides.{eqb_tells}
+use Rattle.std.proofs.lemmas.List.{at_drop_more, at_drop_all}
+use Rattle.run_windows.specs.declared.costs.AlarmCosts.{AlarmCosts}
+use Rattle.run_windows.specs.declared.costs.CounterCosts.{CounterCosts}
+use Rattle.run_windows.specs.declared.costs.Makings.{Makings}
+use Rattle.run_windows.specs.declared.costs.TaskCosts.{TaskCosts}
+use Rattle.run_windows.specs.declared.costs.Costs.{Costs}
+use Rattle.run_windows.specs.declared.curves.Curve.{Curve}
+use Rattle.run_windows.specs.declared.window.Window.{Window}
+use Rattle.run_windows.specs.declared.window.Made.{Made}
+use Rattle.run_windows.specs.declared.window.Rule.{Rule}
+use Rattle.run_windows.specs.declared.window.Rule.TheVariants as rule
+use Rattle.run_windows.specs.Costs.{capped, reckoned, task, makers}
+use Rattle.run_windows.specs.Arrivals.{arrivals, booted_expiries, cyclic_expiries, expiries, acts_on, expiring, ticking, tick_counts}
+use Rattle.run_windows.specs.Windows.{Numbers, none_made, numbers_of, rule_of, counted, is_boot, span_of, shared, of_makings, round_makings, activations, settings, round_counts, window_counts, IsAtMost, IsSolution}
+use Rattle.run_windows.specs.Cycles.{IsOpen, rate_span, IsRate, AreRatesOf, AreRates, IsCurve}
+use Rattle.run_windows.proofs.Monotone.{arrivals_more}
+use Rattle.run_windows.proofs.Endless.{at_set, nothing_yet, made_open}
+
+-- ---- rates
+
+pub lower_rate : (r s c x : ℕ) → r ≤ s → IsRate s c x → IsRate r c x
+lower_rate r s c x le h = let p : r * c ≤ s * c = mul-le-mul_right c le in omega (arith, p, h)
+
+pub no_rate : (c x : ℕ) → IsRate 0 c x
+no_rate c x = omega arith
+
+-- a rate of a sum that is told up to the greatest one
+pub rate_sum : (a b r c x y : ℕ) → r ≡ capped (a + b) → IsRate a c x → IsRate b c y → IsRate r c (x + y)
+rate_sum a b r c x y e h k =
+    let p : r * c ≤ (a + b) * c = mul-le-mul_right c (omega (arith, e)) in
+    let q = add-mul a b c in
+    omega (arith, p, q, h, k)
+
+rate_times : (a f c x : ℕ) → IsRate a c x → IsRate (a * f) c (x * f)
+rate_times a f c x h =
+    let p : a * c * f ≤ rate_span * x * f = mul-le-mul_right f h in
+    let q = mul_right_comm a f c in
+    let r = mul_assoc rate_span x f in
+    omega (arith, p, q, r)
+
+pub rate_min : (a b r c x y : ℕ) → r ≡ min a b → IsRate a c x → IsRate b c y → IsRate r c (min x y)
+rate_min a b r c x y e h k = by (cases_lt x y)
+  where
+    by : (x < y) ⊎ (y ≤ x) → IsRate r c (min x y)
+    by (inl lt) = let is : x ≡ min x y = omega (arith, lt) in subst (λ v. IsRate r c v) is (lower_rate r a c x (omega (arith, e)) h)
+    by (inr le) = let is : y ≡ min x y = omega (arith, le) in subst (λ v. IsRate r c v) is (lower_rate r b c y (omega (arith, e)) k)
+
+-- each multiple of a distance
+pub divided_rate : (rate d r c x : ℕ) → 0 < d → r ≡ rate / d → IsRate rate c x → IsRate r c (arrivals x (Some d))
+divided_rate rate d r c x some e h =
+    let n : ℕ = arrivals x (Some d) in
+    let up : x + d - 1 < d * (n + 1) = lt-mul-div-succ (x + d - 1) some in
+    let one = mul-add d n 1 in
+    let few : x ≤ d * n = omega (arith, up, one, some) in
+    let scaled : rate_span * x ≤ rate_span * (d * n) = mul-le-mul_left rate_span few in
+    let low = div-mul-le_self rate d in
+    let part : rate / d * d * c ≤ rate * c = mul-le-mul_right c low in
+    let P : ℕ → Type 0 = λ q. q * d * c ≤ rate * c in
+    let own : r * d * c ≤ rate * c = subst P (sym e) part in
+    let turned : d * (r * c) ≡ r * d * c = sym (mul_assoc d r c) ∙ ap (λ q. q * c) (mul_comm d r) in
+    let swapped : d * (rate_span * n) ≡ rate_span * (d * n) = sym (mul_assoc d rate_span n) ∙ (ap (λ q. q * n) (mul_comm d rate_span) ∙ mul_assoc rate_span d n) in
+    let all : d * (r * c) ≤ d * (rate_span * n) = omega (arith, turned, swapped, own, h, scaled) in
+    le_of_mul-le-mul_left all some
+
+-- ---- alarms
+
+module _ (boot : Bool) (a : AlarmCosts) (c x : ℕ) where
+  pub set_rate : (r : ℕ) → a.is_set ≡ true → IsRate r c x → IsRate r c (expiries boot a x)
+  set_rate r set h =
+      let P : Bool → Type 0 = λ b. IsRate r c (cond b x (cond (a.time == 0) 0 (cond boot (booted_expiries a.time a.cycle x) (cyclic_expiries a.cycle x)))) in
+      subst P (sym set) h
+
+  pub cyclic_rate : (r : ℕ) → a.is_set ≡ false → boot ≡ false → (a.time ≡ 0 → ⊥) → IsRate r c (arrivals x (Some a.cycle)) → IsRate r c (expiries boot a x)
+  cyclic_rate r set behind timed h =
+      let P : Bool → Type 0 = λ b. IsRate r c (cond b x (cond (a.time == 0) 0 (cond boot (booted_expiries a.time a.cycle x) (cyclic_expiries a.cycle x)))) in
+      let R : Bool → Type 0 = λ b. IsRate r c (cond b (booted_expiries a.time a.cycle x) (cyclic_expiries a.cycle x)) in
+      subst P (sym set) (first (eqb_tells a.time 0) (subst R (sym behind) (last (eqb_tells a.cycle 0))))
+    where
+      S : Bool → Type 0
+      S b = IsRate r c (cond b (min x 1) (arrivals x (Some a.cycle)))
+
+      last : (((a.cycle == 0) ≡ true) × (a.cycle ≡ 0)) ⊎ (((a.cycle == 0) ≡ false) × (a.cycle ≡ 0 → ⊥)) → S (a.cycle == 0)
+      last (inl (e, zero)) =
+          let D : ℕ → Type 0 = λ k. IsRate r c (arrivals x (Some k)) in
+          let at : D 0 = subst D zero h in
+          let none = div-zero (x + 0 - 1) in
+          let few : IsRate r c (min x 1) = omega (arith, at, none) in
+          subst S (sym e) few
+      last (inr (e, some)) = subst S (sym e) h
+
+      Q : Bool → Type 0
+      Q b = IsRate r c (cond b 0 (cond boot (booted_expiries a.time a.cycle x) (cyclic_expiries a.cycle x)))
+
+      first : (((a.time == 0) ≡ true) × (a.time ≡ 0)) ⊎ (((a.time == 0) ≡ false) × (a.time ≡ 0 → ⊥))
+          → IsRate r c (cond boot (booted_expiries a.time a.cycle x) (cyclic_expiries a.cycle x)) → Q (a.time == 0)
+      first (inl (e, zero)) _ = absurd (timed zero)
+      first (inr (e, some)) k = subst Q (sym e) k
+
+-- ---- rounds
+
+rate_shared : (n m : Made) (c : ℕ) (first next : Option ℕ) → AreRatesOf n c m → IsRate (shared n first next) c (shared m first next)
+rate_shared n m c first next h =
+    let a = rate_times n.activations (reckoned first) c m.activations h.activations in
+    let s = rate_times n.settings (reckoned next) c m.settings h.settings in
+    let e = add-mul (n.activations * reckoned first) (n.settings * reckoned next) c in
+    omega (arith, a, s, e)
+
+pub makings_rate : (sets : Bool) (c : ℕ) (n m : Numbers) → ((k : ℕ) → AreRatesOf (n k) c (m k)) → (k : ℕ) (ms : List Makings)
+    → IsRate (round_makings sets n k ms) c (round_makings sets m k ms)
+makings_rate sets c n m h k [] = omega arith
+makings_rate sets c n m h k (q ∷ ms) =
+    let here : IsRate (of_makings sets (n k) q) c (of_makings sets (m k) q) = by sets in
+    let e = add-mul (of_makings sets (n k) q) (round_makings sets n (k + 1) ms) c in
+    let more = makings_rate sets c n m h (k + 1) ms in
+    omega (arith, here, e, more)
+  where
+    by : (b : Bool) → IsRate (of_makings b (n k) q) c (of_makings b (m k) q)
+    by true = rate_shared (n k) (m k) c q.first_settings q.next_settings (h k)
+    by false = rate_shared (n k) (m k) c q.first_activations q.next_activations (h k)
+
+pub no_rates : (costs : Costs) (w : Window) (count : ℕ) → AreRates costs w (replicate count none_made)
+no_rates costs w count m more s k =
+    subst (λ (n : Made). AreRatesOf n more (m k)) (sym (nothing_yet count k)) (record { activations = no_rate more (m k).activations; settings = no_rate more (m k).settings })
+
+whole_span : (w : Window) (more : ℕ) → w.span ≡ None → span_of w more ≡ more
+whole_span w more e = ap (λ (o : Option ℕ). unwrap_or o more) e
+
+more_rate : (r c x y : ℕ) → x ≤ y → IsRate r c x → IsRate r c y
+more_rate r c x y le h = omega (arith, le, h)
+
+rates_counted : (r : Rule) (a s b t c : ℕ) → IsOpen r → IsRate a c b → IsRate s c t → AreRatesOf (counted r a s) c (counted r b t)
+rates_counted rule.Out a s b t c open_rule p q = record { activations = omega arith; settings = omega arith }
+rates_counted rule.Settings a s b t c open_rule p q = record { activations = omega arith; settings = q }
+rates_counted rule.Each a s b t c open_rule p q = record { activations = p; settings = q }
+rates_counted rule.Once a s b t c open_rule p q = absurd (open_rule refl)
+
+-- the rates of one task, from those of arrivals, ticks and the tasks that make it
+pub raised_rates : (costs : Costs) (w : Window) (rates : List Made) (j arrived ticked signalled a s : ℕ) (r : Rule) (v : Made) → w.span ≡ None → AreRates costs w rates
+    → j < length costs.tasks → r ≡ rule_of costs w j → IsOpen r
+    → ((c : ℕ) → IsRate arrived c (arrivals c (task costs j).distance))
+    → ((c : ℕ) → IsRate ticked c (ticking (is_boot w.start) false j c costs.alarms 0 costs.counters))
+    → ((c : ℕ) → IsRate signalled c (ticking (is_boot w.start) true j c costs.alarms 0 costs.counters))
+    → a ≤ arrived + ticked + round_makings false (numbers_of rates) 0 (makers costs j)
+    → s ≤ signalled + round_makings true (numbers_of rates) 0 (makers costs j)
+    → v ≡ counted r a s → AreRates costs w (set rates j v)
+raised_rates costs w rates j arrived ticked signalled a s r v whole are lt is open_rule come tick sign first next e m more solves =
+    at_set (λ i n. AreRatesOf n more (m i)) rates j v (record { activations = no_rate more (m j).activations; settings = no_rate more (m j).settings }) here old
+  where
+    old : (i : ℕ) → AreRatesOf (numbers_of rates i) more (m i)
+    old = are m more solves
+
+    span : span_of w more ≡ more
+    span = whole_span w more whole
+
+    T : Bool → ℕ → ℕ → Type 0
+    T b q c = IsRate q more (ticking (is_boot w.start) b j c costs.alarms 0 costs.counters)
+
+    A : ℕ → Type 0
+    A c = IsRate arrived more (arrivals c (task costs j).distance)
+
+    acts : IsRate a more (activations costs w m more j)
+    acts =
+        let g : A (span_of w more) = subst A (sym span) (come more) in
+        let t : T false ticked (span_of w more) = subst (T false ticked) (sym span) (tick more) in
+        let k = makings_rate false more (numbers_of rates) m old 0 (makers costs j) in
+        let p : a * more ≤ (arrived + ticked + round_makings false (numbers_of rates) 0 (makers costs j)) * more = mul-le-mul_right more first in
+        let cut = add-mul (arrived + ticked) (round_makings false (numbers_of rates) 0 (makers costs j)) more in
+        let cut_first = add-mul arrived ticked more in
+        omega (arith, g, t, k, p, cut, cut_first)
+
+    sets : IsRate s more (settings costs w m more j)
+    sets =
+        let t : T true signalled (span_of w more) = subst (T true signalled) (sym span) (sign more) in
+        let k = makings_rate true more (numbers_of rates) m old 0 (makers costs j) in
+        let p : s * more ≤ (signalled + round_makings true (numbers_of rates) 0 (makers costs j)) * more = mul-le-mul_right more next in
+        let cut = add-mul signalled (round_makings true (numbers_of rates) 0 (makers costs j)) more in
+        omega (arith, t, k, p, cut)
+
+    here : AreRatesOf v more (m j)
+    here =
+        let P : Rule → Type 0 = λ q. IsAtMost (counted q (activations costs w m more j) (settings costs w m more j)) (m j) in
+        let below : P r = subst P (sym is) (made_open costs w m more j solves lt) in
+        let own = rates_counted r a s (activations costs w m more j) (settings costs w m more j) more open_rule acts sets in
+        subst (λ (n : Made). AreRatesOf n more (m j)) (sym e) (record {
+          activations = more_rate (counted r a s).activations more _ (m j).activations below.activations own.activations;
+          settings = more_rate (counted r a s).settings more _ (m j).settings below.settings own.settings;
+        })
+
+-- the same of lists as code reads them
+pub raised_so : (costs : Costs) (w : Window) (rates : List Made) (j arrived ticked signalled a s : ℕ) (r : Rule) (v : Made) → w.span ≡ None → AreRates costs w rates
+    → j < length costs.tasks → r ≡ rule_of costs w j → IsOpen r
+    → (b : Bool) (alarms : List AlarmCosts) (counters : List CounterCosts) (distance : Option ℕ) → b ≡ is_boot w.start → alarms ≡ costs.alarms → counters ≡ costs.counters
+    → distance ≡ (task costs j).distance
+    → ((c : ℕ) → IsRate arrived c (arrivals c distance)) → ((c : ℕ) → IsRate ticked c (ticking b false j c alarms 0 counters))
+    → ((c : ℕ) → IsRate signalled c (ticking b true j c alarms 0 counters))
+    → a ≤ arrived + ticked + round_makings false (numbers_of rates) 0 (makers costs j)
+    → s ≤ signalled + round_makings true (numbers_of rates) 0 (makers costs j)
+    → v ≡ counted r a s → AreRates costs w (set rates j v)
+raised_so costs w rates j arrived ticked signalled a s r v whole are lt is open_rule b alarms counters distance eb ea ec ed come tick sign first next e =
+    let D : Option ℕ → Type 0 = λ q. (c : ℕ) → IsRate arrived c (arrivals c q) in
+    let B : Bool → ℕ → Bool → Type 0 = λ sets k q. (c : ℕ) → IsRate k c (ticking q sets j c costs.alarms 0 costs.counters) in
+    let A : Bool → ℕ → List AlarmCosts → Type 0 = λ sets k q. (c : ℕ) → IsRate k c (ticking b sets j c q 0 costs.counters) in
+    let C : Bool → ℕ → List CounterCosts → Type 0 = λ sets k q. (c : ℕ) → IsRate k c (ticking b sets j c alarms 0 q) in
+    raised_rates costs w rates j arrived ticked signalled a s r v whole are lt is open_rule (subst D ed come)
+    (subst (B false ticked) eb (subst (A false ticked) ea (subst (C false ticked) ec tick)))
+    (subst (B true signalled) eb (subst (A true signalled) ea (subst (C true signalled) ec sign))) first next e
+
+-- ---- curves
+
+pub curve_sum : (a b r : Curve) (c x y : ℕ) → r.burst ≡ capped (a.burst + b.burst) → r.rate ≡ capped (a.rate + b.rate) → IsCurve a c x → IsCurve b c y
+    → IsCurve r c (x + y)
+curve_sum a b r c x y e f h k =
+    let p : r.rate * c ≤ (a.rate + b.rate) * c = mul-le-mul_right c (omega (arith, f)) in
+    let q = add-mul a.rate b.rate c in
+    omega (arith, e, p, q, h, k)
+
+pub curve_times : (a r : Curve) (f c x : ℕ) → r.burst ≡ capped (a.burst * f) → r.rate ≡ capped (a.rate * f) → IsCurve a c x → IsCurve r c (x * f)
+curve_times a r f c x e g h =
+    let p : (rate_span * a.burst + a.rate * c) * f ≤ rate_span * x * f = mul-le-mul_right f h in
+    let cut = add-mul (rate_span * a.burst) (a.rate * c) f in
+    let burst = mul_assoc rate_span a.burst f in
+    let rate = mul_right_comm a.rate c f in
+    let all = mul_assoc rate_span x f in
+    let less : r.rate * c ≤ a.rate * f * c = mul-le-mul_right c (omega (arith, g)) in
+    omega (arith, e, p, cut, burst, rate, all, less)
+
+-- the counts that a curve asks for
+pub asked : (a : Curve) (s more : ℕ) → a.rate < rate_span → s ≤ a.burst * rate_span → IsCurve a more more → s / (rate_span - a.rate) ≤ more
+asked a s more lt le h =
+    let d : ℕ = rate_span - a.rate in
+    let is : d + a.rate ≡ rate_span = omega (arith, lt) in
+    let cut : (d + a.rate) * more ≡ d * more + a.rate * more = add-mul d a.rate more in
+    let P : ℕ → Type 0 = λ q. q * more ≡ d * more + a.rate * more in
+    let all : rate_span * more ≡ d * more + a.rate * more = subst P is cut in
+    div-le_of_le-mul d (omega (arith, all, le, h))
+
+-- at such a rate nothing holds a burst
+pub none_asked : (a : Curve) (more : ℕ) → rate_span ≤ a.rate → 0 < a.burst → IsCurve a more more → ⊥
+none_asked a more le some h = let p : rate_span * more ≤ a.rate * more = mul-le-mul_right more le in omega (arith, p, some, h)
+
+pub no_curve : (c : ℕ) (x : ℕ) → IsCurve (record { burst = 0; rate = 0 }) c x
+no_curve c x = omega arith
+
+pub curve_shared : (r : Curve) (m : Made) (more f n : ℕ) (first next : Option ℕ) → f ≡ reckoned first → n ≡ reckoned next
+    → IsCurve r more (m.activations * f + m.settings * n) → IsCurve r more (shared m first next)
+curve_shared r m more f n first next e g h =
+    let P : ℕ → Type 0 = λ k. IsCurve r more (m.activations * k + m.settings * n) in
+    let Q : ℕ → Type 0 = λ k. IsCurve r more (m.activations * reckoned first + m.settings * k) in
+    subst Q g (subst P e h)
+
+-- ---- lists
+
+-- so much has come by a rate, and the rest makes it all
+abbrev pub Part : (Is : ℕ → Type 0) → (rest all : ℕ) → Type 0
+Part Is rest all = (y : ℕ) × Is y × (y + rest ≡ all)
+
+pub part_end : (Is : ℕ → Type 0) (rest all : ℕ) → rest ≡ 0 → Part Is rest all → Is all
+part_end Is rest all none (y, is, e) = let same : y ≡ all = omega (arith, none, e) in subst Is same is
+
+-- one alarm more
+pub expiring_step : (boot sets : Bool) (counter task x counts total own new all i : ℕ) (d : AlarmCosts) (alarms : List AlarmCosts) → i < length alarms
+    → new ≡ capped (total + own)
+    → IsRate own counts (cond (acts_on sets counter task (get_or alarms i d)) (expiries boot (get_or alarms i d) x) 0)
+    → Part (IsRate total counts) (expiring boot sets counter task x (drop i alarms)) all
+    → Part (IsRate new counts) (expiring boot sets counter task x (drop (i + 1) alarms)) all
+expiring_step boot sets counter task x counts total own new all i d alarms lt e here (y, is, sum) =
+    let F : List AlarmCosts → ℕ = λ ys. expiring boot sets counter task x ys in
+    let cut : F (drop i alarms) ≡ F (get_or alarms i d ∷ drop (i + 1) alarms) = at_drop_more F alarms i d lt in
+    let here_is : ℕ = cond (acts_on sets counter task (get_or alarms i d)) (expiries boot (get_or alarms i d) x) 0 in
+    (y + here_is, rate_sum total own new counts y here_is e is here, omega (arith, cut, sum))
+
+-- one counter more
+pub ticking_step : (boot sets : Bool) (task counts total ticks made own new all i : ℕ) (alarms : List AlarmCosts) (d : CounterCosts) (counters : List CounterCosts)
+    → i < length counters → own ≡ min ticks made → new ≡ capped (total + own) → IsRate ticks counts (arrivals counts (get_or counters i d).distance)
+    → IsRate made counts (expiring boot sets i task (arrivals counts (get_or counters i d).distance) alarms)
+    → Part (IsRate total counts) (ticking boot sets task counts alarms i (drop i counters)) all
+    → Part (IsRate new counts) (ticking boot sets task counts alarms (i + 1) (drop (i + 1) counters)) all
+ticking_step boot sets task counts total ticks made own new all i alarms d counters lt least e come act (y, is, sum) =
+    let F : List CounterCosts → ℕ = λ ys. ticking boot sets task counts alarms i ys in
+    let cut : F (drop i counters) ≡ F (get_or counters i d ∷ drop (i + 1) counters) = at_drop_more F counters i d lt in
+    let n : ℕ = arrivals counts (get_or counters i d).distance in
+    let here : ℕ = min n (expiring boot sets i task n alarms) in
+    (y + here, rate_sum total own new counts y here e is (rate_min ticks made own counts n (expiring boot sets i task n alarms) least come act), omega (arith, cut, sum))
+
+pub tick_step : (total own new : Curve) (counts more all i : ℕ) (d : CounterCosts) (counters : List CounterCosts) → i < length counters
+    → ((x y : ℕ) → IsCurve total more x → IsCurve own more y → IsCurve new more (x + y)) → IsCurve own more (arrivals more (get_or counters i d).distance * (get_or counters i d).tick)
+    → Part (IsCurve total more) (tick_counts more (drop i counters)) all → Part (IsCurve new more) (tick_counts more (drop (i + 1) counters)) all
+tick_step total own new counts more all i d counters lt joined here (y, is, sum) =
+    let F : List CounterCosts → ℕ = λ ys. tick_counts more ys in
+    let cut : F (drop i counters) ≡ F (get_or counters i d ∷ drop (i + 1) counters) = at_drop_more F counters i d lt in
+    let n : ℕ = arrivals more (get_or counters i d).distance * (get_or counters i d).tick in
+    (y + n, joined y n is here, omega (arith, cut, sum))
+
+pub round_step : (total own new : Curve) (m : Numbers) (more all i : ℕ) (d : TaskCosts) (tasks : List TaskCosts) → i < length tasks
+    → ((x y : ℕ) → IsCurve total more x → IsCurve own more y → IsCurve new more (x + y)) → IsCurve own more (shared (m i) (get_or tasks i d).first (get_or tasks i d).next)
+    → Part (IsCurve total more) (round_counts m i (drop i tasks)) all → Part (IsCurve new more) (round_counts m (i + 1) (drop (i + 1) tasks)) all
+round_step total own new m more all i d tasks lt joined here (y, is, sum) =
+    let F : List TaskCosts → ℕ = λ ys. round_counts m i ys in
+    let cut : F (drop i tasks) ≡ F (get_or tasks i d ∷ drop (i + 1) tasks) = at_drop_more F tasks i d lt in
+    let n : ℕ = shared (m i) (get_or tasks i d).first (get_or tasks i d).next in
+    (y + n, joined y n is here, omega (arith, cut, sum))
+
+-- ---- a window
+
+pub no_span : (o : Option ℕ) (b : Bool) → b ≡ is_some o → b ≡ false → o ≡ None
+no_span None b e f = refl
+no_span (Some x) b e f = absurd (true≢false (sym e ∙ f))
+
+-- the counts of each solution, of one without a span
+pub asked_solution : (costs : Costs) (w : Window) (m : Numbers) (more : ℕ) (c : Curve) (tasks : List TaskCosts) (counters : List CounterCosts) → tasks ≡ costs.tasks
+    → counters ≡ costs.counters → w.span ≡ None → IsSolution costs w m more → IsCurve c more (w.front + round_counts m 0 tasks + tick_counts more counters) → IsCurve c more more
+asked_solution costs w m more c tasks counters same_tasks same_counters whole s h =
+    let same = whole_span w more whole in
+    let filled : w.front + round_counts m 0 costs.tasks + tick_counts (span_of w more) costs.counters ≤ more = s.filled in
+    let P : ℕ → Type 0 = λ k. w.front + round_counts m 0 costs.tasks + tick_counts k costs.counters ≤ more in
+    let few : P more = subst P same filled in
+    let T : List TaskCosts → Type 0 = λ l. IsCurve c more (w.front + round_counts m 0 l + tick_counts more counters) in
+    let C : List CounterCosts → Type 0 = λ l. IsCurve c more (w.front + round_counts m 0 costs.tasks + tick_counts more l) in
+    let all : C costs.counters = subst C same_counters (subst T same_tasks h) in
+    omega (arith, few, all)
+
+pub front_curve : (front more : ℕ) → IsCurve (record { burst = front; rate = 0 }) more front
+front_curve front more = omega arith
+
+-- the counts of the ticks of one counter
+pub tick_own : (counts more : ℕ) (counter : CounterCosts) (ticks rate : ℕ) (own whole : Curve) (factor : ℕ) → ticks ≡ arrivals counts counter.distance
+    → ((c : ℕ) → IsRate rate c (arrivals c counter.distance)) → ((c x : ℕ) → ticks ≤ x → IsRate rate c x → IsCurve own c x)
+    → ((x : ℕ) → IsCurve own more x → IsCurve whole more (x * factor)) → factor ≡ counter.tick → counts ≤ more → IsCurve whole more (arrivals more counter.distance * counter.tick)
+tick_own counts more counter ticks rate own whole factor e come greater scaled same le =
+    let more_ticks : arrivals counts counter.distance ≤ arrivals more counter.distance = arrivals_more counter.distance le in
+    let P : ℕ → Type 0 = λ k. IsCurve whole more (arrivals more counter.distance * k) in
+    subst P same (scaled (arrivals more counter.distance) (greater more (arrivals more counter.distance) (omega (arith, e, more_ticks)) (come more)))
