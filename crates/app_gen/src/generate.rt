@@ -11,12 +11,12 @@ use crate::draws::Draws;
 use crate::load::arrivals;
 use crate::oil::oil_text;
 use crate::source::source_text;
-use sloth_base::{List, NoMemory};
+use sloth_base::{List, Result};
 use std::alloc::Global;
 
-/// The application of a seed with so many tasks, from 1 on: its texts, each no longer than a file may be, and 1,000 arrivals at
-/// moments up to 901,000.
-pub fn sample(alloc: Global, seed: u32, tasks: u32) -> Result<Sample, NoMemory>
+/// The application of a seed with so many tasks, from 1 on: its texts, each no longer than a file may be, and 1,000
+/// arrivals at moments up to 901,000.
+pub fn sample(alloc: Global, seed: u32, tasks: u32) -> Result<Sample>
     requires { (1 ≤ tasks) × (tasks ≤ task_limit) }
     ensures oil { IfOk result (λ sample. sample.oil ≡ oil_text tasks) }
     ensures src { IfOk result (λ sample. sample.src ≡ source_text seed tasks) }

@@ -4,7 +4,7 @@ ghost use Rattle.sloth_base.specs.Limits.{task_limit};
 ghost use Rattle.app_gen.specs.Load.{high_bits, first_arrivals};
 
 use crate::draws::Draws;
-use sloth_base::{Arrival, Line, NoMemory};
+use sloth_base::{Arrival, Line, Result};
 use std::alloc::Global;
 use text_pieces::push;
 
@@ -34,7 +34,7 @@ fn line(draw: u32, tasks: u32) -> Line
 }
 
 /// The arrivals of an application of so many tasks, with two draws for each.
-pub fn arrivals(alloc: Global, tasks: u32, draws: &mut Draws) -> Result<Vec<Arrival>, NoMemory>
+pub fn arrivals(alloc: Global, tasks: u32, draws: &mut Draws) -> Result<Vec<Arrival>>
     requires { (1 ≤ tasks) × (tasks ≤ task_limit) }
     ensures { IfOk result (λ arrivals. arrivals.items ≡ first_arrivals draws.old tasks 1000) }
 {

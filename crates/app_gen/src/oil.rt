@@ -4,14 +4,14 @@ ghost use Rattle.std.specs.List.{flat_map, range_with_len};
 ghost use Rattle.app_gen.specs.Oil.{event_object, resource_object, resource_objects, schedule_of, autostart_of, event_attribute, task_object, oil_text};
 
 use crate::pieces::has_event;
-use sloth_base::NoMemory;
+use sloth_base::Result;
 use std::alloc::Global;
 use text_pieces::line;
 use text_pieces::pieces::Piece::{Number, Word};
 
 // Appends the event of a task that has one.
 #[tactic(auto, unfolding(crate::specs::Oil::event_object, crate::specs::Pieces::number_behind))]
-fn put_event(text: &mut Vec<u8>, task: u32) -> Result<(), NoMemory>
+fn put_event(text: &mut Vec<u8>, task: u32) -> Result<()>
     ensures { OnOk result (text.new.items ≡ text.old.items ++ event_object task) }
 {
     if !has_event(task) {
@@ -21,7 +21,7 @@ fn put_event(text: &mut Vec<u8>, task: u32) -> Result<(), NoMemory>
 }
 
 // Appends the events of the tasks.
-fn put_events(text: &mut Vec<u8>, tasks: u32) -> Result<(), NoMemory>
+fn put_events(text: &mut Vec<u8>, tasks: u32) -> Result<()>
     ensures { OnOk result (text.new.items ≡ text.old.items ++ flat_map event_object (range_with_len 0 tasks)) }
 {
     for task in 0..tasks {
@@ -31,14 +31,14 @@ fn put_events(text: &mut Vec<u8>, tasks: u32) -> Result<(), NoMemory>
 }
 
 #[tactic(auto, unfolding(crate::specs::Oil::resource_object, crate::specs::Pieces::number_behind))]
-fn put_resource(text: &mut Vec<u8>, resource: u32) -> Result<(), NoMemory>
+fn put_resource(text: &mut Vec<u8>, resource: u32) -> Result<()>
     ensures { OnOk result (text.new.items ≡ text.old.items ++ resource_object resource) }
 {
     line!(text; Word(b"RESOURCE R"), Number(resource), Word(b" { RESOURCEPROPERTY = STANDARD; };\n"))
 }
 
 // Appends the four resources.
-fn put_resources(text: &mut Vec<u8>) -> Result<(), NoMemory>
+fn put_resources(text: &mut Vec<u8>) -> Result<()>
     ensures { OnOk result (text.new.items ≡ text.old.items ++ resource_objects) }
 {
     put_resource(text, 0)?;
@@ -69,7 +69,7 @@ fn autostart_of(task: u32) -> &'static [u8]
 
 // Appends the attribute EVENT of a task that has one.
 #[tactic(auto, unfolding(crate::specs::Oil::event_attribute, crate::specs::Pieces::number_behind))]
-fn put_event_attribute(text: &mut Vec<u8>, task: u32) -> Result<(), NoMemory>
+fn put_event_attribute(text: &mut Vec<u8>, task: u32) -> Result<()>
     ensures { OnOk result (text.new.items ≡ text.old.items ++ event_attribute task) }
 {
     if !has_event(task) {
@@ -78,7 +78,7 @@ fn put_event_attribute(text: &mut Vec<u8>, task: u32) -> Result<(), NoMemory>
     line!(text; Word(b" EVENT = E"), Number(task), Word(b";"))
 }
 
-fn put_task(text: &mut Vec<u8>, task: u32) -> Result<(), NoMemory>
+fn put_task(text: &mut Vec<u8>, task: u32) -> Result<()>
     requires { task < 2 ^ 32 - 1 }
     ensures { OnOk result (text.new.items ≡ text.old.items ++ task_object task) }
 {
@@ -91,7 +91,7 @@ fn put_task(text: &mut Vec<u8>, task: u32) -> Result<(), NoMemory>
 }
 
 // Appends the tasks.
-fn put_tasks(text: &mut Vec<u8>, tasks: u32) -> Result<(), NoMemory>
+fn put_tasks(text: &mut Vec<u8>, tasks: u32) -> Result<()>
     ensures { OnOk result (text.new.items ≡ text.old.items ++ flat_map task_object (range_with_len 0 tasks)) }
 {
     for task in 0..tasks {
@@ -102,7 +102,7 @@ fn put_tasks(text: &mut Vec<u8>, tasks: u32) -> Result<(), NoMemory>
 
 /// The OIL text of an application of so many tasks.
 #[tactic(auto, unfolding(crate::specs::Oil::oil_text))]
-pub fn oil_text(alloc: Global, tasks: u32) -> Result<Vec<u8>, NoMemory>
+pub fn oil_text(alloc: Global, tasks: u32) -> Result<Vec<u8>>
     ensures { IfOk result (λ text. text.items ≡ oil_text tasks) }
 {
     let mut text = Vec::new(alloc);

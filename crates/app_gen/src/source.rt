@@ -7,14 +7,14 @@ ghost use Rattle.app_gen.specs.Source.{setting_text, waking_text, first_body, bo
 
 use crate::draws::Draws;
 use crate::pieces::has_event;
-use sloth_base::NoMemory;
+use sloth_base::Result;
 use std::alloc::Global;
 use text_pieces::line;
 use text_pieces::pieces::Piece::{Number, Word};
 
 // Appends the setting of the event of a task that has one.
 #[tactic(auto, unfolding(crate::specs::Source::setting_text, crate::specs::Pieces::number_behind))]
-fn put_sets(text: &mut Vec<u8>, task: u32) -> Result<(), NoMemory>
+fn put_sets(text: &mut Vec<u8>, task: u32) -> Result<()>
     ensures { OnOk result (text.new.items ≡ text.old.items ++ setting_text task) }
 {
     if !has_event(task) {
@@ -25,7 +25,7 @@ fn put_sets(text: &mut Vec<u8>, task: u32) -> Result<(), NoMemory>
 
 // Appends what the first task does with another.
 #[tactic(auto, unfolding(crate::specs::Source::waking_text, crate::specs::Pieces::number_behind))]
-fn put_wake(text: &mut Vec<u8>, task: u32) -> Result<(), NoMemory>
+fn put_wake(text: &mut Vec<u8>, task: u32) -> Result<()>
     ensures { OnOk result (text.new.items ≡ text.old.items ++ waking_text task) }
 {
     line!(text; Word(b"ActivateTask T"), Number(task), Word(b"\n"))?;
@@ -33,7 +33,7 @@ fn put_wake(text: &mut Vec<u8>, task: u32) -> Result<(), NoMemory>
 }
 
 // Appends the same for all others.
-fn put_wakes(text: &mut Vec<u8>, tasks: u32) -> Result<(), NoMemory>
+fn put_wakes(text: &mut Vec<u8>, tasks: u32) -> Result<()>
     requires { 1 ≤ tasks }
     ensures { OnOk result (text.new.items ≡ text.old.items ++ flat_map waking_text (range_with_len 1 (tasks - 1))) }
 {
@@ -44,7 +44,7 @@ fn put_wakes(text: &mut Vec<u8>, tasks: u32) -> Result<(), NoMemory>
 }
 
 // Appends the body of the first task.
-fn put_first_body(text: &mut Vec<u8>, tasks: u32) -> Result<(), NoMemory>
+fn put_first_body(text: &mut Vec<u8>, tasks: u32) -> Result<()>
     requires { 1 ≤ tasks }
     ensures { OnOk result (text.new.items ≡ text.old.items ++ first_body tasks) }
 {
@@ -56,7 +56,7 @@ fn put_first_body(text: &mut Vec<u8>, tasks: u32) -> Result<(), NoMemory>
 
 // Appends the waiting of a task that has an event.
 #[tactic(auto, unfolding(crate::specs::Source::waiting_text, crate::specs::Pieces::number_behind))]
-fn put_waits(text: &mut Vec<u8>, task: u32) -> Result<(), NoMemory>
+fn put_waits(text: &mut Vec<u8>, task: u32) -> Result<()>
     ensures { OnOk result (text.new.items ≡ text.old.items ++ waiting_text task) }
 {
     if !has_event(task) {
@@ -67,7 +67,7 @@ fn put_waits(text: &mut Vec<u8>, task: u32) -> Result<(), NoMemory>
 
 // Appends how a body begins.
 #[tactic(auto, unfolding(crate::specs::Source::body_head, crate::specs::Pieces::number_behind))]
-fn put_begins(text: &mut Vec<u8>, task: u32, number: u32) -> Result<(), NoMemory>
+fn put_begins(text: &mut Vec<u8>, task: u32, number: u32) -> Result<()>
     ensures { OnOk result (text.new.items ≡ text.old.items ++ body_head task number) }
 {
     line!(text; Word(b"task T"), Number(task), Word(b", 2\nli t0, "), Number(number), Word(b"\nsw t0, frame[1]\n"))
@@ -75,7 +75,7 @@ fn put_begins(text: &mut Vec<u8>, task: u32, number: u32) -> Result<(), NoMemory
 
 // Appends the work of a body.
 #[tactic(auto, unfolding(crate::specs::Source::adding_text, crate::specs::Pieces::number_behind))]
-fn put_adds(text: &mut Vec<u8>, task: u32) -> Result<(), NoMemory>
+fn put_adds(text: &mut Vec<u8>, task: u32) -> Result<()>
     requires { task < 2 ^ 30 }
     ensures { OnOk result (text.new.items ≡ text.old.items ++ adding_text task) }
 {
@@ -85,7 +85,7 @@ fn put_adds(text: &mut Vec<u8>, task: u32) -> Result<(), NoMemory>
 }
 
 // Appends the body of a task.
-fn put_body(text: &mut Vec<u8>, task: u32, number: u32) -> Result<(), NoMemory>
+fn put_body(text: &mut Vec<u8>, task: u32, number: u32) -> Result<()>
     requires { task < 2 ^ 30 }
     ensures { OnOk result (text.new.items ≡ text.old.items ++ numbered_body task number) }
 {
@@ -97,7 +97,7 @@ fn put_body(text: &mut Vec<u8>, task: u32, number: u32) -> Result<(), NoMemory>
 }
 
 // Appends the bodies of all tasks but the first. Each takes a draw.
-fn put_bodies(text: &mut Vec<u8>, tasks: u32, draws: &mut Draws) -> Result<(), NoMemory>
+fn put_bodies(text: &mut Vec<u8>, tasks: u32, draws: &mut Draws) -> Result<()>
     requires { (1 ≤ tasks) × (tasks ≤ task_limit) }
     ensures text { OnOk result (text.new.items ≡ text.old.items ++ flat_map (body draws.old) (range_with_len 1 (tasks - 1))) }
     ensures draws { OnOk result (draws.new ≡ draw draws.old (tasks - 1)) }
@@ -110,7 +110,7 @@ fn put_bodies(text: &mut Vec<u8>, tasks: u32, draws: &mut Draws) -> Result<(), N
 
 /// The task source of an application of so many tasks, which takes a draw for each task but the first.
 #[tactic(auto, unfolding(crate::specs::Source::source_text))]
-pub fn source_text(alloc: Global, tasks: u32, draws: &mut Draws) -> Result<Vec<u8>, NoMemory>
+pub fn source_text(alloc: Global, tasks: u32, draws: &mut Draws) -> Result<Vec<u8>>
     requires { (1 ≤ tasks) × (tasks ≤ task_limit) }
     ensures text { IfOk result (λ text. text.items ≡ source_text draws.old tasks) }
     ensures draws { OnOk result (draws.new ≡ draw draws.old (tasks - 1)) }

@@ -6,10 +6,10 @@ ghost use Rattle.asm_scopes.specs.Bodies.{bodies_of};
 ghost use Rattle.asm_scopes.specs.Scopes.{scope_of};
 ghost use Rattle.asm_items.specs.Apps.{third_bytes, first_bytes, bytes_with, symbol_of, func_of, app_of};
 
-use crate::bodies::func_of;
+use crate::bodies::function;
 use asm_lines::{Operand, SourceLine};
 use asm_scopes::{Body, Scope, is_data, name_of, number_of, scope_of};
-use sloth_base::{App, Config, Func, List, Name, NoMemory, Symbol};
+use sloth_base::{App, Config, Func, List, Name, Result, Symbol};
 use std::alloc::Global;
 use text_pieces::push;
 
@@ -33,7 +33,7 @@ fn first_bytes(line: &SourceLine) -> &[u8]
 }
 
 // The first bytes of a symbol, and then zeros up to its size.
-fn bytes_with(alloc: Global, first: &[u8], size: usize) -> Result<Vec<u8>, NoMemory>
+fn padded_bytes(alloc: Global, first: &[u8], size: usize) -> Result<Vec<u8>>
     ensures { IfOk result (λ bytes. bytes.items ≡ bytes_with first.now size) }
 {
     let mut bytes = Vec::from_slice(alloc, first)?;
@@ -44,11 +44,11 @@ fn bytes_with(alloc: Global, first: &[u8], size: usize) -> Result<Vec<u8>, NoMem
 }
 
 // The symbol that a line declares.
-fn symbol_of(alloc: Global, line: &SourceLine) -> Result<Symbol, NoMemory>
+fn declared_symbol(alloc: Global, line: &SourceLine) -> Result<Symbol>
     ensures { IfOk result (λ symbol. symbol ≡ symbol_of line.now) }
 {
     let name = Name::new(alloc, name_of(line))?;
-    let bytes = bytes_with(alloc, first_bytes(line), number_of(line) as usize)?;
+    let bytes = padded_bytes(alloc, first_bytes(line), number_of(line) as usize)?;
     Ok(Symbol {
         name,
         bytes: List::from_vec(bytes),
@@ -56,17 +56,17 @@ fn symbol_of(alloc: Global, line: &SourceLine) -> Result<Symbol, NoMemory>
 }
 
 // One symbol more, if the line declares one.
-fn add_symbol(alloc: Global, symbols: &mut Vec<Symbol>, line: &SourceLine) -> Result<(), NoMemory>
+fn add_symbol(alloc: Global, symbols: &mut Vec<Symbol>, line: &SourceLine) -> Result<()>
     ensures { OnOk result (symbols.new.items ≡ symbols.old.items ++ map symbol_of (filter is_data (line.now ∷ []))) }
 {
     if !is_data(line) {
         return Ok(());
     }
-    let symbol = symbol_of(alloc, line)?;
+    let symbol = declared_symbol(alloc, line)?;
     push(symbols, symbol)
 }
 
-fn symbols_of(alloc: Global, lines: &[SourceLine]) -> Result<Vec<Symbol>, NoMemory>
+fn symbols(alloc: Global, lines: &[SourceLine]) -> Result<Vec<Symbol>>
     ensures { IfOk result (λ symbols. symbols.items ≡ map symbol_of (filter is_data lines.now)) }
 {
     let mut symbols = Vec::new(alloc);
@@ -76,19 +76,14 @@ fn symbols_of(alloc: Global, lines: &[SourceLine]) -> Result<Vec<Symbol>, NoMemo
     Ok(symbols)
 }
 
-fn funcs_of(
-    alloc: Global,
-    config: &Config,
-    scope: &Scope,
-    bodies: &[Body],
-) -> Result<Vec<Func>, NoMemory>
+fn functions(alloc: Global, config: &Config, scope: &Scope, bodies: &[Body]) -> Result<Vec<Func>>
     requires short { All (λ body. body.line + length body.lines < 2 ^ 32) bodies.now }
     requires numbered { IsNumbered scope.now }
     ensures { IfOk result (λ funcs. funcs.items ≡ map (func_of config.now scope.now) bodies.now) }
 {
     let mut funcs = Vec::new(alloc);
     for body in bodies {
-        let func = func_of(alloc, config, scope, body)?;
+        let func = function(alloc, config, scope, body)?;
         push(&mut funcs, func)?;
     }
     Ok(funcs)
@@ -101,15 +96,15 @@ fn app_in_scope(
     lines: &[SourceLine],
     bodies: &[Body],
     scope: &Scope,
-) -> Result<App, NoMemory>
+) -> Result<App>
     requires few { length lines.now < 2 ^ 32 }
     requires numbered { IsNumbered scope.now }
     requires bodies { bodies.now ≡ bodies_of lines.now }
     requires scope { scope.now ≡ scope_of config.now lines.now bodies.now }
     ensures { IfOk result (λ app. app ≡ app_of config.now lines.now) }
 {
-    let funcs = funcs_of(alloc, config, scope, bodies)?;
-    let symbols = symbols_of(alloc, lines)?;
+    let funcs = functions(alloc, config, scope, bodies)?;
+    let symbols = symbols(alloc, lines)?;
     Ok(App {
         funcs: List::from_vec(funcs),
         symbols: List::from_vec(symbols),
@@ -117,12 +112,7 @@ fn app_in_scope(
 }
 
 /// The task code of these lines.
-pub fn app_of(
-    alloc: Global,
-    config: &Config,
-    lines: &[SourceLine],
-    bodies: &[Body],
-) -> Result<App, NoMemory>
+pub fn app_of(alloc: Global, config: &Config, lines: &[SourceLine], bodies: &[Body]) -> Result<App>
     requires few { length lines.now < 2 ^ 32 }
     requires numbered { IsNumbered (scope_of config.now lines.now bodies.now) }
     requires bodies { bodies.now ≡ bodies_of lines.now }

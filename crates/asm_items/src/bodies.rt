@@ -2,18 +2,19 @@
 ghost use Rattle.std.specs.Prelude.{◌≡◌, ◌+◌, ◌++◌, ◌<◌, ◌^◌, length, IfOk, OnOk};
 ghost use Rattle.asm_scopes.specs.Statements.{label_names, written_name};
 ghost use Rattle.asm_items.specs.Numbered.{IsNumbered};
-ghost use Rattle.asm_items.specs.Apps.{item_by, count_op, items_from, held_resource_by, holds_of, label_holds, label_of, labels_from, body_task, func_of};
+ghost use Rattle.asm_items.specs.Apps.{item_by, count_op, items_from, held_resource_by, holds_of, label_holds};
+ghost use Rattle.asm_items.specs.Apps.{label_of, labels_from, body_task, func_of};
 
-use crate::operations::op_of;
+use crate::operations::operation;
 use crate::services::{behind_first, resource_number};
 use asm_lines::{Operand, SourceLine};
 use asm_scopes::{Body, Scope, is_label, label_names, name_of, number_of, written};
-use sloth_base::{Config, Func, Item, Label, List, Name, NoMemory, Op, ResId, TaskId};
+use sloth_base::{Config, Func, Item, Label, List, Name, Op, ResId, Result, TaskId};
 use std::alloc::Global;
 use text_pieces::{Names, push};
 
 // One item more, if there is an operation.
-fn add_item(items: &mut Vec<Item>, line: u32, op: Option<Op>) -> Result<(), NoMemory>
+fn add_item(items: &mut Vec<Item>, line: u32, op: Option<Op>) -> Result<()>
     ensures { OnOk result (items.new.items ≡ items.old.items ++ item_by line op) }
 {
     match op {
@@ -23,14 +24,14 @@ fn add_item(items: &mut Vec<Item>, line: u32, op: Option<Op>) -> Result<(), NoMe
 }
 
 // The items of these lines, which stand behind line `number`.
-fn items_of(
+fn body_items(
     alloc: Global,
     config: &Config,
     scope: &Scope,
     labels: &Names,
     number: u32,
     lines: &[SourceLine],
-) -> Result<Vec<Item>, NoMemory>
+) -> Result<Vec<Item>>
     requires few { number + length lines.now < 2 ^ 32 }
     requires labels { length labels.now < 2 ^ 32 }
     requires numbered { IsNumbered scope.now }
@@ -38,14 +39,14 @@ fn items_of(
 {
     let mut items = Vec::new(alloc);
     for (n, line) in lines.iter().enumerate() {
-        let op = op_of(config, scope, labels, line);
+        let op = operation(config, scope, labels, line);
         add_item(&mut items, number + n as u32 + 1, op)?;
     }
     Ok(items)
 }
 
 // One resource more, if the operand names one.
-fn add_hold(holds: &mut Vec<ResId>, scope: &Scope, operand: &Operand) -> Result<(), NoMemory>
+fn add_hold(holds: &mut Vec<ResId>, scope: &Scope, operand: &Operand) -> Result<()>
     requires { IsNumbered scope.now }
     ensures { OnOk result (holds.new.items ≡ holds.old.items ++ held_resource_by scope.now (written_name operand.now)) }
 {
@@ -56,7 +57,7 @@ fn add_hold(holds: &mut Vec<ResId>, scope: &Scope, operand: &Operand) -> Result<
 }
 
 // The resources that these operands name.
-fn holds_of(alloc: Global, scope: &Scope, operands: &[Operand]) -> Result<Vec<ResId>, NoMemory>
+fn held(alloc: Global, scope: &Scope, operands: &[Operand]) -> Result<Vec<ResId>>
     requires { IsNumbered scope.now }
     ensures { IfOk result (λ holds. holds.items ≡ holds_of scope.now operands.now) }
 {
@@ -68,13 +69,13 @@ fn holds_of(alloc: Global, scope: &Scope, operands: &[Operand]) -> Result<Vec<Re
 }
 
 // The resources that a label says are held.
-fn label_holds(alloc: Global, scope: &Scope, line: &SourceLine) -> Result<Vec<ResId>, NoMemory>
+fn label_holds(alloc: Global, scope: &Scope, line: &SourceLine) -> Result<Vec<ResId>>
     requires { IsNumbered scope.now }
     ensures { IfOk result (λ holds. holds.items ≡ label_holds scope.now line.now) }
 {
     match line {
         SourceLine::Statement { operands, .. } => {
-            holds_of(alloc, scope, behind_first(operands.items()))
+            held(alloc, scope, behind_first(operands.items()))
         },
         _ => Ok(Vec::new(alloc)),
     }
@@ -88,7 +89,7 @@ fn add_label(
     number: u32,
     items: u32,
     line: &SourceLine,
-) -> Result<(), NoMemory>
+) -> Result<()>
     requires { IsNumbered scope.now }
     ensures { OnOk result (found.new.items ≡ found.old.items ++ label_of scope.now number items line.now) }
 {
@@ -116,29 +117,30 @@ fn count_op(op: Option<Op>) -> u32
 }
 
 // The labels of these lines, which stand behind line `number`.
-fn labels_of(
+fn body_labels(
     alloc: Global,
     config: &Config,
     scope: &Scope,
     labels: &Names,
     number: u32,
     lines: &[SourceLine],
-) -> Result<Vec<Label>, NoMemory>
+) -> Result<Vec<Label>>
     requires few { number + length lines.now < 2 ^ 32 }
     requires labels { length labels.now < 2 ^ 32 }
     requires numbered { IsNumbered scope.now }
-    ensures { IfOk result (λ found. found.items ≡ labels_from config.now scope.now labels.now (number + 1) 0 lines.now) }
+    ensures { IfOk result (λ found. found.items
+        ≡ labels_from config.now scope.now labels.now (number + 1) 0 lines.now) }
 {
     let mut found = Vec::new(alloc);
     let mut items = 0;
     for (n, line) in lines.iter().enumerate() {
         add_label(alloc, &mut found, scope, number + n as u32 + 1, items, line)?;
-        items += count_op(op_of(config, scope, labels, line));
+        items += count_op(operation(config, scope, labels, line));
     }
     Ok(found)
 }
 
-fn task_of(scope: &Scope, body: &Body) -> Option<TaskId>
+fn body_task(scope: &Scope, body: &Body) -> Option<TaskId>
     requires { IsNumbered scope.now }
     ensures { result ≡ body_task scope.now body.now }
 {
@@ -159,13 +161,13 @@ struct Content {
 }
 
 // The items and the labels of a body whose labels have these names.
-fn content_with(
+fn named_content(
     alloc: Global,
     config: &Config,
     scope: &Scope,
     labels: &Names,
     body: &Body,
-) -> Result<Content, NoMemory>
+) -> Result<Content>
     requires few { body.now.line + length body.now.lines < 2 ^ 32 }
     requires labels { labels.now ≡ label_names body.now.lines }
     requires numbered { IsNumbered scope.now }
@@ -174,17 +176,12 @@ fn content_with(
     ensures labels { IfOk result (λ content. content.labels.items
         ≡ labels_from config.now scope.now (label_names body.now.lines) (body.now.line + 1) 0 body.now.lines) }
 {
-    let items = items_of(alloc, config, scope, labels, body.line(), body.lines())?;
-    let labels = labels_of(alloc, config, scope, labels, body.line(), body.lines())?;
+    let items = body_items(alloc, config, scope, labels, body.line(), body.lines())?;
+    let labels = body_labels(alloc, config, scope, labels, body.line(), body.lines())?;
     Ok(Content { items, labels })
 }
 
-fn content_of(
-    alloc: Global,
-    config: &Config,
-    scope: &Scope,
-    body: &Body,
-) -> Result<Content, NoMemory>
+fn body_content(alloc: Global, config: &Config, scope: &Scope, body: &Body) -> Result<Content>
     requires few { body.now.line + length body.now.lines < 2 ^ 32 }
     requires numbered { IsNumbered scope.now }
     ensures items { IfOk result (λ content. content.items.items
@@ -193,21 +190,21 @@ fn content_of(
         ≡ labels_from config.now scope.now (label_names body.now.lines) (body.now.line + 1) 0 body.now.lines) }
 {
     let names = label_names(alloc, body.lines())?;
-    content_with(alloc, config, scope, &names, body)
+    named_content(alloc, config, scope, &names, body)
 }
 
 /// The function that a body is.
-pub fn func_of(alloc: Global, config: &Config, scope: &Scope, body: &Body) -> Result<Func, NoMemory>
+pub fn function(alloc: Global, config: &Config, scope: &Scope, body: &Body) -> Result<Func>
     requires few { body.now.line + length body.now.lines < 2 ^ 32 }
     requires numbered { IsNumbered scope.now }
     ensures { IfOk result (λ func. func ≡ func_of config.now scope.now body.now) }
 {
     let name = Name::new(alloc, body.name())?;
-    let Content { items, labels } = content_of(alloc, config, scope, body)?;
+    let Content { items, labels } = body_content(alloc, config, scope, body)?;
     Ok(Func {
         name,
         line: body.line(),
-        task: task_of(scope, body),
+        task: body_task(scope, body),
         frame_words: number_of(body.header()),
         items: List::from_vec(items),
         labels: List::from_vec(labels),

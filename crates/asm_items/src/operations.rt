@@ -1,10 +1,12 @@
 //! What an item does.
 ghost use Rattle.std.specs.Prelude.{◌≡◌, ◌<◌, ◌^◌, length};
 ghost use Rattle.asm_items.specs.Numbered.{IsNumbered};
-ghost use Rattle.asm_items.specs.Operations.{as_word, as_short, register_op, number_op, frame_op, symbol_op, element_op, access_op, jump_op, op_by, op_of};
+ghost use Rattle.asm_items.specs.Operations.{as_word, as_short, register_op, number_op, frame_op, symbol_op};
+ghost use Rattle.asm_items.specs.Operations.{element_op, access_op, jump_op, op_by, op_of};
 
-use crate::services::{call_of, number_of};
+use crate::services::{place_number, service_call};
 use asm_forms::Mnemonic;
+use asm_lines::Operand::{Direct, Frame, Indexed, Name, Number, Register};
 use asm_lines::{Operand, SourceLine};
 use asm_scopes::Scope;
 use sloth_base::{Config, FuncId, ImmKind, Op, Reg, SymId, Width};
@@ -30,36 +32,24 @@ fn as_short(n: i64) -> i32
     if n >= -2048 && n <= 2047 { n as i32 } else { 0 }
 }
 
+// An operation with these fields.
+macro_rules! op {
+    ($name:ident; $($field:ident = $value:expr),*) => {
+        Some(Op::$name { $($field: $value),* })
+    };
+}
+
 // The operation of a statement on registers.
 fn register_op(mnemonic: Mnemonic, operands: &[Operand]) -> Option<Op>
     ensures { result ≡ register_op mnemonic operands.now }
 {
     match (mnemonic, operands) {
-        (
-            Mnemonic::Alu(kind),
-            [
-                Operand::Register(rd),
-                Operand::Register(rs1),
-                Operand::Register(rs2),
-            ],
-        ) => Some(Op::Alu {
-            kind,
-            rd: *rd,
-            rs1: *rs1,
-            rs2: *rs2,
-        }),
-        (Mnemonic::Move, [Operand::Register(rd), Operand::Register(rs1)]) => Some(Op::AluImm {
-            kind: ImmKind::Addi,
-            rd: *rd,
-            rs1: *rs1,
-            imm: 0,
-        }),
-        (Mnemonic::Nop, []) => Some(Op::AluImm {
-            kind: ImmKind::Addi,
-            rd: Reg(0),
-            rs1: Reg(0),
-            imm: 0,
-        }),
+        (Mnemonic::Alu(kind), [Register(rd), Register(rs1), Register(rs2)]) =>
+            op!(Alu; kind = kind, rd = *rd, rs1 = *rs1, rs2 = *rs2),
+        (Mnemonic::Move, [Register(rd), Register(rs1)]) =>
+            op!(AluImm; kind = ImmKind::Addi, rd = *rd, rs1 = *rs1, imm = 0),
+        (Mnemonic::Nop, []) =>
+            op!(AluImm; kind = ImmKind::Addi, rd = Reg(0), rs1 = Reg(0), imm = 0),
         (Mnemonic::Return, []) => Some(Op::Return),
         _ => None,
     }
@@ -70,40 +60,12 @@ fn number_op(mnemonic: Mnemonic, operands: &[Operand]) -> Option<Op>
     ensures { result ≡ number_op mnemonic operands.now }
 {
     match (mnemonic, operands) {
-        (
-            Mnemonic::Imm(kind),
-            [
-                Operand::Register(rd),
-                Operand::Register(rs1),
-                Operand::Number(n),
-            ],
-        ) => Some(Op::AluImm {
-            kind,
-            rd: *rd,
-            rs1: *rs1,
-            imm: as_short(*n),
-        }),
-        (
-            Mnemonic::Shift(kind),
-            [
-                Operand::Register(rd),
-                Operand::Register(rs1),
-                Operand::Number(n),
-            ],
-        ) => Some(Op::AluImm {
-            kind,
-            rd: *rd,
-            rs1: *rs1,
-            imm: as_short(*n),
-        }),
-        (Mnemonic::Lui, [Operand::Register(rd), Operand::Number(n)]) => Some(Op::Lui {
-            rd: *rd,
-            imm: as_word(*n),
-        }),
-        (Mnemonic::Li, [Operand::Register(rd), Operand::Number(n)]) => Some(Op::Li {
-            rd: *rd,
-            value: as_word(*n),
-        }),
+        (Mnemonic::Imm(kind), [Register(rd), Register(rs1), Number(n)]) =>
+            op!(AluImm; kind = kind, rd = *rd, rs1 = *rs1, imm = as_short(*n)),
+        (Mnemonic::Shift(kind), [Register(rd), Register(rs1), Number(n)]) =>
+            op!(AluImm; kind = kind, rd = *rd, rs1 = *rs1, imm = as_short(*n)),
+        (Mnemonic::Lui, [Register(rd), Number(n)]) => op!(Lui; rd = *rd, imm = as_word(*n)),
+        (Mnemonic::Li, [Register(rd), Number(n)]) => op!(Li; rd = *rd, value = as_word(*n)),
         _ => None,
     }
 }
@@ -175,27 +137,15 @@ fn access_op(symbols: &Names, access: Access, width: Width, operands: &[Operand]
     ensures { result ≡ access_op symbols.now access width operands.now }
 {
     match (width, operands) {
-        (
-            _,
-            [
-                Operand::Register(register),
-                Operand::Direct { name, offset },
-            ],
-        ) => {
-            let symbol = number_of(symbols, name.bytes());
+        (_, [Register(register), Direct { name, offset }]) => {
+            let symbol = place_number(symbols, name.bytes());
             Some(symbol_op(access, width, *register, symbol, *offset))
         },
-        (
-            _,
-            [
-                Operand::Register(register),
-                Operand::Indexed { name, index, mask },
-            ],
-        ) => {
-            let symbol = number_of(symbols, name.bytes());
+        (_, [Register(register), Indexed { name, index, mask }]) => {
+            let symbol = place_number(symbols, name.bytes());
             Some(element_op(access, width, *register, symbol, *index, *mask))
         },
-        (Width::Word, [Operand::Register(register), Operand::Frame(word)]) => {
+        (Width::Word, [Register(register), Frame(word)]) => {
             Some(frame_op(access, *register, *word))
         },
         _ => None,
@@ -208,31 +158,17 @@ fn jump_op(scope: &Scope, labels: &Names, mnemonic: Mnemonic, operands: &[Operan
     ensures { result ≡ jump_op scope.now labels.now mnemonic operands.now }
 {
     match (mnemonic, operands) {
-        (
-            Mnemonic::Branch(kind),
-            [
-                Operand::Register(rs1),
-                Operand::Register(rs2),
-                Operand::Name(name),
-            ],
-        ) => Some(Op::Branch {
-            kind,
-            rs1: *rs1,
-            rs2: *rs2,
-            label: number_of(labels, name.bytes()),
-        }),
-        (Mnemonic::Jump, [Operand::Name(name)]) => Some(Op::Jump {
-            label: number_of(labels, name.bytes()),
-        }),
-        (Mnemonic::Invoke, [Operand::Name(name)]) => Some(Op::Invoke {
-            func: FuncId(number_of(&scope.functions, name.bytes())),
-        }),
+        (Mnemonic::Branch(kind), [Register(rs1), Register(rs2), Name(name)]) =>
+            op!(Branch; kind = kind, rs1 = *rs1, rs2 = *rs2, label = place_number(labels, name.bytes())),
+        (Mnemonic::Jump, [Name(name)]) => op!(Jump; label = place_number(labels, name.bytes())),
+        (Mnemonic::Invoke, [Name(name)]) =>
+            op!(Invoke; func = FuncId(place_number(&scope.functions, name.bytes()))),
         _ => None,
     }
 }
 
 // The operation of a statement, if it is an item.
-fn op_by(
+fn statement_operation(
     config: &Config,
     scope: &Scope,
     labels: &Names,
@@ -249,7 +185,7 @@ fn op_by(
         Mnemonic::Branch(_) | Mnemonic::Jump | Mnemonic::Invoke => {
             jump_op(scope, labels, mnemonic, operands)
         },
-        Mnemonic::Serve(service) => Some(Op::Serve(call_of(config, scope, service, operands))),
+        Mnemonic::Serve(service) => Some(Op::Serve(service_call(config, scope, service, operands))),
         Mnemonic::Imm(_) | Mnemonic::Shift(_) | Mnemonic::Lui | Mnemonic::Li => {
             number_op(mnemonic, operands)
         },
@@ -258,14 +194,14 @@ fn op_by(
 }
 
 /// The operation of a line, if it is an item.
-pub fn op_of(config: &Config, scope: &Scope, labels: &Names, line: &SourceLine) -> Option<Op>
+pub fn operation(config: &Config, scope: &Scope, labels: &Names, line: &SourceLine) -> Option<Op>
     requires labels { length labels.now < 2 ^ 32 }
     requires numbered { IsNumbered scope.now }
     ensures { result ≡ op_of config.now scope.now labels.now line.now }
 {
     match line {
         SourceLine::Statement { mnemonic, operands } => {
-            op_by(config, scope, labels, *mnemonic, operands.items())
+            statement_operation(config, scope, labels, *mnemonic, operands.items())
         },
         _ => None,
     }

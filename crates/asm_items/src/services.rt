@@ -1,7 +1,8 @@
 //! What a service names: its task, resource or alarm, and the mask of its events.
 ghost use Rattle.std.specs.Prelude.{◌≡◌, ◌<◌, ◌^◌, length, option_copied};
 ghost use Rattle.asm_items.specs.Numbered.{IsNumbered};
-ghost use Rattle.asm_items.specs.Operations.{number_of, resource_number, mask_given, mask_named, mask_of, behind_first, object_number, behind_object, events_of, call_of};
+ghost use Rattle.asm_items.specs.Operations.{number_of, resource_number, mask_given, mask_named, mask_of, behind_first};
+ghost use Rattle.asm_items.specs.Operations.{object_number, behind_object, events_of, call_of};
 
 use asm_lines::Operand;
 use asm_scopes::{Scope, first_name, written};
@@ -9,7 +10,7 @@ use sloth_base::{Call, Config, EventDecl, ObjectKind, RES_SCHEDULER, Service};
 use text_pieces::Names;
 
 /// The number of a name: its place among those of its kind.
-pub fn number_of(names: &Names, name: &[u8]) -> u32
+pub fn place_number(names: &Names, name: &[u8]) -> u32
     requires { length names.now < 2 ^ 32 }
     ensures { result ≡ number_of names.now name.now }
 {
@@ -27,7 +28,7 @@ pub fn resource_number(scope: &Scope, name: &[u8]) -> u32
     if scope.is_scheduler(name) {
         RES_SCHEDULER
     } else {
-        number_of(&scope.resources, name)
+        place_number(&scope.resources, name)
     }
 }
 
@@ -65,7 +66,7 @@ fn mask_named(config: &Config, scope: &Scope, operand: &Operand) -> u32
 }
 
 // The union of the masks of the events that these operands name.
-fn mask_of(config: &Config, scope: &Scope, operands: &[Operand]) -> u32
+fn joined_masks(config: &Config, scope: &Scope, operands: &[Operand]) -> u32
     ensures { result ≡ mask_of config.now scope.now operands.now }
 {
     let mut mask = 0;
@@ -82,8 +83,8 @@ fn object_number(scope: &Scope, kind: ObjectKind, operands: &[Operand]) -> u32
 {
     match kind {
         ObjectKind::Nothing => 0,
-        ObjectKind::Task => number_of(&scope.tasks, first_name(operands)),
-        ObjectKind::Alarm => number_of(&scope.alarms, first_name(operands)),
+        ObjectKind::Task => place_number(&scope.tasks, first_name(operands)),
+        ObjectKind::Alarm => place_number(&scope.alarms, first_name(operands)),
         ObjectKind::Resource => resource_number(scope, first_name(operands)),
     }
 }
@@ -98,27 +99,24 @@ fn behind_object(kind: ObjectKind, operands: &[Operand]) -> &[Operand]
     }
 }
 
-fn events_of(config: &Config, scope: &Scope, service: Service, operands: &[Operand]) -> u32
+fn event_mask(config: &Config, scope: &Scope, service: Service, operands: &[Operand]) -> u32
     ensures { result ≡ events_of config.now scope.now service operands.now }
 {
-    if service.has_mask() {
-        return mask_of(
-            config,
-            scope,
-            behind_object(service.object_kind(), operands),
-        );
+    if !service.has_mask() {
+        return 0;
     }
-    0
+    let behind = behind_object(service.object_kind(), operands);
+    joined_masks(config, scope, behind)
 }
 
 /// The service with its operands as numbers.
-pub fn call_of(config: &Config, scope: &Scope, service: Service, operands: &[Operand]) -> Call
+pub fn service_call(config: &Config, scope: &Scope, service: Service, operands: &[Operand]) -> Call
     requires { IsNumbered scope.now }
     ensures { result ≡ call_of config.now scope.now service operands.now }
 {
     Call {
         service,
         object: object_number(scope, service.object_kind(), operands),
-        mask: events_of(config, scope, service, operands),
+        mask: event_mask(config, scope, service, operands),
     }
 }

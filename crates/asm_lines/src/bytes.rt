@@ -13,17 +13,12 @@ pub fn is_blank(byte: u8) -> bool
     byte == b' ' || byte == b'\t'
 }
 
-fn is_shown(byte: u8) -> bool
-    ensures { result ≡ is_shown byte }
-{
-    byte == b'\t' || (byte >= 0x20 && byte <= 0x7E)
-}
-
 /// Whether all bytes may stand outside a comment.
 pub fn are_shown(text: &[u8]) -> bool
     ensures { result ≡ list_all is_shown text.now }
 {
-    text.iter().all(|byte| is_shown(*byte))
+    text.iter()
+        .all(|byte| *byte == b'\t' || (*byte >= 0x20 && *byte <= 0x7E))
 }
 
 /// Whether a letter begins the text.
@@ -42,7 +37,7 @@ fn word_length(text: &[u8]) -> usize
 }
 
 /// The longest front of letters, digits and `_`.
-pub fn word_of(text: &[u8]) -> &[u8]
+pub fn first_word(text: &[u8]) -> &[u8]
     ensures { result.now ≡ word_of text.now }
 {
     front(text, word_length(text))

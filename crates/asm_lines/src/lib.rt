@@ -1,11 +1,11 @@
 //! Reads task source line by line: what each line is, and the least fault of the lines.
 //!
-//! The lines of task source whole (61 first words), or the least of A1 to A4 (`read`, `lines_are_parts`, `one_shape`, ..). Defined here:
-//! `specs/Lines`, the table of first words (`specs/Table`), `specs/Faults`, and the same as a drawing, by laws (`specs/Grammar`). The forms of statements: `asm_forms` (`Forms`).
+//! The lines of task source whole (61 first words), or the least of A1 to A4 (`read`, `lines_are_parts`, `one_shape`,
+//! ..). Defined here: `specs/Lines`, the table of first words (`specs/Table`), `specs/Faults`, and the same as a
+//! drawing, by laws (`specs/Grammar`). The forms of statements: `asm_forms` (`Forms`).
 #![tactic(auto)]
 
 mod bytes;
-mod cutting;
 mod laws;
 mod numerals;
 mod operands;

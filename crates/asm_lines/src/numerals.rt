@@ -1,5 +1,5 @@
 //! Numbers of task source.
-ghost use Rattle.std.specs.Prelude.{◌≡◌, ◌≤◌, ◌==◌, slice_index, IfSome};
+ghost use Rattle.std.specs.Prelude.{◌≡◌, ◌≤◌, IfSome};
 ghost use Rattle.std.specs.List.{list_all};
 ghost use Rattle.std.specs.Char.{is_ascii_digit, is_ascii_hexdigit};
 ghost use Rattle.asm_lines.specs.Numbers.{is_hexadecimal, magnitude, signed_number, number, is_within};
@@ -48,18 +48,10 @@ fn signed(is_negative: bool, magnitude: Option<u64>) -> Option<i64>
     requires { IfSome magnitude (λ n. n ≤ 4294967296) }
     ensures { result ≡ signed_number is_negative magnitude }
 {
-    let Some(magnitude) = magnitude else {
-        return None;
-    };
-    let n = magnitude as i64;
-    if is_negative { Some(-n) } else { Some(n) }
-}
-
-// Whether `-` stands in front.
-fn is_negative(text: &[u8]) -> bool
-    ensures { result ≡ (slice_index text.now 0 == 45) }
-{
-    !text.is_empty() && text[0] == b'-'
+    match magnitude {
+        None => None,
+        Some(n) => Some(if is_negative { -(n as i64) } else { n as i64 }),
+    }
 }
 
 /// The number that this text is.
@@ -67,7 +59,7 @@ fn is_negative(text: &[u8]) -> bool
 pub fn number(text: &[u8]) -> Option<i64>
     ensures { result ≡ number text.now }
 {
-    if is_negative(text) {
+    if !text.is_empty() && text[0] == b'-' {
         signed(true, magnitude(after(text, 1)))
     } else {
         signed(false, magnitude(text))

@@ -1,14 +1,14 @@
 //! Operands by their forms.
 ghost use Rattle.std.specs.Prelude.{◌≡◌, IfOk};
-ghost use Rattle.asm_lines.specs.Operands.{small_of, register_operand, number_operand, frame_operand, name_operand, direct_operand, indexed_operand, in_brackets, bracketed_operand, place, bytes_operand, read_operand};
-ghost use Rattle.hex.specs.Hex.{decode_of};
+ghost use Rattle.asm_lines.specs.Operands.{small_of, direct_operand, indexed_operand, in_brackets, bracketed_operand};
+ghost use Rattle.asm_lines.specs.Operands.{place, read_operand};
 
 use crate::bytes::trim;
 use crate::numerals::{is_within, number};
 use crate::registers::register;
 use asm_forms::Form;
 use hex::{FromHexError, decode};
-use sloth_base::{List, Name, NoMemory, OPERAND_LIMIT, Reg};
+use sloth_base::{List, Name, NoMemory, OPERAND_LIMIT, Reg, Result};
 use std::alloc::Global;
 use text_pieces::{before, behind, front, has, is_name, same};
 
@@ -40,66 +40,17 @@ pub enum Small {
     Is(u32),
 }
 
-fn small_of(number: Option<i64>) -> Small
+fn limited(number: Option<i64>) -> Small
     ensures { result ≡ small_of number }
 {
     match number {
         None => Small::NoNumber,
-        Some(n) => {
-            if n >= 0 && n <= OPERAND_LIMIT {
-                Small::Is(n as u32)
-            } else {
-                Small::TooFar
-            }
-        },
+        Some(n) if n >= 0 && n <= OPERAND_LIMIT => Small::Is(n as u32),
+        Some(_) => Small::TooFar,
     }
 }
 
-fn register_operand(register: Option<Reg>) -> Operand
-    ensures { result ≡ register_operand register }
-{
-    match register {
-        None => Operand::Wrong,
-        Some(register) => Operand::Register(register),
-    }
-}
-
-fn number_operand(low: i64, high: i64, number: Option<i64>) -> Operand
-    ensures { result ≡ number_operand low high number }
-{
-    match number {
-        None => Operand::Wrong,
-        Some(n) => {
-            if is_within(low, high, n) {
-                Operand::Number(n)
-            } else {
-                Operand::Outside
-            }
-        },
-    }
-}
-
-fn frame_operand(word: Small) -> Operand
-    ensures { result ≡ frame_operand word }
-{
-    match word {
-        Small::NoNumber => Operand::Wrong,
-        Small::TooFar => Operand::Outside,
-        Small::Is(k) => Operand::Frame(k),
-    }
-}
-
-fn name_operand(alloc: Global, text: &[u8]) -> Result<Operand, NoMemory>
-    ensures { IfOk result (λ o. o ≡ name_operand text.now) }
-{
-    if !is_name(text) {
-        return Ok(Operand::Wrong);
-    }
-    let name = Name::new(alloc, text)?;
-    Ok(Operand::Name(name))
-}
-
-fn direct(alloc: Global, name: &[u8], offset: Small) -> Result<Operand, NoMemory>
+fn direct(alloc: Global, name: &[u8], offset: Small) -> Result<Operand>
     ensures { IfOk result (λ o. o ≡ direct_operand name.now offset) }
 {
     if !is_name(name) {
@@ -115,7 +66,7 @@ fn direct(alloc: Global, name: &[u8], offset: Small) -> Result<Operand, NoMemory
     }
 }
 
-fn indexed(alloc: Global, name: &[u8], index: Option<Reg>, mask: Small) -> Result<Operand, NoMemory>
+fn indexed(alloc: Global, name: &[u8], index: Option<Reg>, mask: Small) -> Result<Operand>
     ensures { IfOk result (λ o. o ≡ indexed_operand name.now index mask) }
 {
     if !is_name(name) {
@@ -136,28 +87,27 @@ fn indexed(alloc: Global, name: &[u8], index: Option<Reg>, mask: Small) -> Resul
 
 // With this text between its brackets.
 #[tactic(auto, unfolding(crate::specs::Operands::in_brackets))]
-fn in_brackets(
-    alloc: Global,
-    in_frame: bool,
-    name: &[u8],
-    inside: &[u8],
-) -> Result<Operand, NoMemory>
+fn in_brackets(alloc: Global, in_frame: bool, name: &[u8], inside: &[u8]) -> Result<Operand>
     ensures { IfOk result (λ o. o ≡ in_brackets in_frame name.now inside.now) }
 {
     if has(inside, b'&') {
         let index = register(trim(before(inside, b'&')));
-        let mask = small_of(number(trim(behind(inside, b'&'))));
+        let mask = limited(number(trim(behind(inside, b'&'))));
         return indexed(alloc, name, index, mask);
     }
     if in_frame && same(name, b"frame") {
-        return Ok(frame_operand(small_of(number(inside))));
+        return Ok(match limited(number(inside)) {
+            Small::NoNumber => Operand::Wrong,
+            Small::TooFar => Operand::Outside,
+            Small::Is(k) => Operand::Frame(k),
+        });
     }
     Ok(Operand::Wrong)
 }
 
 // `NAME[..]`
 #[tactic(auto, unfolding(crate::specs::Operands::bracketed_operand))]
-fn bracketed(alloc: Global, in_frame: bool, name: &[u8], rest: &[u8]) -> Result<Operand, NoMemory>
+fn bracketed(alloc: Global, in_frame: bool, name: &[u8], rest: &[u8]) -> Result<Operand>
     ensures { IfOk result (λ o. o ≡ bracketed_operand in_frame name.now rest.now) }
 {
     if rest.is_empty() || rest[rest.len() - 1] != b']' {
@@ -167,42 +117,41 @@ fn bracketed(alloc: Global, in_frame: bool, name: &[u8], rest: &[u8]) -> Result<
 }
 
 #[tactic(auto, unfolding(crate::specs::Operands::place))]
-fn place(alloc: Global, in_frame: bool, text: &[u8]) -> Result<Operand, NoMemory>
+fn place(alloc: Global, in_frame: bool, text: &[u8]) -> Result<Operand>
     ensures { IfOk result (λ o. o ≡ place in_frame text.now) }
 {
     if has(text, b'[') {
         return bracketed(alloc, in_frame, before(text, b'['), behind(text, b'['));
     }
     if has(text, b'+') {
-        return direct(
-            alloc,
-            trim(before(text, b'+')),
-            small_of(number(trim(behind(text, b'+')))),
-        );
+        let offset = limited(number(trim(behind(text, b'+'))));
+        return direct(alloc, trim(before(text, b'+')), offset);
     }
     direct(alloc, text, Small::Is(0))
 }
 
-fn bytes_operand(alloc: Global, text: &[u8]) -> Result<Operand, NoMemory>
-    ensures { IfOk result (λ o. o ≡ bytes_operand (decode_of text.now)) }
-{
-    match decode(alloc, text) {
-        Ok(bytes) => Ok(Operand::Bytes(List::from_vec(bytes))),
-        Err(FromHexError::OutOfMemory) => Err(NoMemory),
-        Err(_) => Ok(Operand::Wrong),
-    }
-}
-
 /// The operand that a text is, where one of this form is wanted.
-pub fn read_operand(alloc: Global, form: Form, text: &[u8]) -> Result<Operand, NoMemory>
+pub fn read_operand(alloc: Global, form: Form, text: &[u8]) -> Result<Operand>
     ensures { IfOk result (λ o. o ≡ read_operand form text.now) }
 {
     match form {
-        Form::Register => Ok(register_operand(register(text))),
-        Form::Number { low, high } => Ok(number_operand(low, high, number(text))),
-        Form::Name => name_operand(alloc, text),
+        Form::Register => match register(text) {
+            None => Ok(Operand::Wrong),
+            Some(register) => Ok(Operand::Register(register)),
+        },
+        Form::Number { low, high } => match number(text) {
+            None => Ok(Operand::Wrong),
+            Some(n) if is_within(low, high, n) => Ok(Operand::Number(n)),
+            Some(_) => Ok(Operand::Outside),
+        },
+        Form::Name if !is_name(text) => Ok(Operand::Wrong),
+        Form::Name => Ok(Operand::Name(Name::new(alloc, text)?)),
         Form::Place => place(alloc, false, text),
         Form::WordPlace => place(alloc, true, text),
-        Form::Bytes => bytes_operand(alloc, text),
+        Form::Bytes => match decode(alloc, text) {
+            Ok(bytes) => Ok(Operand::Bytes(List::from_vec(bytes))),
+            Err(FromHexError::OutOfMemory) => Err(NoMemory),
+            Err(_) => Ok(Operand::Wrong),
+        },
     }
 }

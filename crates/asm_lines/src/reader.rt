@@ -2,41 +2,37 @@
 ghost use Rattle.std.specs.Prelude.{◌≡◌, ◌<◌, length, map, IfOk, IfErr, OnOk};
 ghost use Rattle.least_fault.specs.Order.{ErrorIs, NoFault};
 ghost use Rattle.text_pieces.specs.Names.{referent};
-ghost use Rattle.text_pieces.specs.Lines.{without_returns};
 ghost use Rattle.asm_lines.specs.SourceLines.{source_line};
 ghost use Rattle.asm_lines.specs.Faults.{source_lines, SourceLinesFault};
 
 use crate::SourceLine;
 use crate::rules::source_fault;
 use crate::source_line::source_line;
-use sloth_base::{BuildError, List, NoMemory};
+use sloth_base::{BuildError, List, Result};
 use std::alloc::Global;
-use text_pieces::{line_of, push, split};
+use text_pieces::{lines, push};
 
-// What the line of each part is.
-fn read_parts(alloc: Global, parts: &[&[u8]]) -> Result<Vec<SourceLine>, NoMemory>
-    ensures { IfOk result (λ read. read.items ≡ map source_line (without_returns (map referent parts.now))) }
+fn all_read(alloc: Global, lines: &[&[u8]]) -> Result<Vec<SourceLine>>
+    ensures { IfOk result (λ read. read.items ≡ map source_line (map referent lines.now)) }
 {
     let mut read = Vec::new(alloc);
-    for (n, part) in parts.iter().enumerate() {
-        let line = line_of(*part, n + 1 == parts.len());
-        let line = source_line(alloc, line)?;
+    for line in lines {
+        let line = source_line(alloc, *line)?;
         push(&mut read, line)?;
     }
     Ok(read)
 }
 
 /// What the lines of a text are, whatever their faults.
-#[tactic(auto, unfolding(text_pieces::specs::Lines::lines))]
-pub fn read_lines(alloc: Global, text: &[u8]) -> Result<List<SourceLine>, NoMemory>
+pub fn read_lines(alloc: Global, text: &[u8]) -> Result<List<SourceLine>>
     ensures { IfOk result (λ read. read ≡ source_lines text.now) }
 {
-    let parts = split(alloc, text, b'\n')?;
-    let read = read_parts(alloc, parts.as_slice())?;
+    let lines = lines(alloc, text)?;
+    let read = all_read(alloc, lines.as_slice())?;
     Ok(List::from_vec(read))
 }
 
-/// What the lines of a task source are, or its least fault: A1 for a line that is no statement, or one out of place; A2 for an
+/// The lines of a task source, or its least fault: A1 for a line that is no statement, or one out of place; A2 for an
 /// unknown statement; A3 for a wrong operand; A4 for a number out of range. The text has at most 4,294,967,294 bytes.
 pub fn read(alloc: Global, text: &[u8]) -> Result<List<SourceLine>, BuildError>
     requires { length text.now < 4294967295 }

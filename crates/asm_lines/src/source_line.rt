@@ -1,17 +1,18 @@
 //! What a line of task source is.
 ghost use Rattle.std.specs.Prelude.{◌≡◌, IfOk, map};
 ghost use Rattle.text_pieces.specs.Names.{referent};
-ghost use Rattle.asm_lines.specs.SourceLines.{stands_apart, begins_statement, has_empty, read_operands, statement, statement_of, source_line};
+ghost use Rattle.asm_lines.specs.SourceLines.{has_empty, read_operands, statement, source_line};
+ghost use Rattle.asm_lines.specs.Lines.{operands_of};
+ghost use Rattle.asm_lines.specs.Bytes.{trim};
 
 use crate::Operand;
-use crate::bytes::{are_shown, begins_with_letter, is_blank, trim, word_of};
-use crate::cutting::operands_of;
+use crate::bytes::{are_shown, begins_with_letter, first_word, is_blank, trim};
 use crate::operands::read_operand;
-use crate::table::mnemonic_of;
+use crate::table::mnemonic;
 use asm_forms::{Mnemonic, form_of};
-use sloth_base::{List, NoMemory};
+use sloth_base::{List, Result};
 use std::alloc::Global;
-use text_pieces::{after, before, push};
+use text_pieces::{after, before, push, split};
 
 /// What a line of task source is.
 #[derive(Drop)]
@@ -29,19 +30,27 @@ pub enum SourceLine {
     },
 }
 
-// Whether nothing stands there, or a blank in front.
-fn stands_apart(text: &[u8]) -> bool
-    ensures { result ≡ stands_apart text.now }
+fn trimmed<'a>(alloc: Global, parts: &[&'a [u8]]) -> Result<Vec<&'a [u8]>>
+    ensures { IfOk result (λ operands. map referent operands.items ≡ map trim (map referent parts.now)) }
 {
-    text.is_empty() || is_blank(text[0])
+    let mut operands = Vec::new(alloc);
+    for part in parts {
+        push(&mut operands, trim(*part))?;
+    }
+    Ok(operands)
 }
 
-// Whether a text begins as a statement does.
-#[tactic(auto, unfolding(crate::specs::SourceLines::begins_statement))]
-fn begins_statement(text: &[u8], rest: &[u8]) -> bool
-    ensures { result ≡ begins_statement text.now rest.now }
+// The operands in a text, without the blanks around them.
+#[tactic(auto, unfolding(crate::specs::Lines::operands_of))]
+fn operand_texts<'a>(alloc: Global, text: &'a [u8]) -> Result<Vec<&'a [u8]>>
+    ensures { IfOk result (λ operands. map referent operands.items ≡ operands_of text.now) }
 {
-    are_shown(text) && begins_with_letter(text) && stands_apart(rest)
+    if text.is_empty() {
+        return Ok(Vec::new(alloc));
+    }
+    let parts = split(alloc, text, b',')?;
+    let operands = trimmed(alloc, parts.as_slice())?;
+    Ok(operands)
 }
 
 // Whether one of the texts is empty.
@@ -58,11 +67,7 @@ fn has_empty(texts: &[&[u8]]) -> bool
 }
 
 // The operands of a statement.
-fn read_operands(
-    alloc: Global,
-    mnemonic: Mnemonic,
-    texts: &[&[u8]],
-) -> Result<Vec<Operand>, NoMemory>
+fn read_operands(alloc: Global, mnemonic: Mnemonic, texts: &[&[u8]]) -> Result<Vec<Operand>>
     ensures { IfOk result (λ operands. operands.items ≡ read_operands mnemonic 0 (map referent texts.now)) }
 {
     let mut operands = Vec::new(alloc);
@@ -74,41 +79,36 @@ fn read_operands(
 }
 
 // The statement of a first word with these operands.
-fn statement(alloc: Global, word: &[u8], texts: &[&[u8]]) -> Result<SourceLine, NoMemory>
+fn statement(alloc: Global, word: &[u8], texts: &[&[u8]]) -> Result<SourceLine>
     ensures { IfOk result (λ line. line ≡ statement word.now (map referent texts.now)) }
 {
     if has_empty(texts) {
         return Ok(SourceLine::Shapeless);
     }
-    let Some(mnemonic) = mnemonic_of(word) else {
+    let Some(mnemonic) = mnemonic(word) else {
         return Ok(SourceLine::Unknown);
     };
     let operands = read_operands(alloc, mnemonic, texts)?;
-    let operands = List::from_vec(operands);
-    Ok(SourceLine::Statement { mnemonic, operands })
-}
-
-#[tactic(auto, unfolding(crate::specs::SourceLines::statement_of))]
-fn statement_of(alloc: Global, text: &[u8]) -> Result<SourceLine, NoMemory>
-    ensures { IfOk result (λ line. line ≡ statement_of text.now) }
-{
-    let word = word_of(text);
-    let rest = after(text, word.len());
-    if !begins_statement(text, rest) {
-        return Ok(SourceLine::Shapeless);
-    }
-    let operands = operands_of(alloc, rest)?;
-    statement(alloc, word, operands.as_slice())
+    Ok(SourceLine::Statement {
+        mnemonic,
+        operands: List::from_vec(operands),
+    })
 }
 
 /// What a line is.
-#[tactic(auto, unfolding(crate::specs::SourceLines::source_line))]
-pub fn source_line(alloc: Global, line: &[u8]) -> Result<SourceLine, NoMemory>
+#[tactic(auto, unfolding(crate::specs::SourceLines::source_line, crate::specs::SourceLines::statement_of, crate::specs::SourceLines::begins_statement))]
+pub fn source_line(alloc: Global, line: &[u8]) -> Result<SourceLine>
     ensures { IfOk result (λ found. found ≡ source_line line.now) }
 {
     let text = trim(before(line, b'#'));
     if text.is_empty() {
         return Ok(SourceLine::Empty);
     }
-    statement_of(alloc, text)
+    let word = first_word(text);
+    let rest = after(text, word.len());
+    if !are_shown(text) || !begins_with_letter(text) || !(rest.is_empty() || is_blank(rest[0])) {
+        return Ok(SourceLine::Shapeless);
+    }
+    let operands = operand_texts(alloc, rest)?;
+    statement(alloc, word, operands.as_slice())
 }

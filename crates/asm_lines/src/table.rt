@@ -6,184 +6,98 @@ use asm_forms::Mnemonic;
 use sloth_base::{AluKind, BranchKind, ImmKind, Width, service_named};
 use text_pieces::same;
 
+// The kind of the first row with this word.
+macro_rules! kind_named {
+    ($word:expr; $($name:literal => $kind:expr),+) => {{
+        $(if same($word, $name) {
+            return Some($kind);
+        })+
+        None
+    }};
+}
+
 #[tactic(auto, unfolding(crate::specs::Table::alu_of))]
-fn alu_of(word: &[u8]) -> Option<AluKind>
+fn alu_kind(word: &[u8]) -> Option<AluKind>
     ensures { result ≡ alu_of word.now }
 {
-    if same(word, b"add") {
-        Some(AluKind::Add)
-    } else if same(word, b"sub") {
-        Some(AluKind::Sub)
-    } else if same(word, b"sll") {
-        Some(AluKind::Sll)
-    } else if same(word, b"slt") {
-        Some(AluKind::Slt)
-    } else if same(word, b"sltu") {
-        Some(AluKind::Sltu)
-    } else if same(word, b"xor") {
-        Some(AluKind::Xor)
-    } else if same(word, b"srl") {
-        Some(AluKind::Srl)
-    } else if same(word, b"sra") {
-        Some(AluKind::Sra)
-    } else if same(word, b"or") {
-        Some(AluKind::Or)
-    } else if same(word, b"and") {
-        Some(AluKind::And)
-    } else {
-        None
-    }
+    kind_named!(word; b"add" => AluKind::Add, b"sub" => AluKind::Sub, b"sll" => AluKind::Sll, b"slt" => AluKind::Slt,
+        b"sltu" => AluKind::Sltu, b"xor" => AluKind::Xor, b"srl" => AluKind::Srl, b"sra" => AluKind::Sra,
+        b"or" => AluKind::Or, b"and" => AluKind::And)
 }
 
 #[tactic(auto, unfolding(crate::specs::Table::imm_of))]
-fn imm_of(word: &[u8]) -> Option<ImmKind>
+fn imm_kind(word: &[u8]) -> Option<ImmKind>
     ensures { result ≡ imm_of word.now }
 {
-    if same(word, b"addi") {
-        Some(ImmKind::Addi)
-    } else if same(word, b"slti") {
-        Some(ImmKind::Slti)
-    } else if same(word, b"sltiu") {
-        Some(ImmKind::Sltiu)
-    } else if same(word, b"xori") {
-        Some(ImmKind::Xori)
-    } else if same(word, b"ori") {
-        Some(ImmKind::Ori)
-    } else if same(word, b"andi") {
-        Some(ImmKind::Andi)
-    } else {
-        None
-    }
+    kind_named!(word; b"addi" => ImmKind::Addi, b"slti" => ImmKind::Slti, b"sltiu" => ImmKind::Sltiu,
+        b"xori" => ImmKind::Xori, b"ori" => ImmKind::Ori, b"andi" => ImmKind::Andi)
 }
 
 #[tactic(auto, unfolding(crate::specs::Table::shift_of))]
-fn shift_of(word: &[u8]) -> Option<ImmKind>
+fn shift_kind(word: &[u8]) -> Option<ImmKind>
     ensures { result ≡ shift_of word.now }
 {
-    if same(word, b"slli") {
-        Some(ImmKind::Slli)
-    } else if same(word, b"srli") {
-        Some(ImmKind::Srli)
-    } else if same(word, b"srai") {
-        Some(ImmKind::Srai)
-    } else {
-        None
-    }
+    kind_named!(word; b"slli" => ImmKind::Slli, b"srli" => ImmKind::Srli, b"srai" => ImmKind::Srai)
 }
 
 #[tactic(auto, unfolding(crate::specs::Table::load_of))]
-fn load_of(word: &[u8]) -> Option<Width>
+fn load_width(word: &[u8]) -> Option<Width>
     ensures { result ≡ load_of word.now }
 {
-    if same(word, b"lb") {
-        Some(Width::Byte)
-    } else if same(word, b"lh") {
-        Some(Width::Half)
-    } else if same(word, b"lw") {
-        Some(Width::Word)
-    } else if same(word, b"lbu") {
-        Some(Width::ByteU)
-    } else if same(word, b"lhu") {
-        Some(Width::HalfU)
-    } else {
-        None
-    }
+    kind_named!(word; b"lb" => Width::Byte, b"lh" => Width::Half, b"lw" => Width::Word, b"lbu" => Width::ByteU,
+        b"lhu" => Width::HalfU)
 }
 
 #[tactic(auto, unfolding(crate::specs::Table::store_of))]
-fn store_of(word: &[u8]) -> Option<Width>
+fn store_width(word: &[u8]) -> Option<Width>
     ensures { result ≡ store_of word.now }
 {
-    if same(word, b"sb") {
-        Some(Width::Byte)
-    } else if same(word, b"sh") {
-        Some(Width::Half)
-    } else if same(word, b"sw") {
-        Some(Width::Word)
-    } else {
-        None
-    }
+    kind_named!(word; b"sb" => Width::Byte, b"sh" => Width::Half, b"sw" => Width::Word)
 }
 
 #[tactic(auto, unfolding(crate::specs::Table::branch_of))]
-fn branch_of(word: &[u8]) -> Option<BranchKind>
+fn branch_kind(word: &[u8]) -> Option<BranchKind>
     ensures { result ≡ branch_of word.now }
 {
-    if same(word, b"beq") {
-        Some(BranchKind::Beq)
-    } else if same(word, b"bne") {
-        Some(BranchKind::Bne)
-    } else if same(word, b"blt") {
-        Some(BranchKind::Blt)
-    } else if same(word, b"bge") {
-        Some(BranchKind::Bge)
-    } else if same(word, b"bltu") {
-        Some(BranchKind::Bltu)
-    } else if same(word, b"bgeu") {
-        Some(BranchKind::Bgeu)
-    } else {
-        None
-    }
+    kind_named!(word; b"beq" => BranchKind::Beq, b"bne" => BranchKind::Bne, b"blt" => BranchKind::Blt,
+        b"bge" => BranchKind::Bge, b"bltu" => BranchKind::Bltu, b"bgeu" => BranchKind::Bgeu)
 }
 
 #[tactic(auto, unfolding(crate::specs::Table::plain_of))]
-fn plain_of(word: &[u8]) -> Option<Mnemonic>
+fn plain_mnemonic(word: &[u8]) -> Option<Mnemonic>
     ensures { result ≡ plain_of word.now }
 {
-    if same(word, b"data") {
-        Some(Mnemonic::Data)
-    } else if same(word, b"task") {
-        Some(Mnemonic::Task)
-    } else if same(word, b"func") {
-        Some(Mnemonic::Func)
-    } else if same(word, b"end") {
-        Some(Mnemonic::End)
-    } else if same(word, b"label") {
-        Some(Mnemonic::Label)
-    } else if same(word, b"lui") {
-        Some(Mnemonic::Lui)
-    } else if same(word, b"li") {
-        Some(Mnemonic::Li)
-    } else if same(word, b"mv") {
-        Some(Mnemonic::Move)
-    } else if same(word, b"nop") {
-        Some(Mnemonic::Nop)
-    } else if same(word, b"j") {
-        Some(Mnemonic::Jump)
-    } else if same(word, b"call") {
-        Some(Mnemonic::Invoke)
-    } else if same(word, b"ret") {
-        Some(Mnemonic::Return)
-    } else {
-        None
-    }
+    kind_named!(word; b"data" => Mnemonic::Data, b"task" => Mnemonic::Task, b"func" => Mnemonic::Func,
+        b"end" => Mnemonic::End, b"label" => Mnemonic::Label, b"lui" => Mnemonic::Lui, b"li" => Mnemonic::Li,
+        b"mv" => Mnemonic::Move, b"nop" => Mnemonic::Nop, b"j" => Mnemonic::Jump, b"call" => Mnemonic::Invoke,
+        b"ret" => Mnemonic::Return)
 }
 
 /// The statement that a word begins.
 #[tactic(auto, unfolding(crate::specs::Table::mnemonic_of))]
-pub fn mnemonic_of(word: &[u8]) -> Option<Mnemonic>
+pub fn mnemonic(word: &[u8]) -> Option<Mnemonic>
     ensures { result ≡ mnemonic_of word.now }
 {
-    if let Some(kind) = alu_of(word) {
+    if let Some(kind) = alu_kind(word) {
         return Some(Mnemonic::Alu(kind));
     }
-    if let Some(kind) = imm_of(word) {
+    if let Some(kind) = imm_kind(word) {
         return Some(Mnemonic::Imm(kind));
     }
-    if let Some(kind) = shift_of(word) {
+    if let Some(kind) = shift_kind(word) {
         return Some(Mnemonic::Shift(kind));
     }
-    if let Some(kind) = load_of(word) {
+    if let Some(kind) = load_width(word) {
         return Some(Mnemonic::Load(kind));
     }
-    if let Some(kind) = store_of(word) {
+    if let Some(kind) = store_width(word) {
         return Some(Mnemonic::Store(kind));
     }
-    if let Some(kind) = branch_of(word) {
+    if let Some(kind) = branch_kind(word) {
         return Some(Mnemonic::Branch(kind));
     }
     if let Some(kind) = service_named(word) {
         return Some(Mnemonic::Serve(kind));
     }
-    plain_of(word)
+    plain_mnemonic(word)
 }

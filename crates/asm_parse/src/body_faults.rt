@@ -10,7 +10,7 @@ use crate::{count_item, count_items, count_label};
 use asm_lines::SourceLine;
 use asm_scopes::{Body, Scope, is_item, is_label, is_task, label_names, name_of, number_of};
 use least_fault::{fault_if, merge};
-use sloth_base::{BODY_LIMIT, Code, FRAME_LIMIT, ITEM_LIMIT, NoMemory, Part, Refusal};
+use sloth_base::{BODY_LIMIT, Code, FRAME_LIMIT, ITEM_LIMIT, Part, Refusal, Result};
 use std::alloc::Global;
 use text_pieces::Names;
 
@@ -108,7 +108,7 @@ fn body_fault(
     count: usize,
     items: usize,
     body: &Body,
-) -> Result<Option<Refusal>, NoMemory>
+) -> Result<Option<Refusal>>
     requires few { body.now.line + length body.now.lines < 2 ^ 32 }
     requires items { items + length body.now.lines < 2 ^ 64 }
     ensures { IfOk result (λ found. IsSearchResult (λ r.
@@ -122,11 +122,7 @@ fn body_fault(
 }
 
 /// The least fault of these bodies.
-pub fn body_faults(
-    alloc: Global,
-    scope: &Scope,
-    bodies: &[Body],
-) -> Result<Option<Refusal>, NoMemory>
+pub fn body_faults(alloc: Global, scope: &Scope, bodies: &[Body]) -> Result<Option<Refusal>>
     requires few { length bodies.now < 2 ^ 32 }
     requires short { All (λ body. body.line + length body.lines < 2 ^ 32) bodies.now }
     requires functions { scope.now.functions ≡ function_names bodies.now }

@@ -20,7 +20,7 @@ pub fn is_taken(symbols: &Names, count: usize, line: &SourceLine) -> bool
     is_data(line) && (symbols.is_among_first(count, name) || same(name, b"frame"))
 }
 
-/// A6 of a symbol behind so many, of so many bytes: one symbol too many, one that brings the sum of sizes above the limit, or a long name.
+/// A6 of a symbol behind so many of so many bytes: one too many, a sum of sizes above the limit, or a long name.
 pub fn is_too_much(count: usize, bytes: usize, line: &SourceLine) -> bool
     requires { bytes < 2 ^ 63 }
     ensures { result ≡ is_too_much count bytes line.now }

@@ -12,7 +12,7 @@ use crate::data_faults::data_faults;
 use asm_lines::SourceLine;
 use asm_scopes::{Body, Scope, scope_of, task_body_names};
 use least_fault::{fault_if, merge};
-use sloth_base::{Code, Config, NoMemory, Part, Refusal, TaskDecl};
+use sloth_base::{Code, Config, Part, Refusal, Result, TaskDecl};
 use std::alloc::Global;
 use text_pieces::Names;
 
@@ -23,7 +23,7 @@ fn any_without(names: &Names, tasks: &[TaskDecl]) -> bool
 }
 
 /// A7 of line 1: a task of the configuration has no body.
-pub fn is_body_missing(alloc: Global, config: &Config, bodies: &[Body]) -> Result<bool, NoMemory>
+pub fn is_body_missing(alloc: Global, config: &Config, bodies: &[Body]) -> Result<bool>
     ensures { IfOk result (λ lacks. lacks ≡ is_body_missing config.now bodies.now) }
 {
     let names = task_body_names(alloc, bodies)?;
@@ -37,7 +37,7 @@ fn fault_in_scope(
     lines: &[SourceLine],
     bodies: &[Body],
     scope: &Scope,
-) -> Result<Option<Refusal>, NoMemory>
+) -> Result<Option<Refusal>>
     requires few { length lines.now < 2 ^ 32 }
     requires bodies { bodies.now ≡ bodies_of lines.now }
     requires scope { scope.now ≡ scope_of config.now lines.now bodies.now }
@@ -50,14 +50,14 @@ fn fault_in_scope(
     Ok(merge(of_data, merge(of_bodies, of_tasks)))
 }
 
-/// The least fault of names and limits in these lines: A5 for a doubled name, or one that nothing of the wanted kind has; A6 for a limit
-/// that is passed; A7 for a task without a body, or a body without its task.
+/// The least fault of names and limits in these lines: A5 for a doubled name, or one that nothing of the wanted kind
+/// has; A6 for a limit that is passed; A7 for a task without a body, or a body without its task.
 pub fn judge(
     alloc: Global,
     config: &Config,
     lines: &[SourceLine],
     bodies: &[Body],
-) -> Result<Option<Refusal>, NoMemory>
+) -> Result<Option<Refusal>>
     requires few { length lines.now < 2 ^ 32 }
     requires bodies { bodies.now ≡ bodies_of lines.now }
     ensures { IfOk result (λ found. IsSearchResult (NameFault config.now lines.now) found) }

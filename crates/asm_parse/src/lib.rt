@@ -1,8 +1,9 @@
 //! The task code that a text says, or its least refusal.
 //!
-//! `parse_app` gives the task code that the text spells, in range of the configuration; or exactly the least of A1 to A4, and where there is none, of
-//! A5 to A7. A text spells one task code at most (`one_app`; `specs/AppTexts`). The faults of names and of limits, A5 to A7: `specs/NameFaults`. What
-//! lines mean: `asm_lines`, `asm_scopes`, `asm_items`; in range: `code_rules` (`AppRange`).
+//! `parse_app` gives the task code that the text spells, in range of the configuration; or exactly the least of A1 to
+//! A4, and where there is none, of A5 to A7. A text spells one task code at most (`one_app`; `specs/AppTexts`). The
+//! faults of names and of limits, A5 to A7: `specs/NameFaults`. What lines mean: `asm_lines`, `asm_scopes`,
+//! `asm_items`; in range: `code_rules` (`AppRange`).
 #![tactic(auto)]
 
 pub mod body_faults;

@@ -14,7 +14,7 @@ use crate::judging::judge;
 use asm_items::app_of;
 use asm_lines::{SourceLine, read};
 use asm_scopes::{Body, bodies_of};
-use sloth_base::{App, BuildError, Config, NoMemory, Refusal};
+use sloth_base::{App, BuildError, Config, Refusal, Result};
 use std::alloc::Global;
 
 // The task code of lines with these bodies, or the least fault of names and limits.
@@ -23,7 +23,7 @@ fn app_of_bodies(
     config: &Config,
     lines: &[SourceLine],
     bodies: &[Body],
-) -> Result<Result<App, Refusal>, NoMemory>
+) -> Result<Result<App, Refusal>>
     requires few { length lines.now < 2 ^ 32 }
     requires config { InRange config.now }
     requires bodies { bodies.now ≡ bodies_of lines.now }
@@ -44,7 +44,7 @@ fn app_or_refusal(
     alloc: Global,
     lines: &[SourceLine],
     config: &Config,
-) -> Result<Result<App, Refusal>, NoMemory>
+) -> Result<Result<App, Refusal>>
     requires few { length lines.now < 2 ^ 32 }
     requires config { InRange config.now }
     ensures app { IfOk result (λ found. IfOk found (λ app. app ≡ app_of config.now lines.now)) }
@@ -55,8 +55,8 @@ fn app_or_refusal(
     app_of_bodies(alloc, config, lines, bodies.as_slice())
 }
 
-/// The task code of a text, in range of the configuration, or its least refusal: A1 to A4 of its lines, and where they have none A5 to A7
-/// of names and limits. The text has at most 4,294,967,294 bytes.
+/// The task code of a text, in range of the configuration, or its least refusal: A1 to A4 of its lines, and where they
+/// have none A5 to A7 of names and limits. The text has at most 4,294,967,294 bytes.
 pub fn parse_app(alloc: Global, text: &[u8], config: &Config) -> Result<App, BuildError>
     requires text { length text.now < 4294967295 }
     requires config { InRange config.now }

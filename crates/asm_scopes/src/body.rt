@@ -6,7 +6,7 @@ ghost use Rattle.asm_scopes.specs.Bodies.{bodies_of, body_name, is_task_body};
 
 use crate::{closes_body, is_task, name_of, opens_body};
 use asm_lines::SourceLine;
-use sloth_base::NoMemory;
+use sloth_base::Result;
 use std::alloc::Global;
 use std::marker::Model;
 use text_pieces::push;
@@ -94,7 +94,7 @@ fn before_end(lines: &[SourceLine]) -> &[SourceLine]
 }
 
 /// The bodies of these lines.
-pub fn bodies_of<'t>(alloc: Global, lines: &'t [SourceLine]) -> Result<Vec<Body<'t>>, NoMemory>
+pub fn bodies_of<'t>(alloc: Global, lines: &'t [SourceLine]) -> Result<Vec<Body<'t>>>
     requires { length lines.now < 2 ^ 32 }
     ensures { IfOk result (λ bodies. bodies.items ≡ bodies_of lines.now) }
 {

@@ -1,7 +1,7 @@
 //! The names of task source: what its lines and bodies declare, and what a name may stand for where it is used.
 //!
-//! The bodies of lines, the names of each kind in the order of their numbers, what an operand names (`bodies_of`, `scope_of`, `kind_of`;
-//! `specs/Statements`, `specs/Bodies`, `specs/Scopes`). Lines: `asm_lines` (`Lines`).
+//! The bodies of lines, the names of each kind in the order of their numbers, what an operand names (`bodies_of`,
+//! `scope_of`, `kind_of`; `specs/Statements`, `specs/Bodies`, `specs/Scopes`). Lines: `asm_lines` (`Lines`).
 #![tactic(auto)]
 
 mod body;

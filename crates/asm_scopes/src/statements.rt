@@ -5,7 +5,7 @@ ghost use Rattle.asm_scopes.specs.Statements.{is_data, opens_body, closes_body, 
 
 use asm_forms::{Mnemonic, closes, opens};
 use asm_lines::{Operand, SourceLine};
-use sloth_base::{NoMemory, OPERAND_LIMIT};
+use sloth_base::{OPERAND_LIMIT, Result};
 use std::alloc::Global;
 use text_pieces::Names;
 
@@ -174,7 +174,7 @@ fn names_declared<'t>(
     alloc: Global,
     declared: Declared,
     lines: &'t [SourceLine],
-) -> Result<Names<'t>, NoMemory>
+) -> Result<Names<'t>>
     ensures { IfOk result (λ names. names ≡ map name_of (filter (declares declared) lines.now)) }
 {
     let mut names = Names::new(alloc);
@@ -187,14 +187,14 @@ fn names_declared<'t>(
 }
 
 /// The names of the symbols that these lines declare.
-pub fn symbol_names<'t>(alloc: Global, lines: &'t [SourceLine]) -> Result<Names<'t>, NoMemory>
+pub fn symbol_names<'t>(alloc: Global, lines: &'t [SourceLine]) -> Result<Names<'t>>
     ensures { IfOk result (λ names. names ≡ symbol_names lines.now) }
 {
     names_declared(alloc, Declared::Symbol, lines)
 }
 
 /// The names of the labels among these lines.
-pub fn label_names<'t>(alloc: Global, lines: &'t [SourceLine]) -> Result<Names<'t>, NoMemory>
+pub fn label_names<'t>(alloc: Global, lines: &'t [SourceLine]) -> Result<Names<'t>>
     ensures { IfOk result (λ names. names ≡ label_names lines.now) }
 {
     names_declared(alloc, Declared::Label, lines)

@@ -7,11 +7,11 @@ ghost use Rattle.asm_scopes.specs.Bodies.{body_name, is_body_of, function_names,
 
 use crate::{Body, Scope, symbol_names};
 use asm_lines::SourceLine;
-use sloth_base::{Config, NoMemory};
+use sloth_base::{Config, Result};
 use std::alloc::Global;
 use text_pieces::Names;
 
-fn task_names<'t>(alloc: Global, config: &'t Config) -> Result<Names<'t>, NoMemory>
+fn task_names<'t>(alloc: Global, config: &'t Config) -> Result<Names<'t>>
     ensures { IfOk result (λ names. names ≡ task_names config.now) }
 {
     let mut names = Names::new(alloc);
@@ -21,7 +21,7 @@ fn task_names<'t>(alloc: Global, config: &'t Config) -> Result<Names<'t>, NoMemo
     Ok(names)
 }
 
-fn resource_names<'t>(alloc: Global, config: &'t Config) -> Result<Names<'t>, NoMemory>
+fn resource_names<'t>(alloc: Global, config: &'t Config) -> Result<Names<'t>>
     ensures { IfOk result (λ names. names ≡ config.now.resources) }
 {
     let mut names = Names::new(alloc);
@@ -31,7 +31,7 @@ fn resource_names<'t>(alloc: Global, config: &'t Config) -> Result<Names<'t>, No
     Ok(names)
 }
 
-fn event_names<'t>(alloc: Global, config: &'t Config) -> Result<Names<'t>, NoMemory>
+fn event_names<'t>(alloc: Global, config: &'t Config) -> Result<Names<'t>>
     ensures { IfOk result (λ names. names ≡ event_names config.now) }
 {
     let mut names = Names::new(alloc);
@@ -41,7 +41,7 @@ fn event_names<'t>(alloc: Global, config: &'t Config) -> Result<Names<'t>, NoMem
     Ok(names)
 }
 
-fn alarm_names<'t>(alloc: Global, config: &'t Config) -> Result<Names<'t>, NoMemory>
+fn alarm_names<'t>(alloc: Global, config: &'t Config) -> Result<Names<'t>>
     ensures { IfOk result (λ names. names ≡ alarm_names config.now) }
 {
     let mut names = Names::new(alloc);
@@ -51,7 +51,7 @@ fn alarm_names<'t>(alloc: Global, config: &'t Config) -> Result<Names<'t>, NoMem
     Ok(names)
 }
 
-fn function_names<'t>(alloc: Global, bodies: &[Body<'t>]) -> Result<Names<'t>, NoMemory>
+fn function_names<'t>(alloc: Global, bodies: &[Body<'t>]) -> Result<Names<'t>>
     ensures { IfOk result (λ names. names ≡ function_names bodies.now) }
 {
     let mut names = Names::new(alloc);
@@ -62,11 +62,7 @@ fn function_names<'t>(alloc: Global, bodies: &[Body<'t>]) -> Result<Names<'t>, N
 }
 
 /// The names of the bodies of tasks, or of the others.
-fn names_of_bodies<'t>(
-    alloc: Global,
-    of_tasks: bool,
-    bodies: &[Body<'t>],
-) -> Result<Names<'t>, NoMemory>
+fn names_of_bodies<'t>(alloc: Global, of_tasks: bool, bodies: &[Body<'t>]) -> Result<Names<'t>>
     ensures { IfOk result (λ names. names ≡ map body_name (filter (is_body_of of_tasks) bodies.now)) }
 {
     let mut names = Names::new(alloc);
@@ -88,14 +84,14 @@ fn is_body_of(of_task: bool, body: &Body) -> bool
     }
 }
 
-fn called_names<'t>(alloc: Global, bodies: &[Body<'t>]) -> Result<Names<'t>, NoMemory>
+fn called_names<'t>(alloc: Global, bodies: &[Body<'t>]) -> Result<Names<'t>>
     ensures { IfOk result (λ names. names ≡ called_names bodies.now) }
 {
     names_of_bodies(alloc, false, bodies)
 }
 
 /// The names of the tasks that have a body.
-pub fn task_body_names<'t>(alloc: Global, bodies: &[Body<'t>]) -> Result<Names<'t>, NoMemory>
+pub fn task_body_names<'t>(alloc: Global, bodies: &[Body<'t>]) -> Result<Names<'t>>
     ensures { IfOk result (λ names. names ≡ task_body_names bodies.now) }
 {
     names_of_bodies(alloc, true, bodies)
@@ -109,7 +105,7 @@ struct ConfigNames<'t> {
     events: Names<'t>,
 }
 
-fn names_of_config<'t>(alloc: Global, config: &'t Config) -> Result<ConfigNames<'t>, NoMemory>
+fn names_of_config<'t>(alloc: Global, config: &'t Config) -> Result<ConfigNames<'t>>
     ensures tasks { IfOk result (λ names. names.tasks ≡ task_names config.now) }
     ensures resources { IfOk result (λ names. names.resources ≡ config.now.resources) }
     ensures events { IfOk result (λ names. names.events ≡ event_names config.now) }
@@ -136,7 +132,7 @@ fn names_of_source<'t>(
     alloc: Global,
     lines: &'t [SourceLine],
     bodies: &[Body<'t>],
-) -> Result<SourceNames<'t>, NoMemory>
+) -> Result<SourceNames<'t>>
     ensures symbols { IfOk result (λ names. names.symbols ≡ symbol_names lines.now) }
     ensures functions { IfOk result (λ names. names.functions ≡ function_names bodies.now) }
     ensures called { IfOk result (λ names. names.called ≡ called_names bodies.now) }
@@ -157,7 +153,7 @@ pub fn scope_of<'t>(
     config: &'t Config,
     lines: &'t [SourceLine],
     bodies: &[Body<'t>],
-) -> Result<Scope<'t>, NoMemory>
+) -> Result<Scope<'t>>
     ensures { IfOk result (λ scope. scope ≡ scope_of config.now lines.now bodies.now) }
 {
     let alarms = alarm_names(alloc, config)?;

@@ -1,11 +1,12 @@
-//! Pieces with which an image begins: the raise of an autostarted line, the level of the counters, the word of the idle loop, a vector word.
+//! Pieces with which an image begins: the raise of an autostarted line, the level of the counters, the word of the idle
+//! loop, a vector word.
 ghost use Rattle.std.specs.Prelude.{◌≡◌, ◌<◌, ◌+◌, ◌%◌, ◌^◌, ◌++◌, OnOk};
 ghost use Rattle.sloth_base.specs.Limits.{level_count};
 ghost use Rattle.sloth_base.specs.MemoryMap.{line_count};
 ghost use Rattle.rv32_instr.specs.Range.{InRange};
 ghost use Rattle.block_parts.specs.Boot.{line_code, idle_code, IsJump};
 
-use masked_code::emit::emit;
+use masked_code::put;
 use rv32_instr::{Instr, InstrKind, X3, X4, ZERO, jal, sb};
 use sloth_base::Levels;
 use sloth_region::pending_byte;
@@ -17,7 +18,7 @@ pub fn raise_autostarted(code: &mut Vec<Instr>, line: u8, autostart: bool) -> Re
     ensures { OnOk result (code.new.items ≡ code.old.items ++ line_code line autostart) }
 {
     if autostart {
-        emit(code, &[sb(X4, X3, pending_byte(line))])?;
+        put!(code; sb(X4, X3, pending_byte(line)))?;
     }
     Ok(())
 }
@@ -34,7 +35,7 @@ pub fn counter_level(levels: &Levels) -> u8
 pub fn stay(code: &mut Vec<Instr>) -> Result<(), AllocError>
     ensures { OnOk result (code.new.items ≡ code.old.items ++ idle_code) }
 {
-    emit(code, &[jal(ZERO, 0)])
+    put!(code; jal(ZERO, 0))
 }
 
 /// The jump from an address to one behind it.

@@ -2,8 +2,7 @@
 ghost use Rattle.std.specs.Prelude.{◌≡◌, ◌++◌, OnOk};
 ghost use Rattle.masked_code.specs.Kernel.{leaving_code, taking_up_code, idle_loop_test};
 
-use masked_code::emit::emit;
-use masked_code::{X5, past, restore};
+use masked_code::{X5, past, put, restore};
 use rv32_instr::{Instr, MEPC, PLEVEL, X1, X2, X4, ZERO, addi, beq, csrrw, lw, mret, sw};
 use sloth_region::{
     BELOW_WORD, CONTEXT_BELOW, CONTEXT_BYTES, CONTEXT_CUR, CONTEXT_LEVEL, CONTEXT_PC, CUR,
@@ -20,7 +19,7 @@ pub fn leave(code: &mut Vec<Instr>) -> Result<(), AllocError>
     take_up(code)?;
     ask_idle(code)?;
     restore(code, 5, 32, X1)?;
-    emit(code, &[mret()])?;
+    put!(code; mret())?;
     Ok(())
 }
 
@@ -28,24 +27,14 @@ pub fn leave(code: &mut Vec<Instr>) -> Result<(), AllocError>
 fn ask_idle(code: &mut Vec<Instr>) -> Result<(), AllocError>
     ensures { OnOk result (code.new.items ≡ code.old.items ++ idle_loop_test) }
 {
-    emit(code, &[beq(X5, ZERO, past(REGISTERS))])
+    put!(code; beq(X5, ZERO, past(REGISTERS)))
 }
 
 /// What the context says of all but the registers; its `cur` stays in x5.
 fn take_up(code: &mut Vec<Instr>) -> Result<(), AllocError>
     ensures { OnOk result (code.new.items ≡ code.old.items ++ taking_up_code) }
 {
-    let taken_up = [
-        lw(X1, X4, BELOW_WORD),
-        lw(X2, X1, CONTEXT_PC),
-        csrrw(ZERO, MEPC, X2),
-        lw(X2, X1, CONTEXT_LEVEL),
-        csrrw(ZERO, PLEVEL, X2),
-        lw(X5, X1, CONTEXT_CUR),
-        sw(X5, X4, CUR),
-        lw(X2, X1, CONTEXT_BELOW),
-        sw(X2, X4, BELOW_WORD),
-        addi(X2, X1, CONTEXT_BYTES),
-    ];
-    emit(code, &taken_up)
+    put!(code; lw(X1, X4, BELOW_WORD), lw(X2, X1, CONTEXT_PC), csrrw(ZERO, MEPC, X2), lw(X2, X1, CONTEXT_LEVEL),
+        csrrw(ZERO, PLEVEL, X2), lw(X5, X1, CONTEXT_CUR), sw(X5, X4, CUR), lw(X2, X1, CONTEXT_BELOW),
+        sw(X2, X4, BELOW_WORD), addi(X2, X1, CONTEXT_BYTES))
 }

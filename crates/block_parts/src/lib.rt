@@ -1,14 +1,11 @@
-//! What the blocks of all services share: pieces of their code, their marks, what they need of the machine, and the way back to the caller; and the
-//! pieces of all routines on which their effects turn.
+//! What the blocks of all services share: pieces of their code, their marks, what they need of the machine, the way
+//! back to the caller; and the pieces of all routines on which their effects turn.
 //!
-//! An opening and a back mark are as defined; each piece of code is appended as the list of instructions that is its definition (`opening`,
-//! `back_mark`, `open`, `end`, `look_at`, `raise`, `go_back`, `go_on`; `specs/Marks`, `specs/Pieces`, `specs/SuspensionTest`, `specs/Back`). What the code and
-//! the block of each service promise: `specs/ServiceCode`, `specs/ServiceBlock`, `specs/Objects`.
-//!
-//! The pieces of routines are the way to what runs below, tests, what is loaded, computed and stored, the level of an entry and of the counters'
-//! lines, and the jump of a vector word (`leave`, `ask_busy`, `find_ticks`, `take`, `release`, `keep`, `start_level`, `jump`, ..), with a file of
-//! `specs/` for each kind of routine. Each is turned by a must-fail edit; the other pieces stand with their routines. Leaving a stretch:
-//! `masked_code` (`Kernel`); service words: `sloth_region` (`Layout`).
+//! Each piece is appended as the list of instructions that is its definition (`opening`, `back_mark`, `open`, `end`,
+//! `look_at`, `raise`, `go_back`, `go_on`; `specs/Marks`, `specs/Pieces`, `specs/SuspensionTest`, `specs/Back`;
+//! `leave`, `ask_busy`, `find_ticks`, `take`, `release`, `keep`, `start_level`, `jump`, .., with a file of `specs/` for
+//! each kind of routine). What the code and the block of each service promise: `specs/ServiceCode`,
+//! `specs/ServiceBlock`, `specs/Objects`. Leaving a stretch: `masked_code` (`Kernel`).
 #![tactic(auto)]
 
 pub mod alarms;

@@ -3,8 +3,7 @@ ghost use Rattle.std.specs.Prelude.{ℕ, ◌≡◌, ◌<◌, ◌++◌, OnOk, if�
 ghost use Rattle.sloth_base.specs.Limits.{task_limit, level_count};
 ghost use Rattle.block_parts.specs.Prologues.{preempted_test, own_taking_code};
 
-use masked_code::emit::emit;
-use masked_code::past;
+use masked_code::{past, put};
 use rv32_instr::{Instr, MEPC, X1, X2, X4, ZERO, addi, beq, csrrw, lw, sw};
 use sloth_base::{Levels, TaskDecl, TaskId};
 use sloth_region::{CONTEXT_BYTES, CONTEXT_PC, CUR, resume};
@@ -31,12 +30,7 @@ pub fn start_level(decl: &TaskDecl, task: TaskId, levels: &Levels) -> u8
 pub fn ask_preempted(code: &mut Vec<Instr>) -> Result<(), AllocError>
     ensures { OnOk result (code.new.items ≡ code.old.items ++ preempted_test) }
 {
-    let asked = [
-        addi(X1, X2, -CONTEXT_BYTES),
-        lw(X2, X4, CUR),
-        beq(X2, ZERO, past(REGISTERS)),
-    ];
-    emit(code, &asked)
+    put!(code; addi(X1, X2, -CONTEXT_BYTES), lw(X2, X4, CUR), beq(X2, ZERO, past(REGISTERS)))
 }
 
 /// No context is kept for the task any more; mepc and x2 are those of its context at x1.
@@ -44,11 +38,5 @@ pub fn take_own(code: &mut Vec<Instr>, task: u32) -> Result<(), AllocError>
     requires { task < task_limit }
     ensures { OnOk result (code.new.items ≡ code.old.items ++ own_taking_code task) }
 {
-    let taken = [
-        sw(ZERO, X4, resume(task)),
-        lw(X2, X1, CONTEXT_PC),
-        csrrw(ZERO, MEPC, X2),
-        addi(X2, X1, CONTEXT_BYTES),
-    ];
-    emit(code, &taken)
+    put!(code; sw(ZERO, X4, resume(task)), lw(X2, X1, CONTEXT_PC), csrrw(ZERO, MEPC, X2), addi(X2, X1, CONTEXT_BYTES))
 }

@@ -2,12 +2,12 @@
 ghost use Rattle.std.specs.Prelude.{◌≡◌, ◌<◌, ◌≤◌, ◌++◌, OnOk};
 ghost use Rattle.sloth_base.specs.Limits.{task_limit};
 ghost use Rattle.sloth_base.specs.ConfigRange.{scheduler_number};
-ghost use Rattle.block_parts.specs.Services.{own_task_code, taking_code, resting_telling_code, releasing_code, level_code};
+ghost use Rattle.block_parts.specs.Services.{own_task_code, taking_code, resting_telling_code, releasing_code};
+ghost use Rattle.block_parts.specs.Services.{level_code};
 
 use crate::BACK;
 use crate::pieces::{LOOK, go_on};
-use masked_code::emit::emit;
-use masked_code::past;
+use masked_code::{past, put};
 use rv32_instr::{
     A0, A1, Instr, PLEVEL, X1, X3, X4, X30, ZERO, add, addi, beq, bgeu, csrrw, lbu, lw, sw, xori,
 };
@@ -28,27 +28,17 @@ pub fn ask(code: &mut Vec<Instr>, task: u8) -> Result<(), AllocError>
     requires { task < task_limit }
     ensures { OnOk result (code.new.items ≡ code.old.items ++ own_task_code task) }
 {
-    let asked = [
-        lw(X1, X4, CUR),
-        addi(A0, ZERO, task as i32 + 1),
-        beq(X1, A0, past(LOOK + REFUSE + BACK)),
-    ];
-    emit(code, &asked)
+    put!(code; lw(X1, X4, CUR), addi(A0, ZERO, task as i32 + 1), beq(X1, A0, past(LOOK + REFUSE + BACK)))
 }
 
-/// The ceiling is the level for `mret`, and the one that runs, which plevel held, is saved; where that is greater, it stays.
+/// The ceiling is the level for `mret`, and the one that runs, which plevel held, is saved; where that is greater, it
+/// stays.
 pub fn take(code: &mut Vec<Instr>, resource: u8, ceiling: u8) -> Result<(), AllocError>
     requires { resource ≤ scheduler_number }
     ensures { OnOk result (code.new.items ≡ code.old.items ++ taking_code resource ceiling) }
 {
-    let taken = [
-        addi(X1, ZERO, ceiling as i32),
-        csrrw(A0, PLEVEL, X1),
-        sw(A0, X4, saved(resource)),
-        bgeu(X1, A0, past(1)),
-        csrrw(ZERO, PLEVEL, A0),
-    ];
-    emit(code, &taken)
+    put!(code; addi(X1, ZERO, ceiling as i32), csrrw(A0, PLEVEL, X1), sw(A0, X4, saved(resource)),
+        bgeu(X1, A0, past(1)), csrrw(ZERO, PLEVEL, A0))
 }
 
 /// To the level that was saved for the resource, with the status E_OK.
@@ -56,7 +46,7 @@ pub fn release(code: &mut Vec<Instr>, resource: u8) -> Result<(), AllocError>
     requires { resource ≤ scheduler_number }
     ensures { OnOk result (code.new.items ≡ code.old.items ++ releasing_code resource) }
 {
-    emit(code, &[lw(X1, X4, saved(resource))])?;
+    put!(code; lw(X1, X4, saved(resource)))?;
     go_on(code)
 }
 
@@ -65,19 +55,12 @@ pub fn tell_resting(code: &mut Vec<Instr>, task: u8) -> Result<(), AllocError>
     requires { task < task_limit }
     ensures { OnOk result (code.new.items ≡ code.old.items ++ resting_telling_code task) }
 {
-    let told = [lbu(X1, X3, pending_byte(task)), xori(A1, X1, SUSPENDED)];
-    emit(code, &told)
+    put!(code; lbu(X1, X3, pending_byte(task)), xori(A1, X1, SUSPENDED))
 }
 
 /// Leaves the level that runs, which plevel held, in x30, and that of the running task's line for `mret`.
 pub fn lower(code: &mut Vec<Instr>) -> Result<(), AllocError>
     ensures { OnOk result (code.new.items ≡ code.old.items ++ level_code) }
 {
-    let lowered = [
-        lw(X1, X4, CUR),
-        add(X1, X1, X3),
-        lbu(X1, X1, OWN_LEVEL),
-        csrrw(X30, PLEVEL, X1),
-    ];
-    emit(code, &lowered)
+    put!(code; lw(X1, X4, CUR), add(X1, X1, X3), lbu(X1, X1, OWN_LEVEL), csrrw(X30, PLEVEL, X1))
 }

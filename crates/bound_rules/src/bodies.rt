@@ -2,7 +2,7 @@
 
 use sloth_base::List;
 
-/// The items of a body that walks reach, and the greatest ceiling of what the function itself holds before each, 0 where it holds nothing.
+/// The items of a body that walks reach, and the greatest ceiling that the function itself holds before each, or 0.
 #[derive(Drop)]
 pub struct Body {
     pub reached: List<bool>,

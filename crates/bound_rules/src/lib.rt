@@ -1,6 +1,7 @@
-//! The single steps of blocking bounds: the summary of a function that is called and of a task's body, sums that are counted up to a limit, and what is told
-//! of a greatest size (`callee`, `task_summary`, `joined`, `told`; `specs/Items`, `specs/Summaries`, `specs/Tasks`, `specs/Weights`). Walks and sections:
-//! `raised_sections` (`Walks`, `Sections`).
+//! The single steps of blocking bounds: the summary of a function that is called and of a task's body, sums that are
+//! counted up to a limit, and what is told of a greatest size (`callee`, `task_summary`, `joined`, `told`;
+//! `specs/Items`, `specs/Summaries`, `specs/Tasks`, `specs/Weights`). Walks and sections: `raised_sections` (`Walks`,
+//! `Sections`).
 #![tactic(auto)]
 
 pub mod bodies;

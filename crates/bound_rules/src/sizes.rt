@@ -1,6 +1,6 @@
 //! The greatest sizes of parts of sections, function by function.
 
-/// The greatest sizes of parts of a function, counted up to 1,000,001, 0 where there is none; or that they have no limit.
+/// The greatest sizes of a function's parts, counted up to 1,000,001, 0 where there is none; or that some is endless.
 #[derive(Clone, Copy)]
 pub struct Summary {
     /// Some part that begins in the function or in what it calls is larger than any number.

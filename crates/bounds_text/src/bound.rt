@@ -11,7 +11,7 @@ ghost use Rattle.bounds_text.specs.Bounds.{IsTold, AreToldBounds, is_below, sum_
 pub use bound_rules::Bound;
 use bound_rules::told;
 use call_graph::Ranks;
-use sloth_base::{App, Config, List, NoMemory, TaskDecl};
+use sloth_base::{App, Config, List, Result, TaskDecl};
 use std::alloc::Global;
 use task_verify::Verified;
 use text_pieces::push;
@@ -75,7 +75,7 @@ fn proven_bounds(
     config: &Config,
     app: &App,
     table: &[List<Sum>],
-) -> Result<Vec<Bound>, NoMemory>
+) -> Result<Vec<Bound>>
     requires well_formed { WellFormed config.now app.now }
     requires table { AreAllSums config.now app.now (item_weights app.now) table.now }
     ensures { IfOk result (λ bounds. AreToldBounds config.now app.now bounds.items) }
@@ -91,7 +91,7 @@ fn proven_bounds(
 }
 
 /// Those of walked task code.
-pub fn walked_bounds(walks: &Walks) -> Result<Vec<Bound>, NoMemory>
+pub fn walked_bounds(walks: &Walks) -> Result<Vec<Bound>>
     ensures { IfOk result (λ bounds. AreToldBounds walks.now.config walks.now.app bounds.items) }
 {
     let app = walks.app();
@@ -102,7 +102,7 @@ pub fn walked_bounds(walks: &Walks) -> Result<Vec<Bound>, NoMemory>
 }
 
 /// The blocking bound of each task in items, or that it is above the greatest that is told, or that there is none.
-pub fn bounds(alloc: Global, verified: &Verified, ranks: &Ranks) -> Result<List<Bound>, NoMemory>
+pub fn bounds(alloc: Global, verified: &Verified, ranks: &Ranks) -> Result<List<Bound>>
     requires { RanksOf verified.now.app ranks.now }
     ensures exact { IfOk result (AreToldBounds verified.now.config verified.now.app) }
     ensures kept { IfOk result (RunsKeepTold verified.now.config verified.now.app) }

@@ -26,7 +26,7 @@ use call_graph::Ranks;
 use code_lengths::tick_path;
 use event_weights::{ItemLengths, lengths};
 use run_counts::weights_by;
-use sloth_base::{App, BuildError, Config, List, NoMemory};
+use sloth_base::{App, BuildError, Config, List, Result};
 use sloth_source::read_checked;
 use std::alloc::Global;
 use task_verify::Verified;
@@ -113,7 +113,7 @@ fn latency_parts(
 }
 
 // The latency by what is told of lower tasks, for an arrival behind boot, ticks left out.
-fn latency_text(alloc: Global, parts: &Parts, told: Sum) -> Result<Vec<u8>, NoMemory>
+fn latency_text(alloc: Global, parts: &Parts, told: Sum) -> Result<Vec<u8>>
     ensures { IfOk result (λ text. text.items ≡ latency_text parts.now told) }
 {
     match told {
@@ -135,7 +135,7 @@ fn latency_line(
     parts: &Parts,
     told: Sum,
     task: usize,
-) -> Result<Vec<u8>, NoMemory>
+) -> Result<Vec<u8>>
     requires { task < length config.now.tasks }
     ensures { IfOk result (λ line. line.items ≡ latency_line config.now parts.now told task) }
 {
@@ -169,7 +169,7 @@ fn last_line(
     weights: &[BodyWeights],
     table: &[List<Sum>],
     highest: Option<usize>,
-) -> Result<Vec<u8>, NoMemory>
+) -> Result<Vec<u8>>
     requires highest { IsHighestTask config.now highest }
     requires same { length table.now ≡ length config.now.tasks }
     requires bodies { (t : ℕ) → t < length config.now.tasks → HasTaskBody app.now.funcs t }
@@ -190,7 +190,7 @@ fn last_line(
 
 // The line of a counter: what a tick of it takes at most.
 #[tactic(auto, unfolding(crate::specs::Latency::tick_line))]
-fn tick_line(alloc: Global, config: &Config, counter: usize) -> Result<Vec<u8>, NoMemory>
+fn tick_line(alloc: Global, config: &Config, counter: usize) -> Result<Vec<u8>>
     requires there { counter < length config.now.counters }
     requires in_range { InRange config.now }
     ensures { IfOk result (λ line. line.items ≡ tick_line config.now counter) }
@@ -201,7 +201,7 @@ fn tick_line(alloc: Global, config: &Config, counter: usize) -> Result<Vec<u8>, 
 }
 
 // The lines of all counters.
-fn tick_lines(alloc: Global, config: &Config) -> Result<Vec<u8>, NoMemory>
+fn tick_lines(alloc: Global, config: &Config) -> Result<Vec<u8>>
     requires in_range { InRange config.now }
     ensures { IfOk result (λ text. text.items ≡ tick_lines config.now (length config.now.counters)) }
 {
@@ -221,7 +221,7 @@ fn all_lines(
     lengths: &ItemLengths,
     weights: &[BodyWeights],
     table: &[List<Sum>],
-) -> Result<Vec<u8>, NoMemory>
+) -> Result<Vec<u8>>
     requires well_formed { WellFormed config.now app.now }
     requires in_range { InRange config.now }
     requires same { length bounds.now ≡ length config.now.tasks }
@@ -245,7 +245,7 @@ fn lines_by_counts(
     bounds: &[Bound],
     lengths: &ItemLengths,
     weights: &[BodyWeights],
-) -> Result<Vec<u8>, NoMemory>
+) -> Result<Vec<u8>>
     requires bounds { AreToldBounds walks.now.config walks.now.app bounds.now }
     requires tellable { AreTellable bounds.now }
     requires lengths { AreLengths walks.now.app lengths.now.bodies }
@@ -260,7 +260,7 @@ fn lines_by_counts(
 }
 
 // The lines of walked task code.
-fn walked_lines(walks: &Walks) -> Result<Vec<u8>, NoMemory>
+fn walked_lines(walks: &Walks) -> Result<Vec<u8>>
     ensures { IfOk result (λ text. HasLatency walks.now.config walks.now.app text.items) }
 {
     let app = walks.app();

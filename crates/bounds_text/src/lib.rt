@@ -1,34 +1,16 @@
-//! The lines of the command `bounds`, without and with `latency` or `counts`, from the texts of a configuration and its
-//! task source.
+//! The lines of the command `bounds`, without and with `latency` or `counts`, and those of `why` for one task, from the
+//! texts of a configuration and its task source, or their first refusal (`bounds_text`, `latency::latency_lines`,
+//! `lower_counts::lower_count_lines`, `task_bound::task_bound_text`). Texts have one list of lines of each of the first
+//! three (`one_text`, `one_latency_text`, `one_lower_counts_text`).
 //!
-//! The lines of the bounds of accepted texts, with `latency` those of all counters and the task of highest priority, or
-//! their first refusal (`bounds_text`, `latency::latency_lines`). In every sound run of an image of the task code each
-//! task of which a number is told waits for at most so many items and 200 counts for each. The lines with `counts` tell
-//! the sums of sections in counts (`lower_counts::lower_count_lines`). In every run of an image whose builder promises
-//! `Sound` and `InPace` lower tasks spend at most so many counts; if `Weighed` too, from an arrival behind boot the
-//! task of the last line is entered, where the run has a stretch more, within its latency and the ticks' counts, each
-//! with the longest item; no tick takes more than its line says. Texts have one list of lines of each kind (`one_text`,
-//! `one_latency_text`, `one_lower_counts_text`). Definitions: `specs/BoundsText`, ticks and latency `specs/Latency`,
-//! counts `specs/LowerCounts`, what bounds promise of runs `specs/KeptRuns`. Sums: `walk_sums` (`Sections`); what runs
-//! spend, and the latency: `run_counts` (`Spending`, `Latency`).
+//! In every sound run each task of which a number is told waits for at most so many items, and 200 counts for each;
+//! lower tasks spend at most so many counts; from an arrival after boot the task of the last line is entered within its
+//! latency, the ticks' counts and the longest item for each (`specs/KeptRuns`). Blocking bounds are exact up to
+//! 1,000,000 (`bounds`, clauses `exact` and `kept`; `specs/Bounds`, `specs/Kept`). `why` shows a greatest section, or a
+//! cycle within one (`specs/TaskBound`); that it finds one is not proved.
 //!
-//! The lines of `why` for one task (`task_bound::task_bound_text`, `specs/TaskBound`): that of its bound; behind one
-//! above 1 a lower task and the lines of a section of as many items less one, so a greatest one; behind one without
-//! limit those of a cycle within a section. Where no such way was found, which is not proved never to be, the first
-//! line stands alone. Ways: `section_ways`.
-//!
-//! Blocking bounds: how much work of lower tasks may stand between a task's becoming Ready and its entry; and the
-//! latency of the task of highest priority.
-//!
-//! Of well-formed task code `bounds` tells exactly (clause `exact`): the bound of each task up to 1,000,000; that it is
-//! above that and sections have a greatest size; or that they have none. In every run of the abstract scheduler each
-//! task of which a number is told waits for at most so many items (clause `kept`). What is told: `specs/Bounds`; what
-//! that promises: `specs/Kept`.
-//!
-//! A task of highest priority, or that there is no task (`highest_among`, `specs/Highest`); the counts of its latency
-//! by those of its parts (`weighed_latency`), and the most counts of a stretch behind boot (`running_counts`,
-//! `specs/Stretches`). Sizes: `walk_sums`; bounds: `raised_sections` (`Sections`); the latency: `run_counts`
-//! (`Latency`); paths of entries and ticks: `code_lengths` (`LongestPaths`).
+//! Lines: `specs/BoundsText`, `specs/Latency`, `specs/LowerCounts`; the highest task: `specs/Highest`; the longest
+//! stretch: `specs/Stretches`. Sums: `walk_sums`; ways: `section_ways`; what runs spend: `run_counts`.
 #![tactic(auto)]
 
 ghost use Rattle.std.specs.Prelude.{◌≡◌, ◌<◌, length, IfOk, IfErr};
@@ -51,7 +33,7 @@ pub use bound::bounds;
 use call_graph::Ranks;
 pub use latency::{heaviest_ending, latency_lines, longest_item};
 pub use lower_counts::lower_count_lines;
-use sloth_base::{BuildError, ITEM_COUNTS, NoMemory, TaskDecl};
+use sloth_base::{BuildError, ITEM_COUNTS, Result, TaskDecl};
 use sloth_source::read_checked;
 use std::alloc::Global;
 pub use stretches::running_counts;
@@ -61,7 +43,7 @@ use text_pieces::pieces::Piece::{Number, Word};
 use text_pieces::text;
 
 // A bound in items and in counts.
-fn bound_text(alloc: Global, bound: Bound) -> Result<Vec<u8>, NoMemory>
+fn bound_text(alloc: Global, bound: Bound) -> Result<Vec<u8>>
     requires { IsTellable bound }
     ensures { IfOk result (λ text. text.items ≡ bound_text bound) }
 {
@@ -76,12 +58,7 @@ fn bound_text(alloc: Global, bound: Bound) -> Result<Vec<u8>, NoMemory>
 
 // The line of a task.
 #[tactic(auto, unfolding(crate::specs::BoundsText::bound_line))]
-fn bound_line(
-    alloc: Global,
-    tasks: &[TaskDecl],
-    bounds: &[Bound],
-    task: usize,
-) -> Result<Vec<u8>, NoMemory>
+fn bound_line(alloc: Global, tasks: &[TaskDecl], bounds: &[Bound], task: usize) -> Result<Vec<u8>>
     requires there { task < length tasks.now }
     requires same { length bounds.now ≡ length tasks.now }
     requires tellable { AreTellable bounds.now }
@@ -94,7 +71,7 @@ fn bound_line(
 }
 
 // The lines of all tasks.
-fn bound_lines(alloc: Global, tasks: &[TaskDecl], bounds: &[Bound]) -> Result<Vec<u8>, NoMemory>
+fn bound_lines(alloc: Global, tasks: &[TaskDecl], bounds: &[Bound]) -> Result<Vec<u8>>
     requires same { length bounds.now ≡ length tasks.now }
     requires tellable { AreTellable bounds.now }
     ensures { IfOk result (λ text. text.items ≡ bound_lines tasks.now bounds.now (length tasks.now)) }

@@ -11,7 +11,7 @@ use crate::bound::has_lower;
 use bound_rules::{BodyWeights, weights_at};
 use call_graph::Ranks;
 use run_counts::count_weights;
-use sloth_base::{BuildError, COUNT_LIMIT, List, NoMemory, TaskDecl};
+use sloth_base::{BuildError, COUNT_LIMIT, List, Result, TaskDecl};
 use sloth_source::read_checked;
 use std::alloc::Global;
 use task_verify::Verified;
@@ -71,7 +71,7 @@ pub(crate) fn lower_counts(tasks: &[TaskDecl], weight: u32, sums: &[Sum], task: 
 }
 
 // A sum in counts.
-fn sum_text(alloc: Global, sum: Sum) -> Result<Vec<u8>, NoMemory>
+fn sum_text(alloc: Global, sum: Sum) -> Result<Vec<u8>>
     ensures { IfOk result (λ text. text.items ≡ sum_text sum) }
 {
     match sum {
@@ -89,7 +89,7 @@ fn count_line(
     weight: u32,
     table: &[List<Sum>],
     task: usize,
-) -> Result<Vec<u8>, NoMemory>
+) -> Result<Vec<u8>>
     requires there { task < length tasks.now }
     requires same { length table.now ≡ length tasks.now }
     ensures { IfOk result (λ line. line.items ≡ count_line tasks.now weight table.now task) }
@@ -107,7 +107,7 @@ fn count_lines(
     tasks: &[TaskDecl],
     weight: u32,
     table: &[List<Sum>],
-) -> Result<Vec<u8>, NoMemory>
+) -> Result<Vec<u8>>
     requires { length table.now ≡ length tasks.now }
     ensures { IfOk result (λ text. text.items ≡ count_lines tasks.now weight table.now (length tasks.now)) }
 {
@@ -119,7 +119,7 @@ fn count_lines(
 }
 
 // The lines by the counts of all items.
-fn lines_by_counts(walks: &Walks, weights: &[BodyWeights]) -> Result<Vec<u8>, NoMemory>
+fn lines_by_counts(walks: &Walks, weights: &[BodyWeights]) -> Result<Vec<u8>>
     requires are { AreCounts walks.now.app weights.now }
     requires fit { AreWeights walks.now.app weights.now }
     ensures { IfOk result (λ text. HasLowerCounts walks.now.config walks.now.app text.items) }
@@ -131,7 +131,7 @@ fn lines_by_counts(walks: &Walks, weights: &[BodyWeights]) -> Result<Vec<u8>, No
 }
 
 // The lines of walked task code.
-fn walked_lines(walks: &Walks) -> Result<Vec<u8>, NoMemory>
+fn walked_lines(walks: &Walks) -> Result<Vec<u8>>
     ensures { IfOk result (λ text. HasLowerCounts walks.now.config walks.now.app text.items) }
 {
     let app = walks.app();

@@ -13,7 +13,7 @@ use crate::bound_line;
 use crate::way_lines::push_shown;
 use call_graph::Ranks;
 use section_ways::{Way, lower_way};
-use sloth_base::{App, BuildError, Config, List, NoMemory};
+use sloth_base::{App, BuildError, Config, List, Result};
 use sloth_source::{read_checked, task_named};
 use std::alloc::Global;
 use task_verify::Verified;
@@ -36,7 +36,7 @@ fn way_bound_lines(
     bounds: &[Bound],
     task: usize,
     way: &Option<Way>,
-) -> Result<List<u8>, NoMemory>
+) -> Result<List<u8>>
     requires bounds { AreToldBounds config.now app.now bounds.now }
     requires there { task < length config.now.tasks }
     requires way { IsShown config.now app.now task (get_or bounds.now task bound_is.Endless) way.now }
@@ -48,7 +48,7 @@ fn way_bound_lines(
 }
 
 // The same, of walked task code.
-fn bound_lines(walks: &Walks, bounds: &[Bound], task: usize) -> Result<List<u8>, NoMemory>
+fn bound_lines(walks: &Walks, bounds: &[Bound], task: usize) -> Result<List<u8>>
     requires bounds { AreToldBounds walks.now.config walks.now.app bounds.now }
     requires there { task < length walks.now.config.tasks }
     ensures { IfOk result (HasBoundLines walks.now.config walks.now.app task) }
@@ -61,7 +61,7 @@ fn bound_lines(walks: &Walks, bounds: &[Bound], task: usize) -> Result<List<u8>,
 }
 
 // With the bounds of all tasks.
-fn walked_lines(walks: &Walks, task: usize) -> Result<List<u8>, NoMemory>
+fn walked_lines(walks: &Walks, task: usize) -> Result<List<u8>>
     requires { task < length walks.now.config.tasks }
     ensures { IfOk result (HasBoundLines walks.now.config walks.now.app task) }
 {
@@ -70,7 +70,7 @@ fn walked_lines(walks: &Walks, task: usize) -> Result<List<u8>, NoMemory>
 }
 
 // Those of the task of a name, if there is one.
-fn named_lines(walks: &Walks, name: &[u8]) -> Result<Option<List<u8>>, NoMemory>
+fn named_lines(walks: &Walks, name: &[u8]) -> Result<Option<List<u8>>>
     ensures { IfOk result (HasLinesOf walks.now.config walks.now.app (task_named walks.now.config name.now)) }
 {
     let config = walks.config();

@@ -4,7 +4,7 @@ ghost use Rattle.sloth_base.specs.Named.{function, item_of};
 ghost use Rattle.bounds_text.specs.TaskBound.{point_word, point_words, shown_lines};
 
 use section_ways::Way;
-use sloth_base::{App, Config, NoMemory};
+use sloth_base::{App, Config, Result};
 use text_pieces::line;
 use text_pieces::pieces::Piece::{Number, Word};
 use walk_sums::Point;
@@ -22,13 +22,13 @@ fn point_line(app: &App, point: Point) -> u32
     }
 }
 
-fn push_point(text: &mut Vec<u8>, app: &App, point: Point) -> Result<(), NoMemory>
+fn push_point(text: &mut Vec<u8>, app: &App, point: Point) -> Result<()>
     ensures { OnOk result (text.new.items ≡ text.old.items ++ point_word app.now point) }
 {
     line!(text; Word(b" "), Number(point_line(app, point)))
 }
 
-fn push_points(text: &mut Vec<u8>, app: &App, points: &[Point]) -> Result<(), NoMemory>
+fn push_points(text: &mut Vec<u8>, app: &App, points: &[Point]) -> Result<()>
     ensures { OnOk result (text.new.items ≡ text.old.items ++ point_words app.now points.now) }
 {
     for point in points {
@@ -44,7 +44,7 @@ pub fn push_shown<'x>(
     app: &App,
     word: &'x [u8],
     way: &Option<Way>,
-) -> Result<(), NoMemory>
+) -> Result<()>
     ensures { OnOk result (text.new.items ≡ text.old.items ++ shown_lines config.now app.now word.now way.now) }
 {
     match way {

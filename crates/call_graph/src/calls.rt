@@ -1,4 +1,4 @@
-//! What a function does itself: the functions that it calls, the resources that it takes, and whether it waits or calls Schedule.
+//! What a function does itself: which functions it calls, which resources it takes, whether it waits or calls Schedule.
 ghost use Rattle.std.specs.Prelude.{◌≡◌, ℕ, ◌<◌, ◌==◌, ◌||◌, ◌&&◌, true};
 ghost use Rattle.std.specs.List.{list_any};
 ghost use Rattle.call_graph.specs.Bits.{is_member};

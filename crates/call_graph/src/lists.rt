@@ -9,12 +9,12 @@ ghost use Rattle.call_graph.specs.Gathered.{AreGathered};
 use crate::Ranks;
 use crate::calls::called;
 use crate::reached::{pauses_of, resources_of, users_of};
-use sloth_base::{Func, List, NoMemory};
+use sloth_base::{Func, List, NoMemory, Result};
 use std::alloc::Global;
 use text_pieces::push;
 
 /// The rows of direct calls.
-pub fn direct_calls(alloc: Global, funcs: &[Func]) -> Result<Vec<u64>, NoMemory>
+pub fn direct_calls(alloc: Global, funcs: &[Func]) -> Result<Vec<u64>>
     requires { AreFew funcs.now }
     ensures count { IfOk result (λ rows. length rows.items ≡ length funcs.now) }
     ensures calls { IfOk result (λ rows. (f g : ℕ) → f < length funcs.now → row_has rows.items f g ≡ is_direct_call (func_of funcs.now f) g) }
@@ -27,7 +27,7 @@ pub fn direct_calls(alloc: Global, funcs: &[Func]) -> Result<Vec<u64>, NoMemory>
 }
 
 /// The number of functions that each row has.
-fn rank_list(alloc: Global, rows: &[u64]) -> Result<List<u32>, NoMemory>
+fn rank_list(alloc: Global, rows: &[u64]) -> Result<List<u32>>
     ensures { IfOk result (λ list. list ≡ map count_ones rows.now) }
 {
     let mut list = Vec::new(alloc);
@@ -38,7 +38,7 @@ fn rank_list(alloc: Global, rows: &[u64]) -> Result<List<u32>, NoMemory>
 }
 
 /// The resources that each function reaches taking.
-fn resource_sets(alloc: Global, funcs: &[Func], rows: &[u64]) -> Result<List<u64>, NoMemory>
+fn resource_sets(alloc: Global, funcs: &[Func], rows: &[u64]) -> Result<List<u64>>
     requires small { AreFew funcs.now }
     ensures count { IfOk result (λ list. length list ≡ length rows.now) }
     ensures sets { IfOk result (λ list. (f r : ℕ) → f < length rows.now
@@ -53,7 +53,7 @@ fn resource_sets(alloc: Global, funcs: &[Func], rows: &[u64]) -> Result<List<u64
 }
 
 /// Whether each function reaches a WaitEvent or a Schedule.
-fn pausing_functions(alloc: Global, funcs: &[Func], rows: &[u64]) -> Result<List<bool>, NoMemory>
+fn pausing_functions(alloc: Global, funcs: &[Func], rows: &[u64]) -> Result<List<bool>>
     requires { length funcs.now ≤ body_limit }
     ensures count { IfOk result (λ list. length list ≡ length rows.now) }
     ensures pauses { IfOk result (λ list. (f : ℕ) → f < length rows.now
@@ -68,7 +68,7 @@ fn pausing_functions(alloc: Global, funcs: &[Func], rows: &[u64]) -> Result<List
 }
 
 /// The tasks that reach each function.
-fn user_sets(alloc: Global, funcs: &[Func], rows: &[u64]) -> Result<List<u32>, NoMemory>
+fn user_sets(alloc: Global, funcs: &[Func], rows: &[u64]) -> Result<List<u32>>
     requires small { AreFew funcs.now }
     requires same { length rows.now ≡ length funcs.now }
     ensures count { IfOk result (λ list. length list ≡ length funcs.now) }
@@ -83,7 +83,7 @@ fn user_sets(alloc: Global, funcs: &[Func], rows: &[u64]) -> Result<List<u32>, N
 }
 
 /// What closed rows say of each function.
-pub fn gathered(alloc: Global, funcs: &[Func], rows: &[u64]) -> Result<Ranks, NoMemory>
+pub fn gathered(alloc: Global, funcs: &[Func], rows: &[u64]) -> Result<Ranks>
     requires few { AreFew funcs.now }
     requires same { length rows.now ≡ length funcs.now }
     ensures { IfOk result (AreGathered funcs.now rows.now) }

@@ -2,7 +2,7 @@
 ghost use Rattle.std.specs.Prelude.{◌≡◌, ◌<◌, ◌≤◌, length, cond, nat_lt, ◌&&◌, IfOk};
 ghost use Rattle.call_graph.specs.Tables.{sum_below, bytes_under, bytes_lower, AreStacks, AreOffsets};
 
-use sloth_base::{NoMemory, TaskDecl};
+use sloth_base::{Result, TaskDecl};
 use std::alloc::Global;
 use text_pieces::push;
 
@@ -49,7 +49,7 @@ pub fn offsets_of_tasks(
     tasks: &[TaskDecl],
     yielding: &[bool],
     bytes: &[u32],
-) -> Result<Vec<u32>, NoMemory>
+) -> Result<Vec<u32>>
     requires { AreStacks tasks.now yielding.now bytes.now }
     ensures { IfOk result (λ offsets. AreOffsets tasks.now yielding.now bytes.now offsets.items) }
 {

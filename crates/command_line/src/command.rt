@@ -1,11 +1,12 @@
 //! The words of a command.
-ghost use Rattle.std.specs.Prelude.{◌≡◌, ℕ, List, IfSome, IfNone, length, codes, true};
+ghost use Rattle.std.specs.Prelude.{◌≡◌, ℕ, List, IfSome, IfNone, length};
 ghost use Rattle.trace_text.specs.declared.printing.Form.{Form as AnyForm};
-ghost use Rattle.command_line.specs.Command.{Command, Execution, Executes, IsCommand, NoCommand, ToolAtMost, word_of, words_of};
+ghost use Rattle.command_line.specs.Command.{Command, Execution, Executes, IsCommand, NoCommand, ToolAtMost, word_of};
+ghost use Rattle.command_line.specs.Command.{words_of};
 ghost use Rattle.command_line.specs.Words.{command_of, execution_of};
 
 use crate::tool::ToolWords;
-use crate::tool_words::tool_command;
+use crate::tool_words::{is_same, tool_command};
 use trace_text::number::number;
 use trace_text::{Form, instructions};
 
@@ -65,45 +66,13 @@ fn form(word: &str) -> Option<Form>
     None
 }
 
-// Whether the first word asks for an image alone.
-fn is_build(word: &str) -> bool
-    ensures yes { result ≡ true → word.now ≡ codes "build" }
-    ensures no { word.now ≡ codes "build" → result ≡ true }
-{
-    word == "build"
-}
-
-// Whether it asks for a run of an image file.
-fn is_exec(word: &str) -> bool
-    ensures yes { result ≡ true → word.now ≡ codes "exec" }
-    ensures no { word.now ≡ codes "exec" → result ≡ true }
-{
-    word == "exec"
-}
-
-// Whether it asks for the listing of an image file.
-fn is_list(word: &str) -> bool
-    ensures yes { result ≡ true → word.now ≡ codes "list" }
-    ensures no { word.now ≡ codes "list" → result ≡ true }
-{
-    word == "list"
-}
-
-// Whether it asks for a generated application.
-fn is_sample(word: &str) -> bool
-    ensures yes { result ≡ true → word.now ≡ codes "sample" }
-    ensures no { word.now ≡ codes "sample" → result ≡ true }
-{
-    word == "sample"
-}
-
 // The command of two words.
 fn list_command(words: &[String]) -> Option<CommandWords<'_>>
     requires { length words.now ≡ 2 }
     ensures some { IfSome result (λ c. IsCommand (words_of words.now) (command_of c)) }
     ensures none { IfNone result (ToolAtMost (words_of words.now)) }
 {
-    if !is_list(words[0].as_str()) {
+    if !is_same(words[0].as_str(), "list") {
         return None;
     }
     Some(CommandWords::List(words[1].as_str()))
@@ -115,16 +84,14 @@ fn sample_command(words: &[String]) -> Option<CommandWords<'_>>
     ensures some { IfSome result (λ c. IsCommand (words_of words.now) (command_of c)) }
     ensures none { IfNone result (ToolAtMost (words_of words.now)) }
 {
-    if !is_sample(words[0].as_str()) {
+    if !is_same(words[0].as_str(), "sample") {
         return None;
     }
-    match number(words[1].as_str()) {
-        None => None,
-        Some(seed) => Some(CommandWords::Sample {
-            seed,
-            img: words[2].as_str(),
-        }),
-    }
+    let seed = number(words[1].as_str())?;
+    Some(CommandWords::Sample {
+        seed,
+        img: words[2].as_str(),
+    })
 }
 
 // The run of an image file that four words ask for.
@@ -133,17 +100,14 @@ fn exec_words(words: &[String]) -> Option<ExecWords<'_>>
     ensures some { IfSome result (λ e. IsCommand (words_of words.now) (Executes (execution_of e))) }
     ensures none { IfNone result ((e : Execution) → IsCommand (words_of words.now) (Executes e) → ⊥) }
 {
-    if !is_exec(words[0].as_str()) {
+    if !is_same(words[0].as_str(), "exec") {
         return None;
     }
-    match instructions(words[3].as_str()) {
-        None => None,
-        Some(n) => Some(ExecWords {
-            img: words[1].as_str(),
-            arr: words[2].as_str(),
-            n,
-        }),
-    }
+    Some(ExecWords {
+        img: words[1].as_str(),
+        arr: words[2].as_str(),
+        n: instructions(words[3].as_str())?,
+    })
 }
 
 // The command of four words: `build` or `exec`.
@@ -152,7 +116,7 @@ fn image_command(words: &[String]) -> Option<CommandWords<'_>>
     ensures some { IfSome result (λ c. IsCommand (words_of words.now) (command_of c)) }
     ensures none { IfNone result (ToolAtMost (words_of words.now)) }
 {
-    if is_build(words[0].as_str()) {
+    if is_same(words[0].as_str(), "build") {
         return Some(CommandWords::Build(BuildWords {
             oil: words[1].as_str(),
             src: words[2].as_str(),
@@ -160,10 +124,7 @@ fn image_command(words: &[String]) -> Option<CommandWords<'_>>
             run: None,
         }));
     }
-    match exec_words(words) {
-        None => None,
-        Some(e) => Some(CommandWords::Exec(e)),
-    }
+    Some(CommandWords::Exec(exec_words(words)?))
 }
 
 // The command of six words.
@@ -172,22 +133,17 @@ fn run_command(words: &[String]) -> Option<CommandWords<'_>>
     ensures some { IfSome result (λ c. IsCommand (words_of words.now) (command_of c)) }
     ensures none { IfNone result (ToolAtMost (words_of words.now)) }
 {
-    let Some(form) = form(words[0].as_str()) else {
-        return None;
+    let run = RunWords {
+        form: form(words[0].as_str())?,
+        arr: words[3].as_str(),
+        n: instructions(words[5].as_str())?,
     };
-    match instructions(words[5].as_str()) {
-        None => None,
-        Some(n) => Some(CommandWords::Build(BuildWords {
-            oil: words[1].as_str(),
-            src: words[2].as_str(),
-            img: words[4].as_str(),
-            run: Some(RunWords {
-                form,
-                arr: words[3].as_str(),
-                n,
-            }),
-        })),
-    }
+    Some(CommandWords::Build(BuildWords {
+        oil: words[1].as_str(),
+        src: words[2].as_str(),
+        img: words[4].as_str(),
+        run: Some(run),
+    }))
 }
 
 // The command of these words, if they are one's that is no tool.
@@ -217,5 +173,6 @@ pub fn command(words: &[String]) -> Option<CommandWords<'_>>
 
 /// Words are those of one command at most.
 pub fn one_command()
-    ensures { (words : List (List ℕ)) (one other : Command) → IsCommand words one → IsCommand words other → one ≡ other }
+    ensures { (words : List (List ℕ)) (one other : Command) → IsCommand words one → IsCommand words other → one
+        ≡ other }
 {}

@@ -1,6 +1,7 @@
 //! The lines that are printed of a command as a whole.
 ghost use Rattle.std.specs.Prelude.{◌≡◌, ◌≤◌, length};
-ghost use Rattle.command_line.specs.LastLine.{part_text, code_text, refusal_line, built_line, fault_text, no_image_line};
+ghost use Rattle.command_line.specs.LastLine.{part_text, code_text, refusal_line, built_line, fault_text};
+ghost use Rattle.command_line.specs.LastLine.{no_image_line};
 
 use image_file::ImageFault;
 use itoa::Buffer;

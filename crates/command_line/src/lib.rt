@@ -1,8 +1,9 @@
 //! The program's words, and the lines that say why a command ended.
 //!
-//! Exactly the command that the words are, if they are one, and they are one at most (`command`, `one_command`); each line that says why a command
-//! ended (the last lines). What words are a command: `specs/Command`, a row for each tool in `specs/Tools`, `specs/Words`, `specs/LastLine`. Numbers,
-//! and the line of a run that stopped: `trace_text` (`number`, `stop_line`).
+//! Exactly the command that the words are, if they are one, and they are one at most (`command`, `one_command`); each
+//! line that says why a command ended (the last lines). What words are a command: `specs/Command`, a row for each tool
+//! in `specs/Tools`, `specs/Words`, `specs/LastLine`. Numbers, and the line of a run that stopped: `trace_text`
+//! (`number`, `stop_line`).
 #![tactic(auto)]
 
 pub mod command;

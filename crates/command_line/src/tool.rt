@@ -3,7 +3,9 @@ ghost use Rattle.std.specs.Option.{option_map};
 ghost use Rattle.std.specs.Prelude.{◌≡◌, IfSome, IfNone, take};
 ghost use Rattle.command_line.specs.Command.{words_of};
 ghost use Rattle.command_line.specs.Words.{use_of, row_of};
-ghost use Rattle.command_line.specs.Tools.{IsAskedFor, is_meant, is_called, tool_called, tool_row, tool_word, input_count, file_count, file_names, further_word, closing_word, word_count, counts_limit, writes_file};
+ghost use Rattle.command_line.specs.Tools.{IsAskedFor, is_meant, is_called, tool_called, tool_row, tool_word};
+ghost use Rattle.command_line.specs.Tools.{input_count, file_count, file_names, further_word, closing_word, word_count};
+ghost use Rattle.command_line.specs.Tools.{counts_limit, writes_file};
 ghost use Rattle.command_line.specs.declared.tool.Tool.{Tool as AnyTool};
 
 use crate::Counts;
@@ -33,16 +35,18 @@ pub enum Tool {
     Check,
     /// `bounds OIL SRC`: how much work of lower tasks may stand before each task.
     Bounds,
-    /// `bounds OIL SRC latency`: the same, and within how many instructions of an arrival behind boot the task of highest priority is entered,
-    /// the time of ticks on the way aside.
+    /// `bounds OIL SRC latency`: the same, and within how many instructions of an arrival behind boot the task of
+    /// highest priority is entered, the time of ticks on the way aside.
     Latency,
-    /// `bounds OIL SRC counts`: how many instructions of tasks of lower priority may stand in front of each task's entry.
+    /// `bounds OIL SRC counts`: how many instructions of tasks of lower priority may stand in front of each task's
+    /// entry.
     LowerCounts,
     /// `map OIL SRC`: what the image takes of memory.
     Map,
     /// `shares OIL SRC`: which data the tasks share, and what keeps their accesses apart.
     Shares,
-    /// `response OIL SRC LOAD`: how soon each task has left the processor after what makes it Ready, in every run that keeps a load.
+    /// `response OIL SRC LOAD`: how soon each task has left the processor after what makes it Ready, in every run that
+    /// keeps a load.
     Response,
     /// `why OIL SRC`: whether the texts are accepted, or what stands behind their refusal.
     Why,
@@ -56,7 +60,8 @@ pub enum Tool {
     Orti,
     /// `why OIL SRC labels`: whether lists of labels keep the rules, or where none do.
     Labels,
-    /// `why OIL SRC ARR TRACE N`: whether a text of events is that of a run, or where it fails to be, and what could stand there.
+    /// `why OIL SRC ARR TRACE N`: whether a text of events is that of a run, or where it fails to be, and what could
+    /// stand there.
     TraceReason,
     /// `unused OIL SRC`: the objects, symbols and functions that nothing uses, and the tasks that nothing activates.
     Unused,
@@ -102,8 +107,8 @@ const WINDOW: Option<Limit> = Some(Limit::Window {
     apart: PICTURE_LIMIT,
 });
 
-// A row of the table: the tool's first word, how many words it has, how many names stand behind its word, the word behind them and the counts behind that, if
-// it has them, and whether it writes a file.
+// A row of the table: the tool's first word, how many words it has, how many names stand behind its word, the word
+// behind them and the counts behind that, if it has them, and whether it writes a file.
 #[derive(Clone, Copy)]
 struct Row {
     word: &'static str,
@@ -123,7 +128,15 @@ impl Row {
         limit: Option<Limit>,
         writes: bool,
     ) -> Row
-        ensures { result ≡ record { word = word.entry; words = words; inputs = inputs; further = further.entry; limit = limit; writes = writes } }
+        ensures { result ≡ record {
+          word = word.entry;
+          words = words;
+          inputs = inputs;
+          further = further.entry;
+          limit
+              = limit;
+          writes = writes;
+        } }
     {
         Row {
             word,
@@ -239,7 +252,8 @@ impl Tool {
     }
 }
 
-/// The words of a tool, behind its own: the names of the files that it reads and of a task, its counts and the file that it writes, if it has them.
+/// The words of a tool, behind its own: the names of the files that it reads and of a task, its counts and the file
+/// that it writes, if it has them.
 #[derive(Clone, Copy)]
 pub struct ToolWords<'a> {
     pub tool: Tool,
@@ -280,7 +294,8 @@ fn tool_called(word: &str, count: usize, asks: bool) -> Option<Tool>
 
 /// The tool that a word asks for, where there are so many words; of two tools of one word the one that is asked for.
 pub fn tool_named(word: &str, count: usize, asks: bool) -> Option<Tool>
-    ensures some { IfSome result (λ tool. (word.now ≡ tool_word tool) × (count ≡ word_count tool) × IsAskedFor tool asks) }
+    ensures some { IfSome result
+        (λ tool. (word.now ≡ tool_word tool) × (count ≡ word_count tool) × IsAskedFor tool asks) }
     ensures none { IfNone result ((tool : AnyTool) → word.now ≡ tool_word tool → count ≡ word_count tool → ⊥) }
 {
     tool_called(word, count, asks)

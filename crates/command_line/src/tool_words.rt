@@ -1,5 +1,6 @@
 //! The words of tools.
-ghost use Rattle.std.specs.Prelude.{◌≡◌, ◌≤◌, ◌∷◌, ◌++◌, ℕ, List, IfSome, IfNone, Option, Some, Decides, option_to_list, decimal, length, drop};
+ghost use Rattle.std.specs.Prelude.{◌≡◌, ◌≤◌, ◌∷◌, ◌++◌, ℕ, List, IfSome, IfNone, Option, Some, Decides};
+ghost use Rattle.std.specs.Prelude.{option_to_list, decimal, length, drop};
 ghost use Rattle.std.specs.Option.{option_map};
 ghost use Rattle.command_line.specs.declared.counts.Counts.{Counts as AnyCounts};
 ghost use Rattle.command_line.specs.declared.counts.Limit.TheVariants as limit;
@@ -21,8 +22,8 @@ fn words_behind(words: &[String], count: usize) -> &[String]
     &words[count..]
 }
 
-// Whether these are one word.
-fn is_same(word: &str, other: &str) -> bool
+/// Whether these are one word.
+pub fn is_same(word: &str, other: &str) -> bool
     ensures { Decides result (word.now ≡ other.now) }
 {
     word == other
@@ -30,9 +31,10 @@ fn is_same(word: &str, other: &str) -> bool
 
 // The words behind a word, where there is to be one.
 fn behind_word<'a>(word: Option<&str>, words: &'a [String]) -> Option<&'a [String]>
-    ensures some { IfSome result (λ rest. words_of words.now ≡ option_to_list (option_map (λ word. word.now) word.entry) ++ words_of rest.now) }
-    ensures none { IfNone result
-        ((rest : List (List ℕ)) → words_of words.now ≡ option_to_list (option_map (λ word. word.now) word.entry) ++ rest → ⊥) }
+    ensures some { IfSome result
+        (λ rest. words_of words.now ≡ option_to_list (option_map (λ word. word.now) word.entry) ++ words_of rest.now) }
+    ensures none { IfNone result ((rest : List (List ℕ)) → words_of words.now ≡ option_to_list
+        (option_map (λ word. word.now) word.entry) ++ rest → ⊥) }
 {
     let Some(wanted) = word else {
         return Some(words);
@@ -72,7 +74,8 @@ struct CountsAndRest<'a> {
 // The window from one word to below another.
 fn window(from: &str, to: &str, most: u32, apart: u32) -> Option<Window>
     ensures some { IfSome result (λ w. (from.now ≡ decimal w.from) × (to.now ≡ decimal w.to) × IsWindow most apart w) }
-    ensures none { IfNone result ((w : AnyWindow) → IsWindow most apart w → from.now ≡ decimal w.from → to.now ≡ decimal w.to → ⊥) }
+    ensures none { IfNone result
+        ((w : AnyWindow) → IsWindow most apart w → from.now ≡ decimal w.from → to.now ≡ decimal w.to → ⊥) }
 {
     let from = number_below(from, most)?;
     let to = number_below(to, most)?;
@@ -84,8 +87,10 @@ fn window(from: &str, to: &str, most: u32, apart: u32) -> Option<Window>
 
 // The number that these words begin with.
 fn number_and_rest(most: u32, words: &[String]) -> Option<CountsAndRest<'_>>
-    ensures some { IfSome result (λ c. BeginWith (Some (limit.One most)) (words_of words.now) c.counts (words_of c.rest.now)) }
-    ensures none { IfNone result ((n : ℕ) (rest : List (List ℕ)) → n ≤ most → words_of words.now ≡ decimal n ∷ rest → ⊥) }
+    ensures some { IfSome result
+        (λ c. BeginWith (Some (limit.One most)) (words_of words.now) c.counts (words_of c.rest.now)) }
+    ensures none { IfNone result
+        ((n : ℕ) (rest : List (List ℕ)) → n ≤ most → words_of words.now ≡ decimal n ∷ rest → ⊥) }
 {
     let first = words.first()?;
     Some(CountsAndRest {
@@ -96,7 +101,8 @@ fn number_and_rest(most: u32, words: &[String]) -> Option<CountsAndRest<'_>>
 
 // The window that these words begin with.
 fn window_and_rest(most: u32, apart: u32, words: &[String]) -> Option<CountsAndRest<'_>>
-    ensures some { IfSome result (λ c. BeginWith (Some (limit.Window most apart)) (words_of words.now) c.counts (words_of c.rest.now)) }
+    ensures some { IfSome result
+        (λ c. BeginWith (Some (limit.Window most apart)) (words_of words.now) c.counts (words_of c.rest.now)) }
     ensures none { IfNone result ((w : AnyWindow) (rest : List (List ℕ)) → IsWindow most apart w
         → words_of words.now ≡ decimal w.from ∷ decimal w.to ∷ rest → ⊥) }
 {
@@ -113,7 +119,8 @@ fn window_and_rest(most: u32, apart: u32, words: &[String]) -> Option<CountsAndR
 // The counts that these words begin with, where there is a limit of them.
 fn counts_and_rest(limit: Option<Limit>, words: &[String]) -> Option<CountsAndRest<'_>>
     ensures some { IfSome result (λ c. BeginWith limit (words_of words.now) c.counts (words_of c.rest.now)) }
-    ensures none { IfNone result ((c : Option AnyCounts) (rest : List (List ℕ)) → BeginWith limit (words_of words.now) c rest → ⊥) }
+    ensures none { IfNone result
+        ((c : Option AnyCounts) (rest : List (List ℕ)) → BeginWith limit (words_of words.now) c rest → ⊥) }
 {
     match limit {
         None => Some(CountsAndRest {
@@ -127,8 +134,8 @@ fn counts_and_rest(limit: Option<Limit>, words: &[String]) -> Option<CountsAndRe
 
 // The file that is written, where one is.
 fn output_word(writes: bool, words: &[String]) -> Option<Option<&str>>
-    ensures some { IfSome result (λ o.
-        (words_of words.now ≡ output_words (option_map (λ name. name.now) o)) × IsOutput writes (option_map (λ name. name.now) o)) }
+    ensures some { IfSome result (λ o. (words_of words.now ≡ output_words (option_map (λ name. name.now) o)) × IsOutput
+        writes (option_map (λ name. name.now) o)) }
     ensures none { IfNone result ((o : Option (List ℕ)) → IsOutput writes o → words_of words.now ≡ output_words o → ⊥) }
 {
     if writes {

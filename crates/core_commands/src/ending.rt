@@ -1,4 +1,4 @@
-//! How a command ends: its last line, and what the sink holds back. Where no call of the sink failed, all is handed on, whatever the status (`handed`).
+//! How a command ends: its last line, and what the sink holds back. If no call of the sink failed, all is handed on.
 ghost use Rattle.std.specs.Prelude.{◌≡◌, ◌≢◌, ◌++◌, [], ◌∷◌};
 ghost use Rattle.sloth_io.specs.Counts.{Stays};
 ghost use Rattle.core_commands.specs.Top.{IsPutAnswer, IsCloseAnswer};

@@ -14,7 +14,7 @@ ghost use Rattle.core_commands.specs.ImageAnswers.{LinesWork};
 ghost use Rattle.core_commands.specs.SampleAnswers.{SampleWorks};
 ghost use Rattle.core_commands.specs.InMemory.{AreEnough, AreEnoughForLines, AreEnoughForSample};
 
-/// Over a store and a sink in memory that have no failing calls and space enough, no call fails, whatever stands afterwards.
+/// Over a store and a sink in memory with no failing calls and space enough, no call fails, whatever stands afterwards.
 pub fn calls_work_in_memory()
     ensures { (store : MemStore) (sink : MemSink) (c : Building) (config : Config) (app : App) (arrivals : List Arrival) (new : World) →
         AreEnough store sink c config app arrivals → CallsWork c config app arrivals (world (call_files (store_shown store) new.files) (sink_shown sink)) new }

@@ -1,22 +1,16 @@
-//! The commands that build and run, `build`, `run`, `order`, `exec`, `list` and `sample`: what each reads, judges, writes and puts, and what each of its answers
-//! requires; and the top call of a program that has these commands alone, `core_top`, for any store of files and any sink.
+//! The commands that build and run (`build`, `run`, `order`, `exec`, `list`, `sample`): what each reads, judges, writes
+//! and puts, what each answer requires; and `core_top`, the top call of a program that has these alone, for any store
+//! and any sink.
 //!
-//! Each command is performed as its answer requires, or is not for one of the causes of `specs/Failures`, and then its last line is put
-//! (`build_command::judge`, `build_command::perform`, `execute`, `list`, `sample_run`, `finish`). The image that is built keeps in each
-//! run the ceiling protocol, and each of its pieces stands where the planned map has it. Calls in memory work
-//! (`calls_work_in_memory`, `lines_work_in_memory`, `sample_works_in_memory`).
+//! Each command is performed as its answer requires, or is not for one of the causes of `specs/Failures`, and then its
+//! last line is put. An answer and its cause hold for exactly what the reads of the call delivered, in their order, and
+//! nothing is written but the file that the answer names. Calls in memory work (`calls_work_in_memory`,
+//! `lines_work_in_memory`, `sample_works_in_memory`).
 //!
-//! An answer and its cause hold for exactly what the reads of the call delivered, in their order (`call_files` of `sloth_io`), and nothing is written
-//! but the file that the answer names.
-//!
-//! What a top call promises: `specs/Top`; of commands on image files `specs/ImageFiles`, `specs/ImageAnswers`; of `sample` `specs/Samples`,
-//! `specs/SampleAnswers`; of calls in memory `specs/InMemory`; of a program over the system's files `specs/ProgramRun`. They hold for a program with any
-//! tools: what these answer is their first argument (`specs/ToolTables`). `core_top` and `program::run_over` have none, and answer their words by `usage`
-//! (`LacksTools`; `specs/NoTools`); the program with all tools is `sloth_cli`, whose top call calls this one for all other words.
-//!
-//! The OIL text of a generated application of 30 tasks declares 30 tasks and no counter (`all_tasks_are_declared`, `no_counter_is_declared`). The image:
-//! `sim_induction` (`Sound`), `osek_blocking` (`Protocol`), `rv32_expand` (`InPlace`). Laws of every image that is built, on its blocking bounds and on what
-//! `check` answers: `sloth_commands`.
+//! What a top call promises: `specs/Top`, `specs/ImageAnswers`, `specs/SampleAnswers`; of a program over the system's
+//! files: `specs/ProgramRun`. It holds for a program with any tools, whose answers are its first argument
+//! (`specs/ToolTables`); `core_top` has none (`specs/NoTools`), `sloth_cli` has all. The text of a generated
+//! application of 30 tasks declares 30 tasks (`all_tasks_are_declared`, `no_counter_is_declared`).
 #![tactic(auto)]
 
 pub mod build_command;

@@ -1,4 +1,4 @@
-//! What a program without tools does with its words: they go to the top call, over the system's files and standard output, and the status is how it ends.
+//! A program without tools: its words go to the top call over system files and standard output; the status is its end.
 ghost use Rattle.std.specs.Prelude.{◌≡◌, ◌⊎◌, [], IfErr};
 ghost use Rattle.std.specs.Process.{exit_status};
 ghost use Rattle.sloth_io.specs.FileStore.{shown_files, untold_files};
@@ -17,7 +17,7 @@ use std::process::ExitCode;
 use std::rt::Files;
 use tool_answers::Status;
 
-/// The words without the program's own name, or how the program ends without them: a word that is not UTF-8 is none of a command's.
+/// The words behind the program's name, or how it ends without them: a word that is not UTF-8 is none of a command's.
 pub fn words_given(rt: &(impl Env + AllocGlobal)) -> Result<Vec<String>, Status>
     ensures { IfErr result (λ status. (status ≡ Status.Usage) ⊎ (status ≡ Status.NoMemory)) }
 {
@@ -35,7 +35,7 @@ pub fn words_given(rt: &(impl Env + AllocGlobal)) -> Result<Vec<String>, Status>
     Ok(words)
 }
 
-/// Runs the command of these words, over files of which nothing was read, none written and nothing said, and standard output to which nothing was put.
+/// Runs the command of these words over files and standard output to which nothing was done yet.
 pub fn run_over<R: Files, P: Print>(
     alloc: Global,
     words: &[String],

@@ -136,8 +136,7 @@ fn attempt<F: Store, S: Sink>(
     )
 }
 
-/// Generates an application from a seed, builds and runs its image, and puts the summary of the run, but for the last line of a
-/// failure.
+/// Generates, builds and runs the application of a seed, and puts the run's summary, but no last line of a failure.
 pub fn sample_run<F: Store, S: Sink>(
     alloc: Global,
     files: &mut F,

@@ -95,8 +95,8 @@ fn obey<F: Store, S: Sink>(
     }
 }
 
-// Does what the words say, and puts the last line of a failure. Its clauses are proved on each of its ways out; from the first one alone those of
-// `core_top` follow, by a law each, but for the others of this call.
+// Does what the words say, and puts the last line of a failure. Its clauses are proved on each of its ways out; from
+// the first one alone those of `core_top` follow, by a law each, but for the others of this call.
 fn answer<F: Store, S: Sink>(alloc: Global, words: &[String], files: &mut F, out: &mut S) -> Status
     ensures answers { IsTopAnswer LacksTools (words_of words.now)
         (world (call_files (F.seen files.old) (F.seen files.new)) (S.seen out.old)) (world (F.seen files.new) (S.seen out.new)) result }

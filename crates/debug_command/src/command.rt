@@ -181,7 +181,7 @@ fn judge<I: Input, S: Sink>(
     }
 }
 
-/// Serves a session over the run of the image file and the arrivals of these names, until it is over or nothing comes any more.
+/// Serves a session over the run of an image file and arrivals of these names, until it is over or nothing more comes.
 pub fn debug<F: Store, I: Input, S: Sink>(
     alloc: Global,
     files: &mut F,

@@ -13,8 +13,8 @@ use std::alloc::Global;
 use std::rt::Files;
 use tool_answers::Status;
 
-/// Serves a session over files of which nothing was read, none written and nothing said, any input, and standard output to which nothing was put. The transcript tells
-/// in what order the input was asked and replies were handed on.
+/// Serves a session over any input, and over files and standard output to which nothing was done yet. The transcript
+/// tells in what order the input was asked and replies were handed on.
 pub fn debug_over<R: Files, I: Input, P: Print>(
     alloc: Global,
     files: &mut FileStore<'_, R>,

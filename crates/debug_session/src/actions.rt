@@ -1,7 +1,7 @@
 //! `vCont`: actions of threads.
 ghost use Rattle.std.specs.Prelude.{◌≡◌, ◌==◌, ◌&&◌, length, is_some};
 ghost use Rattle.debug_session.specs.Hex.{number_of};
-ghost use Rattle.debug_session.specs.Actions.{action_by, action_of, step_with, chosen_request, on_step, actions_request};
+ghost use Rattle.debug_session.specs.Actions.{action_by, action_of, step_with, chosen_request, actions_request};
 
 use crate::hex::number;
 use crate::request::Request;

@@ -7,7 +7,7 @@ ghost use Rattle.debug_session.specs.Requests.{single_command, double_command, c
 use crate::hex::bytes_of_hex;
 use crate::request::Request;
 use crate::words::{count_in, first_word, further_words};
-use sloth_base::NoMemory;
+use sloth_base::Result;
 use std::alloc::Global;
 use text_pieces::same;
 
@@ -68,7 +68,7 @@ pub fn is_text(bytes: &[u8]) -> bool
 }
 
 /// `qRcmd`.
-pub fn command_by(alloc: Global, digits: &[u8]) -> Result<Request, NoMemory>
+pub fn command_by(alloc: Global, digits: &[u8]) -> Result<Request>
     ensures { IfOk result (λ request. request ≡ command_by (bytes_of_hex digits.now)) }
 {
     match bytes_of_hex(alloc, digits)? {

@@ -2,7 +2,7 @@
 ghost use Rattle.std.specs.Prelude.{◌≡◌, ◌++◌, OnOk, IfOk};
 ghost use Rattle.debug_session.specs.Escapes.{turned, escaped, unescaped};
 
-use sloth_base::NoMemory;
+use sloth_base::Result;
 use std::alloc::Global;
 
 // A byte with its bit 5 the other way.
@@ -17,7 +17,7 @@ fn turned(byte: u8) -> u8
 }
 
 /// Puts what stands for bytes.
-pub fn push_escaped(out: &mut Vec<u8>, bytes: &[u8]) -> Result<(), NoMemory>
+pub fn push_escaped(out: &mut Vec<u8>, bytes: &[u8]) -> Result<()>
     ensures { OnOk result (out.new.items ≡ out.old.items ++ escaped bytes.now) }
 {
     for byte in bytes {
@@ -31,7 +31,7 @@ pub fn push_escaped(out: &mut Vec<u8>, bytes: &[u8]) -> Result<(), NoMemory>
 }
 
 /// The bytes that data stand for.
-pub fn unescaped(alloc: Global, bytes: &[u8]) -> Result<Vec<u8>, NoMemory>
+pub fn unescaped(alloc: Global, bytes: &[u8]) -> Result<Vec<u8>>
     ensures { IfOk result (λ content. content.items ≡ unescaped bytes.now) }
 {
     let mut content = Vec::new(alloc);

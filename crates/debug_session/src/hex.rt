@@ -1,8 +1,8 @@
 //! Hexadecimal digits.
 ghost use Rattle.std.specs.Prelude.{◌≡◌, ◌<◌, ◌++◌, OnOk, IfOk, IfSome, IfNone, None, Some};
-ghost use Rattle.debug_session.specs.Hex.{hex_digit, digit_value, hex_of, number_of, number_from, bytes_of_hex};
+ghost use Rattle.debug_session.specs.Hex.{hex_digit, digit_value, hex_of, number_of, bytes_of_hex};
 
-use sloth_base::NoMemory;
+use sloth_base::Result;
 use std::alloc::Global;
 
 /// The hexadecimal digit of a value, in lower case.
@@ -26,7 +26,7 @@ pub fn value_of(byte: u8) -> u8
 }
 
 /// Puts bytes in two digits each.
-pub fn push_hex(out: &mut Vec<u8>, bytes: &[u8]) -> Result<(), NoMemory>
+pub fn push_hex(out: &mut Vec<u8>, bytes: &[u8]) -> Result<()>
     ensures { OnOk result (out.new.items ≡ out.old.items ++ hex_of bytes.now) }
 {
     for byte in bytes {
@@ -54,7 +54,7 @@ pub fn number(text: &[u8]) -> Option<u32>
 }
 
 /// The bytes that pairs of digits tell, if they are such.
-pub fn bytes_of_hex(alloc: Global, text: &[u8]) -> Result<Option<Vec<u8>>, NoMemory>
+pub fn bytes_of_hex(alloc: Global, text: &[u8]) -> Result<Option<Vec<u8>>>
     ensures some { IfOk result (λ told. IfSome told (λ bytes. bytes_of_hex text.now ≡ Some bytes.items)) }
     ensures none { IfOk result (λ told. IfNone told (bytes_of_hex text.now ≡ None)) }
 {

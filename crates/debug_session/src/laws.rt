@@ -15,8 +15,8 @@ pub fn packets_have_one_reply()
         → HasReplies session (has_reply (request_of (length names) content)) (answer run names session (Packet content)) }
 {}
 
-/// Where packets are not acknowledged, what is written for packets has these packets, as the protocol reads it: the replies, each with its escapes and its
-/// sum, one behind the other.
+/// Where packets are not acknowledged, what is written for packets has these packets, as the protocol reads it: the
+/// replies, each with its escapes and its sum, one behind the other.
 #[tactic(auto, using(crate::proofs::Exchanging::replies_read_back))]
 pub fn replies_are_read_back()
     ensures { (run : Run) (names : List (List ℕ)) (session : Session) (contents : List (List ℕ)) → session.sending.acks ≡ false

@@ -6,7 +6,7 @@ ghost use Rattle.debug_session.specs.Sessions.{sending_behind};
 
 use crate::request::Request;
 use crate::writing::push_packet;
-use sloth_base::NoMemory;
+use sloth_base::Result;
 use std::alloc::Global;
 use std::marker::Model;
 
@@ -47,7 +47,7 @@ impl Link {
     }
 
     /// Puts what tells that a packet came whole.
-    pub fn acknowledge(&self, out: &mut Vec<u8>) -> Result<(), NoMemory>
+    pub fn acknowledge(&self, out: &mut Vec<u8>) -> Result<()>
         ensures { OnOk result (out.new.items ≡ out.old.items ++ acknowledged self.now) }
     {
         if self.acks {
@@ -57,7 +57,7 @@ impl Link {
     }
 
     /// Puts what tells that the sum of a packet is wrong.
-    pub fn refuse(&self, alloc: Global, out: &mut Vec<u8>) -> Result<(), NoMemory>
+    pub fn refuse(&self, alloc: Global, out: &mut Vec<u8>) -> Result<()>
         ensures { OnOk result (out.new.items ≡ out.old.items ++ refused self.now) }
     {
         if self.acks {
@@ -68,7 +68,7 @@ impl Link {
     }
 
     /// Puts the last packet again.
-    pub fn repeat(&self, out: &mut Vec<u8>) -> Result<(), NoMemory>
+    pub fn repeat(&self, out: &mut Vec<u8>) -> Result<()>
         ensures { OnOk result (out.new.items ≡ out.old.items ++ repeated self.now) }
     {
         if self.acks {
@@ -78,7 +78,7 @@ impl Link {
     }
 
     /// Puts data as a packet, which is then the last one.
-    pub fn send(&mut self, alloc: Global, out: &mut Vec<u8>, content: &[u8]) -> Result<(), NoMemory>
+    pub fn send(&mut self, alloc: Global, out: &mut Vec<u8>, content: &[u8]) -> Result<()>
         ensures bytes { OnOk result (out.new.items ≡ out.old.items ++ framed content.now) }
         ensures last { OnOk result (self.new ≡ sent self.old content.now) }
     {

@@ -8,7 +8,7 @@ use crate::request::Window;
 use crate::texts::{push, push_register};
 use debug_ways::shown::{least_of, shown_thread};
 use debug_ways::{Cursor, Machine, Standing};
-use sloth_base::NoMemory;
+use sloth_base::Result;
 use std::alloc::Global;
 
 /// The most bytes of memory that are shown at once.
@@ -19,7 +19,7 @@ pub fn push_registers<M: Machine>(
     out: &mut Vec<u8>,
     cursor: &mut Cursor<M>,
     standing: &Standing,
-) -> Result<(), NoMemory>
+) -> Result<()>
     requires { standing.now.count ≤ (cursor_run M.run cursor.old).end }
     ensures text { OnOk result (out.new.items ≡ out.old.items ++ registers_text (cursor_run M.run cursor.old) standing.now) }
     ensures run { cursor_run M.run cursor.new ≡ cursor_run M.run cursor.old }
@@ -50,7 +50,7 @@ fn push_bytes<M: Machine>(
     count: u32,
     length: u32,
     address: u32,
-) -> Result<(), NoMemory>
+) -> Result<()>
     requires { count ≤ (cursor_run M.run cursor.old).end }
     ensures bytes { OnOk result (out.new.items ≡ out.old.items ++ bytes_from ((cursor_run M.run cursor.old).byte count) length address) }
     ensures run { cursor_run M.run cursor.new ≡ cursor_run M.run cursor.old }
@@ -71,7 +71,7 @@ pub fn push_memory<M: Machine>(
     cursor: &mut Cursor<M>,
     standing: &Standing,
     window: &Window,
-) -> Result<(), NoMemory>
+) -> Result<()>
     requires { standing.now.count ≤ (cursor_run M.run cursor.old).end }
     ensures text { OnOk result (out.new.items ≡ out.old.items ++ memory_text (cursor_run M.run cursor.old) standing.now window.now) }
     ensures run { cursor_run M.run cursor.new ≡ cursor_run M.run cursor.old }

@@ -3,7 +3,7 @@ ghost use Rattle.std.specs.Prelude.{◌≡◌, IfOk};
 ghost use Rattle.debug_session.specs.Reading.{fresh, opened, event_after, reading_after};
 
 use crate::hex::value_of;
-use sloth_base::NoMemory;
+use sloth_base::Result;
 use std::alloc::Global;
 use std::marker::Model;
 
@@ -50,7 +50,7 @@ impl Model for PacketReader {
 
 impl PacketReader {
     /// A reader that has read nothing.
-    pub fn new(alloc: Global) -> Result<PacketReader, NoMemory>
+    pub fn new(alloc: Global) -> Result<PacketReader>
         ensures { IfOk result (λ reader. reader ≡ fresh) }
     {
         Ok(PacketReader {

@@ -19,7 +19,7 @@ use debug_ways::shown::{View, seen_of, shown_thread, view_of};
 use debug_ways::standing::thread_of;
 use debug_ways::{Cursor, Machine, Point, Standing};
 use rv32_instr::Stop;
-use sloth_base::{Name, NoMemory};
+use sloth_base::{Name, Result};
 use std::alloc::Global;
 use text_pieces::line;
 use text_pieces::pieces::Piece::{Number, Word};
@@ -78,7 +78,7 @@ fn push_threads_part(
     view: &View,
     names: &[Name],
     window: &Window,
-) -> Result<(), NoMemory>
+) -> Result<()>
     requires { length names.now ≤ task_limit }
     ensures { OnOk result (out.new.items ≡ out.old.items ++ window_text (threads_text view.now names.now) window.now) }
 {
@@ -88,12 +88,7 @@ fn push_threads_part(
 }
 
 // Puts where a session stands, where this is the address of its count and the run ends so.
-fn push_place(
-    out: &mut Vec<u8>,
-    standing: &Standing,
-    pc: u32,
-    stop: &Option<Stop>,
-) -> Result<(), NoMemory>
+fn push_place(out: &mut Vec<u8>, standing: &Standing, pc: u32, stop: &Option<Stop>) -> Result<()>
     ensures { OnOk result (out.new.items ≡ out.old.items ++ place_text standing.now pc stop.now) }
 {
     line!(out; Word(b"count "), Number(standing.count))?;
@@ -114,7 +109,7 @@ fn push_plain<M: Machine>(
     names: &[Name],
     standing: &Standing,
     request: &Request,
-) -> Result<(), NoMemory>
+) -> Result<()>
     requires there { standing.now.count ≤ (cursor_run M.run cursor.old).end }
     requires few { length names.now ≤ task_limit }
     ensures text { OnOk result (out.new.items ≡ out.old.items ++ plain_text (cursor_run M.run cursor.old) names.now standing.now request.now) }
@@ -148,7 +143,7 @@ fn push_plain_digits<M: Machine>(
     names: &[Name],
     standing: &Standing,
     request: &Request,
-) -> Result<(), NoMemory>
+) -> Result<()>
     requires there { standing.now.count ≤ (cursor_run M.run cursor.old).end }
     requires few { length names.now ≤ task_limit }
     ensures text { OnOk result (out.new.items ≡ out.old.items ++ hex_of (plain_text (cursor_run M.run cursor.old) names.now standing.now request.now)) }
@@ -178,7 +173,7 @@ pub fn push_text<M: Machine>(
     points: &[Point],
     standing: &Standing,
     request: &Request,
-) -> Result<(), NoMemory>
+) -> Result<()>
     requires there { standing.now.count ≤ (cursor_run M.run cursor.old).end }
     requires few { length names.now ≤ task_limit }
     ensures text { OnOk result (out.new.items ≡ out.old.items

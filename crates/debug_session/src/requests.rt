@@ -10,7 +10,7 @@ use crate::reading::LONGEST;
 use crate::request::Request;
 use crate::selecting::{points_request, thread_request, window_request};
 use crate::words::{thread_in, window_of};
-use sloth_base::NoMemory;
+use sloth_base::Result;
 use std::alloc::Global;
 
 fn either(first: bool, one: Request, other: Request) -> Request
@@ -21,7 +21,7 @@ fn either(first: bool, one: Request, other: Request) -> Request
 
 // What is asked where this stands behind a word.
 #[tactic(auto, unfolding(crate::specs::Requests::followed))]
-fn followed(alloc: Global, tasks: u32, form: &Form, rest: &[u8]) -> Result<Request, NoMemory>
+fn followed(alloc: Global, tasks: u32, form: &Form, rest: &[u8]) -> Result<Request>
     ensures { IfOk result (λ request. request ≡ followed tasks form.now rest.now) }
 {
     match form {
@@ -46,7 +46,7 @@ fn followed(alloc: Global, tasks: u32, form: &Form, rest: &[u8]) -> Result<Reque
 }
 
 // What the first word asks that begins the content.
-fn asked_by(alloc: Global, tasks: u32, rows: &[Row], content: &[u8]) -> Result<Request, NoMemory>
+fn asked_by(alloc: Global, tasks: u32, rows: &[Row], content: &[u8]) -> Result<Request>
     ensures { IfOk result (λ request. request ≡ asked_by tasks (map row_of rows.now) content.now) }
 {
     for row in rows {
@@ -57,7 +57,7 @@ fn asked_by(alloc: Global, tasks: u32, rows: &[Row], content: &[u8]) -> Result<R
     Ok(Request::Nothing)
 }
 
-// The words, and what may follow each. What steps and continues; what shows; what writes, which is refused; points, and ends; the others.
+// The words, and what may follow: what steps and continues; shows; writes, which is refused; points and ends; others.
 const WORDS: [Row; 36] = [
     Row(b"c", Form::Alone(Request::Continue(false))),
     Row(b"s", Form::Alone(Request::PlainStep(false))),
@@ -99,14 +99,14 @@ const WORDS: [Row; 36] = [
 
 // What data asks that is a text.
 #[tactic(auto, unfolding(crate::specs::Requests::words))]
-fn text_request(alloc: Global, tasks: u32, content: &[u8]) -> Result<Request, NoMemory>
+fn text_request(alloc: Global, tasks: u32, content: &[u8]) -> Result<Request>
     ensures { IfOk result (λ request. request ≡ asked_by tasks words content.now) }
 {
     asked_by(alloc, tasks, &WORDS, content)
 }
 
 /// What the data of a packet asks, of a run of so many tasks.
-pub fn request_of(alloc: Global, tasks: u32, content: &[u8]) -> Result<Request, NoMemory>
+pub fn request_of(alloc: Global, tasks: u32, content: &[u8]) -> Result<Request>
     ensures { IfOk result (λ request. request ≡ request_of tasks content.now) }
 {
     if content.len() > LONGEST {

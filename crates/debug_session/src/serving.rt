@@ -10,7 +10,7 @@ use crate::reading::{Event, PacketReader};
 use crate::session::Session;
 use crate::transcript::Transcript;
 use debug_ways::{Cursor, Machine};
-use sloth_base::{Name, NoMemory};
+use sloth_base::{Name, NoMemory, Result};
 use sloth_io::Sink;
 use std::alloc::Global;
 
@@ -32,7 +32,7 @@ fn due_text<M: Machine>(
     names: &[Name],
     event: Event,
     content: &[u8],
-) -> Result<Vec<u8>, NoMemory>
+) -> Result<Vec<u8>>
     requires there { session.old.standing.count ≤ (cursor_run M.run cursor.old).end }
     requires few { length names.now ≤ task_limit }
     ensures session { OnOk result (session.new ≡ behind_event (cursor_run M.run cursor.old) names.now session.old event content.now) }
@@ -85,7 +85,7 @@ fn serve_on<I: Input, S: Sink, M: Machine>(
     Err(SessionFault::Read)
 }
 
-/// Answers what comes, until the session is over or nothing comes any more. Each reply is handed on before the next byte is asked for.
+/// Answers until the session is over or nothing more comes. Each reply is handed on before the next byte is asked for.
 pub fn serve<I: Input, S: Sink, M: Machine>(
     alloc: Global,
     input: &mut I,

@@ -14,7 +14,7 @@ use debug_ways::points::{set_point, take_point};
 use debug_ways::standing::{plain_step, plain_told, selected};
 use debug_ways::stepping::{continued, moved, stepped};
 use debug_ways::{Cause, Cursor, Machine, Point, Standing};
-use sloth_base::{Name, NoMemory};
+use sloth_base::{Name, Result};
 use std::alloc::Global;
 use std::marker::Model;
 
@@ -72,7 +72,7 @@ fn standing_behind<M: Machine>(
 }
 
 // Its points behind a request.
-fn points_behind(points: &mut Vec<Point>, request: &Request) -> Result<(), NoMemory>
+fn points_behind(points: &mut Vec<Point>, request: &Request) -> Result<()>
     ensures { OnOk result (points.new.items ≡ points_behind points.old.items request.now) }
 {
     match request {
@@ -122,7 +122,7 @@ impl Session {
         cursor: &mut Cursor<M>,
         names: &[Name],
         request: &Request,
-    ) -> Result<(), NoMemory>
+    ) -> Result<()>
         requires there { self.old.standing.count ≤ (cursor_run M.run cursor.old).end }
         requires few { length names.now ≤ task_limit }
         ensures session { OnOk result (self.new ≡ behind_request (cursor_run M.run cursor.old) names.now self.old request.now) }
@@ -159,7 +159,7 @@ impl Session {
         names: &[Name],
         event: Event,
         content: &[u8],
-    ) -> Result<(), NoMemory>
+    ) -> Result<()>
         requires there { self.old.standing.count ≤ (cursor_run M.run cursor.old).end }
         requires few { length names.now ≤ task_limit }
         ensures session { OnOk result (self.new ≡ behind_event (cursor_run M.run cursor.old) names.now self.old event content.now) }

@@ -5,7 +5,7 @@ ghost use Rattle.debug_session.specs.Replies.{end_signal, cause_signal, watch_wo
 use crate::texts::{push, push_number};
 use debug_ways::{Cause, Standing};
 use rv32_instr::Stop;
-use sloth_base::NoMemory;
+use sloth_base::Result;
 use text_pieces::line;
 use text_pieces::pieces::Piece::Word;
 
@@ -47,7 +47,7 @@ fn watch_word(kind: u8) -> &'static [u8]
 }
 
 // Puts the reason of a cause.
-fn push_reason(out: &mut Vec<u8>, stop: &Option<Stop>, cause: Cause) -> Result<(), NoMemory>
+fn push_reason(out: &mut Vec<u8>, stop: &Option<Stop>, cause: Cause) -> Result<()>
     ensures { OnOk result (out.new.items ≡ out.old.items ++ cause_reason stop.now cause) }
 {
     match cause {
@@ -76,11 +76,7 @@ fn push_reason(out: &mut Vec<u8>, stop: &Option<Stop>, cause: Cause) -> Result<(
 }
 
 /// Puts what is told of a stop, where the run ends so.
-pub fn push_stop(
-    out: &mut Vec<u8>,
-    stop: &Option<Stop>,
-    standing: &Standing,
-) -> Result<(), NoMemory>
+pub fn push_stop(out: &mut Vec<u8>, stop: &Option<Stop>, standing: &Standing) -> Result<()>
     ensures { OnOk result (out.new.items ≡ out.old.items ++ told_text stop.now standing.now) }
 {
     let signal = cause_signal(stop, standing.told.other, standing.told.cause);

@@ -6,7 +6,7 @@ use crate::hex::{digit_of, push_hex};
 use crate::request::Window;
 use debug_ways::shown::least_of;
 use osek_scheduler::TaskState;
-use sloth_base::NoMemory;
+use sloth_base::Result;
 use text_pieces::line;
 use text_pieces::pieces::Piece::{Number, Word};
 
@@ -14,7 +14,7 @@ use text_pieces::pieces::Piece::{Number, Word};
 const PART_LIMIT: u32 = 16_368;
 
 /// Puts bytes.
-pub fn push(out: &mut Vec<u8>, bytes: &[u8]) -> Result<(), NoMemory>
+pub fn push(out: &mut Vec<u8>, bytes: &[u8]) -> Result<()>
     ensures { OnOk result (out.new.items ≡ out.old.items ++ bytes.now) }
 {
     out.extend_from_slice(bytes)?;
@@ -22,7 +22,7 @@ pub fn push(out: &mut Vec<u8>, bytes: &[u8]) -> Result<(), NoMemory>
 }
 
 // Puts the digit of a place, unless it is a zero in front.
-fn push_digit(out: &mut Vec<u8>, place: u32, number: u32) -> Result<(), NoMemory>
+fn push_digit(out: &mut Vec<u8>, place: u32, number: u32) -> Result<()>
     requires { 0 < place }
     ensures { OnOk result (out.new.items ≡ out.old.items ++ digit_at place number) }
 {
@@ -34,7 +34,7 @@ fn push_digit(out: &mut Vec<u8>, place: u32, number: u32) -> Result<(), NoMemory
 
 /// Puts a number in hexadecimal digits, with no zero in front.
 #[tactic(auto, unfolding(crate::specs::Texts::hex_number))]
-pub fn push_number(out: &mut Vec<u8>, number: u32) -> Result<(), NoMemory>
+pub fn push_number(out: &mut Vec<u8>, number: u32) -> Result<()>
     ensures { OnOk result (out.new.items ≡ out.old.items ++ hex_number number) }
 {
     push_digit(out, 0x1000_0000, number)?;
@@ -49,7 +49,7 @@ pub fn push_number(out: &mut Vec<u8>, number: u32) -> Result<(), NoMemory>
 
 /// Puts eight digits of a register, or eight x where it is not known.
 #[tactic(auto, unfolding(crate::specs::Texts::word_digits))]
-pub fn push_register(out: &mut Vec<u8>, register: Option<u32>) -> Result<(), NoMemory>
+pub fn push_register(out: &mut Vec<u8>, register: Option<u32>) -> Result<()>
     ensures { OnOk result (out.new.items ≡ out.old.items ++ register_digits register) }
 {
     match register {
@@ -60,7 +60,7 @@ pub fn push_register(out: &mut Vec<u8>, register: Option<u32>) -> Result<(), NoM
 
 /// Puts a part of a text.
 #[tactic(auto, unfolding(crate::specs::Texts::part_text))]
-pub fn push_window(out: &mut Vec<u8>, text: &[u8], window: &Window) -> Result<(), NoMemory>
+pub fn push_window(out: &mut Vec<u8>, text: &[u8], window: &Window) -> Result<()>
     ensures { OnOk result (out.new.items ≡ out.old.items ++ window_text text.now window.now) }
 {
     let from = window.from as usize;
@@ -78,7 +78,7 @@ pub fn push_window(out: &mut Vec<u8>, text: &[u8], window: &Window) -> Result<()
 
 /// Puts the word of a state, where this is that of an Active task, and the events that a task waits for.
 #[tactic(auto, unfolding(crate::specs::Texts::state_text))]
-pub fn push_state(out: &mut Vec<u8>, active: &[u8], state: TaskState) -> Result<(), NoMemory>
+pub fn push_state(out: &mut Vec<u8>, active: &[u8], state: TaskState) -> Result<()>
     ensures { OnOk result (out.new.items ≡ out.old.items ++ state_text active.now state) }
 {
     match state {

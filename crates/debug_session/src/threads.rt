@@ -8,13 +8,13 @@ ghost use Rattle.debug_session.specs.Replies.{machine_text, task_text, thread_te
 use crate::texts::{push, push_number, push_state};
 use debug_ways::shown::{Seen, View};
 use osek_scheduler::TaskState;
-use sloth_base::{Name, NoMemory, TASK_LIMIT};
+use sloth_base::{Name, Result, TASK_LIMIT};
 use text_pieces::line;
 use text_pieces::pieces::Piece::{Number, Word};
 
 // Puts what the machine is.
 #[tactic(auto, unfolding(crate::specs::Replies::machine_text))]
-fn push_machine(out: &mut Vec<u8>, view: &View) -> Result<(), NoMemory>
+fn push_machine(out: &mut Vec<u8>, view: &View) -> Result<()>
     ensures { OnOk result (out.new.items ≡ out.old.items ++ machine_text view.now) }
 {
     line!(out; Word(b"count "), Number(view.count), Word(b", level "), Number(view.level))?;
@@ -37,7 +37,7 @@ fn state_at(states: &[TaskState; TASK_LIMIT], task: usize) -> TaskState
 
 // Puts what a task is.
 #[tactic(auto, unfolding(crate::specs::Replies::task_text))]
-fn push_task(out: &mut Vec<u8>, seen: &Option<Seen>, task: u32) -> Result<(), NoMemory>
+fn push_task(out: &mut Vec<u8>, seen: &Option<Seen>, task: u32) -> Result<()>
     ensures { OnOk result (out.new.items ≡ out.old.items ++ task_text seen.now task) }
 {
     match seen {
@@ -54,7 +54,7 @@ fn push_task(out: &mut Vec<u8>, seen: &Option<Seen>, task: u32) -> Result<(), No
 }
 
 // Puts what a thread is.
-fn push_thread(out: &mut Vec<u8>, view: &View, thread: u32) -> Result<(), NoMemory>
+fn push_thread(out: &mut Vec<u8>, view: &View, thread: u32) -> Result<()>
     ensures { OnOk result (out.new.items ≡ out.old.items ++ thread_text view.now thread) }
 {
     if thread == 1 {
@@ -79,12 +79,7 @@ fn thread_name<'a>(names: &'a [Name], thread: u32) -> &'a [u8]
 }
 
 /// Puts a thread's name and what it is.
-pub fn push_words(
-    out: &mut Vec<u8>,
-    view: &View,
-    names: &[Name],
-    thread: u32,
-) -> Result<(), NoMemory>
+pub fn push_words(out: &mut Vec<u8>, view: &View, names: &[Name], thread: u32) -> Result<()>
     ensures { OnOk result (out.new.items ≡ out.old.items ++ words_text view.now names.now thread) }
 {
     line!(out; Word(thread_name(names, thread)), Word(b" "))?;
@@ -92,7 +87,7 @@ pub fn push_words(
 }
 
 // Puts an element of the list of threads in front of its state.
-fn push_head(out: &mut Vec<u8>, names: &[Name], thread: u32) -> Result<(), NoMemory>
+fn push_head(out: &mut Vec<u8>, names: &[Name], thread: u32) -> Result<()>
     ensures { OnOk result (out.new.items
         ≡ out.old.items ++ (codes "<thread id=\"" ++ hex_number thread ++ codes "\" name=\"" ++ thread_name names.now thread ++ codes "\">")) }
 {
@@ -104,7 +99,7 @@ fn push_head(out: &mut Vec<u8>, names: &[Name], thread: u32) -> Result<(), NoMem
 
 // Puts an element of the list of threads.
 #[tactic(auto, unfolding(crate::specs::Replies::thread_element))]
-fn push_element(out: &mut Vec<u8>, view: &View, names: &[Name], thread: u32) -> Result<(), NoMemory>
+fn push_element(out: &mut Vec<u8>, view: &View, names: &[Name], thread: u32) -> Result<()>
     ensures { OnOk result (out.new.items ≡ out.old.items ++ thread_element view.now names.now thread) }
 {
     push_head(out, names, thread)?;
@@ -113,12 +108,7 @@ fn push_element(out: &mut Vec<u8>, view: &View, names: &[Name], thread: u32) -> 
 }
 
 // Puts the elements of so many threads.
-fn push_elements(
-    out: &mut Vec<u8>,
-    view: &View,
-    names: &[Name],
-    threads: u32,
-) -> Result<(), NoMemory>
+fn push_elements(out: &mut Vec<u8>, view: &View, names: &[Name], threads: u32) -> Result<()>
     ensures { OnOk result (out.new.items ≡ out.old.items ++ up_to (λ place. thread_element view.now names.now (place + 1)) threads) }
 {
     for place in 0..threads {
@@ -136,7 +126,7 @@ fn threads_head() -> &'static [u8]
 }
 
 /// Puts the list of threads.
-pub fn push_threads(out: &mut Vec<u8>, view: &View, names: &[Name]) -> Result<(), NoMemory>
+pub fn push_threads(out: &mut Vec<u8>, view: &View, names: &[Name]) -> Result<()>
     requires { length names.now ≤ task_limit }
     ensures { OnOk result (out.new.items ≡ out.old.items ++ threads_text view.now names.now) }
 {
@@ -146,7 +136,7 @@ pub fn push_threads(out: &mut Vec<u8>, view: &View, names: &[Name]) -> Result<()
 }
 
 // Puts the numbers of so many threads behind the first, with commas in front.
-fn push_numbers(out: &mut Vec<u8>, tasks: u32) -> Result<(), NoMemory>
+fn push_numbers(out: &mut Vec<u8>, tasks: u32) -> Result<()>
     requires { tasks ≤ task_limit }
     ensures { OnOk result (out.new.items ≡ out.old.items ++ up_to number_text tasks) }
 {
@@ -158,7 +148,7 @@ fn push_numbers(out: &mut Vec<u8>, tasks: u32) -> Result<(), NoMemory>
 }
 
 /// Puts the numbers of all threads.
-pub fn push_thread_list(out: &mut Vec<u8>, tasks: u32) -> Result<(), NoMemory>
+pub fn push_thread_list(out: &mut Vec<u8>, tasks: u32) -> Result<()>
     requires { tasks ≤ task_limit }
     ensures { OnOk result (out.new.items ≡ out.old.items ++ thread_list tasks) }
 {
@@ -173,7 +163,7 @@ fn push_task_line(
     names: &[Name],
     states: &[TaskState; TASK_LIMIT],
     task: usize,
-) -> Result<(), NoMemory>
+) -> Result<()>
     requires named { task < length names.now }
     requires there { task < task_limit }
     ensures { OnOk result (out.new.items ≡ out.old.items ++ task_line names.now states.now task) }
@@ -188,7 +178,7 @@ fn push_task_lines(
     out: &mut Vec<u8>,
     names: &[Name],
     states: &[TaskState; TASK_LIMIT],
-) -> Result<(), NoMemory>
+) -> Result<()>
     requires { length names.now ≤ task_limit }
     ensures { OnOk result (out.new.items ≡ out.old.items ++ up_to (task_line names.now states.now) (length names.now)) }
 {
@@ -199,7 +189,7 @@ fn push_task_lines(
 }
 
 /// Puts the states of all tasks, if they were seen.
-pub fn push_states(out: &mut Vec<u8>, names: &[Name], seen: &Option<Seen>) -> Result<(), NoMemory>
+pub fn push_states(out: &mut Vec<u8>, names: &[Name], seen: &Option<Seen>) -> Result<()>
     requires { length names.now ≤ task_limit }
     ensures { OnOk result (out.new.items ≡ out.old.items ++ states_text names.now seen.now) }
 {

@@ -1,4 +1,4 @@
-//! The transcript of a session: what was read of its input and written to its sink, in this order. Nothing else adds to it, and it takes no memory.
+//! What a session read of its input and wrote to its sink, in this order, and nothing else. It takes no memory.
 ghost use Rattle.std.specs.Prelude.{◌≡◌, ◌∷◌, ◌++◌, [], option_to_list, OnErr, OnOk, IfOk, IfSome, IfNone, true, false};
 ghost use Rattle.sloth_io.specs.Sink.{output_with, GainsPart};
 ghost use Rattle.debug_session.specs.Input.{Gives, Ends};

@@ -1,5 +1,5 @@
 //! Parts of the data of packets.
-ghost use Rattle.std.specs.Prelude.{◌≡◌, ◌≤◌, ◌==◌, IfSome, IfNone, Some, None, length};
+ghost use Rattle.std.specs.Prelude.{◌≡◌, ◌==◌, IfSome, IfNone, Some, None, length};
 ghost use Rattle.std.specs.List.{take_while, position_or_len};
 ghost use Rattle.debug_session.specs.Words.{behind, window_of, thread_in, trimmed, first_word, further_words, count_from, count_in};
 
@@ -42,7 +42,7 @@ pub fn window_of(text: &[u8]) -> Option<Window>
     }
 }
 
-/// The thread that a text tells, of so many tasks, or 0 for any. The errors are the faults of a text that is no number, and of one that is no thread's.
+/// The thread that a text tells, of so many tasks, or 0 for any. Errors: 1 where it is no number, 2 where no thread's.
 pub fn thread_in(tasks: u32, text: &[u8]) -> Result<u32, u8>
     ensures { result ≡ thread_in tasks text.now }
 {

@@ -4,7 +4,7 @@ ghost use Rattle.debug_session.specs.Framing.{checksum, packet_of, framed};
 
 use crate::escapes::push_escaped;
 use crate::hex::digit_of;
-use sloth_base::NoMemory;
+use sloth_base::Result;
 use std::alloc::Global;
 
 // The sum of bytes, modulo 256.
@@ -19,7 +19,7 @@ fn sum_of(bytes: &[u8]) -> u8
 }
 
 // Puts bytes between the marks of a packet.
-fn push_between(out: &mut Vec<u8>, bytes: &[u8]) -> Result<(), NoMemory>
+fn push_between(out: &mut Vec<u8>, bytes: &[u8]) -> Result<()>
     ensures { OnOk result (out.new.items ≡ out.old.items ++ packet_of bytes.now) }
 {
     let sum = sum_of(bytes);
@@ -30,7 +30,7 @@ fn push_between(out: &mut Vec<u8>, bytes: &[u8]) -> Result<(), NoMemory>
 }
 
 /// Puts data as a packet.
-pub fn push_packet(alloc: Global, out: &mut Vec<u8>, content: &[u8]) -> Result<(), NoMemory>
+pub fn push_packet(alloc: Global, out: &mut Vec<u8>, content: &[u8]) -> Result<()>
     ensures { OnOk result (out.new.items ≡ out.old.items ++ framed content.now) }
 {
     let mut bytes = Vec::new(alloc);

@@ -35,7 +35,7 @@ pub fn arrive<'a>(machine: &mut Machine<SlothBus>, coming: &'a [Arrival]) -> &'a
     behind
 }
 
-/// The number that stood in memory where the stretch began, of a count that finds MIE so, behind one at which this one stood there.
+/// The number in memory where the stretch began, of a count that finds MIE so, behind one at which this one was there.
 pub fn began_behind(enabled: bool, began: Option<u32>, running: u32) -> Option<u32>
     ensures { result ≡ (if enabled then None else Some (unwrap_or began running)) }
 {

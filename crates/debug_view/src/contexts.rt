@@ -83,7 +83,7 @@ fn whole(bus: &mut SlothBus, address: u32) -> Option<u32>
     }
 }
 
-// The context of a task in the chain of those below what runs, where it has one there. The chain has a link for each task and one for the idle loop.
+// A task's context, if any, in the chain below what runs, which has a link for each task and one for the idle loop.
 fn preempted(bus: &mut SlothBus, tasks: u32, task: u32) -> Option<u32>
     requires task { task < task_limit }
     requires tasks { tasks ≤ task_limit }
@@ -110,7 +110,7 @@ fn waiting(bus: &mut SlothBus, task: u32) -> Option<u32>
     whole(bus, address)
 }
 
-// Where the registers of a task stand, where they do: those of an Active one below what runs, those of any other where it is to go on from a wait.
+// Where a task's registers stand, if they do: an Active one's below what runs, another's where it goes on from a wait.
 fn context_in(bus: &mut SlothBus, tasks: u32, task: u32) -> Option<u32>
     requires task { task < task_limit }
     requires tasks { tasks ≤ task_limit }

@@ -1,5 +1,5 @@
 //! What is shown of tasks, in the words of `at` and of the abstract scheduler.
-ghost use Rattle.std.specs.Prelude.{◌≡◌, ◌≤◌, ◌<◌, ◌+◌, ℕ, List, Some, true, filter, length, get_or};
+ghost use Rattle.std.specs.Prelude.{◌≡◌, ◌≤◌, ◌<◌, ◌+◌, ℕ, List, Some, filter, length, get_or};
 ghost use Rattle.sloth_base.specs.Owners.{owners_in};
 ghost use Rattle.sloth_base.specs.declared.app.App.{App};
 ghost use Rattle.sloth_base.specs.declared.config.Config.{Config};
@@ -14,14 +14,14 @@ ghost use Rattle.sloth_runner.specs.TaskStates.{IsLast};
 ghost use Rattle.debug_view.specs.ShownRun.{run_of};
 ghost use Rattle.debug_view.specs.ShownStates.{shown_seen};
 
-/// At each count of a run the states that are shown are those that `at` tells of it: of the last count up to it that finds interrupts open, or none.
+/// The states shown at each count are those that `at` tells: of the last count up to it with interrupts open, or none.
 #[tactic(auto, using(crate::proofs::Last::last_is_shown))]
 pub fn states_are_those_of_at()
     ensures { (image : Image) (arrivals : List Arrival) (k : ℕ) → k ≤ (run_of image arrivals).end
         → IsLast image arrivals (k + 1) (shown_seen image arrivals ((run_of image arrivals).look k).open_count) }
 {}
 
-/// Of an image that shows the tasks of the abstract scheduler, a state that is shown is that of the task in the system to which the events before its count lead.
+/// If an image shows the abstract scheduler's tasks, each shown state is the task's behind the events before its count.
 pub fn states_are_those_of_the_scheduler()
     ensures { (config : Config) (app : App) (image : Image) → HasTaskStates config app image → length image.tasks ≡ length config.tasks
         → (arrivals : List Arrival) (n k count : ℕ) (s : System) → AreComing (owners_in config) arrivals

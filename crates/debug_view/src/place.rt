@@ -12,7 +12,7 @@ use crate::tracing::put_run_text;
 use debug_ways::{Look, Machine};
 use osek_scheduler::TaskState;
 use rv32_machine::{Machine as Hart, SlothBus, Stop};
-use sloth_base::{Arrival, COUNT_LIMIT, Image, NoMemory, TASK_LIMIT};
+use sloth_base::{Arrival, COUNT_LIMIT, Image, Result, TASK_LIMIT};
 use sloth_inspect::states;
 use std::alloc::Global;
 use std::marker::Model;
@@ -24,7 +24,7 @@ pub struct Place<'a> {
     // The arrivals of later moments.
     coming: &'a [Arrival],
     machine: Hart<SlothBus>,
-    // Where the count is in a stretch that began before it: the number of the running task that stood in memory where it began.
+    // In a stretch that began before the count: the number of the running task that stood in memory where it began.
     began: Option<u32>,
     // The last count up to this one that finds interrupts open.
     open_count: Option<u32>,
@@ -58,11 +58,7 @@ impl Drop for Place<'_> {
 
 impl<'a> Place<'a> {
     /// The start of a run, with all memory of it.
-    pub fn new(
-        alloc: Global,
-        image: &'a Image,
-        arrivals: &'a [Arrival],
-    ) -> Result<Place<'a>, NoMemory>
+    pub fn new(alloc: Global, image: &'a Image, arrivals: &'a [Arrival]) -> Result<Place<'a>>
         requires format { InFormat image.now }
         requires arrivals { AreArrivals (owners_named image.now) arrivals.now }
         ensures { IfOk result (λ place. place ≡ record { image = image.now; arrivals = arrivals.now; count = 0 }) }
@@ -111,7 +107,7 @@ impl<'a> Machine for Place<'a> {
         }
     }
 
-    fn copy(&self, alloc: Global) -> Result<Place<'a>, NoMemory> {
+    fn copy(&self, alloc: Global) -> Result<Place<'a>> {
         let mut machine = Hart::starting(alloc, self.image)?;
         machine.set_to(&self.machine);
         Ok(Place {
@@ -158,7 +154,7 @@ impl<'a> Machine for Place<'a> {
         thread_register(&mut self.machine, tasks, self.began, thread, number)
     }
 
-    fn put_trace(&self, alloc: Global, out: &mut Vec<u8>, counts: u32) -> Result<(), NoMemory> {
+    fn put_trace(&self, alloc: Global, out: &mut Vec<u8>, counts: u32) -> Result<()> {
         put_run_text(alloc, out, self.image, self.arrivals, counts)
     }
 

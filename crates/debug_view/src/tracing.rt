@@ -8,7 +8,7 @@ ghost use Rattle.sloth_io.specs.MemSink.{taken_by};
 ghost use Rattle.sloth_runner.specs.Runner.{run_text};
 ghost use Rattle.trace_text.specs.declared.printing.Form.TheVariants as form;
 
-use sloth_base::{Arrival, Image, NoMemory};
+use sloth_base::{Arrival, Image, NoMemory, Result};
 use sloth_io::MemSink;
 use sloth_runner::Runner;
 use std::alloc::Global;
@@ -23,7 +23,7 @@ fn run_sink<'a>(
     image: &'a Image,
     arrivals: &'a [Arrival],
     counts: u32,
-) -> Result<MemSink, NoMemory>
+) -> Result<MemSink>
     requires format { InFormat image.now }
     requires arrivals { AreArrivals (owners_named image.now) arrivals.now }
     requires few { counts ≤ count_limit }
@@ -44,7 +44,7 @@ pub fn put_run_text<'a>(
     image: &'a Image,
     arrivals: &'a [Arrival],
     counts: u32,
-) -> Result<(), NoMemory>
+) -> Result<()>
     requires format { InFormat image.now }
     requires arrivals { AreArrivals (owners_named image.now) arrivals.now }
     requires few { counts ≤ count_limit }

@@ -7,7 +7,7 @@ use crate::marks::{STRIDE, mark_at, marks_of};
 use crate::{Look, Machine};
 use osek_scheduler::TaskState;
 use rv32_instr::Stop;
-use sloth_base::{NoMemory, TASK_LIMIT};
+use sloth_base::{Result, TASK_LIMIT};
 use std::alloc::Global;
 
 /// A machine that goes to any count of its run, over those that were kept of it.
@@ -30,7 +30,7 @@ impl<M: Machine> Cursor<M> {
     ghost use Rattle.debug_ways.specs.Cursor.{cursor_run, cursor_count};
 
     /// A cursor of a machine that stands at the start of a run. The run is executed once.
-    pub fn new(alloc: Global, machine: M) -> Result<Cursor<M>, NoMemory>
+    pub fn new(alloc: Global, machine: M) -> Result<Cursor<M>>
         requires start { M.count machine ≡ 0 }
         requires few { (M.run machine).end ≤ count_limit }
         ensures { IfOk result (λ cursor. cursor_run M.run cursor ≡ M.run machine) }
@@ -129,7 +129,7 @@ impl<M: Machine> Cursor<M> {
     }
 
     /// Puts the line of each event that so many instructions of the run bring, from its start on, with its count.
-    pub fn put_trace(&self, alloc: Global, out: &mut Vec<u8>, counts: u32) -> Result<(), NoMemory>
+    pub fn put_trace(&self, alloc: Global, out: &mut Vec<u8>, counts: u32) -> Result<()>
         requires { counts ≤ count_limit }
         ensures { OnOk result (out.new.items ≡ out.old.items ++ (cursor_run M.run self.now).trace counts) }
     {

@@ -7,7 +7,7 @@ ghost use Rattle.debug_ways.specs.Around.{text_of, side, front_text, rest_text, 
 use crate::merging::{merged, sided};
 use crate::shown::least_of;
 use crate::{Cursor, Machine};
-use sloth_base::{COUNT_LIMIT, NoMemory};
+use sloth_base::{COUNT_LIMIT, Result};
 use std::alloc::Global;
 use text_pieces::line;
 use text_pieces::pieces::Piece::{Number, Word};
@@ -19,7 +19,7 @@ const SIDE: usize = 8;
 const TRACE_COUNTS: u32 = 1_000;
 
 // Puts lines.
-fn push_lines(out: &mut Vec<u8>, lines: &[&[u8]]) -> Result<(), NoMemory>
+fn push_lines(out: &mut Vec<u8>, lines: &[&[u8]]) -> Result<()>
     ensures { OnOk result (out.new.items ≡ out.old.items ++ text_of (map referent lines.now)) }
 {
     for line in lines {
@@ -46,7 +46,7 @@ fn first<'a, 'b>(lines: &'b [&'a [u8]]) -> &'b [&'a [u8]]
 }
 
 // Puts the last lines of the events that end before a count.
-fn push_front(alloc: Global, out: &mut Vec<u8>, lines: &[&[u8]], count: u32) -> Result<(), NoMemory>
+fn push_front(alloc: Global, out: &mut Vec<u8>, lines: &[&[u8]], count: u32) -> Result<()>
     ensures { OnOk result (out.new.items ≡ out.old.items ++ front_text count (map referent lines.now)) }
 {
     let front = sided(alloc, true, count, lines)?;
@@ -54,7 +54,7 @@ fn push_front(alloc: Global, out: &mut Vec<u8>, lines: &[&[u8]], count: u32) -> 
 }
 
 // Puts the first lines of the others.
-fn push_rest(alloc: Global, out: &mut Vec<u8>, lines: &[&[u8]], count: u32) -> Result<(), NoMemory>
+fn push_rest(alloc: Global, out: &mut Vec<u8>, lines: &[&[u8]], count: u32) -> Result<()>
     ensures { OnOk result (out.new.items ≡ out.old.items ++ rest_text count (map referent lines.now)) }
 {
     let rest = sided(alloc, false, count, lines)?;
@@ -62,7 +62,7 @@ fn push_rest(alloc: Global, out: &mut Vec<u8>, lines: &[&[u8]], count: u32) -> R
 }
 
 // Puts the last lines of a text whose events end before a count, the count, and the first lines of the others.
-fn push_around(alloc: Global, out: &mut Vec<u8>, text: &[u8], count: u32) -> Result<(), NoMemory>
+fn push_around(alloc: Global, out: &mut Vec<u8>, text: &[u8], count: u32) -> Result<()>
     ensures { OnOk result (out.new.items ≡ out.old.items ++ around text.now count) }
 {
     let lines = merged(alloc, text)?;
@@ -77,7 +77,7 @@ pub fn push_events<M: Machine>(
     out: &mut Vec<u8>,
     cursor: &Cursor<M>,
     count: u32,
-) -> Result<(), NoMemory>
+) -> Result<()>
     ensures { OnOk result (out.new.items ≡ out.old.items ++ events_text (cursor_run M.run cursor.now) count) }
 {
     let mut text = Vec::new(alloc);

@@ -26,8 +26,8 @@ pub fn ways_mirror()
         → greatest_below hit (least_behind hit (end - from) from) ≡ from }
 {}
 
-/// A way forward whose first access no watchpoint is for ends at the least count behind at which a breakpoint stands, the target is reached or an access
-/// meets a watchpoint, or at the last count where there is none.
+/// A way forward whose first access no watchpoint is for ends at the least count behind at which a breakpoint stands,
+/// the target is reached or an access meets a watchpoint, or at the last count where there is none.
 #[tactic(auto, using(crate::proofs::Continuing::passage_to_the_least))]
 pub fn ways_end_at_the_least_hit()
     ensures { (wish : Wish) (run : Run) (from : ℕ) → from ≤ run.end → is_guard wish (run.look from) ≡ false
@@ -41,8 +41,8 @@ pub fn ways_back_end_at_the_greatest_hit()
         → IsGreatest (ends_back run (tests_of wish)) from (passage true wish run from).count }
 {}
 
-/// A continue that no interrupt stops, and whose first access no watchpoint is for, ends at the least count behind at which a breakpoint stands or whose
-/// access meets a watchpoint, or at the last count where there is none.
+/// A continue that no interrupt stops, and whose first access no watchpoint is for, ends at the least count behind at
+/// which a breakpoint stands or whose access meets a watchpoint, or at the last count where there is none.
 #[tactic(auto, using(crate::proofs::Continuing::ahead_to_the_least))]
 pub fn continues_end_at_the_least_hit()
     ensures { (run : Run) (points : List Point) (standing : Standing) → standing.interrupted ≡ false → standing.count ≤ run.end
@@ -50,7 +50,7 @@ pub fn continues_end_at_the_least_hit()
         → IsLeast (ends_ahead run (tests_of (wish_of_points points))) standing.count run.end (continued run points false standing).count }
 {}
 
-/// A continue back ends at the greatest count below at which a breakpoint stands or behind whose access a watchpoint is met, or at 0 where there is none.
+/// A continue back ends at the greatest count below at a breakpoint or behind a watched access, or at 0 without one.
 #[tactic(auto, using(crate::proofs::Continuing::back_to_the_greatest))]
 pub fn reverse_continues_end_at_the_greatest_hit()
     ensures { (run : Run) (points : List Point) (standing : Standing) → standing.interrupted ≡ false

@@ -6,7 +6,7 @@ ghost use Rattle.debug_ways.specs.Runs.{Run};
 use crate::Look;
 use osek_scheduler::TaskState;
 use rv32_instr::Stop;
-use sloth_base::{NoMemory, TASK_LIMIT};
+use sloth_base::{Result, TASK_LIMIT};
 use std::alloc::Global;
 
 /// A machine at a count of its run. Nothing but `step` and `set_to` changes where it stands.
@@ -26,7 +26,7 @@ pub trait Machine: Drop {
         ensures ended { result ≡ false → count self.old ≡ (run self.old).end };
 
     /// A machine at the same count of the same run.
-    fn copy(&self, alloc: Global) -> Result<Self, NoMemory>
+    fn copy(&self, alloc: Global) -> Result<Self>
         ensures run { IfOk result (λ machine. run machine ≡ run self.now) }
         ensures count { IfOk result (λ machine. count machine ≡ count self.now) };
 
@@ -62,7 +62,7 @@ pub trait Machine: Drop {
         ensures count { count self.new ≡ count self.old };
 
     /// Puts the line of each event that so many instructions of the run bring, from its start on, with its count.
-    fn put_trace(&self, alloc: Global, out: &mut Vec<u8>, counts: u32) -> Result<(), NoMemory>
+    fn put_trace(&self, alloc: Global, out: &mut Vec<u8>, counts: u32) -> Result<()>
         requires { counts ≤ count_limit }
         ensures { OnOk result (out.new.items ≡ out.old.items ++ (run self.now).trace counts) };
 

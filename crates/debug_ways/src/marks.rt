@@ -1,18 +1,18 @@
 //! Machines that are kept of a run.
-ghost use Rattle.std.specs.Prelude.{◌≡◌, ◌≤◌, ◌<◌, ◌+◌, ◌*◌, ◌/◌, ◌%◌, ◌++◌, ◌∷◌, [], IfOk, OnOk, IfSome, IfNone, ℕ, length};
+ghost use Rattle.std.specs.Prelude.{◌≡◌, ◌≤◌, ◌<◌, ◌+◌, ◌*◌, ◌/◌, ◌++◌, ◌∷◌, [], IfOk, OnOk, IfSome, IfNone, length};
 ghost use Rattle.sloth_base.specs.Limits.{count_limit};
 ghost use Rattle.debug_ways.specs.Marks.{AreMarks};
 ghost use Rattle.debug_ways.specs.Runs.{Run};
 
 use crate::Machine;
-use sloth_base::NoMemory;
+use sloth_base::Result;
 use std::alloc::{AllocError, Global};
 
 /// The counts between two machines that are kept.
 pub const STRIDE: u32 = 65_536;
 
 // One more machine.
-fn push<M: Machine>(marks: &mut Vec<M>, mark: M) -> Result<(), NoMemory>
+fn push<M: Machine>(marks: &mut Vec<M>, mark: M) -> Result<()>
     ensures { OnOk result (marks.new.items ≡ marks.old.items ++ mark ∷ []) }
 {
     match marks.push(mark) {
@@ -23,7 +23,7 @@ fn push<M: Machine>(marks: &mut Vec<M>, mark: M) -> Result<(), NoMemory>
 
 // Keeps a machine behind those of a run.
 #[tactic(auto, using(crate::proofs::Keeping::marks_longer, crate::proofs::Keeping::one_longer))]
-fn keep<M: Machine>(alloc: Global, marks: &mut Vec<M>, machine: &M) -> Result<(), NoMemory>
+fn keep<M: Machine>(alloc: Global, marks: &mut Vec<M>, machine: &M) -> Result<()>
     requires are { AreMarks M.run M.count (M.run machine.now) marks.old.items }
     requires place { M.count machine.now ≡ length marks.old.items * 65536 }
     ensures are { OnOk result (AreMarks M.run M.count (M.run machine.now) marks.new.items) }
@@ -52,11 +52,7 @@ fn run_on<M: Machine>(machine: &mut M, counts: u32) -> Option<u32>
 }
 
 /// Executes a run from its start to its end, keeps machines of it, and gives its last count.
-pub fn marks_of<M: Machine>(
-    alloc: Global,
-    marks: &mut Vec<M>,
-    machine: &mut M,
-) -> Result<u32, NoMemory>
+pub fn marks_of<M: Machine>(alloc: Global, marks: &mut Vec<M>, machine: &mut M) -> Result<u32>
     requires start { M.count machine.old ≡ 0 }
     requires none { marks.old.items ≡ [] }
     requires few { (M.run machine.old).end ≤ count_limit }

@@ -3,7 +3,7 @@ ghost use Rattle.std.specs.Prelude.{◌≡◌, ◌++◌, ◌-◌, ◌∷◌, [],
 ghost use Rattle.text_pieces.specs.Names.{referent};
 ghost use Rattle.debug_ways.specs.Around.{is_idle, merged_from, merged, is_aside, sided};
 
-use sloth_base::NoMemory;
+use sloth_base::Result;
 use std::alloc::Global;
 use text_pieces::{before, behind, push, same, split, value};
 
@@ -15,7 +15,7 @@ fn is_idle(line: &[u8]) -> bool
 }
 
 // Puts a line, unless it is left out.
-fn keep<'a>(lines: &mut Vec<&'a [u8]>, line: &'a [u8], left_out: bool) -> Result<(), NoMemory>
+fn keep<'a>(lines: &mut Vec<&'a [u8]>, line: &'a [u8], left_out: bool) -> Result<()>
     ensures { OnOk result (map referent lines.new.items ≡ (if left_out then map referent lines.old.items else map referent lines.old.items ++ line.now ∷ [])) }
 {
     if left_out {
@@ -25,7 +25,7 @@ fn keep<'a>(lines: &mut Vec<&'a [u8]>, line: &'a [u8], left_out: bool) -> Result
 }
 
 // The lines of parts but the last.
-fn merged_parts<'a>(alloc: Global, parts: &[&'a [u8]]) -> Result<Vec<&'a [u8]>, NoMemory>
+fn merged_parts<'a>(alloc: Global, parts: &[&'a [u8]]) -> Result<Vec<&'a [u8]>>
     ensures { IfOk result (λ lines. map referent lines.items ≡ merged_from false (map referent (take (length parts.now - 1) parts.now))) }
 {
     let mut lines = Vec::new(alloc);
@@ -40,7 +40,7 @@ fn merged_parts<'a>(alloc: Global, parts: &[&'a [u8]]) -> Result<Vec<&'a [u8]>, 
 }
 
 /// The lines of a text, without those of an idle directly behind an idle.
-pub fn merged<'a>(alloc: Global, text: &'a [u8]) -> Result<Vec<&'a [u8]>, NoMemory>
+pub fn merged<'a>(alloc: Global, text: &'a [u8]) -> Result<Vec<&'a [u8]>>
     ensures { IfOk result (λ lines. map referent lines.items ≡ merged text.now) }
 {
     let parts = split(alloc, text, b'\n')?;
@@ -66,7 +66,7 @@ pub fn sided<'a>(
     before: bool,
     count: u32,
     lines: &[&'a [u8]],
-) -> Result<Vec<&'a [u8]>, NoMemory>
+) -> Result<Vec<&'a [u8]>>
     ensures { IfOk result (λ kept. map referent kept.items ≡ sided before count (map referent lines.now)) }
 {
     let mut kept = Vec::new(alloc);

@@ -3,12 +3,12 @@ ghost use Rattle.std.specs.Prelude.{◌≡◌, OnOk};
 ghost use Rattle.debug_ways.specs.Points.{is_point, is_among, break_at, meets, watch_at, watched, with_point, without_point};
 
 use crate::Access;
-use sloth_base::NoMemory;
+use sloth_base::{NoMemory, Result};
 
 /// The most points that there may be.
 const POINT_LIMIT: usize = 1_000;
 
-/// A point: of kinds 0 and 1 a breakpoint at an address; of kinds 2, 3 and 4 a watchpoint for stores, loads or both at so many addresses from one on.
+/// A breakpoint at an address (kinds 0, 1) or a watchpoint of stores (2), loads (3) or both (4) at `length` from it on.
 #[derive(Clone, Copy)]
 pub struct Point {
     pub kind: u8,
@@ -94,7 +94,7 @@ pub fn watched(points: &[Point], access: &Option<Access>) -> Option<Watch>
 }
 
 /// Sets a point, unless it is there or there are too many.
-pub fn set_point(points: &mut Vec<Point>, point: &Point) -> Result<(), NoMemory>
+pub fn set_point(points: &mut Vec<Point>, point: &Point) -> Result<()>
     ensures { OnOk result (points.new.items ≡ with_point points.old.items point.now) }
 {
     if is_among(point, points.as_slice()) || points.len() >= POINT_LIMIT {

@@ -17,7 +17,7 @@ pub struct Seen {
     pub states: [TaskState; TASK_LIMIT],
 }
 
-/// What a count shows of threads: of the machine its level and mstatus, of tasks what the last count showed that found interrupts open.
+/// What a count shows of threads: level and mstatus, and of tasks what the last count with interrupts open showed.
 #[derive(Clone, Copy)]
 pub struct View {
     pub count: u32,

@@ -5,7 +5,7 @@ ghost use Rattle.debug_ways.specs.Standing.{selected, interrupted, step_target, 
 
 use crate::{Cause, Look, Target, is_own};
 
-/// A step of a thread, or of any where it is 0: alone or not, back or forward, through the addresses from one to below another.
+/// A step of a thread, or of any if 0: alone or not, back or forward, through addresses from one to below another.
 #[derive(Clone, Copy)]
 pub struct Step {
     pub thread: u32,
@@ -15,7 +15,7 @@ pub struct Step {
     pub to: u32,
 }
 
-/// What a stop reply tells: the cause, the thread, or 0 for the one that runs, and whether a step ended on another thread.
+/// What a stop reply tells: the cause, the thread, 0 for the running one, and whether a step ended on another thread.
 #[derive(Clone, Copy)]
 pub struct Told {
     pub cause: Cause,

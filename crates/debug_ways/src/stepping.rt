@@ -37,8 +37,8 @@ fn has_met(stops: bool, standing: &Standing, backwards: bool, cause: Cause) -> b
     }
 }
 
-// The count that a step leads to: where a service begins that it goes over, the one at which its thread goes on, if it does. The own instruction was at the
-// count that the step came from.
+// The count that a step leads to: where a service begins that it goes over, the one at which its thread goes on, if it
+// does. The own instruction was at the count that the step came from.
 fn stepped_count<M: Machine>(
     cursor: &mut Cursor<M>,
     points: &[Point],

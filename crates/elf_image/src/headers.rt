@@ -6,7 +6,7 @@ ghost use Rattle.image_file.specs.Fields.{four_bytes};
 ghost use Rattle.elf_image.specs.ElfText.{elf_header, load_header, note_header};
 
 use image_file::put_u32;
-use sloth_base::{MEMORY_BASE, MEMORY_BYTES, NoMemory};
+use sloth_base::{MEMORY_BASE, MEMORY_BYTES, Result};
 
 /// The length of the ELF header, in bytes.
 pub const ELF_HEADER: usize = 52;
@@ -34,7 +34,7 @@ pub fn elf_header() -> [u8; 52]
 }
 
 /// Appends numbers, each in four bytes.
-pub fn put_words(file: &mut Vec<u8>, words: &[u32]) -> Result<(), NoMemory>
+pub fn put_words(file: &mut Vec<u8>, words: &[u32]) -> Result<()>
     ensures { OnOk result (file.new.items ≡ file.old.items ++ flat_map four_bytes words.now) }
 {
     for word in words {
@@ -44,7 +44,7 @@ pub fn put_words(file: &mut Vec<u8>, words: &[u32]) -> Result<(), NoMemory>
 }
 
 /// Appends the program header of the memory, which has so many bytes.
-pub fn put_load_header(file: &mut Vec<u8>, size: u32) -> Result<(), NoMemory>
+pub fn put_load_header(file: &mut Vec<u8>, size: u32) -> Result<()>
     ensures { OnOk result (file.new.items ≡ file.old.items ++ load_header size) }
 {
     put_words(
@@ -54,7 +54,7 @@ pub fn put_load_header(file: &mut Vec<u8>, size: u32) -> Result<(), NoMemory>
 }
 
 /// Appends the program header of the note, which has so many bytes and stands behind the memory.
-pub fn put_note_header(file: &mut Vec<u8>, size: u32, note: u32) -> Result<(), NoMemory>
+pub fn put_note_header(file: &mut Vec<u8>, size: u32, note: u32) -> Result<()>
     requires { size ≤ memory_bytes }
     ensures { OnOk result (file.new.items ≡ file.old.items ++ note_header size note) }
 {

@@ -4,7 +4,7 @@ ghost use Rattle.elf_image.specs.ElfText.{note_bytes};
 
 pub use crate::padding::padding_size;
 use crate::put_words;
-use sloth_base::NoMemory;
+use sloth_base::Result;
 
 /// The length of a note before its description.
 pub const NOTE_HEAD: usize = 20;
@@ -18,7 +18,7 @@ pub fn note_size(description: &[u8]) -> u32
 }
 
 /// Appends the note of a description.
-pub fn put_note(file: &mut Vec<u8>, description: &[u8]) -> Result<(), NoMemory>
+pub fn put_note(file: &mut Vec<u8>, description: &[u8]) -> Result<()>
     requires { length description.now < 4294967296 }
     ensures { OnOk result (file.new.items ≡ file.old.items ++ note_bytes description.now) }
 {

@@ -19,7 +19,7 @@ use image_file::{
     ElfError, ElfFault, ImageError, Outline, Sizes, are_ascending, read_marks, read_parts,
     service_limit, u32_at,
 };
-use sloth_base::{Image, List, Mark, NoMemory};
+use sloth_base::{Image, List, Mark, Result};
 use std::alloc::Global;
 
 // The length of the numbers of a description, in bytes.
@@ -69,7 +69,7 @@ fn part(bytes: &[u8], at: usize, size: usize) -> &[u8]
 }
 
 // Whether they are the note of a description.
-fn is_note(alloc: Global, bytes: &[u8], description: &[u8]) -> Result<bool, NoMemory>
+fn is_note(alloc: Global, bytes: &[u8], description: &[u8]) -> Result<bool>
     requires { length description.now < 4294967296 }
     ensures { IfOk result (λ is. Decides is (bytes.now ≡ note_bytes description.now)) }
 {

@@ -8,7 +8,7 @@ use crate::headers::{
     ELF_HEADER, HEADERS, PROGRAM_HEADER, elf_header, put_load_header, put_note_header,
 };
 use image_file::{ElfError, ElfFault, u32_at};
-use sloth_base::{MEMORY_BYTES, NoMemory};
+use sloth_base::{MEMORY_BYTES, Result};
 use std::alloc::Global;
 
 // Whether the file begins as each ELF file does.
@@ -50,7 +50,7 @@ fn is_note_size(size: u32) -> bool
 }
 
 // Whether these bytes are the program header of so many bytes of memory.
-fn is_load_header(alloc: Global, bytes: &[u8], size: u32) -> Result<bool, NoMemory>
+fn is_load_header(alloc: Global, bytes: &[u8], size: u32) -> Result<bool>
     ensures { IfOk result (λ is. Decides is (bytes.now ≡ load_header size)) }
 {
     let mut header = Vec::new(alloc);
@@ -59,7 +59,7 @@ fn is_load_header(alloc: Global, bytes: &[u8], size: u32) -> Result<bool, NoMemo
 }
 
 // Whether they are that of a note of so many bytes.
-fn is_note_header(alloc: Global, bytes: &[u8], size: u32, note: u32) -> Result<bool, NoMemory>
+fn is_note_header(alloc: Global, bytes: &[u8], size: u32, note: u32) -> Result<bool>
     requires { size ≤ memory_bytes }
     ensures { IfOk result (λ is. Decides is (bytes.now ≡ note_header size note)) }
 {

@@ -8,11 +8,11 @@ use crate::headers::{elf_header, put_load_header, put_note_header};
 use crate::note::{note_size, put_note};
 use crate::put_words;
 use image_file::{put_marks, put_names};
-use sloth_base::{Image, NoMemory};
+use sloth_base::{Image, Result};
 use std::alloc::Global;
 
 /// The bytes of an image's ELF file.
-pub fn write_elf(alloc: Global, image: &Image) -> Result<Vec<u8>, NoMemory>
+pub fn write_elf(alloc: Global, image: &Image) -> Result<Vec<u8>>
     requires { InFormat image.now }
     ensures { IfOk result (λ file. ElfText file.items image.now) }
 {
@@ -22,7 +22,7 @@ pub fn write_elf(alloc: Global, image: &Image) -> Result<Vec<u8>, NoMemory>
 }
 
 // The bytes of a file with this memory and this description.
-fn assemble(alloc: Global, memory: &[u8], description: &[u8]) -> Result<Vec<u8>, NoMemory>
+fn assemble(alloc: Global, memory: &[u8], description: &[u8]) -> Result<Vec<u8>>
     requires { (length memory.now ≤ memory_bytes) × (length description.now ≤ 300000) }
     ensures { IfOk result (λ file. file.items ≡ file_bytes memory.now description.now) }
 {
@@ -37,7 +37,7 @@ fn assemble(alloc: Global, memory: &[u8], description: &[u8]) -> Result<Vec<u8>,
 }
 
 // The description of an image: its names and marks.
-fn describe(alloc: Global, image: &Image) -> Result<Vec<u8>, NoMemory>
+fn describe(alloc: Global, image: &Image) -> Result<Vec<u8>>
     requires { InFormat image.now }
     ensures { IfOk result (λ description. description.items ≡ description_bytes image.now) }
 {

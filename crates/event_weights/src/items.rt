@@ -6,7 +6,7 @@ ghost use Rattle.event_weights.specs.Items.{length_of, AreLengths, served_counts
 use code_lengths::{leaving_path, served_path};
 use raised_sections::chains_itself;
 use rv32_expand::shortest;
-use sloth_base::{App, Func, List, NoMemory, Op, Service};
+use sloth_base::{App, Func, List, Op, Result, Service};
 use std::alloc::Global;
 use text_pieces::push;
 
@@ -17,7 +17,7 @@ pub struct ItemLengths {
 }
 
 /// Those of the items of all bodies, with the fewest long branches.
-pub fn lengths(alloc: Global, app: &App) -> Result<ItemLengths, NoMemory>
+pub fn lengths(alloc: Global, app: &App) -> Result<ItemLengths>
     requires { IsTaskCode app.now }
     ensures are { IfOk result (λ lengths. AreLengths app.now lengths.bodies) }
     ensures short { IfOk result (λ lengths. (func item : ℕ) → length_of lengths.bodies func item ≤ 36) }

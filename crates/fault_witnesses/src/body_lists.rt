@@ -4,7 +4,7 @@ ghost use Rattle.code_rules.specs.Code.{held_list_at};
 ghost use Rattle.task_verify.specs.Labels.{ArePlaced};
 ghost use Rattle.fault_witnesses.specs.BodyLists.{AreLastLabels, AreLists, AreAgreed, AreBodyLists};
 
-use sloth_base::{Func, Label, List, NoMemory};
+use sloth_base::{Func, Label, List, Result};
 use std::alloc::Global;
 use task_verify::{held_after, held_at_label, is_held, last_labels};
 use text_pieces::push;
@@ -27,7 +27,7 @@ pub struct BodyLists {
 }
 
 // The list, unless it is long.
-fn kept_list(alloc: Global, held: &[u32]) -> Result<KeptList, NoMemory>
+fn kept_list(alloc: Global, held: &[u32]) -> Result<KeptList>
     ensures { IfOk result (λ row. row.kept ≡ true → row.list ≡ held.now) }
 {
     if held.len() >= LONG {
@@ -44,7 +44,7 @@ fn kept_list(alloc: Global, held: &[u32]) -> Result<KeptList, NoMemory>
 }
 
 // By the last label at each place.
-fn kept_lists(alloc: Global, func: &Func, last: &[Option<usize>]) -> Result<Vec<KeptList>, NoMemory>
+fn kept_lists(alloc: Global, func: &Func, last: &[Option<usize>]) -> Result<Vec<KeptList>>
     requires count { length last.now ≡ length func.now.items + 1 }
     requires lasts { AreLastLabels func.now last.now }
     ensures { IfOk result (λ rows. AreLists func.now rows.items) }
@@ -70,7 +70,7 @@ fn has_label_list(func: &Func, rows: &[KeptList], label: &Label) -> bool
 }
 
 /// As many places that are marked, or not.
-pub fn all_marked(alloc: Global, count: usize, mark: bool) -> Result<Vec<bool>, NoMemory> {
+pub fn all_marked(alloc: Global, count: usize, mark: bool) -> Result<Vec<bool>> {
     let mut marks = Vec::new(alloc);
     for _place in 0..count {
         push(&mut marks, mark)?;
@@ -108,7 +108,7 @@ fn judge_labels(func: &Func, rows: &[KeptList], marks: &mut [bool])
     }
 }
 
-fn agreed_places(alloc: Global, func: &Func, rows: &[KeptList]) -> Result<Vec<bool>, NoMemory>
+fn agreed_places(alloc: Global, func: &Func, rows: &[KeptList]) -> Result<Vec<bool>>
     requires { AreLists func.now rows.now }
     ensures { IfOk result (λ marks. AreAgreed func.now marks.items) }
 {
@@ -118,7 +118,7 @@ fn agreed_places(alloc: Global, func: &Func, rows: &[KeptList]) -> Result<Vec<bo
 }
 
 /// The tables of a body.
-pub fn body_lists(alloc: Global, func: &Func) -> Result<BodyLists, NoMemory>
+pub fn body_lists(alloc: Global, func: &Func) -> Result<BodyLists>
     requires { ArePlaced func.now }
     ensures { IfOk result (AreBodyLists func.now) }
 {

@@ -16,7 +16,7 @@ use crate::label_rules::has_other_list;
 use crate::places::place_on_line;
 use crate::{Place, held_list};
 use call_graph::Ranks;
-use sloth_base::{App, Code, Config, Func, NoMemory, Part, Refusal};
+use sloth_base::{App, Code, Config, Func, Part, Refusal, Result};
 use std::alloc::Global;
 use task_verify::{
     is_access_past, is_leave_with_resource, is_mask_past, is_other_list_jump, is_run_out,
@@ -86,7 +86,7 @@ fn has_mark(func: &Func, marks: &[bool], item: usize) -> bool
 }
 
 /// Whether no way from the first item of a body reaches this one.
-pub fn is_unreached(alloc: Global, func: &Func, item: usize) -> Result<bool, NoMemory>
+pub fn is_unreached(alloc: Global, func: &Func, item: usize) -> Result<bool>
     requires labels { (i : ℕ) → i < length func.now.items → HasBodyLabel func.now (item_of func.now i).op }
     requires inside { item < length func.now.items }
     ensures { IfOk result (λ unreached. unreached ≡ true → IsUnreached func.now item) }
@@ -96,7 +96,7 @@ pub fn is_unreached(alloc: Global, func: &Func, item: usize) -> Result<bool, NoM
 }
 
 /// Whether nothing reaches an item, and the one in front is reached.
-pub fn stands_behind(alloc: Global, func: &Func, item: usize) -> Result<bool, NoMemory>
+pub fn stands_behind(alloc: Global, func: &Func, item: usize) -> Result<bool>
     requires labels { (i : ℕ) → i < length func.now.items → HasBodyLabel func.now (item_of func.now i).op }
     requires inside { item < length func.now.items }
     requires later { 0 < item }
@@ -129,7 +129,7 @@ fn is_breach(
     body: usize,
     item: usize,
     code: Code,
-) -> Result<bool, NoMemory>
+) -> Result<bool>
     requires in_range { AppInRange config.now app.now }
     requires belong { RanksOf app.now ranks.now }
     requires known { body < length app.now.funcs }
@@ -167,7 +167,7 @@ fn is_broken(
     ranks: &Ranks,
     refusal: Refusal,
     place: Place,
-) -> Result<bool, NoMemory>
+) -> Result<bool>
     requires in_range { AppInRange config.now app.now }
     requires belong { RanksOf app.now ranks.now }
     requires is_place { IsPlace app.now place }
@@ -215,7 +215,7 @@ pub fn place_at_fault(
     app: &App,
     ranks: &Ranks,
     refusal: Refusal,
-) -> Result<Option<Place>, NoMemory>
+) -> Result<Option<Place>>
     requires in_range { AppInRange config.now app.now }
     requires belong { RanksOf app.now ranks.now }
     ensures { IfOk result (λ found. IfSome found (IsPlaceOfFault config.now app.now refusal)) }

@@ -13,7 +13,7 @@ use crate::chain_search::{Aim, is_pause, shortest_chain};
 use crate::chains::is_chain;
 use crate::clean_steps::is_own_second_take;
 use crate::{Calls, chain_end, held_list};
-use sloth_base::{App, Code, Config, NoMemory, Op};
+use sloth_base::{App, Code, Config, Op, Result};
 use std::alloc::Global;
 
 // Whether the operation breaks the rule with these held.
@@ -61,7 +61,7 @@ fn callee_calls(
     item: usize,
     callee: usize,
     held: &[u32],
-) -> Result<Option<Calls>, NoMemory>
+) -> Result<Option<Calls>>
     requires is { operation app.now body item ≡ op.Invoke callee }
     requires held { held.now ≡ held_list_at (function app.now body) item }
     ensures { IfOk result (λ calls. AreShownCalls app.now code (place.Item body item) calls) }
@@ -87,7 +87,7 @@ pub fn calls_to_culprit(
     code: Code,
     body: usize,
     item: usize,
-) -> Result<Option<Calls>, NoMemory>
+) -> Result<Option<Calls>>
     requires in_range { AppInRange config.now app.now }
     requires is_place { IsPlace app.now (place.Item body item) }
     ensures { IfOk result (λ calls. AreShownCalls app.now code (place.Item body item) calls) }

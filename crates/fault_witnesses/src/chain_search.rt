@@ -6,7 +6,7 @@ ghost use Rattle.fault_witnesses.specs.CallChains.{IsChain, chain_end};
 use crate::chains::{is_call, leads};
 use crate::clean_steps::is_own_second_take;
 use crate::{Calls, Link};
-use sloth_base::{App, Func, List, NoMemory, Op, Service};
+use sloth_base::{App, Func, List, Op, Result, Service};
 use std::alloc::Global;
 use text_pieces::push;
 
@@ -68,7 +68,7 @@ fn hit(aim: Aim, number: usize, func: &Func) -> Option<usize> {
 }
 
 // What an item calls, if it was not reached.
-fn reach(reached: &mut Vec<Reached>, before: usize, line: u32, op: Op) -> Result<(), NoMemory> {
+fn reach(reached: &mut Vec<Reached>, before: usize, line: u32, op: Op) -> Result<()> {
     let Some(func) = op.callee() else {
         return Ok(());
     };
@@ -78,7 +78,7 @@ fn reach(reached: &mut Vec<Reached>, before: usize, line: u32, op: Op) -> Result
     push(reached, Reached { func, line, before })
 }
 
-fn reach_all(reached: &mut Vec<Reached>, before: usize, func: &Func) -> Result<(), NoMemory> {
+fn reach_all(reached: &mut Vec<Reached>, before: usize, func: &Func) -> Result<()> {
     for item in func.items.items() {
         reach(reached, before, item.line, item.op)?;
     }
@@ -86,7 +86,7 @@ fn reach_all(reached: &mut Vec<Reached>, before: usize, func: &Func) -> Result<(
 }
 
 // The calls from the first on, found from the last one back.
-fn reached_links(alloc: Global, reached: &[Reached], last: usize) -> Result<List<Link>, NoMemory> {
+fn reached_links(alloc: Global, reached: &[Reached], last: usize) -> Result<List<Link>> {
     let mut links = Vec::new(alloc);
     let mut at = last;
     for _turn in 0..reached.len() {
@@ -106,7 +106,7 @@ fn found_chain(
     app: &App,
     reached: &mut Vec<Reached>,
     aim: Aim,
-) -> Result<Option<Calls>, NoMemory> {
+) -> Result<Option<Calls>> {
     for turn in 0..app.funcs.items().len() + 1 {
         if turn >= reached.len() || reached[turn].func >= app.funcs.items().len() {
             return Ok(None);
@@ -123,12 +123,7 @@ fn found_chain(
 }
 
 /// The shortest chain of calls from a function to what is looked for, if there is one.
-pub fn shortest_chain(
-    alloc: Global,
-    app: &App,
-    start: usize,
-    aim: Aim,
-) -> Result<Option<Calls>, NoMemory> {
+pub fn shortest_chain(alloc: Global, app: &App, start: usize, aim: Aim) -> Result<Option<Calls>> {
     let mut reached = Vec::new(alloc);
     push(
         &mut reached,
@@ -147,7 +142,7 @@ pub fn calls_between(
     app: &App,
     start: usize,
     end: usize,
-) -> Result<Option<List<Link>>, NoMemory>
+) -> Result<Option<List<Link>>>
     ensures { IfOk result (λ found.
         IfSome found (λ links. IsChain app.now start links × (chain_end start links ≡ end))) }
 {

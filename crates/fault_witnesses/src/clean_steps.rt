@@ -9,7 +9,7 @@ ghost use Rattle.fault_witnesses.specs.CleanWays.{is_own_second_take, is_orderly
 
 use crate::KeptList;
 use crate::body_lists::BodyLists;
-use sloth_base::{Func, NoMemory, Op, Service};
+use sloth_base::{Func, Op, Result, Service};
 use std::alloc::Global;
 use task_verify::{held_after, is_wrong_release, jump_of, next_of};
 
@@ -68,7 +68,7 @@ fn is_same(one: &[u32], other: &[u32]) -> bool
 }
 
 // Whether the operation is orderly with the first list, and makes the second of it, where both are kept.
-fn is_led(alloc: Global, before: &KeptList, op: &Op, behind: &KeptList) -> Result<bool, NoMemory>
+fn is_led(alloc: Global, before: &KeptList, op: &Op, behind: &KeptList) -> Result<bool>
     ensures { IfOk result (λ clean. clean ≡ true → AreLed before.now op.now behind.now) }
 {
     if !before.kept || !behind.kept || !is_orderly(before.list.items(), op) {
@@ -86,7 +86,7 @@ pub fn is_clean_step(
     tables: &BodyLists,
     from: usize,
     to: usize,
-) -> Result<bool, NoMemory>
+) -> Result<bool>
     requires labels { (i : ℕ) → i < length func.now.items → HasBodyLabel func.now (item_of func.now i).op }
     requires tables { AreBodyLists func.now tables.now }
     ensures { IfOk result (λ clean. clean ≡ true → IsCleanStep func.now from to) }
@@ -109,7 +109,7 @@ pub fn are_clean_steps(
     func: &Func,
     tables: &BodyLists,
     way: &[usize],
-) -> Result<bool, NoMemory>
+) -> Result<bool>
     requires labels { (i : ℕ) → i < length func.now.items → HasBodyLabel func.now (item_of func.now i).op }
     requires tables { AreBodyLists func.now tables.now }
     ensures { IfOk result (λ clean. clean ≡ true → (n : ℕ) → n + 1 < length way.now

@@ -5,7 +5,7 @@ ghost use Rattle.fault_witnesses.specs.CallChains.{IsChain, IsCycle, chain_end};
 use crate::chain_search::{Aim, shortest_chain};
 use crate::chains::leads;
 use crate::{Calls, Link, chain_end};
-use sloth_base::{App, List, NoMemory};
+use sloth_base::{App, List, Result};
 use std::alloc::Global;
 use text_pieces::push;
 
@@ -32,12 +32,7 @@ fn closes(app: &App, body: usize, links: &[Link]) -> bool
 }
 
 // The calls to a body that calls the function, and that call, if they lead back to the function.
-fn closed_cycle(
-    alloc: Global,
-    app: &App,
-    body: usize,
-    calls: &Calls,
-) -> Result<Option<List<Link>>, NoMemory>
+fn closed_cycle(alloc: Global, app: &App, body: usize, calls: &Calls) -> Result<Option<List<Link>>>
     ensures { IfOk result (λ found. IfSome found (λ links. IsCycle app.now body links)) }
 {
     let links = calls.links.items();
@@ -51,7 +46,7 @@ fn closed_cycle(
 }
 
 /// The shortest chain of calls by which a function calls itself, if there is one: its last call is of the function.
-pub fn cycle_calls(alloc: Global, app: &App, body: usize) -> Result<Option<List<Link>>, NoMemory>
+pub fn cycle_calls(alloc: Global, app: &App, body: usize) -> Result<Option<List<Link>>>
     ensures { IfOk result (λ found. IfSome found (λ links. IsCycle app.now body links)) }
 {
     match shortest_chain(alloc, app, body, Aim::CallOf(body))? {

@@ -6,17 +6,12 @@ ghost use Rattle.code_rules.specs.WellFormed.{HasOtherList};
 ghost use Rattle.task_verify.specs.Labels.{last_label_below, ArePlaced};
 ghost use Rattle.fault_witnesses.specs.BodyLists.{AreLastLabels};
 
-use sloth_base::{Func, Label, NoMemory};
+use sloth_base::{Func, Label, Result};
 use std::alloc::Global;
 use task_verify::{falls, held_after, held_at_label, is_held, last_labels};
 
 // By the last label at each place.
-fn fallen_list(
-    alloc: Global,
-    func: &Func,
-    last: &[Option<usize>],
-    place: usize,
-) -> Result<Vec<u32>, NoMemory>
+fn fallen_list(alloc: Global, func: &Func, last: &[Option<usize>], place: usize) -> Result<Vec<u32>>
     requires count { length last.now ≡ length func.now.items + 1 }
     requires lasts { AreLastLabels func.now last.now }
     requires inside { place ≤ length func.now.items }
@@ -31,7 +26,7 @@ fn fallen_list(
 }
 
 /// What is held where a place is fallen into.
-pub fn held_falling(alloc: Global, func: &Func, place: usize) -> Result<Vec<u32>, NoMemory>
+pub fn held_falling(alloc: Global, func: &Func, place: usize) -> Result<Vec<u32>>
     requires placed { ArePlaced func.now }
     requires inside { place ≤ length func.now.items }
     ensures { IfOk result (λ held. held.items ≡ held_list_fallen_into func.now place) }
@@ -42,7 +37,7 @@ pub fn held_falling(alloc: Global, func: &Func, place: usize) -> Result<Vec<u32>
 }
 
 /// What is held before an item.
-pub fn held_list(alloc: Global, func: &Func, item: usize) -> Result<Vec<u32>, NoMemory>
+pub fn held_list(alloc: Global, func: &Func, item: usize) -> Result<Vec<u32>>
     requires placed { ArePlaced func.now }
     requires inside { item < length func.now.items }
     ensures { IfOk result (λ held. held.items ≡ held_list_at func.now item) }
@@ -96,7 +91,7 @@ fn enters(func: &Func, label: usize, before: Option<usize>) -> bool
 }
 
 /// What is held where a label is fallen into.
-pub fn held_entering(alloc: Global, func: &Func, label: usize) -> Result<Vec<u32>, NoMemory>
+pub fn held_entering(alloc: Global, func: &Func, label: usize) -> Result<Vec<u32>>
     requires placed { ArePlaced func.now }
     requires inside { label < length func.now.labels }
     ensures { IfOk result (λ held. held.items ≡ held_list_entering func.now label) }
@@ -133,7 +128,7 @@ fn falls_otherwise(func: &Func, label: usize, held: &[u32]) -> bool
 }
 
 /// Whether V7 is broken at a label.
-pub fn has_other_list(alloc: Global, func: &Func, label: usize) -> Result<bool, NoMemory>
+pub fn has_other_list(alloc: Global, func: &Func, label: usize) -> Result<bool>
     requires placed { ArePlaced func.now }
     requires inside { label < length func.now.labels }
     ensures { IfOk result (λ other. other ≡ true → HasOtherList func.now label) }

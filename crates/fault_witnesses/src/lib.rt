@@ -1,16 +1,10 @@
-//! What is shown of a refusal of task code (V1 to V12): the place at which the rule is broken, a way to it, the calls
-//! behind it.
+//! What is shown of a refusal of task code (V1 to V12): the place at which the rule is broken, a way to it, and calls.
 //!
-//! `place_at_fault` gives a place at which the refusal's rule is broken (`specs/Places`); `fault_witness` that with a
-//! way of clean steps to it and the calls that lead on, from the item or from the body of a task that lacks what it
-//! uses (`specs/Witnesses`); `cycle_calls` the calls by which a function calls itself. Rules: `code_rules`
-//! (`WellFormed`).
-//!
-//! `clean_way` gives a way of clean steps to an item, from the begin of its body or from a label: each item goes on or
-//! jumps to the next, and what is held behind it is the list of the next and of each label there (`specs/CleanWays`);
-//! what the items of a way take and release is the list that is held before the last of them (`way_holds`). `is_chain`
-//! says whether each call of a chain is an item of the body before, on its line (`specs/CallChains`). Lists and steps:
-//! `code_rules` (`Code`).
+//! `place_at_fault` gives such a place (`specs/Places`); `fault_witness` with it a way of clean steps and the calls
+//! that lead on, from the item or from the body of a task that lacks what it uses (`specs/Witnesses`); `cycle_calls`
+//! the calls by which a function calls itself. `clean_way` gives a way of clean steps to an item, each of which keeps
+//! the lists of the next item and its labels (`specs/CleanWays`), and `way_holds` what is held before its last item;
+//! `is_chain` tests a chain of calls (`specs/CallChains`). Rules: `code_rules`.
 #![tactic(auto)]
 
 pub mod body_lists;

@@ -6,7 +6,7 @@ ghost use Rattle.fault_witnesses.specs.BodyLists.{AreLastLabels};
 ghost use Rattle.fault_witnesses.specs.CleanWays.{IsCleanStep, IsShownWay, way_item};
 
 use crate::{Way, is_orderly};
-use sloth_base::{Func, Item, List, NoMemory};
+use sloth_base::{Func, Item, List, Result};
 use std::alloc::Global;
 use task_verify::{falls, held_after, held_by, last_labels};
 use text_pieces::push;
@@ -31,7 +31,7 @@ fn is_straight(
     last: &[Option<usize>],
     label: usize,
     goal: usize,
-) -> Result<bool, NoMemory>
+) -> Result<bool>
     requires count { length last.now ≡ length func.now.items + 1 }
     requires lasts { AreLastLabels func.now last.now }
     requires known { label < length func.now.labels }
@@ -54,12 +54,7 @@ fn is_straight(
 }
 
 // The items from one up to another one.
-fn items_between(
-    alloc: Global,
-    items: &[Item],
-    first: usize,
-    goal: usize,
-) -> Result<Vec<usize>, NoMemory>
+fn items_between(alloc: Global, items: &[Item], first: usize, goal: usize) -> Result<Vec<usize>>
     requires ordered { first ≤ goal }
     requires inside { goal < length items.now }
     ensures count { IfOk result (λ way. length way.items ≡ goal - first + 1) }
@@ -77,7 +72,7 @@ fn labelled_way(
     func: &Func,
     last: &[Option<usize>],
     goal: usize,
-) -> Result<Option<Way>, NoMemory>
+) -> Result<Option<Way>>
     requires count { length last.now ≡ length func.now.items + 1 }
     requires lasts { AreLastLabels func.now last.now }
     requires inside { goal < length func.now.items }
@@ -122,7 +117,7 @@ fn stands_last(func: &Func, last: &[Option<usize>], label: usize, goal: usize) -
 }
 
 /// A way of clean steps in the order of the text, from the last label in front of an item, if these are clean.
-pub fn straight_way(alloc: Global, func: &Func, goal: usize) -> Result<Option<Way>, NoMemory>
+pub fn straight_way(alloc: Global, func: &Func, goal: usize) -> Result<Option<Way>>
     requires placed { ArePlaced func.now }
     requires inside { goal < length func.now.items }
     ensures { IfOk result (IsShownWay func.now goal) }

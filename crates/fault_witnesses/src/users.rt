@@ -8,7 +8,7 @@ ghost use Rattle.fault_witnesses.specs.Witnesses.{lacks_used, is_lacking, names_
 
 use crate::Link;
 use crate::chain_search::calls_between;
-use sloth_base::{App, Call, Code, Config, Func, List, NoMemory, Op, ResId, Service, TaskDecl};
+use sloth_base::{App, Call, Code, Config, Func, List, Op, ResId, Result, Service, TaskDecl};
 use std::alloc::Global;
 
 /// A task that lacks what an item uses, with an event that it lacks; and the calls from its body to that of the item.
@@ -125,7 +125,7 @@ fn one_user(
     item: usize,
     task: usize,
     events: &[usize],
-) -> Result<Option<User>, NoMemory>
+) -> Result<Option<User>>
     requires task { task < length config.now.tasks }
     requires known { body < length app.now.funcs }
     requires inside { item < length (function app.now body).items }
@@ -176,8 +176,7 @@ fn nearer(first: Option<User>, second: Option<User>) -> Option<User>
     }
 }
 
-/// The task that lacks what an item uses (V12): of the tasks that reach it by the fewest calls the first; of other
-/// rules none.
+/// The task that lacks what an item uses (V12): the first that reaches it by the fewest calls; of other rules none.
 pub fn lacking_user(
     alloc: Global,
     config: &Config,
@@ -186,7 +185,7 @@ pub fn lacking_user(
     body: usize,
     item: usize,
     events: &[usize],
-) -> Result<Option<User>, NoMemory>
+) -> Result<Option<User>>
     requires known { body < length app.now.funcs }
     requires inside { item < length (function app.now body).items }
     ensures { IfOk result (λ user. IfSome user (IsUser config.now app.now body item)) }

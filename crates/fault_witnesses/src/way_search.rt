@@ -6,7 +6,7 @@ ghost use Rattle.fault_witnesses.specs.BodyLists.{AreBodyLists};
 
 use crate::body_lists::{BodyLists, all_marked};
 use crate::clean_steps::is_clean_step;
-use sloth_base::{Func, NoMemory};
+use sloth_base::{Func, Result};
 use std::alloc::Global;
 use task_verify::{jump_of, next_of};
 use text_pieces::push;
@@ -33,7 +33,7 @@ fn visit(
     visits: &mut Vec<Visited>,
     from: usize,
     visited: Visited,
-) -> Result<(), NoMemory>
+) -> Result<()>
     requires labels { (i : ℕ) → i < length func.now.items → HasBodyLabel func.now (item_of func.now i).op }
     requires tables { AreBodyLists func.now tables.now }
 {
@@ -46,7 +46,7 @@ fn visit(
 }
 
 // The items from the first one on, found from the last one back.
-fn visited_way(alloc: Global, visits: &[Visited], last: usize) -> Result<Vec<usize>, NoMemory> {
+fn visited_way(alloc: Global, visits: &[Visited], last: usize) -> Result<Vec<usize>> {
     let mut way = Vec::new(alloc);
     let mut at = last;
     for _turn in 0..visits.len() {
@@ -68,7 +68,7 @@ fn search(
     marks: &mut [bool],
     visits: &mut Vec<Visited>,
     goal: usize,
-) -> Result<Option<usize>, NoMemory>
+) -> Result<Option<usize>>
     requires labels { (i : ℕ) → i < length func.now.items → HasBodyLabel func.now (item_of func.now i).op }
     requires tables { AreBodyLists func.now tables.now }
 {
@@ -100,7 +100,7 @@ pub fn shortest_way(
     func: &Func,
     tables: &BodyLists,
     goal: usize,
-) -> Result<Vec<usize>, NoMemory>
+) -> Result<Vec<usize>>
     requires labels { (i : ℕ) → i < length func.now.items → HasBodyLabel func.now (item_of func.now i).op }
     requires tables { AreBodyLists func.now tables.now }
 {

@@ -11,11 +11,10 @@ use crate::body_lists::{BodyLists, body_lists};
 use crate::clean_steps::are_clean_steps;
 use crate::straight_ways::straight_way;
 use crate::way_search::shortest_way;
-use sloth_base::{Func, List, NoMemory};
+use sloth_base::{Func, List, Result};
 use std::alloc::Global;
 
-/// A way through a body: the numbers of its items, and the label that it starts behind, if it does not start where the
-/// body begins.
+/// A way through a body: the label that it starts behind, if not where the body begins, and the numbers of its items.
 #[derive(Drop)]
 pub struct Way {
     pub label: Option<usize>,
@@ -47,7 +46,7 @@ fn is_way_from_begin(
     tables: &BodyLists,
     way: &[usize],
     goal: usize,
-) -> Result<bool, NoMemory>
+) -> Result<bool>
     requires labels { (i : ℕ) → i < length func.now.items → HasBodyLabel func.now (item_of func.now i).op }
     requires tables { AreBodyLists func.now tables.now }
     ensures { IfOk result (λ clean. clean ≡ true → IsWayFromBegin func.now goal way.now) }
@@ -58,12 +57,7 @@ fn is_way_from_begin(
     are_clean_steps(alloc, func, tables, way)
 }
 
-fn checked_way(
-    alloc: Global,
-    func: &Func,
-    tables: &BodyLists,
-    goal: usize,
-) -> Result<Option<Way>, NoMemory>
+fn checked_way(alloc: Global, func: &Func, tables: &BodyLists, goal: usize) -> Result<Option<Way>>
     requires placed { ArePlaced func.now }
     requires labels { (i : ℕ) → i < length func.now.items → HasBodyLabel func.now (item_of func.now i).op }
     requires tables { AreBodyLists func.now tables.now }
@@ -82,7 +76,7 @@ fn checked_way(
 
 /// A way of clean steps to an item: the shortest one from the begin of the body, else one from the last label in front,
 /// in the order of the text.
-pub fn clean_way(alloc: Global, func: &Func, goal: usize) -> Result<Option<Way>, NoMemory>
+pub fn clean_way(alloc: Global, func: &Func, goal: usize) -> Result<Option<Way>>
     requires placed { ArePlaced func.now }
     requires labels { (i : ℕ) → i < length func.now.items → HasBodyLabel func.now (item_of func.now i).op }
     requires inside { goal < length func.now.items }

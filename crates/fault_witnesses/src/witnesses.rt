@@ -14,7 +14,7 @@ use crate::users::lacking_user;
 use crate::ways::clean_way;
 use crate::{Calls, Place, User, Way, label_before};
 use call_graph::Ranks;
-use sloth_base::{App, Code, Config, Func, NoMemory, Refusal};
+use sloth_base::{App, Code, Config, Func, Refusal, Result};
 use std::alloc::Global;
 use task_verify::falls;
 
@@ -47,7 +47,7 @@ fn way_to_label(
     app: &App,
     body: usize,
     label: usize,
-) -> Result<Option<Way>, NoMemory>
+) -> Result<Option<Way>>
     requires in_range { AppInRange config.now app.now }
     requires is_place { IsPlace app.now (place.Label body label) }
     ensures { IfOk result (λ way. IsShownWayTo app.now (place.Label body label) way) }
@@ -61,7 +61,7 @@ fn way_to_label(
 }
 
 // The item in front, where it is reached and never goes on, and nothing reaches this one.
-fn item_in_front(alloc: Global, func: &Func, item: usize) -> Result<Option<usize>, NoMemory>
+fn item_in_front(alloc: Global, func: &Func, item: usize) -> Result<Option<usize>>
     requires labels { (i : ℕ) → i < length func.now.items → HasBodyLabel func.now (item_of func.now i).op }
     requires inside { item < length func.now.items }
     ensures { IfOk result (λ behind. IfSome behind (IsBehind func.now item)) }
@@ -90,7 +90,7 @@ fn item_way(
     code: Code,
     body: usize,
     item: usize,
-) -> Result<ItemWay, NoMemory>
+) -> Result<ItemWay>
     requires in_range { AppInRange config.now app.now }
     requires is_place { IsPlace app.now (place.Item body item) }
     ensures way { IfOk result (λ found. IsShownWayTo app.now (place.Item body item) found.way) }
@@ -122,7 +122,7 @@ fn item_witness(
     body: usize,
     item: usize,
     events: &[usize],
-) -> Result<Witness, NoMemory>
+) -> Result<Witness>
     requires in_range { AppInRange config.now app.now }
     requires place { IsPlaceOfFault config.now app.now refusal (place.Item body item) }
     ensures { IfOk result (IsWitness config.now app.now refusal) }
@@ -148,7 +148,7 @@ fn place_witness(
     refusal: Refusal,
     place: Place,
     events: &[usize],
-) -> Result<Witness, NoMemory>
+) -> Result<Witness>
     requires in_range { AppInRange config.now app.now }
     requires place { IsPlaceOfFault config.now app.now refusal place }
     ensures { IfOk result (IsWitness config.now app.now refusal) }
@@ -185,7 +185,7 @@ pub fn fault_witness(
     ranks: &Ranks,
     refusal: Refusal,
     events: &[usize],
-) -> Result<Option<Witness>, NoMemory>
+) -> Result<Option<Witness>>
     requires in_range { AppInRange config.now app.now }
     requires belong { RanksOf app.now ranks.now }
     ensures { IfOk result (λ found. IfSome found (IsWitness config.now app.now refusal)) }

@@ -4,20 +4,15 @@ ghost use Rattle.holds_infer.specs.RightLists.{HasItsLabels};
 ghost use Rattle.holds_infer.specs.Spread.{AreLists, relisted_label, relisted_func};
 ghost use Rattle.holds_infer.specs.BodyFilling.{HaveTheirLabels, IsBodyFilling, AreBodyFillings};
 
-use crate::label_lists::held_list;
-use crate::spread::places;
-use sloth_base::{Func, Label, List, Name, NoMemory, ResId};
+use crate::spread::{place_list, places};
+use sloth_base::{Func, Label, List, Name, ResId, Result};
 use std::alloc::Global;
 use text_pieces::push;
 
-fn relisted_label(
-    alloc: Global,
-    lists: &[Option<List<ResId>>],
-    label: &Label,
-) -> Result<Label, NoMemory>
+fn relisted_label(alloc: Global, lists: &[Option<List<ResId>>], label: &Label) -> Result<Label>
     ensures { IfOk result (λ made. made ≡ relisted_label lists.now label.now) }
 {
-    let holds = held_list(alloc, lists, label)?;
+    let holds = place_list(lists, label.item as usize).to_vec(alloc)?;
     Ok(Label {
         name: Name::new(alloc, label.name.bytes())?,
         holds: List::from_vec(holds),
@@ -30,7 +25,7 @@ fn relisted_labels(
     alloc: Global,
     lists: &[Option<List<ResId>>],
     labels: &[Label],
-) -> Result<List<Label>, NoMemory>
+) -> Result<List<Label>>
     ensures { IfOk result (λ made. made ≡ map (relisted_label lists.now) labels.now) }
 {
     let mut made = Vec::new(alloc);
@@ -42,11 +37,7 @@ fn relisted_labels(
 }
 
 /// The body with the lists of these places at its labels.
-pub fn relisted_func(
-    alloc: Global,
-    lists: &[Option<List<ResId>>],
-    func: &Func,
-) -> Result<Func, NoMemory>
+pub fn relisted_func(alloc: Global, lists: &[Option<List<ResId>>], func: &Func) -> Result<Func>
     ensures { IfOk result (λ made. made ≡ relisted_func lists.now func.now) }
 {
     Ok(Func {
@@ -60,7 +51,7 @@ pub fn relisted_func(
 }
 
 // The lists of the places of a body that are reached.
-fn lists_of(alloc: Global, func: &Func) -> Result<Vec<Option<List<ResId>>>, NoMemory>
+fn reached_lists(alloc: Global, func: &Func) -> Result<Vec<Option<List<ResId>>>>
     requires { HasItsLabels func.now }
     ensures { IfOk result (λ lists. AreLists func.now lists.items) }
 {
@@ -70,17 +61,17 @@ fn lists_of(alloc: Global, func: &Func) -> Result<Vec<Option<List<ResId>>>, NoMe
     places(alloc, func)
 }
 
-fn body_filling(alloc: Global, func: &Func) -> Result<Func, NoMemory>
+fn body_filling(alloc: Global, func: &Func) -> Result<Func>
     requires { HasItsLabels func.now }
     ensures { IfOk result (IsBodyFilling func.now) }
 {
-    let lists = lists_of(alloc, func)?;
+    let lists = reached_lists(alloc, func)?;
     let made = relisted_func(alloc, lists.as_slice(), func)?;
     Ok(made)
 }
 
 /// All bodies, their labels with the lists of their places.
-pub fn body_fillings(alloc: Global, funcs: &[Func]) -> Result<Vec<Func>, NoMemory>
+pub fn body_fillings(alloc: Global, funcs: &[Func]) -> Result<Vec<Func>>
     requires { HaveTheirLabels funcs.now }
     ensures { IfOk result (λ made. AreBodyFillings funcs.now made.items) }
 {

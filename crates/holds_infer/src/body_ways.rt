@@ -4,31 +4,31 @@ ghost use Rattle.holds_infer.specs.RightLists.{HasItsLabels};
 ghost use Rattle.holds_infer.specs.WayLists.{IsWayList, AreWayLists, AreHeldBehind};
 
 use crate::holding_ways::goes;
-use crate::label_lists::list_at;
-use crate::spread::no_lists;
+use crate::spread::{no_lists, place_list};
 use fault_witnesses::is_orderly;
-use sloth_base::{Func, List, NoMemory, ResId};
+use sloth_base::{Func, List, ResId, Result};
 use std::alloc::Global;
 use task_verify::{held_after, held_by, is_held, jump_of, next_of};
 use text_pieces::push;
 
-/// An item that leads to a place at which other resources are held by the first way there.
+/// An item, and a place to which it may lead.
 #[derive(Clone, Copy)]
-pub struct Meeting {
+pub struct Step {
     pub item: usize,
     pub place: usize,
 }
 
-/// What the first way to each place holds, the last item of that way, and where the first two ways meet that hold different resources, if some do.
+/// What the first way to each place holds, the last item of that way, and the step by which a way first meets one that
+/// holds different resources, if some does.
 #[derive(Drop)]
 pub struct BodyWays {
     pub lists: List<Option<List<ResId>>>,
     pub before: List<usize>,
-    pub meeting: Option<Meeting>,
+    pub meeting: Option<Step>,
 }
 
 /// These as the list of a label.
-pub fn resources(alloc: Global, held: &[u32]) -> Result<Vec<ResId>, NoMemory>
+pub fn resources(alloc: Global, held: &[u32]) -> Result<Vec<ResId>>
     ensures { IfOk result (λ list. list.items ≡ held.now) }
 {
     let mut list = Vec::new(alloc);
@@ -39,12 +39,7 @@ pub fn resources(alloc: Global, held: &[u32]) -> Result<Vec<ResId>, NoMemory>
 }
 
 // The place has this list.
-fn keep(
-    alloc: Global,
-    lists: &mut [Option<List<ResId>>],
-    place: usize,
-    held: &[u32],
-) -> Result<(), NoMemory>
+fn keep(alloc: Global, lists: &mut [Option<List<ResId>>], place: usize, held: &[u32]) -> Result<()>
     requires { place < length lists.old }
     ensures { OnOk result (lists.new ≡ set lists.old place (Some held.now)) }
 {
@@ -54,7 +49,7 @@ fn keep(
 }
 
 // What is held behind an item, if it is orderly with these.
-fn orderly_behind(func: &Func, item: usize, held: Vec<u32>) -> Result<Option<List<u32>>, NoMemory>
+fn orderly_behind(func: &Func, item: usize, held: Vec<u32>) -> Result<Option<List<u32>>>
     requires inside { item < length func.now.items }
     requires held { IsWayList func.now item held.items }
     ensures { IfOk result (λ found. IfSome found (AreHeldBehind func.now item)) }
@@ -82,7 +77,7 @@ fn held_behind(
     func: &Func,
     lists: &[Option<List<ResId>>],
     item: usize,
-) -> Result<Option<List<u32>>, NoMemory>
+) -> Result<Option<List<u32>>>
     requires inside { item < length func.now.items }
     requires lists { AreWayLists func.now lists.now }
     ensures { IfOk result (λ found. IfSome found (AreHeldBehind func.now item)) }
@@ -90,43 +85,43 @@ fn held_behind(
     if !has_list(lists, item) {
         return Ok(None);
     }
-    let held = held_by(alloc, list_at(lists, item))?;
+    let held = held_by(alloc, place_list(lists, item))?;
     orderly_behind(func, item, held)
 }
 
-// Comes from an item to a place with these held. Whether the place has another list already.
+// Comes by a step to its place with these held. Whether the place has another list already.
 fn arrive(
     alloc: Global,
     func: &Func,
     lists: &mut [Option<List<ResId>>],
     before: &mut [usize],
     reached: &mut Vec<usize>,
-    from: usize,
-    to: usize,
+    step: Step,
     held: &[u32],
-) -> Result<bool, NoMemory>
-    requires inside { from < length func.now.items }
+) -> Result<bool>
+    requires inside { step.item < length func.now.items }
     requires labels { HasItsLabels func.now }
-    requires held { AreHeldBehind func.now from held.now }
+    requires held { AreHeldBehind func.now step.item held.now }
     requires lists { AreWayLists func.now lists.old }
     ensures { OnOk result (AreWayLists func.now lists.new) }
 {
+    let to = step.place;
     if to >= lists.len() || to >= before.len() {
         return Ok(false);
     }
-    if !goes(func, from, to) {
+    if !goes(func, step.item, to) {
         return Ok(false);
     }
     if lists[to].is_some() {
-        return Ok(!is_held(list_at(lists, to), held));
+        return Ok(!is_held(place_list(lists, to), held));
     }
     keep(alloc, lists, to, held)?;
-    before[to] = from;
+    before[to] = step.item;
     push(reached, to)?;
     Ok(false)
 }
 
-// Goes on from an item. The place at which other resources are held, if there is one.
+// Goes on from an item. The step to a place at which other resources are held, if there is one.
 fn leave(
     alloc: Global,
     func: &Func,
@@ -134,7 +129,7 @@ fn leave(
     before: &mut [usize],
     reached: &mut Vec<usize>,
     item: usize,
-) -> Result<Option<usize>, NoMemory>
+) -> Result<Option<Step>>
     requires inside { item < length func.now.items }
     requires labels { HasItsLabels func.now }
     requires lists { AreWayLists func.now lists.old }
@@ -145,43 +140,27 @@ fn leave(
     };
     let next = next_of(func, item);
     let jump = jump_of(func, item);
-    let first = if jump < next { jump } else { next };
-    let second = if jump < next { next } else { jump };
-    if arrive(
-        alloc,
-        func,
-        lists,
-        before,
-        reached,
-        item,
-        first,
-        held.items(),
-    )? {
+    let place = next.min(jump);
+    let first = Step { item, place };
+    if arrive(alloc, func, lists, before, reached, first, held.items())? {
         return Ok(Some(first));
     }
-    if arrive(
-        alloc,
-        func,
-        lists,
-        before,
-        reached,
-        item,
-        second,
-        held.items(),
-    )? {
+    let place = next.max(jump);
+    let second = Step { item, place };
+    if arrive(alloc, func, lists, before, reached, second, held.items())? {
         return Ok(Some(second));
     }
     Ok(None)
 }
 
 // Goes on from each item that was reached, until two ways meet that hold different resources.
-fn go_on(
+fn reach_all(
     alloc: Global,
     func: &Func,
     lists: &mut [Option<List<ResId>>],
     before: &mut [usize],
     reached: &mut Vec<usize>,
-) -> Result<Option<Meeting>, NoMemory>
+) -> Result<Option<Step>>
     requires labels { HasItsLabels func.now }
     requires lists { AreWayLists func.now lists.old }
     ensures { OnOk result (AreWayLists func.now lists.new) }
@@ -192,47 +171,34 @@ fn go_on(
             return Ok(None);
         }
         let item = reached[turn];
-        if let Some(place) = leave(alloc, func, lists, before, reached, item)? {
-            return Ok(Some(Meeting { item, place }));
+        if let Some(meeting) = leave(alloc, func, lists, before, reached, item)? {
+            return Ok(Some(meeting));
         }
     }
     Ok(None)
 }
 
-// The first item is reached, with nothing held.
-fn begin(
-    alloc: Global,
-    func: &Func,
-    lists: &mut [Option<List<ResId>>],
-    reached: &mut Vec<usize>,
-) -> Result<(), NoMemory>
-    requires { (i : ℕ) → get_or lists.old i None ≡ None }
-    ensures { OnOk result (AreWayLists func.now lists.new) }
-{
-    if lists.is_empty() {
-        return Ok(());
-    }
-    keep(alloc, lists, 0, &[])?;
-    push(reached, 0)?;
-    Ok(())
-}
-
+// From the first item, with nothing held.
 fn walk(
     alloc: Global,
     func: &Func,
     lists: &mut [Option<List<ResId>>],
     before: &mut [usize],
-) -> Result<Option<Meeting>, NoMemory>
+) -> Result<Option<Step>>
     requires labels { HasItsLabels func.now }
     requires clear { (i : ℕ) → get_or lists.old i None ≡ None }
     ensures { OnOk result (AreWayLists func.now lists.new) }
 {
+    if lists.is_empty() {
+        return Ok(None);
+    }
+    keep(alloc, lists, 0, &[])?;
     let mut reached = Vec::new(alloc);
-    begin(alloc, func, lists, &mut reached)?;
-    go_on(alloc, func, lists, before, &mut reached)
+    push(&mut reached, 0)?;
+    reach_all(alloc, func, lists, before, &mut reached)
 }
 
-fn zeros(alloc: Global, count: usize) -> Result<Vec<usize>, NoMemory> {
+fn zeros(alloc: Global, count: usize) -> Result<Vec<usize>> {
     let mut numbers = Vec::new(alloc);
     for _place in 0..count {
         push(&mut numbers, 0)?;
@@ -241,7 +207,7 @@ fn zeros(alloc: Global, count: usize) -> Result<Vec<usize>, NoMemory> {
 }
 
 /// The ways from the first item of a body.
-pub fn body_ways(alloc: Global, func: &Func) -> Result<BodyWays, NoMemory>
+pub fn body_ways(alloc: Global, func: &Func) -> Result<BodyWays>
     requires { HasItsLabels func.now }
     ensures { IfOk result (λ ways. AreWayLists func.now ways.lists) }
 {

@@ -1,11 +1,9 @@
 //! Task source with the lists of task code at its labels.
-ghost use Rattle.std.specs.Prelude.{◌≡◌, ◌++◌, ◌+◌, ◌^◌, ◌<◌, [], ◌∷◌, cond, length, map, get_or, IfOk, OnOk};
+ghost use Rattle.std.specs.Prelude.{◌≡◌, ◌++◌, ◌+◌, ◌^◌, ◌<◌, [], ◌∷◌, cond, map, get_or, IfOk, OnOk};
 ghost use Rattle.std.specs.List.{join_with_byte};
 ghost use Rattle.text_pieces.specs.Names.{referent};
-ghost use Rattle.least_fault.specs.Order.{NoFault};
 ghost use Rattle.text_pieces.specs.Lines.{without_returns};
 ghost use Rattle.asm_lines.specs.SourceLines.{source_line};
-ghost use Rattle.asm_lines.specs.Faults.{source_lines, SourceLinesFault};
 ghost use Rattle.asm_scopes.specs.Statements.{is_label};
 ghost use Rattle.code_rules.specs.AppRange.{AppInRange};
 ghost use Rattle.code_rules.specs.WellFormed.{WellFormed};
@@ -15,13 +13,13 @@ ghost use Rattle.holds_infer.specs.Relabel.{func_holds, all_holds};
 ghost use Rattle.holds_infer.specs.FilledText.{filled_part, filled_parts, filled_text};
 
 use crate::label_text::write_part;
-use asm_lines::{SourceLine, read};
+use asm_lines::{SourceLine, read_lines};
 use asm_scopes::is_label;
-use sloth_base::{App, Config, Func, List, NoMemory, ResId};
+use sloth_base::{App, Config, Func, ResId, Result};
 use std::alloc::Global;
 use text_pieces::{push, split};
 
-fn push_lists<'a>(lists: &mut Vec<&'a [ResId]>, func: &'a Func) -> Result<(), NoMemory>
+fn push_lists<'a>(lists: &mut Vec<&'a [ResId]>, func: &'a Func) -> Result<()>
     ensures { OnOk result (map referent lists.new.items ≡ map referent lists.old.items ++ func_holds func.now) }
 {
     for label in func.labels.items() {
@@ -31,7 +29,7 @@ fn push_lists<'a>(lists: &mut Vec<&'a [ResId]>, func: &'a Func) -> Result<(), No
 }
 
 // The lists of all labels, in the order of the text.
-fn lists_of<'a>(alloc: Global, app: &'a App) -> Result<Vec<&'a [ResId]>, NoMemory>
+fn code_lists<'a>(alloc: Global, app: &'a App) -> Result<Vec<&'a [ResId]>>
     ensures { IfOk result (λ lists. map referent lists.items ≡ all_holds app.now) }
 {
     let mut lists = Vec::new(alloc);
@@ -41,7 +39,7 @@ fn lists_of<'a>(alloc: Global, app: &'a App) -> Result<Vec<&'a [ResId]>, NoMemor
     Ok(lists)
 }
 
-fn list_at<'a>(lists: &[&'a [ResId]], number: usize) -> &'a [ResId]
+fn numbered_list<'a>(lists: &[&'a [ResId]], number: usize) -> &'a [ResId]
     ensures { result.now ≡ get_or (map referent lists.now) number [] }
 {
     match lists.get(number) {
@@ -58,8 +56,10 @@ fn write_line(
     is_last: bool,
     holds: &[ResId],
     part: &[u8],
-) -> Result<(), NoMemory>
-    ensures { OnOk result (out.new.items ≡ out.old.items ++ (filled_part config.now line.now is_last holds.now part.now ++ cond is_last [] (10 ∷ []))) }
+) -> Result<()>
+    ensures { OnOk result
+        (out.new.items ≡ out.old.items
+        ++ (filled_part config.now line.now is_last holds.now part.now ++ cond is_last [] (10 ∷ []))) }
 {
     write_part(out, config, line, is_last, holds, part)?;
     if !is_last {
@@ -76,18 +76,6 @@ fn labels_behind(line: &SourceLine, number: usize) -> usize
     if is_label(line) { number + 1 } else { number }
 }
 
-// What the lines of a text are, in which there is no fault, so that only memory can be wanting.
-fn lines_of(alloc: Global, text: &[u8]) -> Result<List<SourceLine>, NoMemory>
-    requires short { length text.now < 4294967295 }
-    requires none { NoFault (SourceLinesFault text.now) }
-    ensures { IfOk result (λ lines. lines ≡ source_lines text.now) }
-{
-    match read(alloc, text) {
-        Ok(lines) => Ok(lines),
-        Err(_) => Err(NoMemory),
-    }
-}
-
 // The parts of a text, which are these lines, with these lists at the labels in turn.
 fn filled_parts(
     alloc: Global,
@@ -95,39 +83,28 @@ fn filled_parts(
     lists: &[&[ResId]],
     lines: &[SourceLine],
     parts: &[&[u8]],
-) -> Result<Vec<u8>, NoMemory>
+) -> Result<Vec<u8>>
     requires { lines.now ≡ map source_line (without_returns (map referent parts.now)) }
-    ensures { IfOk result (λ out. out.items ≡ join_with_byte 10 (filled_parts config.now (map referent lists.now) (map referent parts.now))) }
+    ensures { IfOk result
+        (λ out. out.items ≡ join_with_byte 10
+        (filled_parts config.now (map referent lists.now) (map referent parts.now))) }
 {
     let mut out = Vec::new(alloc);
     let mut number = 0;
     for (n, part) in parts.iter().enumerate() {
         let line = &lines[n];
         let is_last = n + 1 == parts.len();
-        write_line(
-            &mut out,
-            config,
-            line,
-            is_last,
-            list_at(lists, number),
-            *part,
-        )?;
+        let list = numbered_list(lists, number);
+        write_line(&mut out, config, line, is_last, list, *part)?;
         number = labels_behind(line, number);
     }
     Ok(out)
 }
 
-/// The text with the lists of this task code at its labels: each label's line is `label NAME` and `, R` for each resource of its list, its
-/// comment dropped and its line end kept; all other bytes are as they are. The text has no fault of its lines, names and limits and says
-/// `before`, which is the task code but for the lists.
-pub fn fill(
-    alloc: Global,
-    text: &[u8],
-    config: &Config,
-    before: &App,
-    app: &App,
-) -> Result<Vec<u8>, NoMemory>
-    requires short { length text.now < 4294967295 }
+/// The text with the lists of this task code at its labels: each label's line is `label NAME` and `, R` for each
+/// resource of its list, its comment dropped and its line end kept; all other bytes are as they are. The text has no
+/// fault of its lines, names and limits and says `before`, which is the task code but for the lists.
+pub fn fill(alloc: Global, text: &[u8], config: &Config, before: &App, app: &App) -> Result<Vec<u8>>
     requires says { HasApp text.now config.now before.now }
     requires same { SameButLists before.now app.now }
     requires in_range { AppInRange config.now app.now }
@@ -136,8 +113,8 @@ pub fn fill(
     ensures accepted { IfOk result (λ out. WellFormed config.now app.now → SourceText out.items config.now app.now) }
 {
     let parts = split(alloc, text, b'\n')?;
-    let lines = lines_of(alloc, text)?;
-    let lists = lists_of(alloc, app)?;
+    let lines = read_lines(alloc, text)?;
+    let lists = code_lists(alloc, app)?;
     let out = filled_parts(
         alloc,
         config,

@@ -7,11 +7,12 @@ ghost use Rattle.holds_infer.specs.RightLists.{HasItsLabels};
 ghost use Rattle.holds_infer.specs.LabelWays.{way_place, HoldsOnWay, IsHoldingWay};
 
 use fault_witnesses::is_orderly;
-use sloth_base::{Func, List, NoMemory};
+use sloth_base::{Func, List, Result};
 use std::alloc::Global;
 use task_verify::{held_after, jump_of, next_of};
 
-/// A way through a body, by the numbers of its items, and the resources that are held behind the last of them, in the order in which they were taken.
+/// A way through a body, by the numbers of its items, and the resources that are held behind the last of them, in the
+/// order in which they were taken.
 #[derive(Drop)]
 pub struct HoldingWay {
     pub items: List<usize>,
@@ -57,12 +58,7 @@ fn leads(func: &Func, held: &[u32], item: usize, place: usize) -> bool
 }
 
 // What is held behind the items of a way, if it leads to the goal.
-fn held_on_way(
-    alloc: Global,
-    func: &Func,
-    goal: usize,
-    way: &[usize],
-) -> Result<Option<List<u32>>, NoMemory>
+fn held_on_way(alloc: Global, func: &Func, goal: usize, way: &[usize]) -> Result<Option<List<u32>>>
     requires { HasItsLabels func.now }
     ensures { IfOk result (λ found. IfSome found (HoldsOnWay func.now goal way.now)) }
 {
@@ -80,13 +76,14 @@ fn held_on_way(
     Ok(Some(List::from_vec(held)))
 }
 
-/// The way with what its items hold, if it leads from the first item of the body to the goal and keeps the rules on resources.
+/// The way with what its items hold, if it leads from the first item of the body to the goal and keeps the rules on
+/// resources.
 pub fn holding_way(
     alloc: Global,
     func: &Func,
     goal: usize,
     way: Vec<usize>,
-) -> Result<Option<HoldingWay>, NoMemory>
+) -> Result<Option<HoldingWay>>
     requires { HasItsLabels func.now }
     ensures { IfOk result (λ found. IfSome found (IsHoldingWay func.now goal)) }
 {

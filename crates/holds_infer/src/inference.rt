@@ -9,7 +9,7 @@ ghost use Rattle.holds_infer.specs.declared.inference.InferError.TheVariants.{Me
 
 use crate::bodies::body_fillings;
 use call_graph::Ranks;
-use sloth_base::{App, BuildError, Config, List, NoMemory};
+use sloth_base::{App, BuildError, Config, List, NoMemory, Result};
 use std::alloc::Global;
 use task_verify::verify;
 
@@ -30,7 +30,7 @@ impl From<NoMemory> for InferError {
 }
 
 // The task code with the lists of which its right ones are, if there are some.
-fn candidate(alloc: Global, app: &App) -> Result<App, NoMemory>
+fn candidate(alloc: Global, app: &App) -> Result<App>
     requires { HaveTheirLabels app.now.funcs }
     ensures funcs { IfOk result (λ other. AreBodyFillings app.now.funcs other.funcs) }
     ensures symbols { IfOk result (λ other. other.symbols ≡ app.now.symbols) }
@@ -43,8 +43,8 @@ fn candidate(alloc: Global, app: &App) -> Result<App, NoMemory>
     })
 }
 
-/// The task code with the one choice of lists for its labels, empty for those behind the last item of a body, that keeps every rule; or
-/// that there is none.
+/// The task code with the one choice of lists for its labels, empty for those behind the last item of a body, that
+/// keeps every rule; or that there is none.
 pub fn infer(alloc: Global, config: &Config, app: &App, ranks: &Ranks) -> Result<App, InferError>
     requires in_range { AppInRange config.now app.now }
     requires belong { RanksOf app.now ranks.now }

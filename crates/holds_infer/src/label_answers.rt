@@ -2,7 +2,6 @@
 ghost use Rattle.std.specs.Prelude.{◌≡◌, ◌<◌, ◌⊎◌, [], length, IfOk, IfSome};
 ghost use Rattle.code_rules.specs.AppRange.{AppInRange};
 ghost use Rattle.call_graph.specs.Ranks.{RanksOf};
-ghost use Rattle.holds_infer.specs.FilledSource.{HasNoLists};
 ghost use Rattle.holds_infer.specs.LabelAnswers.{is_list_rule, TellsWays, TellsBrokenRule, TellsRule, TellsReason, HasReason, IsNoListsText, IsLabelAnswer};
 
 use crate::other_rules::other_rule;
@@ -11,7 +10,7 @@ use crate::reason_lines::{other_ways_lines, rule_lines};
 use crate::way_fillings::way_filled;
 use crate::{FillError, fill_source};
 use call_graph::Ranks;
-use sloth_base::{App, Code, Config, List, NoMemory, Refusal};
+use sloth_base::{App, Code, Config, List, NoMemory, Result};
 use sloth_source::Ranked;
 use std::alloc::Global;
 use why_text::{ranked_texts, told_fault};
@@ -30,7 +29,7 @@ pub enum LabelAnswer {
 // ---- two ways to a label
 
 // The lines of the first two ways to a label that hold different resources, body by body.
-fn ways_of(alloc: Global, config: &Config, app: &App) -> Result<Option<List<u8>>, NoMemory>
+fn told_ways(alloc: Global, config: &Config, app: &App) -> Result<Option<List<u8>>>
     requires { AppInRange config.now app.now }
     ensures { IfOk result (λ found. IfSome found (TellsWays config.now app.now)) }
 {
@@ -52,20 +51,22 @@ fn is_list_rule(code: Code) -> bool
     matches!(code, Code::V7)
 }
 
-// The lines of a rule that this task code breaks.
+// The lines of a rule other than V7 that this task code breaks.
 fn broken_rule(
     alloc: Global,
     src: &[u8],
     config: &Config,
     app: &App,
     ranks: &Ranks,
-    refusal: Refusal,
-) -> Result<Option<List<u8>>, NoMemory>
+) -> Result<Option<List<u8>>>
     requires src { length src.now < 4294967295 }
     requires in_range { AppInRange config.now app.now }
     requires belong { RanksOf app.now ranks.now }
     ensures { IfOk result (λ found. IfSome found (TellsBrokenRule config.now app.now)) }
 {
+    let Some(refusal) = other_rule(alloc, config, app, ranks)? else {
+        return Ok(None);
+    };
     if is_list_rule(refusal.code) {
         return Ok(None);
     }
@@ -78,39 +79,21 @@ fn broken_rule(
     }
 }
 
-fn least_rule(
-    alloc: Global,
-    src: &[u8],
-    config: &Config,
-    app: &App,
-    ranks: &Ranks,
-) -> Result<Option<List<u8>>, NoMemory>
-    requires src { length src.now < 4294967295 }
-    requires in_range { AppInRange config.now app.now }
-    requires belong { RanksOf app.now ranks.now }
-    ensures { IfOk result (λ found. IfSome found (TellsBrokenRule config.now app.now)) }
-{
-    match other_rule(alloc, config, app, ranks)? {
-        Some(refusal) => broken_rule(alloc, src, config, app, ranks, refusal),
-        None => Ok(None),
-    }
-}
-
 // The lines of a rule that is broken with the lists that ways hold at the labels.
-fn rule_of(
+fn filled_rule(
     alloc: Global,
     src: &[u8],
     config: &Config,
     app: &App,
     ranks: &Ranks,
-) -> Result<Option<List<u8>>, NoMemory>
+) -> Result<Option<List<u8>>>
     requires src { length src.now < 4294967295 }
     requires in_range { AppInRange config.now app.now }
     requires belong { RanksOf app.now ranks.now }
     ensures { IfOk result (λ found. IfSome found (TellsRule config.now app.now)) }
 {
     let filled = way_filled(alloc, app)?;
-    match least_rule(alloc, src, config, &filled, ranks)? {
+    match broken_rule(alloc, src, config, &filled, ranks)? {
         Some(lines) => Ok(Some(lines)),
         None => Ok(None),
     }
@@ -118,50 +101,50 @@ fn rule_of(
 
 // ---- all
 
-fn reason_of(
+fn code_reason(
     alloc: Global,
     src: &[u8],
     config: &Config,
     app: &App,
     ranks: &Ranks,
-) -> Result<Option<List<u8>>, NoMemory>
+) -> Result<Option<List<u8>>>
     requires src { length src.now < 4294967295 }
     requires in_range { AppInRange config.now app.now }
     requires belong { RanksOf app.now ranks.now }
     ensures { IfOk result (λ found. IfSome found (TellsReason config.now app.now)) }
 {
-    match ways_of(alloc, config, app)? {
+    match told_ways(alloc, config, app)? {
         Some(lines) => Ok(Some(lines)),
-        None => match rule_of(alloc, src, config, app, ranks)? {
+        None => match filled_rule(alloc, src, config, app, ranks)? {
             Some(lines) => Ok(Some(lines)),
             None => Ok(None),
         },
     }
 }
 
-fn reason_for(alloc: Global, oil: &[u8], src: &[u8]) -> Result<Option<List<u8>>, NoMemory>
+fn texts_reason(alloc: Global, oil: &[u8], src: &[u8]) -> Result<Option<List<u8>>>
     requires oil { length oil.now < 4294967295 }
     requires src { length src.now < 4294967295 }
     ensures { IfOk result (λ found. IfSome found (HasReason oil.now src.now)) }
 {
     match ranked_texts(alloc, oil, src)? {
-        Some(Ranked { config, app, ranks }) => reason_of(alloc, src, &config, &app, &ranks),
+        Some(Ranked { config, app, ranks }) => code_reason(alloc, src, &config, &app, &ranks),
         None => Ok(None),
     }
 }
 
-fn reason_lines(alloc: Global, oil: &[u8], src: &[u8]) -> Result<List<u8>, NoMemory>
+fn reason_lines(alloc: Global, oil: &[u8], src: &[u8]) -> Result<List<u8>>
     requires oil { length oil.now < 4294967295 }
     requires src { length src.now < 4294967295 }
     ensures { IfOk result (λ lines. (lines ≡ []) ⊎ HasReason oil.now src.now lines) }
 {
-    match reason_for(alloc, oil, src)? {
+    match texts_reason(alloc, oil, src)? {
         Some(lines) => Ok(lines),
         None => Ok(List::from_vec(Vec::new(alloc))),
     }
 }
 
-fn no_lists_text(alloc: Global, oil: &[u8], src: &[u8]) -> Result<List<u8>, NoMemory>
+fn no_lists_text(alloc: Global, oil: &[u8], src: &[u8]) -> Result<List<u8>>
     requires oil { length oil.now < 4294967295 }
     requires src { length src.now < 4294967295 }
     ensures { IfOk result (IsNoListsText oil.now src.now) }
@@ -172,19 +155,9 @@ fn no_lists_text(alloc: Global, oil: &[u8], src: &[u8]) -> Result<List<u8>, NoMe
     Ok(List::from_vec(text))
 }
 
-fn no_lists(alloc: Global, oil: &[u8], src: &[u8]) -> Result<LabelAnswer, NoMemory>
-    requires oil { length oil.now < 4294967295 }
-    requires src { length src.now < 4294967295 }
-    requires none { HasNoLists oil.now src.now }
-    ensures { IfOk result (IsLabelAnswer oil.now src.now) }
-{
-    let text = no_lists_text(alloc, oil, src)?;
-    Ok(LabelAnswer::NoLists(text))
-}
-
-/// That one choice of lists for the labels keeps the rules; or that none does, and why; or that a refusal comes before these rules. Each text has at most
-/// 4,294,967,294 bytes.
-pub fn labels_text(alloc: Global, oil: &[u8], src: &[u8]) -> Result<LabelAnswer, NoMemory>
+/// That one choice of lists for the labels keeps the rules; or that none does, and why; or that a refusal comes before
+/// these rules. Each text has at most 4,294,967,294 bytes.
+pub fn labels_text(alloc: Global, oil: &[u8], src: &[u8]) -> Result<LabelAnswer>
     requires oil { length oil.now < 4294967295 }
     requires src { length src.now < 4294967295 }
     ensures { IfOk result (IsLabelAnswer oil.now src.now) }
@@ -192,7 +165,7 @@ pub fn labels_text(alloc: Global, oil: &[u8], src: &[u8]) -> Result<LabelAnswer,
     match fill_source(alloc, oil, src) {
         Ok(_) => Ok(LabelAnswer::Filled),
         Err(FillError::Refused(_)) => Ok(LabelAnswer::Unjudged),
-        Err(FillError::NoHolds) => no_lists(alloc, oil, src),
+        Err(FillError::NoHolds) => Ok(LabelAnswer::NoLists(no_lists_text(alloc, oil, src)?)),
         Err(FillError::Memory) => Err(NoMemory),
     }
 }

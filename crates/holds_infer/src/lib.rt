@@ -1,16 +1,13 @@
-//! Task source with the held list of each label filled in.
+//! Task source with the held list of each label filled in, for `infer`; or why no lists keep the rules, for `why`.
 //!
-//! `fill_source` gives the source with the one choice of lists that keeps every rule, exact in bytes; or that no lists keep the rules; or the first
-//! refusal before them. What it gives is accepted and says that task code (`fill`, `lists_alone`, `filled_is_accepted`, `one_source`;
-//! `specs/Relabel`, `specs/FilledText`, `specs/FilledSource`). The line of a label, exact in bytes: `specs/LabelLines`; texts: `sloth_source`
-//! (`RankedTexts`, `Texts`).
+//! `fill_source` gives the source with the one choice of lists that keeps every rule, exact in bytes; or that none
+//! does; or the first refusal before them. What it gives is accepted and says that task code (`fill`, `lists_alone`,
+//! `filled_is_accepted`, `one_source`; `specs/Relabel`, `specs/FilledText`, `specs/FilledSource`, `specs/LabelLines`).
+//! `infer` finds the lists from the ways through each body (`one_filling`, `specs/Filling`, `specs/Places`).
 //!
-//! The lists are found from the ways through each body: `infer` gives exactly the task code with the one filling of its held lists, where there is
-//! one (`one_filling`, `specs/Filling`). The rules: `code_rules` (`WellFormed`); ranks: `call_graph` (`Ranks`); lists of places:
-//! `specs/Places`.
-//!
-//! `labels_text` says why no lists keep the rules (`specs/LabelAnswers`): two ways to a label that hold different resources (`specs/LabelWays`), which
-//! leave no lists (`ways_exclude_lists`), or a rule other than V7 that is broken with the lists that ways hold (`specs/WayLists`).
+//! `labels_text` tells two ways to a label that hold different resources, or another rule that is broken with the lists
+//! that ways hold (`ways_exclude_lists`; `specs/LabelAnswers`, `specs/LabelWays`, `specs/WayLists`). Rules:
+//! `code_rules`.
 #![tactic(auto)]
 
 mod bodies;
@@ -19,14 +16,11 @@ mod filling;
 mod holding_ways;
 mod inference;
 mod label_answers;
-mod label_lists;
 mod label_text;
 mod laws;
-mod line_ends;
 mod other_rules;
 mod other_ways;
 mod reason_lines;
-mod resources;
 pub mod sources;
 mod spread;
 mod way_fillings;

@@ -8,31 +8,22 @@ use call_graph::Ranks;
 use fault_witnesses::KeptList;
 use fault_witnesses::body_lists::body_lists;
 use least_fault::{fault_if, merge};
-use sloth_base::{App, Code, Config, Func, Item, NoMemory, Part, Refusal};
+use sloth_base::{App, Code, Config, Func, Item, Part, Refusal, Result};
 use std::alloc::Global;
 use task_verify::{is_leave_with_resource, is_second_take, is_wrong_release, item_faults};
 
 // V8 to V10 of an item before which these are held.
 fn held_fault(ranks: &Ranks, item: &Item, held: &[u32]) -> Option<Refusal> {
-    let releases = fault_if(
-        is_wrong_release(held, item.op),
-        Part::Src,
-        item.line,
-        Code::V8,
-    );
-    let takes = fault_if(
-        is_second_take(ranks, held, item.op),
-        Part::Src,
-        item.line,
-        Code::V9,
-    );
-    let leaves = fault_if(
-        is_leave_with_resource(ranks, held, item.op),
-        Part::Src,
-        item.line,
-        Code::V10,
-    );
-    merge(releases, merge(takes, leaves))
+    let releases = is_wrong_release(held, item.op);
+    let takes = is_second_take(ranks, held, item.op);
+    let leaves = is_leave_with_resource(ranks, held, item.op);
+    merge(
+        fault_if(releases, Part::Src, item.line, Code::V8),
+        merge(
+            fault_if(takes, Part::Src, item.line, Code::V9),
+            fault_if(leaves, Part::Src, item.line, Code::V10),
+        ),
+    )
 }
 
 // V8 to V10 of the items whose lists are kept. Where a list is too long to be kept, V9 is broken in front.
@@ -54,19 +45,15 @@ fn body_fault(
     ranks: &Ranks,
     body: usize,
     func: &Func,
-) -> Result<Option<Refusal>, NoMemory>
+) -> Result<Option<Refusal>>
     requires in_range { AppInRange config.now app.now }
     requires belong { RanksOf app.now ranks.now }
     requires known { body < length app.now.funcs }
     requires is { func.now ≡ function app.now body }
 {
     let users = u64::from(ranks.users.items()[body]);
-    let empty = fault_if(
-        func.items.items().is_empty(),
-        Part::Src,
-        func.line,
-        Code::V5,
-    );
+    let none = func.items.items().is_empty();
+    let empty = fault_if(none, Part::Src, func.line, Code::V5);
     let items = item_faults(alloc, config, app, body, users, func)?;
     let tables = body_lists(alloc, func)?;
     let held = held_faults(ranks, func, tables.lists.items());
@@ -79,14 +66,13 @@ pub fn other_rule(
     config: &Config,
     app: &App,
     ranks: &Ranks,
-) -> Result<Option<Refusal>, NoMemory>
+) -> Result<Option<Refusal>>
     requires in_range { AppInRange config.now app.now }
     requires belong { RanksOf app.now ranks.now }
 {
     let mut least = None;
     for (body, func) in app.funcs.items().iter().enumerate() {
-        let found = body_fault(alloc, config, app, ranks, body, func)?;
-        least = merge(least, found);
+        least = merge(least, body_fault(alloc, config, app, ranks, body, func)?);
     }
     Ok(least)
 }

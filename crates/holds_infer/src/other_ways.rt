@@ -4,9 +4,9 @@ ghost use Rattle.sloth_base.specs.Named.{label_of};
 ghost use Rattle.holds_infer.specs.RightLists.{HasItsLabels};
 ghost use Rattle.holds_infer.specs.LabelWays.{AreOtherWays};
 
-use crate::body_ways::{Meeting, body_ways, resources};
+use crate::body_ways::{Step, body_ways, resources};
 use crate::holding_ways::{HoldingWay, holding_way};
-use sloth_base::{Func, NoMemory};
+use sloth_base::{Func, Result};
 use std::alloc::Global;
 use task_verify::is_held;
 use text_pieces::push;
@@ -20,7 +20,7 @@ pub struct OtherWays {
 }
 
 // The first label at a place.
-fn label_at(func: &Func, place: usize) -> Option<usize>
+fn first_label(func: &Func, place: usize) -> Option<usize>
     ensures { IfSome result (λ k. k < length func.now.labels) }
 {
     for (number, label) in func.labels.items().iter().enumerate() {
@@ -31,37 +31,22 @@ fn label_at(func: &Func, place: usize) -> Option<usize>
     None
 }
 
-fn reversed(alloc: Global, items: &[usize]) -> Result<Vec<usize>, NoMemory> {
-    let mut list = Vec::new(alloc);
-    for number in 0..items.len() {
-        push(&mut list, items[items.len() - 1 - number])?;
-    }
-    Ok(list)
-}
-
-// The items of the first way to an item, and the item itself.
-fn way_by(alloc: Global, before: &[usize], item: usize) -> Result<Vec<usize>, NoMemory> {
-    let mut back = Vec::new(alloc);
+// The items of the first way to an item, and the item itself, found from that one back.
+fn way_through(alloc: Global, before: &[usize], item: usize) -> Result<Vec<usize>> {
+    let mut way = Vec::new(alloc);
     let mut at = item;
     for _turn in 0..before.len() {
         if at > 0 && at < before.len() {
-            push(&mut back, at)?;
+            push(&mut way, at)?;
             at = before[at];
         }
     }
-    push(&mut back, 0)?;
-    reversed(alloc, &back)
+    push(&mut way, 0)?;
+    way.reverse();
+    Ok(way)
 }
 
-// The items of the first way to a place.
-fn first_way(alloc: Global, before: &[usize], place: usize) -> Result<Vec<usize>, NoMemory> {
-    if place == 0 || place >= before.len() {
-        return Ok(Vec::new(alloc));
-    }
-    way_by(alloc, before, before[place])
-}
-
-fn place_of(func: &Func, label: usize) -> usize
+fn label_place(func: &Func, label: usize) -> usize
     requires { label < length func.now.labels }
     ensures { result ≡ (label_of func.now label).item }
 {
@@ -69,18 +54,18 @@ fn place_of(func: &Func, label: usize) -> usize
 }
 
 // Both ways, if they lead to the label and hold different resources.
-fn ways_if(
+fn differing_ways(
     alloc: Global,
     func: &Func,
     label: usize,
     one: Vec<usize>,
     other: Vec<usize>,
-) -> Result<Option<OtherWays>, NoMemory>
+) -> Result<Option<OtherWays>>
     requires labels { HasItsLabels func.now }
     requires known { label < length func.now.labels }
     ensures { IfOk result (λ found. IfSome found (AreOtherWays func.now)) }
 {
-    let place = place_of(func, label);
+    let place = label_place(func, label);
     let Some(one) = holding_way(alloc, func, place, one)? else {
         return Ok(None);
     };
@@ -95,31 +80,32 @@ fn ways_if(
 }
 
 // The two ways that meet.
-fn ways_at(
+fn meeting_ways(
     alloc: Global,
     func: &Func,
     before: &[usize],
-    meeting: Meeting,
-) -> Result<Option<OtherWays>, NoMemory>
+    meeting: Step,
+) -> Result<Option<OtherWays>>
     requires { HasItsLabels func.now }
     ensures { IfOk result (λ found. IfSome found (AreOtherWays func.now)) }
 {
-    let Some(label) = label_at(func, meeting.place) else {
+    let Some(label) = first_label(func, meeting.place) else {
         return Ok(None);
     };
-    let one = first_way(alloc, before, meeting.place)?;
-    let other = way_by(alloc, before, meeting.item)?;
-    ways_if(alloc, func, label, one, other)
+    let mut one = way_through(alloc, before, meeting.place)?;
+    one.pop();
+    let other = way_through(alloc, before, meeting.item)?;
+    differing_ways(alloc, func, label, one, other)
 }
 
 /// The first two ways through a body that meet at a label with different resources held, if some do.
-pub fn other_ways(alloc: Global, func: &Func) -> Result<Option<OtherWays>, NoMemory>
+pub fn other_ways(alloc: Global, func: &Func) -> Result<Option<OtherWays>>
     requires { HasItsLabels func.now }
     ensures { IfOk result (λ found. IfSome found (AreOtherWays func.now)) }
 {
     let ways = body_ways(alloc, func)?;
     match ways.meeting {
-        Some(meeting) => ways_at(alloc, func, ways.before.items(), meeting),
+        Some(meeting) => meeting_ways(alloc, func, ways.before.items(), meeting),
         None => Ok(None),
     }
 }

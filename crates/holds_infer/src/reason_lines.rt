@@ -5,13 +5,13 @@ ghost use Rattle.holds_infer.specs.LabelAnswers.{led_line, holding_lines, label_
 use crate::holding_ways::HoldingWay;
 use crate::other_ways::OtherWays;
 use command_line::code_text;
-use sloth_base::{Config, Func, NoMemory, Refusal};
+use sloth_base::{Config, Func, Refusal, Result};
 use std::alloc::Global;
 use text_pieces::line;
 use text_pieces::pieces::Piece::{Number, Word};
 use why_text::{label_line, label_name, push_list_line, push_way_line};
 
-fn push_led(text: &mut Vec<u8>, func: &Func, items: &[usize]) -> Result<(), NoMemory>
+fn push_led(text: &mut Vec<u8>, func: &Func, items: &[usize]) -> Result<()>
     ensures { OnOk result (text.new.items ≡ text.old.items ++ led_line func.now items.now) }
 {
     if items.is_empty() {
@@ -21,36 +21,11 @@ fn push_led(text: &mut Vec<u8>, func: &Func, items: &[usize]) -> Result<(), NoMe
 }
 
 // A way, and what it holds.
-fn push_holding(
-    text: &mut Vec<u8>,
-    config: &Config,
-    func: &Func,
-    way: &HoldingWay,
-) -> Result<(), NoMemory>
+fn push_holding(text: &mut Vec<u8>, config: &Config, func: &Func, way: &HoldingWay) -> Result<()>
     ensures { OnOk result (text.new.items ≡ text.old.items ++ holding_lines config.now func.now way.now) }
 {
     push_led(text, func, way.items.items())?;
     push_list_line(text, config, b"holds", way.held.items())
-}
-
-fn push_label(text: &mut Vec<u8>, func: &Func, label: usize) -> Result<(), NoMemory>
-    ensures { OnOk result (text.new.items ≡ text.old.items ++ label_line func.now label) }
-{
-    let line = label_line(func, label);
-    line!(text; Word(b"label "), Number(line), Word(b" "), Word(label_name(func, label)), Word(b"\n"))
-}
-
-fn push_ways(
-    text: &mut Vec<u8>,
-    config: &Config,
-    func: &Func,
-    ways: &OtherWays,
-) -> Result<(), NoMemory>
-    ensures { OnOk result (text.new.items ≡ text.old.items ++ other_ways_lines config.now func.now ways.now) }
-{
-    push_label(text, func, ways.label)?;
-    push_holding(text, config, func, &ways.one)?;
-    push_holding(text, config, func, &ways.other)
 }
 
 /// The lines of two ways to a label.
@@ -59,22 +34,25 @@ pub fn other_ways_lines(
     config: &Config,
     func: &Func,
     ways: &OtherWays,
-) -> Result<Vec<u8>, NoMemory>
+) -> Result<Vec<u8>>
     ensures { IfOk result (λ text. text.items ≡ other_ways_lines config.now func.now ways.now) }
 {
     let mut text = Vec::new(alloc);
-    push_ways(&mut text, config, func, ways)?;
+    let line = label_line(func, ways.label);
+    line!(&mut text; Word(b"label "), Number(line), Word(b" "), Word(label_name(func, ways.label)), Word(b"\n"))?;
+    push_holding(&mut text, config, func, &ways.one)?;
+    push_holding(&mut text, config, func, &ways.other)?;
     Ok(text)
 }
 
-fn push_rule(text: &mut Vec<u8>, refusal: Refusal) -> Result<(), NoMemory>
+fn push_rule(text: &mut Vec<u8>, refusal: Refusal) -> Result<()>
     ensures { OnOk result (text.new.items ≡ text.old.items ++ rule_line refusal) }
 {
     line!(text; Word(b"rule "), Number(refusal.line), Word(b" "), Word(code_text(refusal.code)), Word(b"\n"))
 }
 
 /// The line of a rule, and these lines.
-pub fn rule_lines(alloc: Global, refusal: Refusal, behind: &[u8]) -> Result<Vec<u8>, NoMemory>
+pub fn rule_lines(alloc: Global, refusal: Refusal, behind: &[u8]) -> Result<Vec<u8>>
     ensures { IfOk result (λ text. text.items ≡ rule_line refusal ++ behind.now) }
 {
     let mut text = Vec::new(alloc);

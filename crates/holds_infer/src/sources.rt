@@ -52,8 +52,8 @@ impl From<InferError> for FillError {
     }
 }
 
-/// The source with the list of each label filled in; or that no lists keep every rule; or the first refusal of the texts, the rules V2 to
-/// V12 aside. Each text has at most 4,294,967,294 bytes.
+/// The source with the list of each label filled in; or that no lists keep every rule; or the first refusal of the
+/// texts, the rules V2 to V12 aside. Each text has at most 4,294,967,294 bytes.
 pub fn fill_source(alloc: Global, oil: &[u8], src: &[u8]) -> Result<Vec<u8>, FillError>
     requires oil { length oil.now < 4294967295 }
     requires src { length src.now < 4294967295 }
@@ -66,7 +66,6 @@ pub fn fill_source(alloc: Global, oil: &[u8], src: &[u8]) -> Result<Vec<u8>, Fil
 
 // The source with the lists that are found for its task code, or that no lists keep every rule.
 fn fill_ranked(alloc: Global, src: &[u8], ranked: &Ranked) -> Result<Vec<u8>, FillError>
-    requires src { length src.now < 4294967295 }
     requires says { HasApp src.now ranked.now.config ranked.now.app }
     requires in_range { AppInRange ranked.now.config ranked.now.app }
     requires belong { RanksOf ranked.now.app ranked.now.ranks }

@@ -2,36 +2,36 @@
 ghost use Rattle.std.specs.Prelude.{◌≡◌, ◌==◌, ℕ, ◌<◌, length, get_or, None, IfOk, OnOk};
 ghost use Rattle.std.specs.List.{list_any};
 ghost use Rattle.code_rules.specs.Code.{is_in};
+ghost use Rattle.holds_infer.specs.Places.{list_at};
 ghost use Rattle.holds_infer.specs.RightLists.{HasItsLabels};
 ghost use Rattle.holds_infer.specs.Spread.{list_behind, list_after, IsListVisit, AreLists, AreSpreading};
 
-use crate::label_lists::list_at;
-use sloth_base::{Call, Func, List, NoMemory, Op, ResId, Service};
+use sloth_base::{Call, Func, List, Op, ResId, Result, Service};
 use std::alloc::Global;
 use task_verify::{jump_of, next_of};
 use text_pieces::push;
 
-fn is_one_of(held: &[ResId], resource: u32) -> bool
+fn is_any(held: &[ResId], resource: u32) -> bool
     ensures { result ≡ list_any (λ taken. taken == resource) held.now }
 {
     held.iter().any(|taken| taken.0 == resource)
 }
 
 // Whether the resource is held.
-fn is_in(held: &[ResId], resource: u32) -> bool
+fn is_listed(held: &[ResId], resource: u32) -> bool
     ensures { result ≡ is_in resource held.now }
 {
-    is_one_of(held, resource)
+    is_any(held, resource)
 }
 
 // The list behind a service.
-fn list_behind(held: Vec<ResId>, call: Call) -> Result<Vec<ResId>, NoMemory>
+fn list_behind(held: Vec<ResId>, call: Call) -> Result<Vec<ResId>>
     ensures { IfOk result (λ next. next.items ≡ list_behind call.service call.object held.items) }
 {
     let mut held = held;
     match call.service {
         Service::GetResource => {
-            if !is_in(held.as_slice(), call.object) {
+            if !is_listed(held.as_slice(), call.object) {
                 push(&mut held, ResId(call.object))?;
             }
             Ok(held)
@@ -45,13 +45,23 @@ fn list_behind(held: Vec<ResId>, call: Call) -> Result<Vec<ResId>, NoMemory>
 }
 
 // The list behind an operation.
-fn list_after(alloc: Global, held: &[ResId], op: Op) -> Result<Vec<ResId>, NoMemory>
+fn list_after(alloc: Global, held: &[ResId], op: Op) -> Result<Vec<ResId>>
     ensures { IfOk result (λ next. next.items ≡ list_after op held.now) }
 {
     let held = held.to_vec(alloc)?;
     match op {
         Op::Serve(call) => list_behind(held, call),
         _ => Ok(held),
+    }
+}
+
+/// The list at a place, empty where it has none.
+pub fn place_list(lists: &[Option<List<ResId>>], place: usize) -> &[ResId]
+    ensures { result.now ≡ list_at lists.now place }
+{
+    match lists.get(place) {
+        Some(Some(held)) => held.items(),
+        _ => &[],
     }
 }
 
@@ -62,7 +72,7 @@ fn visit(
     pending: &mut Vec<usize>,
     at: usize,
     held: &[ResId],
-) -> Result<(), NoMemory>
+) -> Result<()>
     requires { at < length lists.old }
     ensures { OnOk result (IsListVisit lists.old lists.new pending.old.items pending.new.items at held.now) }
 {
@@ -81,7 +91,7 @@ fn spread(
     func: &Func,
     lists: &mut [Option<List<ResId>>],
     pending: &mut Vec<usize>,
-) -> Result<(), NoMemory>
+) -> Result<()>
     requires labels { HasItsLabels func.now }
     requires spreading { AreSpreading func.now lists.old pending.old.items }
     ensures { OnOk result (AreLists func.now lists.new) }
@@ -90,7 +100,7 @@ fn spread(
         match pending.pop() {
             None => return Ok(()),
             Some(from) => {
-                let behind = list_after(alloc, list_at(lists, from), func.op(from))?;
+                let behind = list_after(alloc, place_list(lists, from), func.op(from))?;
                 visit(
                     alloc,
                     lists,
@@ -111,7 +121,7 @@ fn spread(
 }
 
 /// So many places without a list.
-pub fn no_lists(alloc: Global, count: usize) -> Result<Vec<Option<List<ResId>>>, NoMemory>
+pub fn no_lists(alloc: Global, count: usize) -> Result<Vec<Option<List<ResId>>>>
     ensures count { IfOk result (λ lists. length lists.items ≡ count) }
     ensures clear { IfOk result (λ lists. (i : ℕ) → get_or lists.items i None ≡ None) }
 {
@@ -123,7 +133,7 @@ pub fn no_lists(alloc: Global, count: usize) -> Result<Vec<Option<List<ResId>>>,
 }
 
 /// The lists of all places that paths from the first one, where nothing is held, reach.
-pub fn places(alloc: Global, func: &Func) -> Result<Vec<Option<List<ResId>>>, NoMemory>
+pub fn places(alloc: Global, func: &Func) -> Result<Vec<Option<List<ResId>>>>
     requires labels { HasItsLabels func.now }
     requires some { 0 < length func.now.items }
     ensures { IfOk result (λ lists. AreLists func.now lists.items) }

@@ -6,11 +6,11 @@ ghost use Rattle.holds_infer.specs.WayLists.{IsWayFilling, AreWayFillings, IsWay
 
 use crate::bodies::relisted_func;
 use crate::body_ways::body_ways;
-use sloth_base::{App, Func, List, NoMemory};
+use sloth_base::{App, Func, List, Result};
 use std::alloc::Global;
 use text_pieces::push;
 
-fn way_filling(alloc: Global, func: &Func) -> Result<Func, NoMemory>
+fn way_filling(alloc: Global, func: &Func) -> Result<Func>
     requires { HasItsLabels func.now }
     ensures { IfOk result (IsWayFilling func.now) }
 {
@@ -19,7 +19,7 @@ fn way_filling(alloc: Global, func: &Func) -> Result<Func, NoMemory>
     Ok(made)
 }
 
-fn way_fillings(alloc: Global, funcs: &[Func]) -> Result<Vec<Func>, NoMemory>
+fn way_fillings(alloc: Global, funcs: &[Func]) -> Result<Vec<Func>>
     requires { HaveTheirLabels funcs.now }
     ensures { IfOk result (λ made. AreWayFillings funcs.now made.items) }
 {
@@ -32,7 +32,7 @@ fn way_fillings(alloc: Global, funcs: &[Func]) -> Result<Vec<Func>, NoMemory>
 }
 
 /// The task code with what the first way to each label holds at it; nothing at a label to which no way was found.
-pub fn way_filled(alloc: Global, app: &App) -> Result<App, NoMemory>
+pub fn way_filled(alloc: Global, app: &App) -> Result<App>
     requires { HaveTheirLabels app.now.funcs }
     ensures { IfOk result (IsWayFilled app.now) }
 {

@@ -21,8 +21,8 @@ pub enum ElfFault {
     E6,
     /// The note is not an image's, ends inside a part, or has a number that is out of its limits.
     E7,
-    /// A name is no word of 1 to 64 bytes, two tasks, two functions, two counters, or a counter and a task have one name, a mark is out
-    /// of range, or the marks' addresses do not rise.
+    /// A name is no word of 1 to 64 bytes, two tasks, two functions, two counters, or a counter and a task have one
+    /// name, a mark is out of range, or the marks' addresses do not rise.
     E8,
 }
 

@@ -12,8 +12,8 @@ pub enum ImageFault {
     I1,
     /// The file ends inside a part, or a number of the header is out of its limits.
     I2,
-    /// A name is no word of 1 to 64 bytes, two tasks, two functions, two counters, or a counter and a task have one name, or a mark is
-    /// out of range.
+    /// A name is no word of 1 to 64 bytes, two tasks, two functions, two counters, or a counter and a task have one
+    /// name, or a mark is out of range.
     I3,
     /// The marks' addresses do not rise.
     I4,

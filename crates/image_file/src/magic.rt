@@ -2,10 +2,10 @@
 ghost use Rattle.std.specs.Prelude.{◌≡◌, ◌++◌, OnOk};
 ghost use Rattle.image_file.specs.Fields.{magic_bytes};
 
-use sloth_base::NoMemory;
+use sloth_base::Result;
 
 /// Appends the magic bytes of an image with so many counters.
-pub fn put_magic(file: &mut Vec<u8>, counters: u32) -> Result<(), NoMemory>
+pub fn put_magic(file: &mut Vec<u8>, counters: u32) -> Result<()>
     ensures { OnOk result (file.new.items ≡ file.old.items ++ magic_bytes counters) }
 {
     if counters == 0 {

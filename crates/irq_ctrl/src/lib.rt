@@ -1,7 +1,7 @@
 //! The interrupt controller of the machine: 32 lines, each with a pending, an enable and a level byte.
 //!
-//! It finds the greatest line that may be taken, and has its bytes (`Controller`). What it does is defined in `sloth_base` (`Lines`, `Choose`,
-//! `Take`); the controller as the machine starts in `specs/Fresh`.
+//! It finds the greatest line that may be taken, and has its bytes (`Controller`). What it does is defined in
+//! `sloth_base` (`Lines`, `Choose`, `Take`); the controller as the machine starts in `specs/Fresh`.
 #![tactic(auto)]
 
 ghost use Rattle.std.specs.Prelude.{◌≡◌, ◌<◌, ◌==◌, slice_set, slice_index};

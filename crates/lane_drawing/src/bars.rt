@@ -1,7 +1,7 @@
 //! The bars of a lane.
 
-/// What a bar shows: the state of a task, and of a running one whose code is executed, its own or the kernel's; the tick of a counter; or generated
-/// kernel code.
+/// What a bar shows: the state of a task, and of a running one whose code is executed, its own or the kernel's; the
+/// tick of a counter; or generated kernel code.
 #[derive(Clone, Copy, PartialEq, Eq)]
 pub enum Look {
     Runs,

@@ -8,7 +8,9 @@ ghost use Rattle.lane_drawing.specs.Drawing.{look_class, look_word, look_height,
 
 use crate::scale::push_pixels;
 use crate::{Bar, Look, Scale};
-use sloth_base::NoMemory;
+use sloth_base::Result;
+use text_pieces::line;
+use text_pieces::pieces::Piece::{Number, Word};
 use trace_text::LineText;
 
 fn look_class(look: Look) -> &'static [u8]
@@ -98,7 +100,7 @@ pub fn push_bar(
     middle: u32,
     words: &[u8],
     bar: Bar,
-) -> Result<(), NoMemory>
+) -> Result<()>
     requires scale { IsScale scale }
     requires name { length name.now ≤ name_limit }
     requires low { 12 ≤ middle }
@@ -111,39 +113,19 @@ pub fn push_bar(
     Ok(())
 }
 
-// The name of a lane, and the line below it.
-#[tactic(auto, unfolding(crate::specs::Drawing::lane_line))]
-fn lane_line(scale: Scale, name: &[u8], middle: u32) -> LineText
-    requires scale { IsScale scale }
-    requires name { length name.now ≤ name_limit }
-    requires low { middle ≤ 2000 }
-    ensures { result ≡ lane_line scale name.now middle }
-{
-    let (end, base, rule) = (scale.left - 12, middle + 5, middle + 20);
-    let mut line = LineText::new();
-    line.push(b"<text class=\"n\" x=\"");
-    line.push_number(end);
-    line.push(b"\" y=\"");
-    line.push_number(base);
-    line.push(b"\" text-anchor=\"end\">");
-    line.push(name);
-    line.push(b"</text><path class=\"g\" d=\"M");
-    line.push_number(scale.left);
-    line.push(b" ");
-    line.push_number(rule);
-    line.push(b"h1020\"/>\n");
-    line
-}
-
 /// Appends the name of a lane, and the line below it.
-pub fn push_name(text: &mut Vec<u8>, scale: Scale, name: &[u8], middle: u32) -> Result<(), NoMemory>
+#[tactic(auto, unfolding(crate::specs::Drawing::lane_line))]
+pub fn push_name(text: &mut Vec<u8>, scale: Scale, name: &[u8], middle: u32) -> Result<()>
     requires scale { IsScale scale }
     requires name { length name.now ≤ name_limit }
     requires low { middle ≤ 2000 }
     ensures { OnOk result (text.new.items ≡ text.old.items ++ lane_line scale name.now middle) }
 {
-    text.extend_from_slice(lane_line(scale, name, middle).bytes())?;
-    Ok(())
+    let (end, base, rule) = (scale.left - 12, middle + 5, middle + 20);
+    line!(text;
+        Word(b"<text class=\"n\" x=\""), Number(end), Word(b"\" y=\""), Number(base),
+        Word(b"\" text-anchor=\"end\">"), Word(name), Word(b"</text><path class=\"g\" d=\"M"),
+        Number(scale.left), Word(b" "), Number(rule), Word(b"h1020\"/>\n"))
 }
 
 /// Appends a lane with its bars.
@@ -153,13 +135,15 @@ pub fn push_lane(
     name: &[u8],
     middle: u32,
     bars: &[Bar],
-) -> Result<(), NoMemory>
+) -> Result<()>
     requires scale { IsScale scale }
     requires name { length name.now ≤ name_limit }
     requires high { 12 ≤ middle }
     requires low { middle ≤ 2000 }
     requires inside { All (IsBarInside scale.from scale.to) bars.now }
-    ensures { OnOk result (text.new.items ≡ text.old.items ++ (lane_line scale name.now middle ++ flat_map (bar_line scale name.now middle []) bars.now)) }
+    ensures { OnOk result (text.new.items
+        ≡ text.old.items ++ (lane_line scale name.now middle
+        ++ flat_map (bar_line scale name.now middle []) bars.now)) }
 {
     push_name(text, scale, name, middle)?;
     for bar in bars {

@@ -1,11 +1,12 @@
 //! What stands round the lanes: the size, the looks, the axis and the legend.
 ghost use Rattle.std.specs.Prelude.{◌≡◌, ◌≤◌, ◌++◌, OnOk, map};
 ghost use Rattle.lane_drawing.specs.Scale.{IsScale, first_multiple, last_multiple};
-ghost use Rattle.lane_drawing.specs.Drawing.{all_lines, head_line, style_lines, title_line, head_lines, count_line, axis_line, axis_lines, legend_line, legend_lines};
+ghost use Rattle.lane_drawing.specs.Drawing.{all_lines, head_line, head_lines, count_line, axis_line};
+ghost use Rattle.lane_drawing.specs.Drawing.{axis_lines, legend_lines};
 
 use crate::Scale;
 use crate::scale::push_pixels;
-use sloth_base::NoMemory;
+use sloth_base::Result;
 use text_pieces::line;
 use text_pieces::pieces::Piece::{Number, Word};
 use trace_text::LineText;
@@ -31,7 +32,8 @@ fn head_line(scale: Scale, rows: u32) -> LineText
     line
 }
 
-// How each class looks, on light and on dark screens, that paper has the whole width, what is behind all, and the unit of the axis, above its end.
+// How each class looks, on light and on dark screens, that paper has the whole width, what is behind all, and the unit
+// of the axis, above its end.
 const STYLE: [&[u8]; 29] = [
     b"<style>\n",
     b"text,.a{fill:#1a2433}\n",
@@ -65,7 +67,7 @@ const STYLE: [&[u8]; 29] = [
 ];
 
 // Appends lines.
-fn push_lines(text: &mut Vec<u8>, lines: &[&[u8]]) -> Result<(), NoMemory>
+fn push_lines(text: &mut Vec<u8>, lines: &[&[u8]]) -> Result<()>
     ensures { OnOk result (text.new.items ≡ text.old.items ++ all_lines (map (λ line. line.now) lines.now)) }
 {
     for line in lines {
@@ -74,34 +76,18 @@ fn push_lines(text: &mut Vec<u8>, lines: &[&[u8]]) -> Result<(), NoMemory>
     Ok(())
 }
 
-// Appends the first line, how each class looks, on light and on dark screens, and the unit of the axis.
-fn push_style(text: &mut Vec<u8>, scale: Scale, rows: u32) -> Result<(), NoMemory>
-    requires scale { IsScale scale }
-    requires rows { rows ≤ 33 }
-    ensures { OnOk result (text.new.items ≡ text.old.items ++ (head_line scale rows ++ style_lines)) }
-{
-    text.extend_from_slice(head_line(scale, rows).bytes())?;
-    push_lines(text, &STYLE)
-}
-
-// Appends which counts are shown, above the axis.
-#[tactic(auto, unfolding(crate::specs::Drawing::title_line))]
-fn push_title(text: &mut Vec<u8>, scale: Scale) -> Result<(), NoMemory>
-    ensures { OnOk result (text.new.items ≡ text.old.items ++ title_line scale) }
-{
-    line!(text;
-        Word(b"<text x=\""), Number(scale.left), Word(b"\" y=\"16\">counts "), Number(scale.from),
-        Word(b" to "), Number(scale.to), Word(b"</text>\n"))
-}
-
 /// Appends the first line, how each class looks, the unit of the axis, and which counts are shown.
-pub fn push_head(text: &mut Vec<u8>, scale: Scale, rows: u32) -> Result<(), NoMemory>
+#[tactic(auto, unfolding(crate::specs::Drawing::title_line))]
+pub fn push_head(text: &mut Vec<u8>, scale: Scale, rows: u32) -> Result<()>
     requires scale { IsScale scale }
     requires rows { rows ≤ 33 }
     ensures { OnOk result (text.new.items ≡ text.old.items ++ head_lines scale rows) }
 {
-    push_style(text, scale, rows)?;
-    push_title(text, scale)
+    text.extend_from_slice(head_line(scale, rows).bytes())?;
+    push_lines(text, &STYLE)?;
+    line!(text;
+        Word(b"<text x=\""), Number(scale.left), Word(b"\" y=\"16\">counts "), Number(scale.from),
+        Word(b" to "), Number(scale.to), Word(b"</text>\n"))
 }
 
 // A count on the axis, with a line down through so many rows.
@@ -139,7 +125,7 @@ fn axis_line(scale: Scale, rows: u32, i: u32) -> LineText
 }
 
 /// Appends the axis.
-pub fn push_axis(text: &mut Vec<u8>, scale: Scale, rows: u32) -> Result<(), NoMemory>
+pub fn push_axis(text: &mut Vec<u8>, scale: Scale, rows: u32) -> Result<()>
     requires scale { IsScale scale }
     requires rows { rows ≤ 33 }
     ensures { OnOk result (text.new.items ≡ text.old.items ++ axis_lines scale rows) }
@@ -148,22 +134,6 @@ pub fn push_axis(text: &mut Vec<u8>, scale: Scale, rows: u32) -> Result<(), NoMe
         text.extend_from_slice(axis_line(scale, rows, i).bytes())?;
     }
     Ok(())
-}
-
-// Where the legend stands, below so many rows.
-#[tactic(auto, unfolding(crate::specs::Drawing::legend_line))]
-fn legend_line(scale: Scale, rows: u32) -> LineText
-    requires scale { IsScale scale }
-    requires rows { rows ≤ 33 }
-    ensures { result ≡ legend_line scale rows }
-{
-    let mut line = LineText::new();
-    line.push(b"<g transform=\"translate(");
-    line.push_number(scale.left);
-    line.push(b" ");
-    line.push_number(60 + 40 * rows);
-    line.push(b")\">\n");
-    line
 }
 
 // What the looks and the marks mean.
@@ -182,12 +152,15 @@ const LEGEND: [&[u8]; 12] = [
     b"</g>\n",
 ];
 
-/// Appends what the looks and the marks mean.
-pub fn push_legend(text: &mut Vec<u8>, scale: Scale, rows: u32) -> Result<(), NoMemory>
+/// Appends what the looks and the marks mean, below so many rows.
+#[tactic(auto, unfolding(crate::specs::Drawing::legend_line))]
+pub fn push_legend(text: &mut Vec<u8>, scale: Scale, rows: u32) -> Result<()>
     requires scale { IsScale scale }
     requires rows { rows ≤ 33 }
     ensures { OnOk result (text.new.items ≡ text.old.items ++ legend_lines scale rows) }
 {
-    text.extend_from_slice(legend_line(scale, rows).bytes())?;
+    line!(text;
+        Word(b"<g transform=\"translate("), Number(scale.left), Word(b" "), Number(60 + 40 * rows),
+        Word(b")\">\n"))?;
     push_lines(text, &LEGEND)
 }

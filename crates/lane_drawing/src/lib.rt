@@ -1,10 +1,10 @@
 //! Lanes of bars over counts, drawn as SVG 1.1.
 //!
-//! Each line of the drawing is as defined (`push_lane`, `push_name`, `push_bar`, `push_axis`, `push_head`, `push_legend`; `specs/Drawing`). The bars of a
-//! lane are its longest stretches of counts that show the same, and no others, as its counts come; places in hundredths of a pixel, the axis' step
-//! and multiples, and the lines of arrivals, wakings and expiries are as defined (`Strip`, `Scale`, `push_pixels`, `arrival_line`, `arrow_line`, `expiry_line`; `specs/Bars`, `specs/Strips`,
-//! `specs/Scale`, `specs/Arrivals`, `specs/Marks`); and so is what a bar shows of a task's state (`task_look`; `specs/TaskLooks`),
-//! and whether a task is woken or activated, or an alarm's ticks are over (`is_woken`, `is_activated`, `is_over`; `specs/Signs`). A line in its buffer: `trace_text`.
+//! Each line of the drawing is as defined (`push_lane`, `push_name`, `push_bar`, ..; `specs/Drawing`). The bars of a
+//! lane are its longest stretches of counts that show the same, and no others (`Strip`; `specs/Bars`, `specs/Strips`).
+//! Places, in hundredths of a pixel, and the lines of arrivals, wakings and expiries: `specs/Scale`, `specs/Arrivals`,
+//! `specs/Marks`; what a bar shows of a task's state, and when a task is woken or activated, or an alarm expires:
+//! `specs/TaskLooks`, `specs/Signs`.
 #![tactic(auto)]
 
 pub mod arrivals;

@@ -19,7 +19,8 @@ fn arrow_head(down: bool) -> &'static [u8]
     }
 }
 
-/// A thin line at a count, from one height to another, with a head there: it says who does what to a task, as ` wakes `.
+/// A thin line at a count, from one height to another, with a head there: it says who does what to a task, as
+/// ` wakes `.
 #[tactic(auto, unfolding(crate::specs::Marks::arrow_line))]
 pub fn arrow_line(
     scale: Scale,

@@ -1,7 +1,8 @@
 //! Where counts stand in a picture.
 ghost use Rattle.std.specs.Prelude.{◌≡◌, ◌≤◌, ◌+◌, ◌++◌, length};
 ghost use Rattle.sloth_base.specs.Limits.{picture_limit, count_limit};
-ghost use Rattle.lane_drawing.specs.Scale.{IsScale, span, place, pixels, axis_step, steps, first_step, first_multiple, last_multiple};
+ghost use Rattle.lane_drawing.specs.Scale.{IsScale, span, place, pixels, axis_step, steps, first_step, first_multiple};
+ghost use Rattle.lane_drawing.specs.Scale.{last_multiple};
 
 use trace_text::LineText;
 
@@ -14,7 +15,7 @@ pub struct Scale {
 }
 
 // The first step that goes at most 12 times into so many counts, or 10,000.
-fn step_for(counts: u32) -> u32
+fn first_step(counts: u32) -> u32
     ensures is { result ≡ first_step steps counts }
     ensures some { 1 ≤ result }
     ensures short { result ≤ 10000 }
@@ -66,7 +67,7 @@ impl Scale {
         ensures some { 1 ≤ result }
         ensures short { result ≤ 10000 }
     {
-        step_for(self.span())
+        first_step(self.span())
     }
 
     /// The first multiple of the axis' step that is a count of the picture, as how often the step is taken.

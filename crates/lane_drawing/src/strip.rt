@@ -3,7 +3,7 @@ ghost use Rattle.std.specs.Prelude.{◌≡◌, ◌++◌, OnOk, true, false};
 ghost use Rattle.lane_drawing.specs.Strips.{IsFreshStrip, ShowsMore, last_bar};
 
 use crate::{Bar, Look};
-use sloth_base::NoMemory;
+use sloth_base::{NoMemory, Result};
 use std::alloc::Global;
 use std::marker::Model;
 
@@ -43,7 +43,7 @@ impl Strip {
     }
 
     /// The bar of what was shown last ends below this count.
-    pub fn close(&mut self, count: u32) -> Result<(), NoMemory>
+    pub fn close(&mut self, count: u32) -> Result<()>
         ensures bars { OnOk result (self.new.bars ≡ self.old.bars ++ last_bar self.old count) }
         ensures shown { self.new.shown ≡ self.old.shown }
     {
@@ -66,7 +66,7 @@ impl Strip {
     }
 
     /// What the lane shows at a count.
-    pub fn show(&mut self, count: u32, look: Option<Look>) -> Result<(), NoMemory>
+    pub fn show(&mut self, count: u32, look: Option<Look>) -> Result<()>
         ensures { OnOk result (ShowsMore count look self.old self.new) }
     {
         if is_same(self.shown, look) {

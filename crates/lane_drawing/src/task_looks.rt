@@ -1,18 +1,9 @@
 //! What a bar shows of a task's state.
 ghost use Rattle.std.specs.Prelude.{◌≡◌};
-ghost use Rattle.lane_drawing.specs.TaskLooks.{active_look, task_look};
+ghost use Rattle.lane_drawing.specs.TaskLooks.{task_look};
 
 use crate::Look;
 use osek_scheduler::TaskState;
-
-fn active_look(runs: bool, kernel: bool) -> Look
-    ensures { result ≡ active_look runs kernel }
-{
-    if !runs {
-        return Look::Preempted;
-    }
-    if kernel { Look::Served } else { Look::Runs }
-}
 
 /// The look of a task: an Active one runs, its own code or the kernel's, or is preempted; a Suspended one has none.
 pub fn task_look(state: TaskState, runs: bool, kernel: bool) -> Option<Look>
@@ -21,7 +12,8 @@ pub fn task_look(state: TaskState, runs: bool, kernel: bool) -> Option<Look>
     match state {
         TaskState::Suspended => None,
         TaskState::Ready => Some(Look::Ready),
-        TaskState::Active => Some(active_look(runs, kernel)),
+        TaskState::Active if !runs => Some(Look::Preempted),
+        TaskState::Active => Some(if kernel { Look::Served } else { Look::Runs }),
         TaskState::Waiting(_) => Some(Look::Waiting),
     }
 }

@@ -1,8 +1,8 @@
-//! Which refusal is answered where a text has several faults: the one of the least line, and on that line of the least number. A rule says its faults
-//! as a set of refusals, finds the least of them, and the findings of rules are merged.
+//! Which refusal is answered where a text has several faults: the one of the least line, and on that line of the least
+//! number. A rule says its faults as a set of refusals, finds the least of them, and the findings of rules are merged.
 //!
-//! Searches that are merged find the least fault of all (`merge`, `lesser`, `fault_if`). Defined here: the order of refusals (`specs/Order`), and what a
-//! search has found (`specs/Search`).
+//! Searches that are merged find the least fault of all (`merge`, `lesser`, `fault_if`). Defined here: the order of
+//! refusals (`specs/Order`), and what a search has found (`specs/Search`).
 #![tactic(auto)]
 
 ghost use Rattle.std.specs.Prelude.{◌≡◌};

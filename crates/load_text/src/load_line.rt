@@ -3,7 +3,8 @@ ghost use Rattle.std.specs.Prelude.{◌≡◌, ◌≤◌};
 ghost use Rattle.std.specs.List.{list_any};
 ghost use Rattle.least_fault.specs.Search.{IsSearchResult};
 ghost use Rattle.text_pieces.specs.Digits.{capped_value};
-ghost use Rattle.load_text.specs.LoadText.{load_limit, form_named, is_entry, form_of, number_of, owner_by, owner_of, entry_of, is_form, is_of, is_said, is_outside};
+ghost use Rattle.load_text.specs.LoadText.{load_limit, form_named, is_entry, form_of, number_of, owner_by};
+ghost use Rattle.load_text.specs.LoadText.{owner_of, entry_of, is_of, is_said, is_outside};
 ghost use Rattle.load_text.specs.LoadText.{is_l1, is_l2, is_l3, is_l4, LineFault, owner_text, number_text, form_text};
 
 use crate::entry::LOAD_LIMIT;
@@ -57,7 +58,7 @@ pub fn is_entry(line: &[u8]) -> bool
         && (is_name(owner_text(line)) && are_digits(number_text(line)))
 }
 
-fn form_of(line: &[u8]) -> Form
+fn line_form(line: &[u8]) -> Form
     ensures { result ≡ form_of line.now }
 {
     match form_named(form_text(line)) {
@@ -75,7 +76,7 @@ fn number(line: &[u8]) -> u64
 }
 
 // The line of the owner of a name, for a form.
-fn owner_by(tasks: &[Name], counters: &[Name], form: Form, name: &[u8]) -> Option<u8>
+fn named_owner(tasks: &[Name], counters: &[Name], form: Form, name: &[u8]) -> Option<u8>
     ensures { result ≡ owner_by tasks.now counters.now form name.now }
 {
     match form {
@@ -84,43 +85,34 @@ fn owner_by(tasks: &[Name], counters: &[Name], form: Form, name: &[u8]) -> Optio
     }
 }
 
-fn owner_of(tasks: &[Name], counters: &[Name], line: &[u8]) -> Option<u8>
+fn line_owner(tasks: &[Name], counters: &[Name], line: &[u8]) -> Option<u8>
     ensures { result ≡ owner_of tasks.now counters.now line.now }
 {
-    owner_by(tasks, counters, form_of(line), owner_text(line))
+    named_owner(tasks, counters, line_form(line), owner_text(line))
 }
 
 /// The entry of a line, whose number is at most `LOAD_LIMIT`.
-pub fn entry_of(tasks: &[Name], counters: &[Name], line: &[u8]) -> Entry
+pub fn line_entry(tasks: &[Name], counters: &[Name], line: &[u8]) -> Entry
     requires { number_of line.now ≤ load_limit }
     ensures { result ≡ entry_of tasks.now counters.now line.now }
 {
     let number = number(line) as u32;
-    let owner = owner_of(tasks, counters, line).unwrap_or(0);
+    let owner = line_owner(tasks, counters, line).unwrap_or(0);
     Entry {
-        form: form_of(line),
+        form: line_form(line),
         owner: Line(owner),
         number,
     }
 }
 
 /// Whether an entry is of this form and of the owner of this line.
-pub fn is_of(form: Form, owner: u8, entry: &Entry) -> bool
+pub fn concerns(form: Form, owner: u8, entry: &Entry) -> bool
     ensures { result ≡ is_of form owner entry.now }
 {
-    is_form(entry.form, form) && entry.owner.0 == owner
-}
-
-fn is_form(one: Form, other: Form) -> bool
-    ensures { result ≡ is_form one other }
-{
-    match (one, other) {
-        (Form::Every, Form::Every) => true,
-        (Form::Work, Form::Work) => true,
-        (Form::Deadline, Form::Deadline) => true,
-        (Form::Every, Form::Work) | (Form::Every, Form::Deadline) => false,
-        (Form::Work, Form::Every) | (Form::Work, Form::Deadline) => false,
-        (Form::Deadline, Form::Every) | (Form::Deadline, Form::Work) => false,
+    match (entry.form, form) {
+        (Form::Every, Form::Every) | (Form::Work, Form::Work) | (Form::Deadline, Form::Deadline) =>
+            entry.owner.0 == owner,
+        _ => false,
     }
 }
 
@@ -129,15 +121,15 @@ fn is_said(before: &[Entry], form: Form, owner: Option<u8>) -> bool
     ensures { result ≡ is_said before.now form owner }
 {
     match owner {
-        Some(owner) => is_said_of(before, form, owner),
+        Some(owner) => is_pair_said(before, form, owner),
         None => false,
     }
 }
 
-fn is_said_of(before: &[Entry], form: Form, owner: u8) -> bool
+fn is_pair_said(before: &[Entry], form: Form, owner: u8) -> bool
     ensures { result ≡ list_any (is_of form owner) before.now }
 {
-    before.iter().any(|entry| is_of(form, owner, entry))
+    before.iter().any(|entry| concerns(form, owner, entry))
 }
 
 // A line of none of the forms.
@@ -151,14 +143,14 @@ fn is_l1(line: &[u8]) -> bool
 fn is_l2(tasks: &[Name], counters: &[Name], line: &[u8]) -> bool
     ensures { result ≡ is_l2 tasks.now counters.now line.now }
 {
-    is_entry(line) && owner_of(tasks, counters, line).is_none()
+    is_entry(line) && line_owner(tasks, counters, line).is_none()
 }
 
 // A second entry of one form and name.
 fn is_l3(tasks: &[Name], counters: &[Name], before: &[Entry], line: &[u8]) -> bool
     ensures { result ≡ is_l3 tasks.now counters.now before.now line.now }
 {
-    is_entry(line) && is_said(before, form_of(line), owner_of(tasks, counters, line))
+    is_entry(line) && is_said(before, line_form(line), line_owner(tasks, counters, line))
 }
 
 // A number out of range.
@@ -187,12 +179,8 @@ pub fn line_fault(
 {
     let l1 = fault_if(is_l1(line), Part::Load, number, Code::L1);
     let l2 = fault_if(is_l2(tasks, counters, line), Part::Load, number, Code::L2);
-    let l3 = fault_if(
-        is_l3(tasks, counters, before, line),
-        Part::Load,
-        number,
-        Code::L3,
-    );
+    let l3 = is_l3(tasks, counters, before, line);
+    let l3 = fault_if(l3, Part::Load, number, Code::L3);
     let l4 = fault_if(is_l4(line), Part::Load, number, Code::L4);
     merge(l1, merge(l2, merge(l3, l4)))
 }

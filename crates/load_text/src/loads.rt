@@ -2,7 +2,7 @@
 ghost use Rattle.std.specs.Prelude.{◌≡◌};
 ghost use Rattle.load_text.specs.Loads.{said, distance, work, deadline};
 
-use crate::load_line::is_of;
+use crate::load_line::concerns;
 use crate::{Entry, Form};
 
 // The number of the first entry of a form and an owner.
@@ -10,7 +10,7 @@ fn said(form: Form, owner: u8, load: &[Entry]) -> Option<u32>
     ensures { result ≡ said form owner load.now }
 {
     for entry in load {
-        if is_of(form, owner, entry) {
+        if concerns(form, owner, entry) {
             return Some(entry.number);
         }
     }

@@ -7,17 +7,10 @@ ghost use Rattle.load_text.specs.LoadText.{entries_of, load_in, LineFault, Lines
 ghost use Rattle.load_text.specs.Loads.{IsLoad};
 
 use crate::Entry;
-use crate::load_line::{entry_of, is_entry, line_fault};
-use sloth_base::{BuildError, Name, NoMemory};
+use crate::load_line::{is_entry, line_entry, line_fault};
+use sloth_base::{BuildError, Name};
 use std::alloc::Global;
 use text_pieces::{lines, push};
-
-// One more entry, at the end.
-fn push_entry(read: &mut Vec<Entry>, entry: Entry) -> Result<(), NoMemory>
-    ensures { OnOk result (read.new.items ≡ read.old.items ++ entry ∷ []) }
-{
-    push(read, entry)
-}
 
 // Reads a line behind these entries.
 fn read_line(
@@ -31,13 +24,14 @@ fn read_line(
     ensures read { OnOk result (read.new.items ≡ read.old.items ++ entries_of tasks.now counters.now (line.now ∷ [])) }
     ensures in_range { OnOk result (IsLoad (owners_read tasks.now counters.now) read.new.items) }
     ensures none { OnOk result (NoFault (LineFault tasks.now counters.now read.old.items number line.now)) }
-    ensures refused { IfErr result (λ error. ErrorIs (LineFault tasks.now counters.now read.old.items number line.now) error) }
+    ensures refused { IfErr result
+        (λ error. ErrorIs (LineFault tasks.now counters.now read.old.items number line.now) error) }
 {
     if let Some(fault) = line_fault(tasks, counters, read.as_slice(), number, line) {
         return Err(BuildError::Refused(fault));
     }
     if is_entry(line) {
-        push_entry(read, entry_of(tasks, counters, line))?;
+        push(read, line_entry(tasks, counters, line))?;
     }
     Ok(())
 }
@@ -53,17 +47,20 @@ fn read_lines(
     ensures load { IfOk result (λ read. read.items ≡ entries_of tasks.now counters.now (map referent lines.now)) }
     ensures in_range { IfOk result (λ read. IsLoad (owners_read tasks.now counters.now) read.items) }
     ensures none { OnOk result (NoFault (LinesFault tasks.now counters.now (map referent lines.now))) }
-    ensures refused { IfErr result (λ error. ErrorIs (LinesFault tasks.now counters.now (map referent lines.now)) error) }
+    ensures refused { IfErr result
+        (λ error. ErrorIs (LinesFault tasks.now counters.now (map referent lines.now)) error) }
 {
     let mut read = Vec::new(alloc);
     for (n, line) in lines.iter().enumerate() {
-        read_line(&mut read, tasks, counters, n as u32 + 1, *line)?;
+        let number = n as u32 + 1;
+        read_line(&mut read, tasks, counters, number, *line)?;
     }
     Ok(read)
 }
 
-/// The load of a text of at most 4,294,967,294 bytes, with the names of the tasks and of the counters; or its least fault: L1 for a line of no
-/// form, L2 for a name that no owner has, L3 for a second line of one form and name, L4 for a number outside 1 to 2,147,483,647.
+/// The load of a text of at most 4,294,967,294 bytes, with the names of the tasks and of the counters; or its least
+/// fault: L1 for a line of no form, L2 for a name that no owner has, L3 for a second line of one form and name, L4 for
+/// a number outside 1 to 2,147,483,647.
 pub fn read_load(
     alloc: Global,
     text: &[u8],

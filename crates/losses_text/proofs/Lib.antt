@@ -1,5 +1,4 @@
 pub mod Along
 mod Expiries
-mod Following
 mod ReadTexts
 mod RequestLines

@@ -1,5 +1,4 @@
 pub mod Expiries
-pub mod Following
 pub mod Losses
 pub mod NothingLost
 pub mod RequestCounts

@@ -8,7 +8,7 @@ ghost use Rattle.losses_text.specs.Requests.{AreRequests};
 use crate::Request;
 use crate::requests::push_requests;
 use osek_machine::{NotARun, Osek};
-use sloth_base::{App, Config, NoMemory, Stamped};
+use sloth_base::{App, Config, Result, Stamped};
 use std::alloc::Global;
 
 /// What the events of a run of the abstract scheduler ask for, in their order.
@@ -17,7 +17,7 @@ pub fn requests_along(
     config: &Config,
     app: &App,
     events: &[Stamped],
-) -> Result<Vec<Request>, NoMemory>
+) -> Result<Vec<Request>>
     requires well_formed { WellFormed config.now app.now }
     requires run { OsekRun config.now app.now events.now }
     ensures { IfOk result (λ all. AreRequests config.now app.now events.now (opening config.now app.now) all.items) }

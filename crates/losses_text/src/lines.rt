@@ -9,7 +9,7 @@ ghost use Rattle.losses_text.specs.RequestsText.{count_line, task_counts, counte
 use crate::Request;
 use crate::request::{came_count, first_lost, lost_count, taken_count};
 use itoa::Buffer;
-use sloth_base::{FIRST_COUNTER_LINE, Image, NoMemory};
+use sloth_base::{FIRST_COUNTER_LINE, Image, Result};
 use std::alloc::Global;
 use trace_text::LineText;
 
@@ -53,12 +53,7 @@ fn count_line(name: &[u8], all: &[Request], number: u32) -> LineText
 }
 
 // Appends the line of a task.
-fn push_task(
-    text: &mut Vec<u8>,
-    image: &Image,
-    all: &[Request],
-    task: usize,
-) -> Result<(), NoMemory>
+fn push_task(text: &mut Vec<u8>, image: &Image, all: &[Request], task: usize) -> Result<()>
     requires format { InFormat image.now }
     requires task { task < length image.now.tasks }
     ensures { OnOk result (text.new.items ≡ text.old.items ++ count_line (get_or image.now.tasks task []) all.now task) }
@@ -69,12 +64,7 @@ fn push_task(
 }
 
 // Appends the line of a counter.
-fn push_counter(
-    text: &mut Vec<u8>,
-    image: &Image,
-    all: &[Request],
-    counter: usize,
-) -> Result<(), NoMemory>
+fn push_counter(text: &mut Vec<u8>, image: &Image, all: &[Request], counter: usize) -> Result<()>
     requires format { InFormat image.now }
     requires counter { counter < length image.now.counters }
     ensures { OnOk result (text.new.items ≡ text.old.items ++ count_line (get_or image.now.counters counter []) all.now (counter_line counter)) }
@@ -86,12 +76,7 @@ fn push_counter(
 }
 
 // Appends the lines of the tasks.
-fn push_tasks(
-    text: &mut Vec<u8>,
-    image: &Image,
-    all: &[Request],
-    tasks: usize,
-) -> Result<(), NoMemory>
+fn push_tasks(text: &mut Vec<u8>, image: &Image, all: &[Request], tasks: usize) -> Result<()>
     requires format { InFormat image.now }
     requires tasks { tasks ≡ length image.now.tasks }
     ensures { OnOk result (text.new.items ≡ text.old.items ++ task_counts image.now all.now tasks) }
@@ -103,12 +88,7 @@ fn push_tasks(
 }
 
 // Appends the lines of the counters.
-fn push_counters(
-    text: &mut Vec<u8>,
-    image: &Image,
-    all: &[Request],
-    counters: usize,
-) -> Result<(), NoMemory>
+fn push_counters(text: &mut Vec<u8>, image: &Image, all: &[Request], counters: usize) -> Result<()>
     requires format { InFormat image.now }
     requires counters { counters ≡ length image.now.counters }
     ensures { OnOk result (text.new.items ≡ text.old.items ++ counter_counts image.now all.now counters) }
@@ -120,7 +100,7 @@ fn push_counters(
 }
 
 /// What is printed of the requests of a run: a line for each task of the image, then one for each counter.
-pub fn requests_text(alloc: Global, image: &Image, all: &[Request]) -> Result<Vec<u8>, NoMemory>
+pub fn requests_text(alloc: Global, image: &Image, all: &[Request]) -> Result<Vec<u8>>
     requires { InFormat image.now }
     ensures { IfOk result (λ text. text.items ≡ requests_text image.now all.now) }
 {

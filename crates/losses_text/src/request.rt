@@ -1,7 +1,7 @@
 //! Requests, and how many there are.
 ghost use Rattle.std.specs.Prelude.{◌≡◌};
 ghost use Rattle.std.specs.Option.{option_map};
-ghost use Rattle.losses_text.specs.RequestCounts.{is_of, is_taken_of, is_lost_of, came_count, taken_count, lost_count, first_lost};
+ghost use Rattle.losses_text.specs.RequestCounts.{came_count, taken_count, lost_count, first_lost};
 
 /// A request: that a task be activated, or that a counter tick.
 #[derive(Clone, Copy)]

@@ -3,7 +3,6 @@ ghost use Rattle.std.specs.Prelude.{◌≡◌, ◌≤◌, ◌++◌, [], false, t
 ghost use Rattle.sloth_base.specs.Limits.{counter_limit};
 ghost use Rattle.osek_scheduler.specs.State.{task as task_of};
 ghost use Rattle.osek_scheduler.specs.Services.{if_suspended};
-ghost use Rattle.losses_text.specs.RequestCounts.{is_of};
 ghost use Rattle.losses_text.specs.Expiries.{expiries, expiry, is_asked};
 ghost use Rattle.losses_text.specs.Requests.{activation, call_request, event_requests, is_busy, next_call, service_request, tick, tick_requests};
 
@@ -11,7 +10,7 @@ use crate::Request;
 use osek_machine::{Osek, Store, call_in, own_operation};
 use osek_scheduler::TaskState;
 use sloth_base::{
-    Action, App, Call, Config, Event, FIRST_COUNTER_LINE, NoMemory, Service, Stamped,
+    Action, App, Call, Config, Event, FIRST_COUNTER_LINE, NoMemory, Result, Service, Stamped,
 };
 use std::alloc::Global;
 use text_pieces::push;
@@ -20,10 +19,7 @@ use text_pieces::push;
 fn is_busy_state(state: TaskState) -> bool
     ensures { result ≡ if_suspended state false true }
 {
-    match state {
-        TaskState::Suspended => false,
-        TaskState::Ready | TaskState::Active | TaskState::Waiting(_) => true,
-    }
+    !matches!(state, TaskState::Suspended)
 }
 
 // Whether a task is not Suspended.
@@ -71,13 +67,7 @@ fn is_asked(before: &[Request], line: u32) -> bool
 }
 
 // Appends what an alarm asks for as it counts a tick.
-fn push_expiry(
-    all: &mut Vec<Request>,
-    store: &Store,
-    does: Action,
-    a: usize,
-    at: u32,
-) -> Result<(), NoMemory>
+fn push_expiry(all: &mut Vec<Request>, store: &Store, does: Action, a: usize, at: u32) -> Result<()>
     ensures { OnOk result (all.new.items ≡ all.old.items ++ expiry does a at all.old.items store.now) }
 {
     match does {
@@ -94,13 +84,7 @@ fn push_expiry(
 }
 
 // What the alarms of a counter ask for as they count a tick, in the order of their numbers.
-fn expiries(
-    alloc: Global,
-    config: &Config,
-    store: &Store,
-    c: u32,
-    at: u32,
-) -> Result<Vec<Request>, NoMemory>
+fn expiries(alloc: Global, config: &Config, store: &Store, c: u32, at: u32) -> Result<Vec<Request>>
     ensures { IfOk result (λ all. all.items ≡ expiries c 0 at config.now.alarms store.now []) }
 {
     let mut all = Vec::new(alloc);
@@ -114,13 +98,7 @@ fn expiries(
 }
 
 // Appends what a tick of a counter asks for.
-fn push_ticks(
-    alloc: Global,
-    all: &mut Vec<Request>,
-    osek: &Osek,
-    c: u32,
-    at: u32,
-) -> Result<(), NoMemory>
+fn push_ticks(alloc: Global, all: &mut Vec<Request>, osek: &Osek, c: u32, at: u32) -> Result<()>
     ensures { OnOk result (all.new.items ≡ all.old.items ++ tick_requests osek.now.config c at osek.now.system) }
 {
     let asked = expiries(alloc, osek.config(), osek.store(), c, at)?;
@@ -164,7 +142,7 @@ fn call_request(app: &App, store: &Store, served: Service, t: u32, at: u32) -> O
 }
 
 // Appends what there is.
-fn push_single(all: &mut Vec<Request>, asked: Option<Request>) -> Result<(), NoMemory>
+fn push_single(all: &mut Vec<Request>, asked: Option<Request>) -> Result<()>
     ensures { OnOk result (all.new.items ≡ all.old.items ++ option_to_list asked) }
 {
     if let Some(request) = asked {
@@ -179,7 +157,7 @@ pub fn push_requests(
     all: &mut Vec<Request>,
     osek: &Osek,
     event: &Stamped,
-) -> Result<(), NoMemory>
+) -> Result<()>
     ensures { OnOk result (all.new.items ≡ all.old.items ++ event_requests osek.now.config osek.now.app event.now osek.now.system) }
 {
     let at = event.stamp.at;
@@ -188,10 +166,7 @@ pub fn push_requests(
         Event::Admit(task) => push(all, activation(store, task, at))?,
         Event::Due(counter) => push_single(all, tick(osek.config(), store, counter, at))?,
         Event::Tick(counter) => push_ticks(alloc, all, osek, counter, at)?,
-        Event::Call { task, service, .. } => {
-            push_single(all, call_request(osek.app(), store, service, task, at))?;
-        }
-        Event::Left { task, service } => {
+        Event::Call { task, service, .. } | Event::Left { task, service } => {
             push_single(all, call_request(osek.app(), store, service, task, at))?;
         }
         _ => {}

@@ -10,10 +10,10 @@ ghost use Rattle.sloth_base.specs.Owners.{owners_in, owners_named};
 ghost use Rattle.losses_text.specs.Losses.{IsLossesText, IsRunText};
 
 use crate::counting::requests_along;
-use crate::events::run_events;
 use crate::lines::requests_text;
-use sloth_base::{App, Arrival, BuildError, Config, Image, NoMemory};
+use sloth_base::{App, Arrival, BuildError, Config, Image, Result};
 use sloth_build::image::image;
+use sloth_runner::run_events;
 use sloth_source::{Source, read};
 use std::alloc::Global;
 use trace_text::read_arrivals;
@@ -26,7 +26,7 @@ fn run_text(
     image: &Image,
     arrivals: &[Arrival],
     n: u32,
-) -> Result<Vec<u8>, NoMemory>
+) -> Result<Vec<u8>>
     requires well_formed { WellFormed config.now app.now }
     requires sound { Sound config.now app.now image.now }
     requires format { InFormat image.now }
@@ -41,8 +41,8 @@ fn run_text(
     Ok(text)
 }
 
-/// For each task and counter how many requests came, were taken and were lost in n instructions of an image of these texts with these arrivals, at most
-/// `COUNT_LIMIT`, and the count of the first that was lost; or the first refusal of the texts. Each text has at most 4 MiB.
+/// How many requests of each task and counter came, were taken and were lost in n instructions (at most `COUNT_LIMIT`)
+/// of the image with these arrivals, and the count of the first lost; or the first refusal. Texts have at most 4 MiB.
 pub fn losses_text(
     alloc: Global,
     oil: &[u8],

@@ -9,7 +9,7 @@ ghost use Rattle.machine_memory.specs.Place.{bytes_at, with_bytes};
 
 use crate::Ram;
 use rv32_instr::{Instr, decode};
-use sloth_base::{NoMemory, Width};
+use sloth_base::{Result, Width};
 use std::alloc::Global;
 use std::marker::Model;
 
@@ -72,7 +72,7 @@ fn keep_same(kept: &mut Vec<Option<Instr>>, other: &[Option<Instr>])
 
 impl CodeRam {
     /// RAM that begins with these bytes; the rest is zero.
-    pub fn new(alloc: Global, image: &[u8]) -> Result<CodeRam, NoMemory>
+    pub fn new(alloc: Global, image: &[u8]) -> Result<CodeRam>
         requires { length image.now ≤ memory_bytes }
         ensures { IfOk result (λ code. code ≡ ram_of image.now) }
     {

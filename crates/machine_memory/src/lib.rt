@@ -1,9 +1,10 @@
-//! The memory of the machine: RAM and the controller's bytes, as loads and stores see them; and where the vector word of each interrupt line stands.
+//! The memory of the machine: RAM and the controller's bytes, as loads and stores see them; and where the vector word
+//! of each interrupt line stands.
 //!
-//! Each load and store is that of the definition, and refused exactly where that refuses it, and a fetch gives the instruction of the word there; the
-//! line that is chosen is the greatest that may be taken (`Bus`, `SlothBus`); the address of a line's vector word (`vector`). The memory as the machine
-//! starts: `specs/Fresh`; how the code has lines and places: `specs/Choice`, `specs/Place`; instructions that are kept: `specs/CodeRam`. RAM keeps
-//! its first bytes alone, as far as they were written (`front`). Loads and stores: `rv32_instr` (`Memory`, `Ram`); lines: `sloth_base` (`Lines`, `Choose`, `Take`).
+//! Each load and store is that of the definition, and refused exactly where that refuses it; a fetch gives the
+//! instruction of the word there; the line that is chosen is the greatest that may be taken (`Bus`, `SlothBus`,
+//! `vector`). The memory as the machine starts: `specs/Fresh`; lines and places: `specs/Choice`, `specs/Place`;
+//! instructions that are kept: `specs/CodeRam`; RAM keeps its first bytes alone, as far as they were written (`front`).
 #![tactic(auto)]
 
 pub mod bus;

@@ -7,7 +7,7 @@ ghost use Rattle.machine_memory.specs.Place.{bytes_at, with_bytes};
 ghost use Rattle.machine_memory.specs.Fresh.{ram_of};
 
 use crate::front::{byte_in, half_in, put_byte, put_half, put_word, reach, word_in};
-use sloth_base::{MEMORY_BYTES, NoMemory, Width};
+use sloth_base::{MEMORY_BYTES, Result, Width};
 use std::alloc::Global;
 use std::marker::Model;
 
@@ -32,7 +32,7 @@ impl Model for Ram {
 
 impl Ram {
     /// RAM that begins with these bytes; the rest is zero.
-    pub fn new(alloc: Global, image: &[u8]) -> Result<Ram, NoMemory>
+    pub fn new(alloc: Global, image: &[u8]) -> Result<Ram>
         requires { length image.now ≤ memory_bytes }
         ensures { IfOk result (λ ram. ram ≡ ram_of image.now) }
     {

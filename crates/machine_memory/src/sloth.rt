@@ -10,7 +10,7 @@ use crate::code_ram::CodeRam;
 use crate::{Bus, Place, extended, locate};
 use irq_ctrl::Controller;
 use rv32_instr::{Bad, Instr};
-use sloth_base::{Image, LEVELS_OFFSET, Line, NoMemory, Width};
+use sloth_base::{Image, LEVELS_OFFSET, Line, Result, Width};
 use std::alloc::Global;
 use std::marker::Model;
 
@@ -32,7 +32,7 @@ impl Model for SlothBus {
 
 impl SlothBus {
     /// RAM that begins with the image's memory, and zero in all else.
-    pub fn new(alloc: Global, image: &Image) -> Result<SlothBus, NoMemory>
+    pub fn new(alloc: Global, image: &Image) -> Result<SlothBus>
         requires { InFormat image.now }
         ensures { IfOk result (λ bus. bus ≡ sloth_start image.now) }
     {

@@ -8,7 +8,8 @@ use crate::object_names::{alarm_name, resource_name};
 use crate::totals::part_sum;
 use crate::{Kind, Part, Row, counter_name, function_name, symbol_name};
 use sloth_base::{
-    App, BLOCK_COUNT, Bounds, Config, NoMemory, ObjectKind, Service, block_object, block_service,
+    App, BLOCK_COUNT, Bounds, Config, NoMemory, ObjectKind, Result, Service, block_object,
+    block_service,
 };
 use std::alloc::Global;
 use text_pieces::pieces::Piece::{Number, Sum, Word};
@@ -16,12 +17,7 @@ use text_pieces::{line, text};
 use trace_text::LineText;
 
 // Appends the object of a service, if it has one, behind a blank.
-fn push_object(
-    text: &mut Vec<u8>,
-    config: &Config,
-    kind: ObjectKind,
-    number: u32,
-) -> Result<(), NoMemory>
+fn push_object(text: &mut Vec<u8>, config: &Config, kind: ObjectKind, number: u32) -> Result<()>
     ensures { OnOk result (text.new.items ≡ text.old.items ++ object_text config.now kind number) }
 {
     match kind {
@@ -38,7 +34,7 @@ fn service_text(
     config: &Config,
     service: Option<Service>,
     number: u32,
-) -> Result<Vec<u8>, NoMemory>
+) -> Result<Vec<u8>>
     ensures { IfOk result (λ text. text.items ≡ service_text config.now service number) }
 {
     let Some(service) = service else {
@@ -51,7 +47,7 @@ fn service_text(
 
 // The service with its object that has a place in the table of the services' code.
 #[tactic(auto, using(crate::proofs::Services::no_service))]
-fn block_text(alloc: Global, config: &Config, number: usize) -> Result<Vec<u8>, NoMemory>
+fn block_text(alloc: Global, config: &Config, number: usize) -> Result<Vec<u8>>
     ensures { IfOk result (λ text. text.items ≡ service_text config.now (block_service number) (block_object number)) }
 {
     if number >= BLOCK_COUNT {
@@ -101,7 +97,7 @@ fn push_piece(
     config: &Config,
     app: &App,
     row: &Row,
-) -> Result<(), NoMemory>
+) -> Result<()>
     ensures { OnOk result (text.new.items ≡
         text.old.items ++ piece_text config.now app.now row.now.kind row.now.number) }
 {
@@ -119,7 +115,7 @@ fn push_piece(
 
 /// The line of a row: its address in hexadecimal digits, its bytes, and what stands there.
 #[tactic(auto, unfolding(crate::specs::MapText::row_line))]
-pub fn row_line(alloc: Global, config: &Config, app: &App, row: &Row) -> Result<Vec<u8>, NoMemory>
+pub fn row_line(alloc: Global, config: &Config, app: &App, row: &Row) -> Result<Vec<u8>>
     ensures { IfOk result (λ line. line.items ≡ row_line config.now app.now row.now) }
 {
     let mut head = LineText::new();
@@ -135,12 +131,7 @@ pub fn row_line(alloc: Global, config: &Config, app: &App, row: &Row) -> Result<
 
 /// The line of the bytes of stack that a task needs by its bound.
 #[tactic(auto, unfolding(crate::specs::MapText::need_line))]
-pub fn need_line(
-    alloc: Global,
-    config: &Config,
-    bounds: &Bounds,
-    task: usize,
-) -> Result<Vec<u8>, NoMemory>
+pub fn need_line(alloc: Global, config: &Config, bounds: &Bounds, task: usize) -> Result<Vec<u8>>
     requires { task < length bounds.now.bytes }
     ensures { IfOk result (λ line. line.items ≡ need_line config.now bounds.now task) }
 {
@@ -172,7 +163,7 @@ fn behind_part(part: Part) -> &'static [u8]
 
 /// The line of the bytes of a part.
 #[tactic(auto, unfolding(crate::specs::MapText::total_line))]
-pub fn total_line(alloc: Global, rows: &[Row], part: Part) -> Result<Vec<u8>, NoMemory>
+pub fn total_line(alloc: Global, rows: &[Row], part: Part) -> Result<Vec<u8>>
     ensures { IfOk result (λ line. line.items ≡ total_line rows.now part) }
 {
     let sum = Sum(part_sum(part, rows));
@@ -180,7 +171,7 @@ pub fn total_line(alloc: Global, rows: &[Row], part: Part) -> Result<Vec<u8>, No
 }
 
 /// The line of the bytes of all rows.
-pub fn sum_line(alloc: Global, sum: u128) -> Result<Vec<u8>, NoMemory>
+pub fn sum_line(alloc: Global, sum: u128) -> Result<Vec<u8>>
     ensures { IfOk result (λ line. line.items ≡ sum_line sum) }
 {
     text!(alloc; Word(b"sum "), Sum(sum), Word(b"\n"))

@@ -6,14 +6,14 @@ ghost use Rattle.map_text.specs.PieceNames.{block_symbol, joined, service_symbol
 
 use crate::object_names::{alarm_name, resource_name};
 use sloth_base::{
-    BLOCK_COUNT, Config, List, NoMemory, ObjectKind, Service, block_object, block_service,
+    BLOCK_COUNT, Config, List, NoMemory, ObjectKind, Result, Service, block_object, block_service,
 };
 use std::alloc::Global;
 use text_pieces::pieces::Piece::Word;
 use text_pieces::text;
 
 /// Two names, joined by `$`, which no name of a text has.
-pub fn joined<'x>(alloc: Global, one: &'x [u8], other: &'x [u8]) -> Result<List<u8>, NoMemory>
+pub fn joined<'x>(alloc: Global, one: &'x [u8], other: &'x [u8]) -> Result<List<u8>>
     ensures { IfOk result (λ name. name ≡ joined one.now other.now) }
 {
     let name = text!(alloc; Word(one), Word(b"$"), Word(other))?;
@@ -21,7 +21,7 @@ pub fn joined<'x>(alloc: Global, one: &'x [u8], other: &'x [u8]) -> Result<List<
 }
 
 /// A copy of a name.
-pub fn copied(alloc: Global, name: &[u8]) -> Result<List<u8>, NoMemory>
+pub fn copied(alloc: Global, name: &[u8]) -> Result<List<u8>>
     ensures { IfOk result (λ copy. copy ≡ name.now) }
 {
     let name = Vec::from_slice(alloc, name)?;
@@ -29,12 +29,7 @@ pub fn copied(alloc: Global, name: &[u8]) -> Result<List<u8>, NoMemory>
 }
 
 // A service joined to its object, or without one to the kernel.
-fn service_symbol(
-    alloc: Global,
-    config: &Config,
-    service: Service,
-    number: u32,
-) -> Result<List<u8>, NoMemory>
+fn service_symbol(alloc: Global, config: &Config, service: Service, number: u32) -> Result<List<u8>>
     ensures { IfOk result (λ name. name ≡ service_symbol config.now (service_name service) (object_kind service)
         number) }
 {
@@ -49,7 +44,7 @@ fn service_symbol(
 
 /// The service with its object that has a place in the table of the services' code.
 #[tactic(auto, using(crate::proofs::Services::no_service))]
-pub fn block_symbol(alloc: Global, config: &Config, number: usize) -> Result<List<u8>, NoMemory>
+pub fn block_symbol(alloc: Global, config: &Config, number: usize) -> Result<List<u8>>
     ensures { IfOk result (λ name. name ≡ block_symbol config.now (block_service number) (block_object number)) }
 {
     if number >= BLOCK_COUNT {

@@ -12,7 +12,7 @@ use crate::rows::rows_sum;
 use crate::totals::{PARTS, filled_rows};
 use crate::{Part, Row, map_rows};
 use mem_map::plan;
-use sloth_base::{App, Bounds, BuildError, Config, NoMemory};
+use sloth_base::{App, Bounds, BuildError, Config, Result};
 use sloth_region::Map;
 use sloth_source::{Source, read};
 use std::alloc::Global;
@@ -24,7 +24,7 @@ fn push_rows(
     config: &Config,
     app: &App,
     rows: &[Row],
-) -> Result<(), NoMemory>
+) -> Result<()>
     ensures { OnOk result (text.new.items ≡ text.old.items ++ flat_map (row_line config.now app.now) rows.now) }
 {
     for row in rows {
@@ -35,12 +35,7 @@ fn push_rows(
 
 // Appends the lines of what each task needs of its stack.
 #[tactic(auto, using(crate::proofs::OneNeed::needs_begin, crate::proofs::OneNeed::needs_more))]
-fn push_needs(
-    alloc: Global,
-    text: &mut Vec<u8>,
-    config: &Config,
-    bounds: &Bounds,
-) -> Result<(), NoMemory>
+fn push_needs(alloc: Global, text: &mut Vec<u8>, config: &Config, bounds: &Bounds) -> Result<()>
     requires { length bounds.now.bytes ≡ length config.now.tasks }
     ensures { OnOk result (text.new.items ≡
         text.old.items ++ need_lines config.now bounds.now (length config.now.tasks)) }
@@ -52,12 +47,7 @@ fn push_needs(
 }
 
 // Appends the lines of the bytes of each part.
-fn push_totals(
-    alloc: Global,
-    text: &mut Vec<u8>,
-    rows: &[Row],
-    parts: &[Part],
-) -> Result<(), NoMemory>
+fn push_totals(alloc: Global, text: &mut Vec<u8>, rows: &[Row], parts: &[Part]) -> Result<()>
     ensures { OnOk result (text.new.items ≡ text.old.items ++ flat_map (total_line rows.now) parts.now) }
 {
     for part in parts {
@@ -73,7 +63,7 @@ fn rows_text(
     app: &App,
     bounds: &Bounds,
     rows: &[Row],
-) -> Result<Vec<u8>, NoMemory>
+) -> Result<Vec<u8>>
     requires { length bounds.now.bytes ≡ length config.now.tasks }
     ensures { IfOk result (λ text. text.items ≡ lines_with config.now app.now bounds.now rows.now) }
 {
@@ -92,7 +82,7 @@ fn plan_text(
     app: &App,
     bounds: &Bounds,
     map: &Map,
-) -> Result<Vec<u8>, NoMemory>
+) -> Result<Vec<u8>>
     requires listable { IsListable config.now map.now }
     requires counted { length bounds.now.bytes ≡ length config.now.tasks }
     ensures { IfOk result (λ text. text.items ≡ map_text config.now app.now bounds.now map.now) }
@@ -104,12 +94,7 @@ fn plan_text(
 
 // The lines of the map that is planned for task code.
 #[tactic(auto, using(crate::proofs::Listing::listable))]
-fn planned_text(
-    alloc: Global,
-    config: &Config,
-    app: &App,
-    bounds: &Bounds,
-) -> Result<Vec<u8>, NoMemory>
+fn planned_text(alloc: Global, config: &Config, app: &App, bounds: &Bounds) -> Result<Vec<u8>>
     requires well_formed { WellFormed config.now app.now }
     requires bounds { AreBounds config.now app.now bounds.now }
     ensures { IfOk result (λ text. HasMap config.now app.now bounds.now text.items) }

@@ -37,6 +37,14 @@ fn put(code: &mut Vec<Instr>, kind: InstrKind) -> Result<(), AllocError>
 }
 
 /// Adds these instructions.
+#[macro_export]
+macro_rules! put {
+    ($code:expr; $($kind:expr),*) => {
+        $crate::emit::emit($code, &[$($kind),*])
+    };
+}
+
+/// Adds these instructions.
 pub fn emit(code: &mut Vec<Instr>, kinds: &[InstrKind]) -> Result<(), AllocError>
     requires { AreInRange kinds.now }
     ensures { OnOk result (code.new.items ≡ code.old.items ++ kinds.now) }

@@ -21,7 +21,7 @@ fn with_ticks(idle: u32, ticks: &[u32]) -> [u32; LINE_COUNT]
     handlers
 }
 
-/// The address to which the vector word of each line jumps: the prologue of its task, the tick of its counter, or the idle loop.
+/// Where the vector word of each line jumps to: the prologue of its task, the tick of its counter, or the idle loop.
 pub fn handlers(idle: u32, prologues: &[u32], ticks: &[u32]) -> [u32; LINE_COUNT]
     requires { (length prologues.now ≤ task_limit) × (length ticks.now ≤ counter_limit) }
     ensures prologues { take (length prologues.now) result ≡ prologues.now }

@@ -9,7 +9,7 @@ ghost use Rattle.mem_map.specs.Lengths.{AreLengths, wanted_length};
 use crate::wanted_blocks;
 use code_lengths::{block_length, boot_length, start_length, tick_length};
 use rv32_expand::sizes;
-use sloth_base::{App, BLOCK_COUNT, Config, List, NoMemory, TaskId};
+use sloth_base::{App, BLOCK_COUNT, Config, List, Result, TaskId};
 use std::alloc::{AllocError, Global};
 
 /// How many instructions each piece of the code of an image has.
@@ -76,7 +76,7 @@ fn tick_lengths(alloc: Global, config: &Config) -> Result<Vec<u32>, AllocError>
 }
 
 /// How many instructions each piece of the code of well-formed task code has.
-pub fn all_lengths(alloc: Global, config: &Config, app: &App) -> Result<CodeLengths, NoMemory>
+pub fn all_lengths(alloc: Global, config: &Config, app: &App) -> Result<CodeLengths>
     requires { WellFormed config.now app.now }
     ensures { IfOk result (AreLengths config.now app.now) }
 {

@@ -19,8 +19,8 @@ use crate::pieces::{Pieces, place_pieces};
 use crate::stacks::{stack_lengths, task_parts};
 use crate::zones::plan_zones;
 use sloth_base::{
-    App, BLOCK_COUNT, BOOT_BASE, Bounds, Config, LINE_COUNT, List, NoMemory, Places, VECTORS_BASE,
-    WORD,
+    App, BLOCK_COUNT, BOOT_BASE, Bounds, Config, LINE_COUNT, List, NoMemory, Places, Result,
+    VECTORS_BASE, WORD,
 };
 use sloth_region::Map;
 use stack_bounds::offsets;
@@ -112,7 +112,7 @@ fn make_map(
     lengths: &CodeLengths,
     bounds: &Bounds,
     offsets: &[u32],
-) -> Result<Map, NoMemory>
+) -> Result<Map>
     requires { MayPlan config.now app.now lengths.now bounds.now offsets.now }
     ensures zones { IfOk result (λ plan. HasZones plan config.now) }
     ensures stacks { IfOk result (HasStacks config.now app.now bounds.now) }
@@ -148,11 +148,10 @@ fn make_map(
     })
 }
 
-/// The map of the image of well-formed task code, with the bytes of stack that its tasks may need: in this order the vector words, boot, the
-/// idle loop, a prologue for each task, a tick for each counter, the services that items call, all items, each right behind the one before it,
-/// all symbols, the stack that all basic tasks share, and a stack for each extended task. There is room for all of them; only memory for the
-/// map itself may be missing.
-pub fn plan(alloc: Global, app: &App, config: &Config, bounds: &Bounds) -> Result<Map, NoMemory>
+/// The map of the image of well-formed task code: in this order the vector words, boot, the idle loop, each task's
+/// prologue, each counter's tick, the services called, all items, each right behind the one before, all symbols, the
+/// stack of all basic tasks, and one for each extended task. All have room; only the map may lack memory.
+pub fn plan(alloc: Global, app: &App, config: &Config, bounds: &Bounds) -> Result<Map>
     requires well_formed { WellFormed config.now app.now }
     requires bounds { AreBounds config.now app.now bounds.now }
     ensures { IfOk result (IsPlanned config.now app.now bounds.now) }

@@ -7,7 +7,7 @@ ghost use Rattle.mem_map.specs.Run.{room_for, run};
 ghost use Rattle.mem_map.specs.Zones.{data_zone};
 
 use crate::placing::{place_all, put};
-use sloth_base::{List, MEMORY_END, NoMemory, WORD, WORDS_BASE};
+use sloth_base::{List, MEMORY_END, Result, WORD, WORDS_BASE};
 use sloth_region::{Extent, Map, Region};
 use std::alloc::Global;
 
@@ -42,12 +42,7 @@ pub struct Zones {
 }
 
 /// Places zones of these lengths in bytes in RAM, behind its first word: there is room.
-pub fn plan_zones(
-    alloc: Global,
-    code_len: u32,
-    data_len: u32,
-    stack_lens: &[u32],
-) -> Result<Zones, NoMemory>
+pub fn plan_zones(alloc: Global, code_len: u32, data_len: u32, stack_lens: &[u32]) -> Result<Zones>
     requires some { (1 ≤ code_len) × (1 ≤ data_len) × All (λ len. 1 ≤ len) stack_lens.now }
     requires words { code_len % 4 ≡ 0 }
     requires few { length stack_lens.now ≤ task_limit }

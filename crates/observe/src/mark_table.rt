@@ -2,11 +2,11 @@
 ghost use Rattle.std.specs.Prelude.{◌≡◌, true, IfOk, IfSome};
 ghost use Rattle.observe.specs.MarkTable.{entry_place, number_at, number_in, IsPlaced, IsMarkTable};
 
-use sloth_base::{MEMORY_BYTES, Mark, NoMemory};
+use sloth_base::{MEMORY_BYTES, Mark, Result};
 use std::alloc::Global;
 use std::marker::Model;
 
-/// For each word from that of the first mark to that of the last one: the place of its mark and 1 more, or 0 where it has none.
+/// For each word from the first mark's to the last one's: the place of its mark plus 1, or 0 where it has none.
 #[derive(Drop)]
 pub struct MarkTable {
     from: u32,
@@ -57,7 +57,7 @@ fn place_number(numbers: &mut Vec<usize>, place: Option<usize>, number: usize) -
 
 impl MarkTable {
     /// The table of these marks, if each has a word of its own and they lie within as many bytes as memory has.
-    pub fn of(alloc: Global, marks: &[Mark]) -> Result<Option<MarkTable>, NoMemory>
+    pub fn of(alloc: Global, marks: &[Mark]) -> Result<Option<MarkTable>>
         ensures { IfOk result (λ table. IfSome table (IsMarkTable marks.now)) }
     {
         let Some(first) = marks.first() else {

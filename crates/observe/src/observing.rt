@@ -271,8 +271,8 @@ impl<'a> Observer<'a> {
         true
     }
 
-    /// Feeds the step of the expected count that is seen so, if no more of it is needed: it begins and ends no stretch, and has no mark that shows an
-    /// event. Else nothing is changed, and the step is still to be fed.
+    /// Feeds the step of the expected count that is seen so, if no more of it is needed: it begins and ends no stretch,
+    /// and has no mark that shows an event. Else nothing is changed, and the step is still to be fed.
     #[inline(always)]
     pub fn pass_by(
         &mut self,

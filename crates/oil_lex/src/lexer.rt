@@ -87,8 +87,8 @@ impl<'a> Cutter<'a> {
     }
 }
 
-/// The tokens of a text in order, each a slice of it, or its least fault: O1 for a byte that begins nothing, O2 for a comment without its
-/// end, O3 for a string without its closing quote on the same line. The text has at most 4,294,967,294 bytes.
+/// The tokens of a text, each a slice of it, or its least fault: O1 for a byte that begins nothing, O2 for a comment
+/// without its end, O3 for a string without its closing quote on its line. The text has at most 4,294,967,294 bytes.
 pub fn tokens<'a>(alloc: Global, text: &'a [u8]) -> Result<Vec<Token<'a>>, BuildError>
     requires { length text.now < 4294967295 }
     ensures tokens { IfOk result (λ tokens. AreTokens text.now (map lexeme tokens.items)) }

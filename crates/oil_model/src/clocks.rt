@@ -2,14 +2,14 @@
 ghost use Rattle.std.specs.Prelude.{◌≡◌, ◌≤◌, [], ◌∷◌, ◌++◌, IfOk, OnOk, codes, length, option_copied};
 ghost use Rattle.sloth_base.specs.MemoryMap.{line_count};
 ghost use Rattle.oil_table.specs.Objects.{names_of};
-ghost use Rattle.oil_model.specs.Clocks.{declared_counter, counters_of, number_of_value, number_named, mask_named_by, action_of, started, declared_alarm, alarms_of};
+ghost use Rattle.oil_model.specs.Clocks.{counters_of, number_named, action_of, started, alarms_of};
 
 use oil_parse::{OilAttr, OilObject, OilValue};
 use oil_rules::{first_block, first_in, number_in};
 use oil_table::{
     EventTable, first_is, first_number, first_use, is_of_kind, mask_of_value, names_of,
 };
-use sloth_base::{Action, AlarmDecl, CounterDecl, Name, NoMemory, TICK_LIMIT, TaskId};
+use sloth_base::{Action, AlarmDecl, CounterDecl, Name, Result, TICK_LIMIT, TaskId};
 use std::alloc::Global;
 use text_pieces::{Names, push};
 
@@ -20,33 +20,23 @@ pub struct Clocks {
     pub alarms: Vec<AlarmDecl>,
 }
 
-fn declared_counter(alloc: Global, object: &OilObject) -> Result<CounterDecl, NoMemory>
-    ensures { IfOk result (λ counter. counter ≡ declared_counter object.now) }
-{
-    let attrs = object.attrs.items();
-    Ok(CounterDecl {
-        name: Name::new(alloc, object.name.bytes())?,
-        max: first_number(attrs, b"MAXALLOWEDVALUE").unwrap_or(TICK_LIMIT),
-        min_cycle: first_number(attrs, b"MINCYCLE").unwrap_or(1),
-    })
-}
-
 /// One counter more, if the object is one.
-fn add_counter(
-    alloc: Global,
-    counters: &mut Vec<CounterDecl>,
-    object: &OilObject,
-) -> Result<(), NoMemory>
+fn add_counter(alloc: Global, counters: &mut Vec<CounterDecl>, object: &OilObject) -> Result<()>
     ensures { OnOk result (counters.new.items ≡ counters.old.items ++ counters_of (object.now ∷ [])) }
 {
     if !is_of_kind(object, b"COUNTER") {
         return Ok(());
     }
-    let counter = declared_counter(alloc, object)?;
+    let attrs = object.attrs.items();
+    let counter = CounterDecl {
+        name: Name::new(alloc, object.name.bytes())?,
+        max: first_number(attrs, b"MAXALLOWEDVALUE").unwrap_or(TICK_LIMIT),
+        min_cycle: first_number(attrs, b"MINCYCLE").unwrap_or(1),
+    };
     push(counters, counter)
 }
 
-fn counters_of(alloc: Global, objects: &[OilObject]) -> Result<Vec<CounterDecl>, NoMemory>
+fn declared_counters(alloc: Global, objects: &[OilObject]) -> Result<Vec<CounterDecl>>
     ensures { IfOk result (λ counters. counters.items ≡ counters_of objects.now) }
 {
     let mut counters = Vec::new(alloc);
@@ -56,12 +46,15 @@ fn counters_of(alloc: Global, objects: &[OilObject]) -> Result<Vec<CounterDecl>,
     Ok(counters)
 }
 
-/// The number of the object that a value names, or 0.
-fn number_of_value(names: &Names, value: &OilValue) -> u32
+/// The number of the object that an attribute names, or 0.
+fn number_named(names: &Names, attr: Option<&OilAttr>) -> u32
     requires { length names.now ≤ line_count }
-    ensures { result ≡ number_of_value names.now value.now }
+    ensures { result ≡ number_named names.now (option_copied attr.entry) }
 {
-    match value {
+    let Some(attr) = attr else {
+        return 0;
+    };
+    match &attr.value {
         OilValue::Word(word) => match names.number(word.bytes()) {
             Some(number) => number as u32,
             None => 0,
@@ -70,36 +63,18 @@ fn number_of_value(names: &Names, value: &OilValue) -> u32
     }
 }
 
-fn number_named(names: &Names, attr: Option<&OilAttr>) -> u32
-    requires { length names.now ≤ line_count }
-    ensures { result ≡ number_named names.now (option_copied attr.entry) }
-{
-    match attr {
-        Some(attr) => number_of_value(names, &attr.value),
-        None => 0,
-    }
-}
-
-/// The mask of the event that an attribute names, or 0.
-fn mask_named_by(events: &EventTable, attr: Option<&OilAttr>) -> u32
-    ensures { result ≡ mask_named_by events.now (option_copied attr.entry) }
-{
-    match attr {
-        Some(attr) => mask_of_value(events, &attr.value),
-        None => 0,
-    }
-}
-
-fn action_of(tasks: &Names, events: &EventTable, attrs: &[OilAttr]) -> Action
+fn alarm_action(tasks: &Names, events: &EventTable, attrs: &[OilAttr]) -> Action
     requires { length tasks.now ≤ line_count }
     ensures { result ≡ action_of tasks.now events.now attrs.now }
 {
     let inner = first_block(attrs, b"ACTION");
     let task = TaskId(number_named(tasks, first_in(inner, b"TASK")));
-    if first_is(attrs, b"ACTION", b"SETEVENT") {
-        Action::Set(task, mask_named_by(events, first_in(inner, b"EVENT")))
-    } else {
-        Action::Activate(task)
+    if !first_is(attrs, b"ACTION", b"SETEVENT") {
+        return Action::Activate(task);
+    }
+    match first_in(inner, b"EVENT") {
+        Some(attr) => Action::Set(task, mask_of_value(events, &attr.value)),
+        None => Action::Set(task, 0),
     }
 }
 
@@ -114,27 +89,6 @@ fn started(attrs: &[OilAttr], name: &[u8]) -> u32
     }
 }
 
-fn declared_alarm(
-    alloc: Global,
-    tasks: &Names,
-    counters: &Names,
-    events: &EventTable,
-    object: &OilObject,
-) -> Result<AlarmDecl, NoMemory>
-    requires few_tasks { length tasks.now ≤ line_count }
-    requires few_counters { length counters.now ≤ line_count }
-    ensures { IfOk result (λ alarm. alarm ≡ declared_alarm tasks.now counters.now events.now object.now) }
-{
-    let attrs = object.attrs.items();
-    Ok(AlarmDecl {
-        name: Name::new(alloc, object.name.bytes())?,
-        counter: number_named(counters, first_use(attrs, b"COUNTER")),
-        action: action_of(tasks, events, attrs),
-        time: started(attrs, b"ALARMTIME"),
-        cycle: started(attrs, b"CYCLETIME"),
-    })
-}
-
 /// One alarm more, if the object is one.
 fn add_alarm(
     alloc: Global,
@@ -143,25 +97,33 @@ fn add_alarm(
     counters: &Names,
     events: &EventTable,
     object: &OilObject,
-) -> Result<(), NoMemory>
+) -> Result<()>
     requires few_tasks { length tasks.now ≤ line_count }
     requires few_counters { length counters.now ≤ line_count }
-    ensures { OnOk result (alarms.new.items ≡ alarms.old.items ++ alarms_of tasks.now counters.now events.now (object.now ∷ [])) }
+    ensures { OnOk result
+        (alarms.new.items ≡ alarms.old.items ++ alarms_of tasks.now counters.now events.now (object.now ∷ [])) }
 {
     if !is_of_kind(object, b"ALARM") {
         return Ok(());
     }
-    let alarm = declared_alarm(alloc, tasks, counters, events, object)?;
+    let attrs = object.attrs.items();
+    let alarm = AlarmDecl {
+        name: Name::new(alloc, object.name.bytes())?,
+        counter: number_named(counters, first_use(attrs, b"COUNTER")),
+        action: alarm_action(tasks, events, attrs),
+        time: started(attrs, b"ALARMTIME"),
+        cycle: started(attrs, b"CYCLETIME"),
+    };
     push(alarms, alarm)
 }
 
-fn alarms_of(
+fn declared_alarms(
     alloc: Global,
     tasks: &Names,
     counters: &Names,
     events: &EventTable,
     objects: &[OilObject],
-) -> Result<Vec<AlarmDecl>, NoMemory>
+) -> Result<Vec<AlarmDecl>>
     requires few_tasks { length tasks.now ≤ line_count }
     requires few_counters { length counters.now ≤ line_count }
     ensures { IfOk result (λ alarms. alarms.items ≡ alarms_of tasks.now counters.now events.now objects.now) }
@@ -173,29 +135,30 @@ fn alarms_of(
     Ok(alarms)
 }
 
-fn clocks_by(
+fn clocks_among(
     alloc: Global,
     tasks: &Names,
     counters: &Names,
     events: &EventTable,
     objects: &[OilObject],
-) -> Result<Clocks, NoMemory>
+) -> Result<Clocks>
     requires few_tasks { length tasks.now ≤ line_count }
     requires few_counters { length counters.now ≤ line_count }
     ensures counters { IfOk result (λ clocks. clocks.counters.items ≡ counters_of objects.now) }
-    ensures alarms { IfOk result (λ clocks. clocks.alarms.items ≡ alarms_of tasks.now counters.now events.now objects.now) }
+    ensures alarms { IfOk result
+        (λ clocks. clocks.alarms.items ≡ alarms_of tasks.now counters.now events.now objects.now) }
 {
-    let alarms = alarms_of(alloc, tasks, counters, events, objects)?;
-    let counters = counters_of(alloc, objects)?;
+    let alarms = declared_alarms(alloc, tasks, counters, events, objects)?;
+    let counters = declared_counters(alloc, objects)?;
     Ok(Clocks { counters, alarms })
 }
 
-fn clocks_with(
+fn clocks_numbered(
     alloc: Global,
     tasks: &Names,
     events: &EventTable,
     objects: &[OilObject],
-) -> Result<Clocks, NoMemory>
+) -> Result<Clocks>
     requires few_tasks { length tasks.now ≤ line_count }
     requires few_counters { length (names_of (codes "COUNTER") objects.now) ≤ line_count }
     ensures counters { IfOk result (λ clocks. clocks.counters.items ≡ counters_of objects.now) }
@@ -203,21 +166,17 @@ fn clocks_with(
         ≡ alarms_of tasks.now (names_of (codes "COUNTER") objects.now) events.now objects.now) }
 {
     let counters = names_of(alloc, objects, b"COUNTER")?;
-    clocks_by(alloc, tasks, &counters, events, objects)
+    clocks_among(alloc, tasks, &counters, events, objects)
 }
 
 /// The counters and alarms of these objects, in the order of their numbers.
-pub fn clocks_of(
-    alloc: Global,
-    events: &EventTable,
-    objects: &[OilObject],
-) -> Result<Clocks, NoMemory>
+pub fn declared_clocks(alloc: Global, events: &EventTable, objects: &[OilObject]) -> Result<Clocks>
     requires few_tasks { length (names_of (codes "TASK") objects.now) ≤ line_count }
     requires few_counters { length (names_of (codes "COUNTER") objects.now) ≤ line_count }
     ensures counters { IfOk result (λ clocks. clocks.counters.items ≡ counters_of objects.now) }
-    ensures alarms { IfOk result (λ clocks. clocks.alarms.items
-        ≡ alarms_of (names_of (codes "TASK") objects.now) (names_of (codes "COUNTER") objects.now) events.now objects.now) }
+    ensures alarms { IfOk result (λ clocks. clocks.alarms.items ≡ alarms_of (names_of (codes "TASK") objects.now)
+        (names_of (codes "COUNTER") objects.now) events.now objects.now) }
 {
     let tasks = names_of(alloc, objects, b"TASK")?;
-    clocks_with(alloc, &tasks, events, objects)
+    clocks_numbered(alloc, &tasks, events, objects)
 }

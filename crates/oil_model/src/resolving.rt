@@ -13,23 +13,23 @@ ghost use Rattle.oil_table.specs.Events.{events_of};
 ghost use Rattle.oil_rules.specs.ModelFaults.{ModelFault};
 ghost use Rattle.oil_model.specs.Configs.{resource_names, config_of, IsConfig};
 
-use crate::clocks::{Clocks, clocks_of};
-use crate::config::{resource_names, tasks_of};
+use crate::clocks::{Clocks, declared_clocks};
+use crate::config::{declared_tasks, resource_names};
 use oil_parse::{OilObject, OilTree};
 use oil_rules::judge;
 use oil_table::{EventTable, events_of, has_scheduler, names_of};
-use sloth_base::{BuildError, Config, EventDecl, List, NoMemory, Refusal};
+use sloth_base::{BuildError, Config, EventDecl, List, Refusal, Result};
 use std::alloc::Global;
 use text_pieces::Names;
 
-fn config_of(
+fn declared_config(
     alloc: Global,
     objects: &[OilObject],
     scheduler: bool,
     resources: &Names,
     event_names: &Names,
     events: Vec<EventDecl>,
-) -> Result<Config, NoMemory>
+) -> Result<Config>
     requires few { length (resource_names objects.now) ≤ resource_limit }
     requires few_tasks { length (names_of (codes "TASK") objects.now) ≤ line_count }
     requires few_counters { length (names_of (codes "COUNTER") objects.now) ≤ line_count }
@@ -41,8 +41,8 @@ fn config_of(
 {
     let names = resource_names(alloc, objects)?;
     let table = EventTable::new(events.as_slice(), event_names);
-    let tasks = tasks_of(alloc, resources, &table, objects)?;
-    let Clocks { counters, alarms } = clocks_of(alloc, &table, objects)?;
+    let tasks = declared_tasks(alloc, resources, &table, objects)?;
+    let Clocks { counters, alarms } = declared_clocks(alloc, &table, objects)?;
     Ok(Config {
         tasks: List::from_vec(tasks),
         resources: List::from_vec(names),
@@ -54,13 +54,13 @@ fn config_of(
 }
 
 /// The least fault of a tree with these events.
-fn refusal_of(
+fn least_refusal(
     alloc: Global,
     tree: &OilTree,
     scheduler: bool,
     event_names: &Names,
     events: &[EventDecl],
-) -> Result<Option<Refusal>, NoMemory>
+) -> Result<Option<Refusal>>
     requires scheduler { scheduler ≡ has_scheduler tree.now.objects }
     requires event_numbers { event_names.now ≡ names_of (codes "EVENT") tree.now.objects }
     requires events { events.now ≡ events_of tree.now.objects }
@@ -78,7 +78,7 @@ fn config_or_refusal(
     resources: &Names,
     event_names: &Names,
     events: Vec<EventDecl>,
-) -> Result<Result<Config, Refusal>, NoMemory>
+) -> Result<Result<Config, Refusal>>
     requires tree { IsTree tree.now }
     requires scheduler { scheduler ≡ has_scheduler tree.now.objects }
     requires resource_numbers { resources.now ≡ resource_names tree.now.objects }
@@ -90,11 +90,11 @@ fn config_or_refusal(
     ensures in_range { IfOk result (λ found. IfOk found InRange) }
     ensures refused { IfOk result (λ found. IfErr found (IsLeast (ModelFault tree.now))) }
 {
-    let refusal = refusal_of(alloc, tree, scheduler, event_names, events.as_slice())?;
+    let refusal = least_refusal(alloc, tree, scheduler, event_names, events.as_slice())?;
     if let Some(refusal) = refusal {
         return Ok(Err(refusal));
     }
-    let config = config_of(
+    let config = declared_config(
         alloc,
         tree.objects.items(),
         scheduler,
@@ -106,7 +106,7 @@ fn config_or_refusal(
 }
 
 /// The configuration of a tree, or its least fault.
-fn meaning_of(alloc: Global, tree: &OilTree) -> Result<Result<Config, Refusal>, NoMemory>
+fn tree_meaning(alloc: Global, tree: &OilTree) -> Result<Result<Config, Refusal>>
     requires { IsTree tree.now }
     ensures config { IfOk result (λ found. IfOk found (IsConfig tree.now)) }
     ensures none { IfOk result (λ found. OnOk found (NoFault (ModelFault tree.now))) }
@@ -129,7 +129,7 @@ pub fn resolve(alloc: Global, tree: &OilTree) -> Result<Config, BuildError>
     ensures in_range { IfOk result InRange }
     ensures refused { IfErr result (λ error. ErrorIs (ModelFault tree.now) error) }
 {
-    match meaning_of(alloc, tree)? {
+    match tree_meaning(alloc, tree)? {
         Ok(config) => Ok(config),
         Err(refusal) => Err(BuildError::Refused(refusal)),
     }

@@ -9,7 +9,7 @@ ghost use Rattle.oil_parse.specs.Parser.{draft};
 use crate::machine::{Construct, Expect, Shape};
 use crate::{OilAttr, OilObject, OilValue};
 use oil_lex::{Token, TokenKind};
-use sloth_base::{List, Name, NoMemory};
+use sloth_base::{List, Name, NoMemory, Result};
 use std::alloc::Global;
 use std::mem;
 
@@ -27,7 +27,7 @@ pub struct Draft<'a> {
 }
 
 /// The value that a token is.
-fn value_of(alloc: Global, kind: TokenKind, bytes: &[u8]) -> Result<OilValue, NoMemory>
+fn value_of(alloc: Global, kind: TokenKind, bytes: &[u8]) -> Result<OilValue>
     requires { ValueFits kind }
     ensures { IfOk result (λ value. value ≡ value_by kind bytes.now) }
 {
@@ -61,7 +61,7 @@ impl<'a> Draft<'a> {
     }
 
     /// The object is whole.
-    fn push_object(&mut self, alloc: Global) -> Result<(), NoMemory>
+    fn push_object(&mut self, alloc: Global) -> Result<()>
         ensures { OnOk result (draft self.new ≡ whole_object (draft self.old)) }
     {
         let kind = Name::new(alloc, self.kind)?;
@@ -77,13 +77,7 @@ impl<'a> Draft<'a> {
     }
 
     /// The attribute has its value.
-    fn push_attr(
-        &mut self,
-        alloc: Global,
-        depth: u32,
-        kind: TokenKind,
-        bytes: &[u8],
-    ) -> Result<(), NoMemory>
+    fn push_attr(&mut self, alloc: Global, depth: u32, kind: TokenKind, bytes: &[u8]) -> Result<()>
         requires { ValueFits kind }
         ensures { OnOk result (draft self.new ≡ with_attr (draft self.old) depth kind bytes.now) }
     {
@@ -106,7 +100,7 @@ impl<'a> Draft<'a> {
         expect: Expect,
         shape: Shape,
         token: &Token<'a>,
-    ) -> Result<(), NoMemory>
+    ) -> Result<()>
         requires { TakesFit expect token.now.kind }
         ensures { OnOk result (draft self.new ≡ partial_tree_after expect shape (lexeme token.now) (draft self.old)) }
     {

@@ -40,8 +40,8 @@ pub enum Construct {
     File,
 }
 
-/// What may come next. Inside a section IMPLEMENTATION it has the number of open braces but the first, and among attributes the
-/// number of attribute blocks that they lie in.
+/// What may come next. Inside a section IMPLEMENTATION it has the number of open braces but the first, and among
+/// attributes the number of attribute blocks that they lie in.
 #[derive(Clone, Copy)]
 pub enum Expect {
     Start,

@@ -78,8 +78,8 @@ impl<'a> Parser<'a> {
     }
 }
 
-/// The tree of the tokens, or their least fault: O4 for a number above 4,294,967,295, O5 for the first token that the grammar does
-/// not allow, O6 where the tokens end too early.
+/// The tree of the tokens, or their least fault: O4 for a number above 4,294,967,295, O5 for the first token that the
+/// grammar does not allow, O6 where the tokens end too early.
 pub fn parse(alloc: Global, tokens: &[Token]) -> Result<OilTree, BuildError>
     ensures tree { IfOk result (λ tree. IsFile (map lexeme tokens.now) tree) }
     ensures none { OnOk result (NoFault (GrammarFault (map lexeme tokens.now))) }
@@ -106,8 +106,8 @@ pub fn parse(alloc: Global, tokens: &[Token]) -> Result<OilTree, BuildError>
     }
 }
 
-/// Tokens have at most one tree, and so has a text. The faults of a text's grammar are those of its tokens. Each text has a fault of
-/// its own, breaks the grammar, or has a tree, and never both of the last two.
+/// Tokens have at most one tree, and so has a text. The faults of a text's grammar are those of its tokens. Each text
+/// has a fault of its own, breaks the grammar, or has a tree, and never both of the last two.
 pub fn one_tree()
     ensures file { (tokens : List Lexeme) (tree other : OilTree) → IsFile tokens tree → IsFile tokens other → tree ≡ other }
     ensures text { (text : List ℕ) (tree other : OilTree) → HasTree text tree → HasTree text other → tree ≡ other }

@@ -18,8 +18,8 @@ pub struct OilAttr {
     pub value: OilValue,
     /// The line of its name.
     pub line: u32,
-    /// The number of attribute blocks that it lies in, 0 to 8. An attribute's block is the run of attributes of greater depth
-    /// directly behind it.
+    /// The number of attribute blocks that it lies in, 0 to 8. An attribute's block is the run of attributes of greater
+    /// depth directly behind it.
     pub depth: u32,
 }
 

@@ -1,6 +1,6 @@
 //! What the action and the start of an alarm lack, and which event its task does not list.
-ghost use Rattle.std.specs.Prelude.{◌≡◌, option_copied};
-ghost use Rattle.oil_rules.specs.AlarmFaults.{lacks_inner, place_behind, lacks_behind, lacks_part, sets_event, is_unlisted};
+ghost use Rattle.std.specs.Prelude.{◌≡◌};
+ghost use Rattle.oil_rules.specs.AlarmFaults.{lacks_inner, lacks_behind, lacks_part, sets_event, is_unlisted};
 
 use crate::blocks::is_inner_use;
 use crate::{NamedTask, first_block, is_used_in};
@@ -13,27 +13,18 @@ fn lacks_inner(place: Place, inner: &[OilAttr]) -> bool
     match place {
         Place::Activating => !is_used_in(inner, b"TASK"),
         Place::Setting => !(is_used_in(inner, b"TASK") && is_used_in(inner, b"EVENT")),
-        Place::Wakeup => !(is_used_in(inner, b"ALARMTIME") && is_used_in(inner, b"CYCLETIME")),
+        Place::Wakeup => { !(is_used_in(inner, b"ALARMTIME") && is_used_in(inner, b"CYCLETIME")) },
         _ => false,
-    }
-}
-
-fn place_behind(attr: Option<&OilAttr>) -> Place
-    ensures { result ≡ place_behind (option_copied attr.entry) }
-{
-    match attr {
-        Some(attr) => block_place(Place::Alarm, attr),
-        None => Place::Nowhere,
     }
 }
 
 fn lacks_behind(attrs: &[OilAttr], name: &[u8]) -> bool
     ensures { result ≡ lacks_behind name.now attrs.now }
 {
-    lacks_inner(
-        place_behind(first_use(attrs, name)),
-        first_block(attrs, name),
-    )
+    let Some(attr) = first_use(attrs, name) else {
+        return false;
+    };
+    lacks_inner(block_place(Place::Alarm, attr), first_block(attrs, name))
 }
 
 /// Whether the action or the start of an alarm lacks a required attribute.
@@ -53,5 +44,5 @@ fn sets_event(place: Place) -> bool
 pub fn is_unlisted(place: Place, block: &NamedTask, attr: &OilAttr) -> bool
     ensures { result ≡ is_unlisted block.now.objects place block.now.inner attr.now }
 {
-    sets_event(place) && is_inner_use(attr, b"EVENT") && block.leaves_out(&attr.value)
+    matches!(place, Place::Setting) && is_inner_use(attr, b"EVENT") && block.leaves_out(&attr.value)
 }

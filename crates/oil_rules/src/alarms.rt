@@ -3,14 +3,14 @@ ghost use Rattle.std.specs.Prelude.{◌≡◌, [], IfOk};
 ghost use Rattle.least_fault.specs.Search.{IsSearchResult, Somewhere};
 ghost use Rattle.oil_rules.specs.Blocks.{blocks_of};
 ghost use Rattle.oil_table.specs.AlarmCounters.{limits_of};
-ghost use Rattle.oil_rules.specs.AlarmFaults.{BlockFault, PartFault, AlarmFault};
+ghost use Rattle.oil_rules.specs.AlarmFaults.{BlockFault, AlarmFault};
 
 use crate::block_faults::block_faults;
 use crate::{blocks_of, lacks_part};
 use least_fault::{fault_if, merge};
 use oil_parse::OilObject;
 use oil_table::{CounterLimits, TaskEvents, is_of_kind};
-use sloth_base::{Code, NoMemory, Part, Refusal};
+use sloth_base::{Code, Part, Refusal, Result};
 use std::alloc::Global;
 
 fn faults_in_blocks(
@@ -18,9 +18,10 @@ fn faults_in_blocks(
     tasks: &TaskEvents,
     counters: &CounterLimits,
     alarm: &OilObject,
-) -> Result<Option<Refusal>, NoMemory>
+) -> Result<Option<Refusal>>
     requires { counters.now ≡ tasks.now }
-    ensures { IfOk result (IsSearchResult (Somewhere (BlockFault tasks.now (limits_of tasks.now alarm.now.attrs)) (blocks_of alarm.now.attrs))) }
+    ensures { IfOk result (IsSearchResult
+        (Somewhere (BlockFault tasks.now (limits_of tasks.now alarm.now.attrs)) (blocks_of alarm.now.attrs))) }
 {
     let attrs = alarm.attrs.items();
     let limits = counters.limits_of(attrs);
@@ -29,43 +30,30 @@ fn faults_in_blocks(
     Ok(found)
 }
 
-fn part_faults(
-    alloc: Global,
-    tasks: &TaskEvents,
-    counters: &CounterLimits,
-    alarm: &OilObject,
-) -> Result<Option<Refusal>, NoMemory>
-    requires { counters.now ≡ tasks.now }
-    ensures { IfOk result (IsSearchResult (PartFault tasks.now alarm.now)) }
-{
-    let lacking = lacks_part(alarm.attrs.items());
-    let lacking = fault_if(lacking, Part::Oil, alarm.line, Code::O11);
-    let found = faults_in_blocks(alloc, tasks, counters, alarm)?;
-    Ok(merge(lacking, found))
-}
-
 fn alarm_faults(
     alloc: Global,
     tasks: &TaskEvents,
     counters: &CounterLimits,
     object: &OilObject,
-) -> Result<Option<Refusal>, NoMemory>
+) -> Result<Option<Refusal>>
     requires { counters.now ≡ tasks.now }
     ensures { IfOk result (IsSearchResult (AlarmFault tasks.now [] object.now)) }
 {
     if !is_of_kind(object, b"ALARM") {
         return Ok(None);
     }
-    let found = part_faults(alloc, tasks, counters, object)?;
-    Ok(found)
+    let lacking = lacks_part(object.attrs.items());
+    let lacking = fault_if(lacking, Part::Oil, object.line, Code::O11);
+    let found = faults_in_blocks(alloc, tasks, counters, object)?;
+    Ok(merge(lacking, found))
 }
 
-fn judge_by(
+fn judge_alarms(
     alloc: Global,
     tasks: &TaskEvents,
     counters: &CounterLimits,
     objects: &[OilObject],
-) -> Result<Option<Refusal>, NoMemory>
+) -> Result<Option<Refusal>>
     requires { counters.now ≡ tasks.now }
     ensures { IfOk result (IsSearchResult (Somewhere (AlarmFault tasks.now) objects.now)) }
 {
@@ -78,10 +66,10 @@ fn judge_by(
 }
 
 /// The least fault in the blocks of the alarms among these objects.
-pub fn faults_of_alarms(alloc: Global, objects: &[OilObject]) -> Result<Option<Refusal>, NoMemory>
+pub fn faults_of_alarms(alloc: Global, objects: &[OilObject]) -> Result<Option<Refusal>>
     ensures { IfOk result (IsSearchResult (Somewhere (AlarmFault objects.now) objects.now)) }
 {
     let tasks = TaskEvents::of(alloc, objects)?;
     let counters = CounterLimits::of(alloc, objects)?;
-    judge_by(alloc, &tasks, &counters, objects)
+    judge_alarms(alloc, &tasks, &counters, objects)
 }

@@ -1,14 +1,14 @@
 //! The faults of an attribute by the attribute table.
-ghost use Rattle.std.specs.Prelude.{◌≡◌, ◌&&◌, IfOk, bytes_eq, codes, is_none};
-ghost use Rattle.oil_table.specs.declared.table.Attribute.TheVariants.{Resource};
+ghost use Rattle.std.specs.Prelude.{◌≡◌, IfOk, is_none};
 ghost use Rattle.least_fault.specs.Search.{IsSearchResult, Somewhere};
-ghost use Rattle.oil_rules.specs.AttributeFaults.{opened_place, place_by, is_missing, misses_value, refers_to_none, is_refused, RowFault, AttributeFault};
+ghost use Rattle.oil_rules.specs.AttributeFaults.{opened_place, place_by, refers_to_none, is_refused, RowFault};
+ghost use Rattle.oil_rules.specs.AttributeFaults.{AttributeFault};
 
 use crate::Front;
 use least_fault::{fault_if, merge};
 use oil_parse::{OilAttr, OilValue};
 use oil_table::{Attribute, EarlierUses, Place, allows, attribute_of, block_place, is_second};
-use sloth_base::{Code, NoMemory, Part, Refusal};
+use sloth_base::{Code, Part, Refusal, Result};
 use std::alloc::Global;
 use text_pieces::same;
 
@@ -41,40 +41,6 @@ pub fn is_unlisted(row: Option<Attribute>) -> bool
     row.is_none()
 }
 
-fn misses(objects: &Front, scheduler: bool, attribute: Attribute, word: &[u8]) -> bool
-    ensures { result ≡ is_missing objects.now scheduler attribute word.now }
-{
-    match attribute {
-        Attribute::Mode => !same(word, b"OSDEFAULTAPPMODE"),
-        Attribute::Resource => misses_resource(objects, scheduler, word),
-        Attribute::Event | Attribute::ActionEvent => !objects.has(b"EVENT", word),
-        Attribute::ActionTask => !objects.has(b"TASK", word),
-        Attribute::Counter => !objects.has(b"COUNTER", word),
-        _ => false,
-    }
-}
-
-fn is_scheduler(scheduler: bool, word: &[u8]) -> bool
-    ensures { result ≡ (scheduler && bytes_eq word.now (codes "RES_SCHEDULER")) }
-{
-    scheduler && same(word, b"RES_SCHEDULER")
-}
-
-fn misses_resource(objects: &Front, scheduler: bool, word: &[u8]) -> bool
-    ensures { result ≡ is_missing objects.now scheduler Resource word.now }
-{
-    !is_scheduler(scheduler, word) && !objects.has(b"RESOURCE", word)
-}
-
-fn misses_value(objects: &Front, scheduler: bool, attribute: Attribute, value: &OilValue) -> bool
-    ensures { result ≡ misses_value objects.now scheduler attribute value.now }
-{
-    match value {
-        OilValue::Word(word) => misses(objects, scheduler, attribute, word.bytes()),
-        _ => false,
-    }
-}
-
 /// O10: the value is a word that names no object of the kind.
 pub fn refers_to_none(
     objects: &Front,
@@ -84,9 +50,22 @@ pub fn refers_to_none(
 ) -> bool
     ensures { result ≡ refers_to_none objects.now scheduler row value.now }
 {
-    match row {
-        Some(attribute) => misses_value(objects, scheduler, attribute, value),
-        None => false,
+    let Some(attribute) = row else {
+        return false;
+    };
+    let OilValue::Word(word) = value else {
+        return false;
+    };
+    let word = word.bytes();
+    match attribute {
+        Attribute::Mode => !same(word, b"OSDEFAULTAPPMODE"),
+        Attribute::Resource => {
+            !(scheduler && same(word, b"RES_SCHEDULER")) && !objects.has(b"RESOURCE", word)
+        }
+        Attribute::Event | Attribute::ActionEvent => !objects.has(b"EVENT", word),
+        Attribute::ActionTask => !objects.has(b"TASK", word),
+        Attribute::Counter => !objects.has(b"COUNTER", word),
+        _ => false,
     }
 }
 
@@ -126,7 +105,7 @@ pub fn attribute_faults(
     scheduler: bool,
     place: Place,
     attrs: &[OilAttr],
-) -> Result<Option<Refusal>, NoMemory>
+) -> Result<Option<Refusal>>
     ensures { IfOk result (IsSearchResult (Somewhere (AttributeFault objects.now scheduler place) attrs.now)) }
 {
     let mut before = EarlierUses::new(alloc, 0);

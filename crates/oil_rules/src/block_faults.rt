@@ -10,7 +10,7 @@ use oil_parse::OilAttr;
 use oil_table::{
     EarlierUses, Limits, Place, TaskEvents, attribute_of, block_place, is_beyond, is_second,
 };
-use sloth_base::{Code, NoMemory, Part, Refusal};
+use sloth_base::{Code, Part, Refusal, Result};
 use std::alloc::Global;
 
 fn inner_fault(
@@ -21,7 +21,8 @@ fn inner_fault(
     attr: &OilAttr,
 ) -> Option<Refusal>
     requires { before.now.depth ≡ 1 }
-    ensures { IsSearchResult (InsideFault block.now.objects limits place block.now.inner before.now.attrs attr.now) result }
+    ensures { IsSearchResult (InsideFault block.now.objects limits place block.now.inner before.now.attrs attr.now)
+        result }
 {
     let line = attr.line;
     let row = attribute_of(place, attr.name.bytes());
@@ -37,8 +38,9 @@ fn inner_faults(
     limits: Limits,
     place: Place,
     block: &NamedTask,
-) -> Result<Option<Refusal>, NoMemory>
-    ensures { IfOk result (IsSearchResult (Somewhere (InsideFault block.now.objects limits place block.now.inner) block.now.inner)) }
+) -> Result<Option<Refusal>>
+    ensures { IfOk result
+        (IsSearchResult (Somewhere (InsideFault block.now.objects limits place block.now.inner) block.now.inner)) }
 {
     let attrs = block.inner();
     let mut before = EarlierUses::new(alloc, 1);
@@ -56,7 +58,7 @@ fn block_fault(
     tasks: &TaskEvents,
     limits: Limits,
     block: &Block,
-) -> Result<Option<Refusal>, NoMemory>
+) -> Result<Option<Refusal>>
     ensures { IfOk result (IsSearchResult (BlockFault tasks.now limits [] block.now)) }
 {
     let place = block_place(Place::Alarm, block.head());
@@ -70,7 +72,7 @@ pub fn block_faults(
     tasks: &TaskEvents,
     limits: Limits,
     blocks: &[Block],
-) -> Result<Option<Refusal>, NoMemory>
+) -> Result<Option<Refusal>>
     ensures { IfOk result (IsSearchResult (Somewhere (BlockFault tasks.now limits) blocks.now)) }
 {
     let mut least = None;

@@ -1,11 +1,12 @@
 //! The blocks of an object's attributes.
 ghost use Rattle.std.specs.Prelude.{◌≡◌, IfOk, take, option_copied};
 ghost use Rattle.std.specs.List.{take_while, prefix_len};
-ghost use Rattle.oil_rules.specs.Blocks.{is_inner, blocks_of, first_block, is_inner_use, is_used_in, first_in, number_in};
+ghost use Rattle.oil_rules.specs.Blocks.{is_inner, blocks_of, first_block, is_inner_use, is_used_in, first_in};
+ghost use Rattle.oil_rules.specs.Blocks.{number_in};
 
 use oil_parse::OilAttr;
 use oil_table::{is_use, number_of};
-use sloth_base::NoMemory;
+use sloth_base::Result;
 use std::alloc::Global;
 use std::marker::Model;
 use text_pieces::{push, same};
@@ -41,18 +42,12 @@ impl<'t> Block<'t> {
     }
 }
 
-fn is_inner(attr: &OilAttr) -> bool
-    ensures { result ≡ is_inner attr.now }
-{
-    attr.depth != 0
-}
-
 // How many attributes stand before the next one of the object's own block, or all.
 fn count_inner(attrs: &[OilAttr]) -> usize
     ensures { result ≡ prefix_len is_inner attrs.now }
 {
     for (n, attr) in attrs.iter().enumerate() {
-        if !is_inner(attr) {
+        if attr.depth == 0 {
             return n;
         }
     }
@@ -70,22 +65,22 @@ fn front(attrs: &[OilAttr], count: usize) -> &[OilAttr]
 }
 
 // The attributes before the next one of the object's own block.
-fn inner_of(attrs: &[OilAttr]) -> &[OilAttr]
+fn inner_attrs(attrs: &[OilAttr]) -> &[OilAttr]
     ensures { result.now ≡ take_while is_inner attrs.now }
 {
     front(attrs, count_inner(attrs))
 }
 
 /// The blocks of these attributes.
-pub fn blocks_of<'t>(alloc: Global, attrs: &'t [OilAttr]) -> Result<Vec<Block<'t>>, NoMemory>
+pub fn blocks_of<'t>(alloc: Global, attrs: &'t [OilAttr]) -> Result<Vec<Block<'t>>>
     ensures { IfOk result (λ blocks. blocks.items ≡ blocks_of attrs.now) }
 {
     let mut blocks = Vec::new(alloc);
     for (n, head) in attrs.iter().enumerate() {
-        if is_inner(head) {
+        if head.depth != 0 {
             continue;
         }
-        let inner = inner_of(&attrs[n + 1..]);
+        let inner = inner_attrs(&attrs[n + 1..]);
         push(&mut blocks, Block { head, inner })?;
     }
     Ok(blocks)
@@ -97,7 +92,7 @@ pub fn first_block<'t>(attrs: &'t [OilAttr], name: &[u8]) -> &'t [OilAttr]
 {
     for (n, attr) in attrs.iter().enumerate() {
         if is_use(attr, name) {
-            return inner_of(&attrs[n + 1..]);
+            return inner_attrs(&attrs[n + 1..]);
         }
     }
     &[]

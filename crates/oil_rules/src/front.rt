@@ -1,14 +1,14 @@
 //! The objects before one, and what of them bears on it.
-ghost use Rattle.std.specs.Prelude.{◌≡◌, ◌+◌, ◌<◌, ◌&&◌, ◌||◌, ◌==◌, ℕ, List, [], ◌∷◌, ◌++◌, if◌then◌else◌, IfOk, OnOk, bytes_eq, codes, count_by};
+ghost use Rattle.std.specs.Prelude.{◌≡◌, ◌+◌, ◌<◌, ◌&&◌, ◌||◌, ◌==◌, ℕ, List, [], ◌∷◌, ◌++◌, if◌then◌else◌, IfOk, OnOk};
+ghost use Rattle.std.specs.Prelude.{bytes_eq, codes, count_by};
 ghost use Rattle.std.specs.List.{list_any};
 ghost use Rattle.oil_table.specs.Objects.{is_declaration, is_declared, is_of_kind};
 ghost use Rattle.oil_rules.specs.TaskFaults.{has_priority};
-ghost use Rattle.oil_rules.specs.Fronts.{priority_of};
 
 use indexmap::IndexSet;
 use oil_parse::OilObject;
 use oil_table::{first_number, insert, is_of_kind};
-use sloth_base::NoMemory;
+use sloth_base::Result;
 use std::alloc::Global;
 use std::marker::Model;
 
@@ -52,7 +52,8 @@ impl<'t> Model for Front<'t> {
 
     ghost view = { λ front. front.objects.now };
 
-    ghost invariant = { λ front. IsFront front.objects.now front.names front.priorities front.tasks front.resources front.events front.counters front.alarms front.has_os };
+    ghost invariant = { λ front. IsFront front.objects.now front.names front.priorities front.tasks front.resources
+        front.events front.counters front.alarms front.has_os };
 }
 
 impl<'t> Front<'t> {
@@ -74,11 +75,7 @@ impl<'t> Front<'t> {
     }
 
     /// One object more.
-    pub fn with(
-        self,
-        objects: &'t [OilObject],
-        object: &'t OilObject,
-    ) -> Result<Front<'t>, NoMemory>
+    pub fn with(self, objects: &'t [OilObject], object: &'t OilObject) -> Result<Front<'t>>
         requires { objects.now ≡ self ++ object.now ∷ [] }
         ensures { IfOk result (λ front. front ≡ objects.now) }
     {
@@ -108,7 +105,7 @@ impl<'t> Front<'t> {
     }
 
     /// These objects.
-    pub fn of(alloc: Global, objects: &'t [OilObject]) -> Result<Front<'t>, NoMemory>
+    pub fn of(alloc: Global, objects: &'t [OilObject]) -> Result<Front<'t>>
         ensures { IfOk result (λ front. front ≡ objects.now) }
     {
         let mut front = Front::new(alloc);
@@ -194,33 +191,23 @@ fn or_os(has_os: bool, object: &OilObject) -> bool
     has_os || is_of_kind(object, b"OS")
 }
 
-/// The priority of the object, if it is a task that has one.
-fn priority_of(object: &OilObject) -> Option<u32>
-    ensures { result ≡ priority_of object.now }
-{
-    if is_of_kind(object, b"TASK") {
-        first_number(object.attrs.items(), b"PRIORITY")
-    } else {
-        None
-    }
-}
-
 /// The kind and the name of the object, if no other has them.
-fn add_name<'t>(
-    names: &mut IndexSet<(&'t [u8], &'t [u8])>,
-    object: &'t OilObject,
-) -> Result<(), NoMemory>
-    ensures { OnOk result ((kind name : List ℕ) → list_any (λ k. bytes_eq k.0.now kind && bytes_eq k.1.now name) names.new.keys
-        ≡ (list_any (λ k. bytes_eq k.0.now kind && bytes_eq k.1.now name) names.old.keys || is_declaration kind name object.now)) }
+fn add_name<'t>(names: &mut IndexSet<(&'t [u8], &'t [u8])>, object: &'t OilObject) -> Result<()>
+    ensures { OnOk result ((kind name : List ℕ) → list_any (λ k. bytes_eq k.0.now kind && bytes_eq k.1.now name)
+        names.new.keys ≡ (list_any (λ k. bytes_eq k.0.now kind && bytes_eq k.1.now name) names.old.keys
+        || is_declaration kind name object.now)) }
 {
     insert(names, (object.kind.bytes(), object.name.bytes()))
 }
 
-fn add_priority(priorities: &mut IndexSet<u32>, object: &OilObject) -> Result<(), NoMemory>
+fn add_priority(priorities: &mut IndexSet<u32>, object: &OilObject) -> Result<()>
     ensures { OnOk result ((priority : ℕ) → list_any (λ given. given == priority) priorities.new.keys
         ≡ (list_any (λ given. given == priority) priorities.old.keys || has_priority priority object.now)) }
 {
-    let Some(priority) = priority_of(object) else {
+    if !is_of_kind(object, b"TASK") {
+        return Ok(());
+    }
+    let Some(priority) = first_number(object.attrs.items(), b"PRIORITY") else {
         return Ok(());
     };
     insert(priorities, priority)?;
@@ -232,9 +219,10 @@ fn add<'t>(
     names: &mut IndexSet<(&'t [u8], &'t [u8])>,
     priorities: &mut IndexSet<u32>,
     object: &'t OilObject,
-) -> Result<(), NoMemory>
-    ensures names { OnOk result ((kind name : List ℕ) → list_any (λ k. bytes_eq k.0.now kind && bytes_eq k.1.now name) names.new.keys
-        ≡ (list_any (λ k. bytes_eq k.0.now kind && bytes_eq k.1.now name) names.old.keys || is_declaration kind name object.now)) }
+) -> Result<()>
+    ensures names { OnOk result ((kind name : List ℕ) → list_any (λ k. bytes_eq k.0.now kind && bytes_eq k.1.now name)
+        names.new.keys ≡ (list_any (λ k. bytes_eq k.0.now kind && bytes_eq k.1.now name) names.old.keys
+        || is_declaration kind name object.now)) }
     ensures priorities { OnOk result ((priority : ℕ) → list_any (λ given. given == priority) priorities.new.keys
         ≡ (list_any (λ given. given == priority) priorities.old.keys || has_priority priority object.now)) }
 {

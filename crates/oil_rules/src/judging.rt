@@ -15,7 +15,7 @@ use crate::task_faults::task_faults;
 use least_fault::{fault_if, merge};
 use oil_parse::{OilObject, OilTree};
 use oil_table::{EventTable, events_without_bit, is_nowhere, is_of_kind, place_of};
-use sloth_base::{Code, NoMemory, Part, Refusal};
+use sloth_base::{Code, Part, Refusal, Result};
 use std::alloc::Global;
 
 fn faults_of_task<'t>(
@@ -23,7 +23,7 @@ fn faults_of_task<'t>(
     events: &'t EventTable<'t>,
     front: &Front,
     object: &'t OilObject,
-) -> Result<Option<Refusal>, NoMemory>
+) -> Result<Option<Refusal>>
     ensures { IfOk result (IsSearchResult (TaskFaults events.now front.now object.now)) }
 {
     if !is_of_kind(object, b"TASK") {
@@ -33,23 +33,6 @@ fn faults_of_task<'t>(
     Ok(found)
 }
 
-fn inner_fault(
-    alloc: Global,
-    table: &Front,
-    scheduler: bool,
-    events: &EventTable,
-    front: &Front,
-    object: &OilObject,
-) -> Result<Option<Refusal>, NoMemory>
-    ensures { IfOk result (IsSearchResult (KnownObjectFault table.now scheduler events.now front.now object.now)) }
-{
-    let known = known_fault(scheduler, front, object);
-    let place = place_of(object.kind.bytes());
-    let attributes = attribute_faults(alloc, table, scheduler, place, object.attrs.items())?;
-    let of_task = faults_of_task(alloc, events, front, object)?;
-    Ok(merge(known, merge(attributes, of_task)))
-}
-
 fn fault_of_known(
     alloc: Global,
     table: &Front,
@@ -57,14 +40,18 @@ fn fault_of_known(
     events: &EventTable,
     front: &Front,
     object: &OilObject,
-) -> Result<Option<Refusal>, NoMemory>
-    ensures { IfOk result (IsSearchResult (λ r. (is_known object.now ≡ true) × KnownObjectFault table.now scheduler events.now front.now object.now r)) }
+) -> Result<Option<Refusal>>
+    ensures { IfOk result (IsSearchResult (λ r. (is_known object.now ≡ true)
+        × KnownObjectFault table.now scheduler events.now front.now object.now r)) }
 {
-    if is_nowhere(place_of(object.kind.bytes())) {
+    let place = place_of(object.kind.bytes());
+    if is_nowhere(place) {
         return Ok(None);
     }
-    let found = inner_fault(alloc, table, scheduler, events, front, object)?;
-    Ok(found)
+    let known = known_fault(scheduler, front, object);
+    let attributes = attribute_faults(alloc, table, scheduler, place, object.attrs.items())?;
+    let of_task = faults_of_task(alloc, events, front, object)?;
+    Ok(merge(known, merge(attributes, of_task)))
 }
 
 fn object_faults(
@@ -73,7 +60,7 @@ fn object_faults(
     table: &Front,
     scheduler: bool,
     events: &EventTable,
-) -> Result<Option<Refusal>, NoMemory>
+) -> Result<Option<Refusal>>
     ensures { IfOk result (IsSearchResult (Somewhere (ObjectFault table.now scheduler events.now) objects.now)) }
 {
     let mut front = Front::new(alloc);
@@ -93,7 +80,7 @@ fn faults_among(
     table: &Front,
     scheduler: bool,
     events: &EventTable,
-) -> Result<Option<Refusal>, NoMemory>
+) -> Result<Option<Refusal>>
     requires objects { table.now ≡ tree.now.objects }
     requires scheduler { scheduler ≡ has_scheduler tree.now.objects }
     requires events { events.now ≡ events_of tree.now.objects }
@@ -111,7 +98,7 @@ fn tree_faults(
     tree: &OilTree,
     scheduler: bool,
     events: &EventTable,
-) -> Result<Option<Refusal>, NoMemory>
+) -> Result<Option<Refusal>>
     requires scheduler { scheduler ≡ has_scheduler tree.now.objects }
     requires events { events.now ≡ events_of tree.now.objects }
     ensures { IfOk result (IsSearchResult (TreeFault tree.now)) }
@@ -126,7 +113,7 @@ pub fn judge(
     tree: &OilTree,
     scheduler: bool,
     events: &EventTable,
-) -> Result<Option<Refusal>, NoMemory>
+) -> Result<Option<Refusal>>
     requires scheduler { scheduler ≡ has_scheduler tree.now.objects }
     requires events { events.now ≡ events_of tree.now.objects }
     ensures { IfOk result (IsSearchResult (ModelFault tree.now)) }

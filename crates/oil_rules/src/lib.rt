@@ -1,9 +1,10 @@
 //! The faults of the objects of an OIL tree (OIL 2.5, section 3).
 //!
-//! `judge` finds the least of O7 to O15, or none. The faults: `specs/ModelFaults` and the files that it names, those in the blocks of alarms in
-//! `specs/AlarmFaults`; what is kept of earlier objects and attributes: `specs/Fronts`, `specs/KeptReferences`. The block of an attribute, and what it
-//! says: `first_block`, `first_in`, `number_in` (`specs/Blocks`). Rows of the table: `oil_table` (`Table`); events: `oil_table` (`Events`); the least
-//! fault: `least_fault` (`Order`).
+//! `judge` finds the least of O7 to O15, or none. The faults: `specs/ModelFaults` and the files that it names, those in
+//! the blocks of alarms in `specs/AlarmFaults`; what is kept of earlier objects and attributes: `specs/Fronts`,
+//! `specs/KeptReferences`. The block of an attribute, and what it says: `first_block`, `first_in`, `number_in`
+//! (`specs/Blocks`). Rows of the table: `oil_table` (`Table`); events: `oil_table` (`Events`); the least fault:
+//! `least_fault` (`Order`).
 #![tactic(auto)]
 
 pub mod alarm_faults;

@@ -49,7 +49,8 @@ impl<'t> NamedTask<'t> {
 
     /// Whether there is such a task, and it does not list the event.
     fn leaves_out_word(&self, word: &[u8]) -> bool
-        ensures { result ≡ leaves_out (object_named self.now.objects (codes "TASK") (first_in self.now.inner (codes "TASK"))) word.now }
+        ensures { result ≡ leaves_out
+            (object_named self.now.objects (codes "TASK") (first_in self.now.inner (codes "TASK"))) word.now }
     {
         match self.number {
             Some(number) => !self.tasks.lists(number, word),

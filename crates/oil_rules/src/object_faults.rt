@@ -1,9 +1,11 @@
 //! The faults of an object as a whole.
 ghost use Rattle.std.specs.Prelude.{◌≡◌, ◌&&◌, codes};
+ghost use Rattle.oil_table.specs.Objects.{is_of_kind};
 ghost use Rattle.least_fault.specs.Search.{IsSearchResult};
 ghost use Rattle.std.specs.List.{list_any};
-ghost use Rattle.oil_table.specs.Objects.{is_of_kind, is_declaration, is_declared};
-ghost use Rattle.oil_rules.specs.ObjectFaults.{is_double_of, shares_name, is_doubled, is_endless, is_idle, lacks_task_attribute, lacks_attribute, is_strange_mode, is_clock_above, is_above, KindFault, KnownFault};
+ghost use Rattle.oil_rules.specs.ObjectFaults.{is_double_of, is_doubled, is_idle, lacks_task_attribute};
+ghost use Rattle.oil_rules.specs.ObjectFaults.{lacks_attribute, is_strange_mode, is_above};
+ghost use Rattle.oil_rules.specs.ObjectFaults.{KindFault, KnownFault};
 
 use crate::Front;
 use least_fault::{fault_if, merge};
@@ -11,12 +13,6 @@ use oil_parse::OilObject;
 use oil_table::{comes_behind, declares, is_clock_more, is_nowhere, is_of_kind, is_used, place_of};
 use sloth_base::{Code, EVENT_LIMIT, NAME_LIMIT, Part, RESOURCE_LIMIT, Refusal, TASK_LIMIT};
 use text_pieces::same;
-
-fn is_second_of_its_name(front: &Front, object: &OilObject) -> bool
-    ensures { result ≡ is_declared front.now object.now.kind object.now.name }
-{
-    front.has(object.kind.bytes(), object.name.bytes())
-}
 
 fn is_second_os(front: &Front, object: &OilObject) -> bool
     ensures { result ≡ (is_of_kind (codes "OS") object.now && list_any (is_of_kind (codes "OS")) front.now) }
@@ -27,34 +23,18 @@ fn is_second_os(front: &Front, object: &OilObject) -> bool
 fn is_second(front: &Front, object: &OilObject) -> bool
     ensures { result ≡ list_any (is_double_of object.now) front.now }
 {
-    is_second_of_its_name(front, object) || is_second_os(front, object)
-}
-
-fn shares_name(front: &Front, object: &OilObject) -> bool
-    ensures { result ≡ shares_name front.now object.now }
-{
-    let name = object.name.bytes();
-    (is_of_kind(object, b"TASK") && front.has(b"COUNTER", name))
-        || (is_of_kind(object, b"COUNTER") && front.has(b"TASK", name))
-}
-
-fn takes_scheduler(scheduler: bool, object: &OilObject) -> bool
-    ensures { result ≡ (scheduler && is_declaration (codes "RESOURCE") (codes "RES_SCHEDULER") object.now) }
-{
-    scheduler && declares(object, b"RESOURCE", b"RES_SCHEDULER")
+    front.has(object.kind.bytes(), object.name.bytes()) || is_second_os(front, object)
 }
 
 /// O9: an earlier object has its name, or it is a second OS, or a RES_SCHEDULER beside that of the system.
 pub fn is_doubled(scheduler: bool, front: &Front, object: &OilObject) -> bool
     ensures { result ≡ is_doubled scheduler front.now object.now }
 {
-    is_second(front, object) || shares_name(front, object) || takes_scheduler(scheduler, object)
-}
-
-fn is_endless(object: &OilObject) -> bool
-    ensures { result ≡ is_endless object.now }
-{
-    is_of_kind(object, b"COUNTER") && !is_used(object.attrs.items(), b"MAXALLOWEDVALUE")
+    let name = object.name.bytes();
+    is_second(front, object)
+        || (is_of_kind(object, b"TASK") && front.has(b"COUNTER", name))
+        || (is_of_kind(object, b"COUNTER") && front.has(b"TASK", name))
+        || (scheduler && declares(object, b"RESOURCE", b"RES_SCHEDULER"))
 }
 
 fn is_idle(object: &OilObject) -> bool
@@ -68,7 +48,10 @@ fn is_idle(object: &OilObject) -> bool
 pub fn lacks_attribute(object: &OilObject) -> bool
     ensures { result ≡ lacks_attribute object.now }
 {
-    lacks_task_attribute(object) || is_endless(object) || is_idle(object)
+    let attrs = object.attrs.items();
+    lacks_task_attribute(object)
+        || (is_of_kind(object, b"COUNTER") && !is_used(attrs, b"MAXALLOWEDVALUE"))
+        || is_idle(object)
 }
 
 fn lacks_task_attribute(object: &OilObject) -> bool
@@ -89,12 +72,6 @@ pub fn is_strange_mode(object: &OilObject) -> bool
     is_of_kind(object, b"APPMODE") && !same(object.name.bytes(), b"OSDEFAULTAPPMODE")
 }
 
-fn is_clock_above(front: &Front, object: &OilObject) -> bool
-    ensures { result ≡ is_clock_above front.now object.now }
-{
-    is_clock_more(front.counters(), front.alarms(), object)
-}
-
 /// O14: one object too many of its kind, or a long name.
 pub fn is_above(front: &Front, object: &OilObject) -> bool
     ensures { result ≡ is_above front.now object.now }
@@ -102,7 +79,7 @@ pub fn is_above(front: &Front, object: &OilObject) -> bool
     comes_behind(b"TASK", TASK_LIMIT, front.tasks(), object)
         || comes_behind(b"RESOURCE", RESOURCE_LIMIT, front.resources(), object)
         || comes_behind(b"EVENT", EVENT_LIMIT, front.events(), object)
-        || is_clock_above(front, object)
+        || is_clock_more(front.counters(), front.alarms(), object)
         || NAME_LIMIT < object.name.bytes().len()
 }
 
@@ -110,12 +87,8 @@ pub fn is_above(front: &Front, object: &OilObject) -> bool
 pub fn kind_fault(object: &OilObject) -> Option<Refusal>
     ensures { IsSearchResult (KindFault object.now) result }
 {
-    fault_if(
-        is_nowhere(place_of(object.kind.bytes())),
-        Part::Oil,
-        object.line,
-        Code::O7,
-    )
+    let unknown = is_nowhere(place_of(object.kind.bytes()));
+    fault_if(unknown, Part::Oil, object.line, Code::O7)
 }
 
 /// O9, O11, O12 and O14 of an object of a kind.
@@ -123,12 +96,8 @@ pub fn known_fault(scheduler: bool, front: &Front, object: &OilObject) -> Option
     ensures { IsSearchResult (KnownFault scheduler front.now object.now) result }
 {
     let line = object.line;
-    let doubled = fault_if(
-        is_doubled(scheduler, front, object),
-        Part::Oil,
-        line,
-        Code::O9,
-    );
+    let doubled = is_doubled(scheduler, front, object);
+    let doubled = fault_if(doubled, Part::Oil, line, Code::O9);
     let lacking = fault_if(lacks_attribute(object), Part::Oil, line, Code::O11);
     let strange = fault_if(is_strange_mode(object), Part::Oil, line, Code::O12);
     let above = fault_if(is_above(front, object), Part::Oil, line, Code::O14);

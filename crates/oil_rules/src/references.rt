@@ -2,12 +2,12 @@
 ghost use Rattle.std.specs.Prelude.{◌≡◌, ◌||◌, ◌==◌, bit_and, [], ◌∷◌, ◌++◌, IfOk};
 ghost use Rattle.std.specs.List.{list_any};
 ghost use Rattle.oil_rules.specs.TaskFaults.{shares_bit};
-ghost use Rattle.oil_rules.specs.References.{ReferenceContext, refers_to_clash};
+ghost use Rattle.oil_rules.specs.References.{ReferenceContext};
 ghost use Rattle.oil_rules.specs.KeptReferences.{is_to, is_clash};
 
 use oil_parse::OilAttr;
 use oil_table::{EventTable, event_word};
-use sloth_base::NoMemory;
+use sloth_base::Result;
 use std::alloc::Global;
 use std::marker::Model;
 use text_pieces::{push, same};
@@ -19,8 +19,8 @@ struct Reference<'t> {
     mask: u32,
 }
 
-/// The attributes of a task before one, with some of the events that they refer to: of those that have a bit, no more than two are
-/// kept for it. An event shares a bit with another one of them exactly if it does with one that is kept.
+/// The attributes of a task before one, with some of the events that they refer to: of those that have a bit, no more
+/// than two are kept for it. An event shares a bit with another one of them exactly if it does with one that is kept.
 #[derive(Drop)]
 pub struct References<'t> {
     events: &'t EventTable<'t>,
@@ -41,20 +41,15 @@ impl<'t> Model for References<'t> {
 
     ghost view = { λ references. record { events = references.events.now; attrs = references.attrs.now } };
 
-    ghost invariant = { λ references. AreKept references.events.now references.attrs.now references.kept.items references.once references.twice };
-}
-
-fn is_to(reference: &Reference, word: &[u8]) -> bool
-    ensures { result ≡ is_to word.now reference.now }
-{
-    same(reference.word, word)
+    ghost invariant = { λ references. AreKept references.events.now references.attrs.now references.kept.items
+        references.once references.twice };
 }
 
 /// Whether the event is among those that are kept.
 fn is_kept(kept: &Vec<Reference>, word: &[u8]) -> bool
     ensures { result ≡ list_any (is_to word.now) kept.now.items }
 {
-    kept.iter().any(|reference| is_to(reference, word))
+    kept.iter().any(|reference| same(reference.word, word))
 }
 
 /// Whether those that are kept tell all that this event does.
@@ -68,11 +63,11 @@ fn is_told(kept: &Vec<Reference>, twice: u32, word: &[u8], mask: u32) -> bool
 fn is_clash(reference: &Reference, word: &[u8], mask: u32) -> bool
     ensures { result ≡ is_clash word.now mask reference.now }
 {
-    reference.mask & mask != 0 && !is_to(reference, word)
+    reference.mask & mask != 0 && !same(reference.word, word)
 }
 
 /// Whether one of them is another event with a bit of the mask.
-fn has_clash_among(kept: &Vec<Reference>, word: &[u8], mask: u32) -> bool
+fn has_clash(kept: &Vec<Reference>, word: &[u8], mask: u32) -> bool
     ensures { result ≡ list_any (is_clash word.now mask) kept.now.items }
 {
     kept.iter().any(|reference| is_clash(reference, word, mask))
@@ -97,20 +92,13 @@ impl<'t> References<'t> {
         ensures { result ≡ shares_bit self.now.events self.now.attrs attr.now }
     {
         match event_word(attr) {
-            Some(word) => self.has_clash(word),
+            Some(word) => has_clash(&self.kept, word, self.events.mask_named(word)),
             None => false,
         }
     }
 
-    /// Whether an attribute refers to another event that shares a bit with this one.
-    fn has_clash(&self, word: &[u8]) -> bool
-        ensures { result ≡ list_any (refers_to_clash self.now.events word.now) self.now.attrs }
-    {
-        has_clash_among(&self.kept, word, self.events.mask_named(word))
-    }
-
     /// One attribute more.
-    pub fn with(self, attrs: &'t [OilAttr], attr: &'t OilAttr) -> Result<References<'t>, NoMemory>
+    pub fn with(self, attrs: &'t [OilAttr], attr: &'t OilAttr) -> Result<References<'t>>
         requires { attrs.now ≡ self.attrs ++ attr.now ∷ [] }
         ensures { IfOk result (λ references. references ≡ record { events = self.entry.events; attrs = attrs.now }) }
     {

@@ -8,23 +8,24 @@ use crate::{Front, References};
 use least_fault::{fault_if, merge};
 use oil_parse::OilAttr;
 use oil_table::{EventTable, is_use, number_of};
-use sloth_base::{Code, NoMemory, Part, Refusal};
+use sloth_base::{Code, Part, Refusal, Result};
 use std::alloc::Global;
-
-fn is_taken(front: &Front, priority: Option<u32>) -> bool
-    ensures { result ≡ is_taken front.now priority }
-{
-    match priority {
-        Some(priority) => front.has_priority(priority),
-        None => false,
-    }
-}
 
 /// O13: the attribute is the priority of the task, and an earlier task has it.
 pub fn repeats_priority(front: &Front, given: bool, attr: &OilAttr) -> bool
-    ensures { result ≡ ((is_use (codes "PRIORITY") attr.now && not given) && is_taken front.now (number_of attr.now.value)) }
+    ensures { result
+        ≡ ((is_use (codes "PRIORITY") attr.now && not given) && is_taken front.now (number_of attr.now.value)) }
 {
-    is_use(attr, b"PRIORITY") && !given && is_taken(front, number_of(&attr.value))
+    if !is_use(attr, b"PRIORITY") {
+        return false;
+    }
+    if given {
+        return false;
+    }
+    match number_of(&attr.value) {
+        Some(priority) => front.has_priority(priority),
+        None => false,
+    }
 }
 
 /// Whether a priority was given, or this attribute gives one.
@@ -50,7 +51,7 @@ pub fn task_faults<'t>(
     events: &'t EventTable<'t>,
     front: &Front,
     attrs: &'t [OilAttr],
-) -> Result<Option<Refusal>, NoMemory>
+) -> Result<Option<Refusal>>
     ensures { IfOk result (IsSearchResult (Somewhere (TaskFault events.now front.now) attrs.now)) }
 {
     let mut before = References::new(alloc, events);

@@ -1,11 +1,11 @@
 //! The limits of the counters of a tree.
 ghost use Rattle.std.specs.Prelude.{◌≡◌, IfOk, codes, find};
-ghost use Rattle.oil_table.specs.Objects.{is_declaration, object_of_value};
+ghost use Rattle.oil_table.specs.Objects.{is_declaration};
 ghost use Rattle.oil_table.specs.AlarmCounters.{limit_by, limits_in, limits_given, limits_of, limits_among};
 
 use crate::{Limits, first_number, first_use, is_of_kind, names_of};
 use oil_parse::{OilAttr, OilObject, OilValue};
-use sloth_base::{NoMemory, TICK_LIMIT};
+use sloth_base::{Result, TICK_LIMIT};
 use std::alloc::Global;
 use std::marker::Model;
 use text_pieces::{Names, push};
@@ -46,33 +46,31 @@ impl<'t> Model for CounterLimits<'t> {
     ghost invariant = { λ counters. AreCounters counters.objects.now counters.names counters.limits.items };
 }
 
-fn limit_by(number: Option<u32>, other: u32) -> u32
+fn limit_or(number: Option<u32>, other: u32) -> u32
     ensures { result ≡ limit_by number other }
 {
-    match number {
-        Some(number) => {
-            if 1 <= number && number <= TICK_LIMIT {
-                number
-            } else {
-                other
-            }
-        },
-        None => other,
+    let Some(number) = number else {
+        return other;
+    };
+    if 1 <= number && number <= TICK_LIMIT {
+        number
+    } else {
+        other
     }
 }
 
-fn limits_in(counter: &OilObject) -> Limits
+fn declared_limits(counter: &OilObject) -> Limits
     ensures { result ≡ limits_in counter.now }
 {
     let attrs = counter.attrs.items();
     Limits {
-        least: limit_by(first_number(attrs, b"MINCYCLE"), 1),
-        greatest: limit_by(first_number(attrs, b"MAXALLOWEDVALUE"), TICK_LIMIT),
+        least: limit_or(first_number(attrs, b"MINCYCLE"), 1),
+        greatest: limit_or(first_number(attrs, b"MAXALLOWEDVALUE"), TICK_LIMIT),
     }
 }
 
 /// The limits of the counters among these objects, in the order of their numbers.
-fn limits_among(alloc: Global, objects: &[OilObject]) -> Result<Vec<Limits>, NoMemory>
+fn limits_among(alloc: Global, objects: &[OilObject]) -> Result<Vec<Limits>>
     ensures { IfOk result (λ limits. limits.items ≡ limits_among objects.now) }
 {
     let mut limits = Vec::new(alloc);
@@ -80,14 +78,14 @@ fn limits_among(alloc: Global, objects: &[OilObject]) -> Result<Vec<Limits>, NoM
         if !is_of_kind(object, b"COUNTER") {
             continue;
         }
-        push(&mut limits, limits_in(object))?;
+        push(&mut limits, declared_limits(object))?;
     }
     Ok(limits)
 }
 
 impl<'t> CounterLimits<'t> {
     /// The counters among these objects.
-    pub fn of(alloc: Global, objects: &'t [OilObject]) -> Result<CounterLimits<'t>, NoMemory>
+    pub fn of(alloc: Global, objects: &'t [OilObject]) -> Result<CounterLimits<'t>>
         ensures { IfOk result (λ counters. counters ≡ objects.now) }
     {
         let names = names_of(alloc, objects, b"COUNTER")?;
@@ -109,23 +107,16 @@ impl<'t> CounterLimits<'t> {
         }
     }
 
-    /// The limits of the counter that a value names.
-    fn limits_of_value(&self, value: &OilValue) -> Limits
-        ensures { result ≡ limits_given (object_of_value self.now (codes "COUNTER") value.now) }
-    {
-        match value {
-            OilValue::Word(word) => self.limits_of_word(word.bytes()),
-            _ => WIDEST,
-        }
-    }
-
     /// The limits of the counter that an alarm with these attributes names.
     pub fn limits_of(&self, attrs: &[OilAttr]) -> Limits
         ensures { result ≡ limits_of self.now attrs.now }
     {
-        match first_use(attrs, b"COUNTER") {
-            Some(attr) => self.limits_of_value(&attr.value),
-            None => WIDEST,
+        let Some(attr) = first_use(attrs, b"COUNTER") else {
+            return WIDEST;
+        };
+        match &attr.value {
+            OilValue::Word(word) => self.limits_of_word(word.bytes()),
+            _ => WIDEST,
         }
     }
 }

@@ -1,13 +1,14 @@
-//! Events and their masks. AUTO events, in the order of their objects, take the lowest bit that is in no number mask and was given
-//! to no earlier AUTO event (OIL 2.5, section 3.2.6).
+//! Events and their masks. AUTO events, in the order of their objects, take the lowest bit that is in no number mask
+//! and was given to no earlier AUTO event (OIL 2.5, section 3.2.6).
 ghost use Rattle.std.specs.Prelude.{◌≡◌, ◌<◌, All, IfOk};
 ghost use Rattle.least_fault.specs.Search.{IsSearchResult, Somewhere};
-ghost use Rattle.oil_table.specs.Events.{is_event, number_bits, number_masks, free_bit, is_auto, mask_by, taken_more, number_mask, lacks_bit, BitFault, events_of};
+ghost use Rattle.oil_table.specs.Events.{is_event, number_bits, number_masks, free_bit, is_auto, mask_by, taken_more};
+ghost use Rattle.oil_table.specs.Events.{number_mask, lacks_bit, BitFault, events_of};
 
 use crate::{first_is, first_number, is_of_kind, is_used};
 use least_fault::{fault_if, merge};
 use oil_parse::OilObject;
-use sloth_base::{Code, EventDecl, Name, NoMemory, Part, Refusal};
+use sloth_base::{Code, EventDecl, Name, Part, Refusal, Result};
 use std::alloc::Global;
 use text_pieces::push;
 
@@ -98,7 +99,7 @@ fn free_bit(taken: u32) -> Option<u32>
 }
 
 /// The mask of an event, where these bits are taken: 0 where no bit is free.
-fn mask_by(taken: u32, event: &OilObject) -> u32
+fn given_mask(taken: u32, event: &OilObject) -> u32
     ensures { result ≡ mask_by taken event.now }
 {
     if is_auto(event) {
@@ -113,7 +114,7 @@ pub fn taken_more(taken: u32, object: &OilObject) -> u32
     ensures { result ≡ taken_more taken object.now }
 {
     if is_event(object) {
-        taken | mask_by(taken, object)
+        taken | given_mask(taken, object)
     } else {
         taken
     }
@@ -141,7 +142,7 @@ pub fn events_without_bit(objects: &[OilObject]) -> Option<Refusal>
 }
 
 /// The events of the configuration.
-pub fn events_of(alloc: Global, objects: &[OilObject]) -> Result<Vec<EventDecl>, NoMemory>
+pub fn events_of(alloc: Global, objects: &[OilObject]) -> Result<Vec<EventDecl>>
     ensures events { IfOk result (λ events. events.items ≡ events_of objects.now) }
     ensures fit { IfOk result (λ events. All (λ event. event.mask < 4294967296) events.items) }
 {
@@ -151,7 +152,7 @@ pub fn events_of(alloc: Global, objects: &[OilObject]) -> Result<Vec<EventDecl>,
         if !is_event(object) {
             continue;
         }
-        let mask = mask_by(taken, object);
+        let mask = given_mask(taken, object);
         let name = Name::new(alloc, object.name.bytes())?;
         push(&mut events, EventDecl { name, mask })?;
         taken |= mask;

@@ -1,16 +1,13 @@
-//! The table of OIL objects and attributes (OIL 2.5, section 3): which attribute may stand in which place, how often, and with which values.
+//! The table of OIL objects and attributes (OIL 2.5, section 3): which attribute may stand where, how often, with which
+//! values; and the events of a tree with their masks.
 //!
-//! The rows: `place_of`, `attribute_of`, `is_single`, `allows`, `block_place` (`specs/Table`). What an object declares and what its attributes say:
-//! `first_use`, `first_number`, `declares`, `is_of_kind`, .. (`specs/Objects`). The limits: an object of a kind comes behind as many of it as there
-//! may be, or not (`comes_behind`, `is_clock_more`); a number in a block of an alarm lies outside the limits of its counter, or not (`is_beyond`,
-//! `specs/Beyond`). The events that each task lists, and the limits of each counter, found by names: `TaskEvents` (`specs/ListedEvents`),
-//! `CounterLimits` (`specs/AlarmCounters`). Trees: `oil_parse` (`Grammar`).
+//! Rows and limits: `place_of`, `attribute_of`, `is_single`, `allows`, `block_place`, `comes_behind`, `is_clock_more`,
+//! `is_beyond` (`specs/Table`, `specs/Beyond`). What an object declares: `first_use`, `first_number`, `declares`, ..
+//! (`specs/Objects`). By names: the events of each task and the limits of each counter (`TaskEvents`, `CounterLimits`;
+//! `specs/ListedEvents`, `specs/AlarmCounters`).
 //!
-//! The events of an OIL tree, and their masks (OIL 2.5, section 3).
-//!
-//! `events_of` gives the EVENT objects with their masks: a number as it stands, AUTO the lowest bit that no number mask of the text and no earlier
-//! AUTO event has; or no bit is free (`specs/Events`). The mask of the event that a value names, and the union of those that a task lists
-//! (`mask_of_value`, `event_mask`, `specs/Masks`).
+//! A mask is a number as it stands, or with AUTO the lowest bit that no number mask and no earlier AUTO event has; or
+//! no bit is free (`events_of`, `mask_of_value`, `event_mask`; `specs/Events`, `specs/Masks`). Trees: `oil_parse`.
 #![tactic(auto)]
 
 pub mod alarm_limits;

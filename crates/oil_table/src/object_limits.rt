@@ -15,7 +15,8 @@ pub fn comes_behind(kind: &[u8], limit: usize, count: usize, object: &OilObject)
 
 /// Whether the object is the 3rd counter or the 33rd alarm, where so many counters and alarms stand before it.
 pub fn is_clock_more(counters: usize, alarms: usize, object: &OilObject) -> bool
-    ensures { result ≡ ((bytes_eq object.now.kind (codes "COUNTER") && (counters == counter_limit)) || (bytes_eq object.now.kind (codes "ALARM") && (alarms == alarm_limit))) }
+    ensures { result ≡ ((bytes_eq object.now.kind (codes "COUNTER") && (counters == counter_limit))
+        || (bytes_eq object.now.kind (codes "ALARM") && (alarms == alarm_limit))) }
 {
     comes_behind(b"COUNTER", COUNTER_LIMIT, counters, object)
         || comes_behind(b"ALARM", ALARM_LIMIT, alarms, object)

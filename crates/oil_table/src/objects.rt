@@ -1,6 +1,7 @@
 //! What an object says by the attributes of its own block. Of two uses of one attribute the first counts.
 ghost use Rattle.std.specs.Prelude.{◌≡◌, codes, find, option_copied};
-ghost use Rattle.oil_table.specs.Objects.{is_use, is_used, first_is, number_of, first_number, is_declaration, has_scheduler, os_scheduler, is_of_kind};
+ghost use Rattle.oil_table.specs.Objects.{is_use, is_used, first_is, number_of, first_number, is_declaration};
+ghost use Rattle.oil_table.specs.Objects.{has_scheduler, is_of_kind};
 
 use crate::is_word;
 use oil_parse::{OilAttr, OilObject, OilValue};
@@ -74,12 +75,6 @@ pub fn declares(object: &OilObject, kind: &[u8], name: &[u8]) -> bool
     is_of_kind(object, kind) && same(object.name.bytes(), name)
 }
 
-fn os_scheduler(os: &OilObject) -> bool
-    ensures { result ≡ os_scheduler os.now }
-{
-    !first_is(os.attrs.items(), b"USERESSCHEDULER", b"FALSE")
-}
-
 fn first_os(objects: &[OilObject]) -> Option<&OilObject>
     ensures { option_copied result ≡ find (is_of_kind (codes "OS")) objects.now }
 {
@@ -91,7 +86,7 @@ pub fn has_scheduler(objects: &[OilObject]) -> bool
     ensures { result ≡ has_scheduler objects.now }
 {
     match first_os(objects) {
-        Some(os) => os_scheduler(os),
+        Some(os) => !first_is(os.attrs.items(), b"USERESSCHEDULER", b"FALSE"),
         None => true,
     }
 }

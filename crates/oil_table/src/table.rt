@@ -1,12 +1,16 @@
 //! The attribute table: which attributes may stand where, and which values they take (OIL 2.5, section 3).
 ghost use Rattle.std.specs.Prelude.{◌≡◌, ◌&&◌, bytes_eq};
-ghost use Rattle.oil_table.specs.Table.{place_of, is_hook, is_flag, os_attribute, task_attribute, counter_attribute, alarm_attribute, setting_attribute, wakeup_attribute, only_attribute, attribute_of, is_single, allows_word, allows_number, is_allowed, is_word, activation_place, alarm_place, block_place, is_nowhere};
+ghost use Rattle.oil_table.specs.Table.{alarm_place, is_hook, is_flag, place_of, os_attribute, task_attribute};
+ghost use Rattle.oil_table.specs.Table.{counter_attribute, alarm_attribute};
+ghost use Rattle.oil_table.specs.Table.{setting_attribute, wakeup_attribute, only_attribute, attribute_of, is_single};
+ghost use Rattle.oil_table.specs.Table.{allows_word, allows_number, is_allowed, is_word, block_place, is_nowhere};
 
 use oil_parse::{OilAttr, OilValue};
 use sloth_base::{PRIORITY_LIMIT, TICK_LIMIT};
 use text_pieces::same;
 
-/// Where attributes stand: in an object of a kind, or in the block of AUTOSTART = TRUE or of an action. No attribute may stand anywhere else.
+/// Where attributes stand: in an object of a kind, or in the block of AUTOSTART = TRUE or of an action. No attribute
+/// may stand anywhere else.
 #[derive(Clone, Copy)]
 pub enum Place {
     Os,
@@ -245,12 +249,7 @@ fn allows_word(attribute: Attribute, word: &[u8]) -> bool
         | Attribute::Counter
         | Attribute::ActionTask
         | Attribute::ActionEvent => true,
-        Attribute::Priority
-        | Attribute::Activation
-        | Attribute::Limit
-        | Attribute::Ticks
-        | Attribute::Time
-        | Attribute::Cycle => false,
+        _ => false,
     }
 }
 
@@ -258,12 +257,11 @@ fn allows_number(attribute: Attribute, number: u32) -> bool
     ensures { result ≡ allows_number attribute number }
 {
     match attribute {
-        Attribute::Value => true,
+        Attribute::Value | Attribute::Cycle => true,
         Attribute::Priority => number <= PRIORITY_LIMIT,
         Attribute::Activation => number == 1,
         Attribute::Mask | Attribute::Ticks | Attribute::Time => 1 <= number,
         Attribute::Limit => 1 <= number && number <= TICK_LIMIT,
-        Attribute::Cycle => true,
         _ => false,
     }
 }
@@ -294,26 +292,10 @@ pub fn block_place(place: Place, attr: &OilAttr) -> Place
     ensures { result ≡ block_place place attr.now }
 {
     match place {
-        Place::Task => activation_place(attr),
+        Place::Task if has(attr, b"AUTOSTART", b"TRUE") => Place::Activation,
         Place::Alarm => alarm_place(attr),
         _ => Place::Nowhere,
     }
-}
-
-fn activation_place(attr: &OilAttr) -> Place
-    ensures { result ≡ activation_place attr.now }
-{
-    if same(attr.name.bytes(), b"AUTOSTART") && is_word(&attr.value, b"TRUE") {
-        Place::Activation
-    } else {
-        Place::Nowhere
-    }
-}
-
-fn has(attr: &OilAttr, name: &[u8], word: &[u8]) -> bool
-    ensures { result ≡ (bytes_eq attr.now.name name.now && is_word attr.now.value word.now) }
-{
-    same(attr.name.bytes(), name) && is_word(&attr.value, word)
 }
 
 fn alarm_place(attr: &OilAttr) -> Place
@@ -328,6 +310,12 @@ fn alarm_place(attr: &OilAttr) -> Place
     } else {
         Place::Nowhere
     }
+}
+
+fn has(attr: &OilAttr, name: &[u8], word: &[u8]) -> bool
+    ensures { result ≡ (bytes_eq attr.now.name name.now && is_word attr.now.value word.now) }
+{
+    same(attr.name.bytes(), name) && is_word(&attr.value, word)
 }
 
 /// Whether no attribute may stand there.

@@ -1,12 +1,12 @@
 //! The events that tasks list.
 ghost use Rattle.std.specs.Prelude.{◌≡◌, ◌||◌, ◌&&◌, ◌==◌, ℕ, List, [], ◌∷◌, ◌++◌, IfOk, OnOk, option_copied};
 ghost use Rattle.std.specs.List.{list_any};
-ghost use Rattle.oil_table.specs.ListedEvents.{event_word, lists_event, tasks_among, attrs_at, is_listing, task_of_value, task_of};
+ghost use Rattle.oil_table.specs.ListedEvents.{event_word, lists_event, tasks_among, attrs_at, is_listing, task_of};
 
 use crate::{insert, is_of_kind, is_use};
 use indexmap::IndexSet;
 use oil_parse::{OilAttr, OilObject, OilValue};
-use sloth_base::NoMemory;
+use sloth_base::Result;
 use std::alloc::Global;
 use std::marker::Model;
 use text_pieces::Names;
@@ -56,7 +56,7 @@ fn add_event<'t>(
     listed: &mut IndexSet<(usize, &'t [u8])>,
     task: usize,
     attr: &'t OilAttr,
-) -> Result<(), NoMemory>
+) -> Result<()>
     ensures { OnOk result ((number : ℕ) (word : List ℕ) → list_any (is_listing number word) listed.new.keys
         ≡ (list_any (is_listing number word) listed.old.keys || ((task == number) && lists_event word attr.now))) }
 {
@@ -72,9 +72,9 @@ fn add_events<'t>(
     listed: &mut IndexSet<(usize, &'t [u8])>,
     task: usize,
     attrs: &'t [OilAttr],
-) -> Result<(), NoMemory>
-    ensures { OnOk result ((number : ℕ) (word : List ℕ) → list_any (is_listing number word) listed.new.keys
-        ≡ (list_any (is_listing number word) listed.old.keys || ((task == number) && list_any (lists_event word) attrs.now))) }
+) -> Result<()>
+    ensures { OnOk result ((number : ℕ) (word : List ℕ) → list_any (is_listing number word) listed.new.keys ≡ (list_any
+        (is_listing number word) listed.old.keys || ((task == number) && list_any (lists_event word) attrs.now))) }
 {
     for attr in attrs {
         add_event(listed, task, attr)?;
@@ -95,11 +95,7 @@ impl<'t> TaskEvents<'t> {
     }
 
     /// One object more.
-    fn with(
-        self,
-        objects: &'t [OilObject],
-        object: &'t OilObject,
-    ) -> Result<TaskEvents<'t>, NoMemory>
+    fn with(self, objects: &'t [OilObject], object: &'t OilObject) -> Result<TaskEvents<'t>>
         requires { objects.now ≡ self ++ object.now ∷ [] }
         ensures { IfOk result (λ tasks. tasks ≡ objects.now) }
     {
@@ -125,7 +121,7 @@ impl<'t> TaskEvents<'t> {
     }
 
     /// The tasks among these objects.
-    pub fn of(alloc: Global, objects: &'t [OilObject]) -> Result<TaskEvents<'t>, NoMemory>
+    pub fn of(alloc: Global, objects: &'t [OilObject]) -> Result<TaskEvents<'t>>
         ensures { IfOk result (λ tasks. tasks ≡ objects.now) }
     {
         let mut tasks = TaskEvents::new(alloc);
@@ -135,23 +131,16 @@ impl<'t> TaskEvents<'t> {
         Ok(tasks)
     }
 
-    /// The number of the first task of this value's name.
-    fn number_of(&self, value: &OilValue) -> Option<usize>
-        ensures { result ≡ task_of_value self.now value.now }
-    {
-        match value {
-            OilValue::Word(word) => self.names.number(word.bytes()),
-            _ => None,
-        }
-    }
-
     /// The number of the task that an attribute names.
     pub fn number_named(&self, attr: Option<&OilAttr>) -> Option<usize>
         ensures { result ≡ task_of self.now (option_copied attr.entry) }
     {
-        match attr {
-            Some(attr) => self.number_of(&attr.value),
-            None => None,
+        let Some(attr) = attr else {
+            return None;
+        };
+        match &attr.value {
+            OilValue::Word(word) => self.names.number(word.bytes()),
+            _ => None,
         }
     }
 

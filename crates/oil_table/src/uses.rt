@@ -7,11 +7,12 @@ ghost use Rattle.oil_table.specs.Uses.{is_second};
 use crate::{Attribute, insert, is_single};
 use indexmap::IndexSet;
 use oil_parse::OilAttr;
-use sloth_base::NoMemory;
+use sloth_base::Result;
 use std::alloc::Global;
 use std::marker::Model;
 
-/// The attributes before one, with the names of those at one depth: 0 is an object's own block, 1 a block behind a value there.
+/// The attributes before one, with the names of those at one depth: 0 is an object's own block, 1 a block behind a
+/// value there.
 #[derive(Drop)]
 pub struct EarlierUses<'t> {
     depth: u32,
@@ -30,11 +31,7 @@ impl<'t> Model for EarlierUses<'t> {
 }
 
 /// The name of the attribute, if it is used at this depth.
-fn add_use<'t>(
-    names: &mut IndexSet<&'t [u8]>,
-    depth: u32,
-    attr: &'t OilAttr,
-) -> Result<(), NoMemory>
+fn add_use<'t>(names: &mut IndexSet<&'t [u8]>, depth: u32, attr: &'t OilAttr) -> Result<()>
     ensures { OnOk result ((name : List ℕ) → list_any (λ k. bytes_eq k.now name) names.new.keys
         ≡ (list_any (λ k. bytes_eq k.now name) names.old.keys || is_use_at depth name attr.now)) }
 {
@@ -59,7 +56,7 @@ impl<'t> EarlierUses<'t> {
     }
 
     /// One attribute more.
-    pub fn with(self, attrs: &'t [OilAttr], attr: &'t OilAttr) -> Result<EarlierUses<'t>, NoMemory>
+    pub fn with(self, attrs: &'t [OilAttr], attr: &'t OilAttr) -> Result<EarlierUses<'t>>
         requires { attrs.now ≡ self.attrs ++ attr.now ∷ [] }
         ensures depth { IfOk result (λ uses. uses.depth ≡ self.entry.depth) }
         ensures attrs { IfOk result (λ uses. uses.attrs ≡ attrs.now) }
@@ -96,12 +93,8 @@ impl<'t> EarlierUses<'t> {
 pub fn is_second(row: Option<Attribute>, before: &EarlierUses, attr: &OilAttr) -> bool
     ensures { result ≡ is_second before.now.depth row before.now.attrs attr.now }
 {
-    match row {
-        Some(attribute) => {
-            is_single(attribute)
-                && attr.depth == before.depth()
-                && before.is_used(attr.name.bytes())
-        }
-        None => false,
-    }
+    let Some(attribute) = row else {
+        return false;
+    };
+    is_single(attribute) && attr.depth == before.depth() && before.is_used(attr.name.bytes())
 }

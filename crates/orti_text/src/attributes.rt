@@ -12,7 +12,7 @@ use crate::attributes::Attribute::{
 };
 use crate::{Put, Text};
 use map_text::counter_name;
-use sloth_base::{Config, NoMemory};
+use sloth_base::{Config, Result};
 use std::alloc::Global;
 use text_pieces::pieces::Piece::Word;
 use text_pieces::{push, text};
@@ -172,7 +172,7 @@ fn push_events(list: &mut Vec<Attribute>, events: usize) -> Put
     Ok(())
 }
 
-fn system_attributes(alloc: Global, config: &Config) -> Result<Vec<Attribute>, NoMemory>
+fn system_attributes(alloc: Global, config: &Config) -> Result<Vec<Attribute>>
     ensures { IfOk result (λ list. list.items ≡ attributes config.now Os) }
 {
     let mut list = Vec::from_slice(alloc, &[RunningTask])?;
@@ -182,7 +182,7 @@ fn system_attributes(alloc: Global, config: &Config) -> Result<Vec<Attribute>, N
 }
 
 /// The attributes of a kind, in the order of the file.
-pub fn attributes(alloc: Global, config: &Config, kind: Kind) -> Result<Vec<Attribute>, NoMemory>
+pub fn attributes(alloc: Global, config: &Config, kind: Kind) -> Result<Vec<Attribute>>
     ensures { IfOk result (λ list. list.items ≡ attributes config.now kind) }
 {
     match kind {

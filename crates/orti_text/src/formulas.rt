@@ -1,5 +1,5 @@
 //! The texts of formulas.
-ghost use Rattle.std.specs.Prelude.{◌≡◌, ◌<◌, ◌≤◌, ◌++◌, IfOk, codes, decimal};
+ghost use Rattle.std.specs.Prelude.{◌≡◌, ◌<◌, ◌++◌, IfOk, codes, decimal};
 ghost use Rattle.sloth_base.specs.Limits.{alarm_limit, task_limit};
 ghost use Rattle.sloth_base.specs.MemoryMap.{controller_bytes};
 ghost use Rattle.sloth_region.specs.Layout.{active, alarm_cycle, alarm_left, enabled_byte, pending_byte};

@@ -7,7 +7,7 @@ ghost use Rattle.orti_text.specs.Attributes.{object_names, stack_names, state_na
 ghost use Rattle.orti_text.specs.declared.attributes.Kind.TheVariants.{Alarm, Resource, Task};
 
 use crate::{Kind, Put};
-use sloth_base::{AlarmDecl, Config, List, Name, NoMemory, TaskDecl, task_names};
+use sloth_base::{AlarmDecl, Config, List, Name, Result, TaskDecl, task_names};
 use std::alloc::Global;
 use text_pieces::pieces::Piece::Word;
 use text_pieces::{push, text};
@@ -21,7 +21,7 @@ fn push_name(alloc: Global, names: &mut Vec<Name>, prefix: &[u8], name: &[u8]) -
 }
 
 /// Two names.
-pub fn two_names(alloc: Global, one: &[u8], other: &[u8]) -> Result<List<Name>, NoMemory>
+pub fn two_names(alloc: Global, one: &[u8], other: &[u8]) -> Result<List<Name>>
     ensures { IfOk result (λ names. names ≡ one.now ∷ other.now ∷ []) }
 {
     let mut names = Vec::new(alloc);
@@ -31,7 +31,7 @@ pub fn two_names(alloc: Global, one: &[u8], other: &[u8]) -> Result<List<Name>, 
 }
 
 /// The states of a task, by their numbers.
-pub fn state_names(alloc: Global) -> Result<List<Name>, NoMemory>
+pub fn state_names(alloc: Global) -> Result<List<Name>>
     ensures { IfOk result (λ names. names ≡ state_names) }
 {
     let mut names = Vec::new(alloc);
@@ -53,7 +53,7 @@ fn push_names(alloc: Global, names: &mut Vec<Name>, more: &[Name]) -> Put
 }
 
 /// What the number of the running task and 1 more stands for, 0 where none runs.
-pub fn running_names(alloc: Global, config: &Config) -> Result<List<Name>, NoMemory>
+pub fn running_names(alloc: Global, config: &Config) -> Result<List<Name>>
     ensures { IfOk result (λ names. names ≡ codes "NO_TASK" ∷ object_names config.now Task) }
 {
     let tasks = task_names(alloc, config)?;
@@ -126,7 +126,7 @@ fn push_shared(alloc: Global, names: &mut Vec<Name>, tasks: &[TaskDecl]) -> Put
 }
 
 // The names of the stacks.
-fn stack_names(alloc: Global, tasks: &[TaskDecl]) -> Result<List<Name>, NoMemory>
+fn stack_names(alloc: Global, tasks: &[TaskDecl]) -> Result<List<Name>>
     ensures { IfOk result (λ names. names ≡ stack_names tasks.now) }
 {
     let mut names = Vec::new(alloc);
@@ -144,7 +144,7 @@ fn push_alarms(alloc: Global, names: &mut Vec<Name>, alarms: &[AlarmDecl]) -> Pu
     Ok(())
 }
 
-fn alarm_names(alloc: Global, config: &Config) -> Result<List<Name>, NoMemory>
+fn alarm_names(alloc: Global, config: &Config) -> Result<List<Name>>
     ensures { IfOk result (λ names. names ≡ object_names config.now Alarm) }
 {
     let mut names = Vec::new(alloc);
@@ -161,7 +161,7 @@ fn push_scheduler(alloc: Global, names: &mut Vec<Name>, exists: bool) -> Put
     Ok(())
 }
 
-fn resource_names(alloc: Global, config: &Config) -> Result<List<Name>, NoMemory>
+fn resource_names(alloc: Global, config: &Config) -> Result<List<Name>>
     ensures { IfOk result (λ names. names ≡ object_names config.now Resource) }
 {
     let mut names = Vec::new(alloc);
@@ -170,7 +170,7 @@ fn resource_names(alloc: Global, config: &Config) -> Result<List<Name>, NoMemory
     Ok(List::from_vec(names))
 }
 
-fn system_names(alloc: Global) -> Result<List<Name>, NoMemory>
+fn system_names(alloc: Global) -> Result<List<Name>>
     ensures { IfOk result (λ names. names ≡ codes "sloth" ∷ []) }
 {
     let mut names = Vec::new(alloc);
@@ -179,7 +179,7 @@ fn system_names(alloc: Global) -> Result<List<Name>, NoMemory>
 }
 
 /// The names of the objects of a kind, in the order of their numbers.
-pub fn object_names(alloc: Global, config: &Config, kind: Kind) -> Result<List<Name>, NoMemory>
+pub fn object_names(alloc: Global, config: &Config, kind: Kind) -> Result<List<Name>>
     ensures { IfOk result (λ names. names ≡ object_names config.now kind) }
 {
     match kind {

@@ -1,26 +1,19 @@
 //! The file of a kernel.
-ghost use Rattle.std.specs.Prelude.{◌≡◌, ◌<◌, ◌++◌, IfErr, IfOk, OnOk, filter, length};
-ghost use Rattle.sloth_base.specs.ConfigRange.{InRange};
+ghost use Rattle.std.specs.Prelude.{◌<◌, IfErr, IfOk, length};
 ghost use Rattle.code_rules.specs.WellFormed.{WellFormed};
 ghost use Rattle.stack_bounds.specs.Bounds.{AreBounds};
 ghost use Rattle.sloth_source.specs.Texts.{SourcesErrorIs};
 ghost use Rattle.orti_text.specs.OrtiText.{HasTable, IsOrtiText};
-ghost use Rattle.orti_text.specs.OrtiTable.{orti_table};
 ghost use Rattle.orti_text.specs.Tables.{table_text};
 
 use crate::tables::table_text;
 use mem_map::plan;
-use sloth_base::{App, Bounds, BuildError, Config, NoMemory};
+use sloth_base::{App, Bounds, BuildError, Config, Result};
 use sloth_source::{Source, read};
 use std::alloc::Global;
 
 // The file of the map that is planned for task code.
-fn planned_text(
-    alloc: Global,
-    config: &Config,
-    app: &App,
-    bounds: &Bounds,
-) -> Result<Vec<u8>, NoMemory>
+fn planned_text(alloc: Global, config: &Config, app: &App, bounds: &Bounds) -> Result<Vec<u8>>
     requires well_formed { WellFormed config.now app.now }
     requires bounds { AreBounds config.now app.now bounds.now }
     ensures { IfOk result (λ text. HasTable config.now app.now bounds.now text.items) }
@@ -29,7 +22,7 @@ fn planned_text(
     table_text(alloc, config, &map)
 }
 
-/// The ORTI file of what the image of these texts, of at most 4,294,967,294 bytes, has; or the first refusal (O1 to O15, A1 to A7, V1 to V12).
+/// The image's ORTI file, or the first refusal (O1 to O15, A1 to A7, V1 to V12). Texts have up to 4,294,967,294 bytes.
 pub fn orti_text(alloc: Global, oil: &[u8], src: &[u8]) -> Result<Vec<u8>, BuildError>
     requires oil { length oil.now < 4294967295 }
     requires src { length src.now < 4294967295 }

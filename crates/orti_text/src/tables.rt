@@ -9,7 +9,7 @@ use crate::declarations::push_kinds;
 use crate::names::object_names;
 use crate::objects::push_objects;
 use crate::{Kind, Put, Text};
-use sloth_base::{Config, NoMemory};
+use sloth_base::{Config, Result};
 use sloth_region::Map;
 use std::alloc::Global;
 use text_pieces::pieces::Piece::Word;
@@ -30,7 +30,7 @@ fn push_present(alloc: Global, present: &mut Vec<Kind>, config: &Config, kinds: 
     Ok(())
 }
 
-fn present_kinds(alloc: Global, config: &Config) -> Result<Vec<Kind>, NoMemory>
+fn present_kinds(alloc: Global, config: &Config) -> Result<Vec<Kind>>
     ensures { IfOk result (λ kinds. kinds.items ≡ present_kinds config.now) }
 {
     let mut present = Vec::new(alloc);

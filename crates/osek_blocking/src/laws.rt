@@ -1,13 +1,13 @@
 //! Laws of runs.
 ghost use Rattle.osek_blocking.specs.ProtocolKept.{RunsBlockOnce, RunsExclude, ResourcesAreGot, RunsKeepCeilingProtocol};
 
-/// In every run a Ready task is blocked by one lower task at most, and only while that task's current priority is at least its own.
+/// In every run at most one lower task blocks a Ready one, and only while its current priority is at least the other's.
 pub fn runs_block_once()
     ensures { RunsBlockOnce }
 {}
 
-/// In every state of a run of well-formed task code no two tasks hold one resource, no two Active tasks have one current priority, and
-/// a task that is not Active holds none.
+/// In every state of a run of well-formed task code no two tasks hold one resource, no two Active tasks have one
+/// current priority, and a task that is not Active holds none.
 pub fn runs_exclude()
     ensures { RunsExclude }
 {}

@@ -8,7 +8,7 @@ ghost use Rattle.osek_scheduler.specs.Outcomes.{other_decision, plan_in, alarm_s
 ghost use Rattle.osek_scheduler.specs.Outcomes.{plan};
 
 use crate::Store;
-use crate::services::{answers, goes_on};
+use crate::services::{answers, continues};
 use osek_scheduler::{Other, Plan, TaskChange};
 use sloth_base::{Config, E_OK, E_OS_NOFUNC, E_OS_STATE, E_OS_VALUE};
 
@@ -58,22 +58,8 @@ fn allows_cycle(config: &Config, a: u32, cycle: u32) -> bool
     cycle == 0 || (least_cycle(config, a) <= cycle && cycle <= greatest_value(config, a))
 }
 
-// Whether it allows so many ticks from now, and then a cycle.
-fn allows_relative(config: &Config, a: u32, ticks: u32, cycle: u32) -> bool
-    ensures { result ≡ allows_relative (counter_of config.now a) ticks cycle }
-{
-    ticks != 0 && ticks <= greatest_value(config, a) && allows_cycle(config, a, cycle)
-}
-
-// Whether it allows a value, and then a cycle.
-fn allows_absolute(config: &Config, a: u32, start: u32, cycle: u32) -> bool
-    ensures { result ≡ allows_absolute (counter_of config.now a) start cycle }
-{
-    start <= greatest_value(config, a) && allows_cycle(config, a, cycle)
-}
-
 // The ticks from a counter's value to the next time that it has another value.
-fn ticks_to(max: u32, value: u32, start: u32) -> u32
+fn ticks_until(max: u32, value: u32, start: u32) -> u32
     requires small { max < 2147483648 }
     requires value { value ≤ max }
     requires start { start ≤ max }
@@ -89,7 +75,7 @@ fn ticks_to(max: u32, value: u32, start: u32) -> u32
 fn set_alarm(alarm: u32, left: u32, cycle: u32) -> Plan
     ensures { result ≡ plan (Some E_OK) (TaskChange.Answer E_OK) (Other.SetAlarm alarm left cycle) }
 {
-    goes_on(E_OK, Other::SetAlarm { alarm, left, cycle })
+    continues(E_OK, Other::SetAlarm { alarm, left, cycle })
 }
 
 /// SetRelAlarm.
@@ -97,10 +83,13 @@ pub fn set_relative(config: &Config, store: &Store, a: u32, ticks: u32, cycle: u
     ensures { result ≡ plan_in store.now (alarm_setting_decision a (allows_relative (counter_of config.now a) ticks cycle) ticks cycle store.now) }
 {
     if is_in_use(store, a) {
-        return goes_on(E_OS_STATE, Other::Nothing);
+        return continues(E_OS_STATE, Other::Nothing);
     }
-    if !allows_relative(config, a, ticks, cycle) {
-        return goes_on(E_OS_VALUE, Other::Nothing);
+    let allowed = ticks != 0
+        && ticks <= greatest_value(config, a)
+        && allows_cycle(config, a, cycle);
+    if !allowed {
+        return continues(E_OS_VALUE, Other::Nothing);
     }
     set_alarm(a, ticks, cycle)
 }
@@ -113,13 +102,18 @@ pub fn set_absolute(config: &Config, store: &Store, a: u32, start: u32, cycle: u
         (ticks_to (counter_of config.now a).max (counter store.now (alarm_declaration config.now a).counter).value start) cycle store.now) }
 {
     if is_in_use(store, a) {
-        return goes_on(E_OS_STATE, Other::Nothing);
+        return continues(E_OS_STATE, Other::Nothing);
     }
-    if !allows_absolute(config, a, start, cycle) {
-        return goes_on(E_OS_VALUE, Other::Nothing);
+    let allowed = start <= greatest_value(config, a) && allows_cycle(config, a, cycle);
+    if !allowed {
+        return continues(E_OS_VALUE, Other::Nothing);
     }
     let value = store.counter(counter_number(config, a) as usize).value;
-    set_alarm(a, ticks_to(greatest_value(config, a), value, start), cycle)
+    set_alarm(
+        a,
+        ticks_until(greatest_value(config, a), value, start),
+        cycle,
+    )
 }
 
 /// CancelAlarm.
@@ -129,7 +123,7 @@ pub fn cancel_alarm(store: &Store, a: u32) -> Plan
     if is_in_use(store, a) {
         return set_alarm(a, 0, store.alarm(a as usize).cycle);
     }
-    goes_on(E_OS_NOFUNC, Other::Nothing)
+    continues(E_OS_NOFUNC, Other::Nothing)
 }
 
 /// GetAlarm.
@@ -139,5 +133,5 @@ pub fn get_alarm(store: &Store, a: u32) -> Plan
     if is_in_use(store, a) {
         return answers(E_OK, TaskChange::AnswerWith(store.alarm(a as usize).left));
     }
-    goes_on(E_OS_NOFUNC, Other::Nothing)
+    continues(E_OS_NOFUNC, Other::Nothing)
 }

@@ -56,7 +56,7 @@ pub fn branch_holds(kind: BranchKind, a: u32, b: u32) -> bool
 }
 
 /// The bytes of an access.
-pub fn size_of(width: Width) -> u32
+pub fn width_bytes(width: Width) -> u32
     ensures { result ≡ size_of width }
 {
     match width {

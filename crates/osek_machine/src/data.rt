@@ -4,7 +4,7 @@ ghost use Rattle.sloth_base.specs.Arithmetic.{size_of};
 ghost use Rattle.osek_scheduler.specs.Meaning.{loaded_word, number_of, bytes_after_store};
 
 use crate::arithmetic::extended;
-use sloth_base::{NoMemory, Width};
+use sloth_base::{Result, Width};
 use std::alloc::Global;
 use std::marker::Model;
 
@@ -24,7 +24,7 @@ impl Model for Data {
 
 impl Data {
     /// A copy of these bytes.
-    pub fn new(alloc: Global, bytes: &[u8]) -> Result<Data, NoMemory>
+    pub fn new(alloc: Global, bytes: &[u8]) -> Result<Data>
         ensures { IfOk result (λ d. d ≡ bytes.now) }
     {
         let bytes = Vec::from_slice(alloc, bytes)?;

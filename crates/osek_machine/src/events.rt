@@ -4,17 +4,18 @@ ghost use Rattle.sloth_base.specs.Options.{is_number};
 ghost use Rattle.sloth_base.specs.Named.{body_of};
 ghost use Rattle.sloth_base.specs.Limits.{task_limit};
 ghost use Rattle.osek_scheduler.specs.Next.{is_position};
-ghost use Rattle.osek_machine.specs.Running.{back_plan, entry_change, entry_plan, running_plan, serving_plan};
+ghost use Rattle.osek_machine.specs.Running.{back_plan, entry_plan, running_plan, serving_plan};
 ghost use Rattle.osek_machine.specs.PlanSteps.{IsRead, answer_plan, leave_plan};
 
 use crate::priority::{is_ready, is_top};
 use crate::room::TaskRoom;
+use crate::services::leaves;
 use crate::{Store, call_in, call_plan, is_active, own_operation, run_plan};
 use osek_scheduler::{Other, Plan, TaskChange};
 use sloth_base::{App, Config, Func, Service};
 
 // Whether a body is that of a task.
-fn is_body_of(func: &Func, t: u32) -> bool
+fn is_body(func: &Func, t: u32) -> bool
     ensures { result ≡ is_number t func.now.task }
 {
     match func.task {
@@ -24,37 +25,17 @@ fn is_body_of(func: &Func, t: u32) -> bool
 }
 
 // The number of a task's body, or the number of functions.
-fn body_of(app: &App, t: u32) -> usize
+fn body_number(app: &App, t: u32) -> usize
     ensures { result ≡ body_of app.now.funcs t }
 {
     let mut place = 0;
     for func in app.funcs.items() {
-        if is_body_of(func, t) {
+        if is_body(func, t) {
             return place;
         }
         place += 1;
     }
     place
-}
-
-// The change of a task that is entered, with so many functions in progress.
-fn entry_change(body: u32, words: u32, depth: usize, non: bool) -> Plan
-    ensures { result ≡ entry_change body words depth non }
-{
-    let change = if depth == 0 {
-        TaskChange::Start {
-            func: body,
-            words,
-            non,
-        }
-    } else {
-        TaskChange::Resume(non)
-    };
-    Plan {
-        answer: None,
-        change,
-        other: Other::Nothing,
-    }
 }
 
 /// The plan of an entry.
@@ -69,10 +50,16 @@ pub fn entry_plan(config: &Config, app: &App, store: &Store, t: u32) -> Option<P
     if !is_ready(task.state()) {
         return None;
     }
-    let body = body_of(app, t);
+    let body = body_number(app, t);
     let func = app.funcs.items().get(body)?;
     let non = config.tasks.items()[t as usize].non;
-    Some(entry_change(body as u32, func.frame_words, task.depth(), non))
+    let change = if task.depth() == 0 {
+        let (func, words) = (body as u32, func.frame_words);
+        TaskChange::Start { func, words, non }
+    } else {
+        TaskChange::Resume(non)
+    };
+    Some(leaves(change, Other::Nothing))
 }
 
 // Whether the next item of a task is this one of this function.
@@ -187,9 +174,5 @@ pub fn back_plan(config: &Config, store: &Store, t: u32) -> Option<Plan>
         return None;
     }
     let non = config.tasks.items()[t as usize].non;
-    Some(Plan {
-        answer: None,
-        change: TaskChange::ComeBack(non),
-        other: Other::Nothing,
-    })
+    Some(leaves(TaskChange::ComeBack(non), Other::Nothing))
 }

@@ -62,7 +62,7 @@ impl FrameRoom {
     }
 
     /// Goes to an item.
-    pub fn go_to(&mut self, item: u32)
+    pub fn set_item(&mut self, item: u32)
         ensures { self.new ≡ record self.old { item = item } }
     {
         self.item = item;

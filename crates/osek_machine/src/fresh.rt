@@ -5,7 +5,7 @@ ghost use Rattle.sloth_base.specs.Limits.{task_limit};
 use sloth_base::TASK_LIMIT;
 use std::marker::Model;
 
-/// The tasks that admitted arrivals made Ready since the last event of another kind, with room for `TASK_LIMIT`. The newest is the first.
+/// Tasks that admitted arrivals made Ready since the last event of another kind, newest first, up to `TASK_LIMIT`.
 #[derive(Drop)]
 pub struct Fresh {
     first: usize,

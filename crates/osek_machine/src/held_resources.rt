@@ -3,7 +3,7 @@ ghost use Rattle.std.specs.Prelude.{◌≡◌, ◌<◌, ◌++◌, [], ◌∷◌,
 ghost use Rattle.sloth_base.specs.Limits.{ceiling_count};
 ghost use Rattle.code_rules.specs.Code.{is_last, without_last};
 
-use sloth_base::{CEILING_COUNT, NoMemory};
+use sloth_base::{CEILING_COUNT, Result};
 use std::alloc::Global;
 use std::marker::Model;
 
@@ -26,7 +26,7 @@ impl Model for Held {
 
 impl Held {
     /// No resource.
-    pub fn new(alloc: Global) -> Result<Held, NoMemory>
+    pub fn new(alloc: Global) -> Result<Held>
         ensures { IfOk result (λ h. h ≡ []) }
     {
         let resources = Vec::with_capacity(alloc, CEILING_COUNT)?;

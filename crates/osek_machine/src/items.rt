@@ -1,14 +1,15 @@
 //! What an item of task code does.
-ghost use Rattle.std.specs.Prelude.{◌≡◌, ◌<◌, ◌&&◌, leb, ltb, nat_lt, length, slice_get, Some};
+ghost use Rattle.std.specs.Prelude.{◌≡◌, ◌<◌, nat_lt, length, slice_get, Some};
 ghost use Rattle.std.specs.List.{list_all};
 ghost use Rattle.osek_scheduler.specs.Meaning.{if_true, is_own, on_some, registers_of};
 ghost use Rattle.osek_machine.specs.Frames.{CanMove};
-ghost use Rattle.osek_machine.specs.Plans.{branch_plan, item_behind, item_plan, jump_plan, load_plan, store_plan, write_plan};
-ghost use Rattle.osek_machine.specs.Running.{IsComputed, next_operation, own_operation, run_plan};
+ghost use Rattle.osek_machine.specs.Plans.{branch_plan, item_behind, item_plan, load_plan, store_plan, write_plan};
+ghost use Rattle.osek_machine.specs.Running.{IsComputed, own_operation, run_plan};
 
 use crate::arithmetic::{branch_holds, number_result, register_result};
 use crate::frame::FrameRoom;
 use crate::room::TaskRoom;
+use crate::services::answers;
 use crate::{Store, is_active};
 use osek_scheduler::{Other, Plan, TaskChange};
 use sloth_base::{App, Func, Op, Reg, Width};
@@ -18,11 +19,7 @@ fn write_plan(rd: Reg, value: u32) -> Plan
     ensures { result ≡ write_plan rd value }
 {
     let shown = if rd.0 == 0 { 0 } else { value };
-    Plan {
-        answer: Some(shown),
-        change: TaskChange::Write { rd, value },
-        other: Other::Nothing,
-    }
+    answers(shown, TaskChange::Write { rd, value })
 }
 
 // A load into a register.
@@ -56,29 +53,8 @@ fn store_plan(store: &Store, width: Width, value: u32, symbol: u32, offset: u32)
 fn item_behind(func: &Func, label: u32) -> Option<u32>
     ensures { result ≡ item_behind func.now label }
 {
-    match func.labels.items().get(label as usize) {
-        Some(found) => Some(found.item),
-        None => None,
-    }
-}
-
-// The task goes to an item.
-fn goes_to(item: u32) -> Plan
-    ensures { result ≡ record { answer = Some 0; change = TaskChange.GoTo item; other = Other.Nothing } }
-{
-    Plan {
-        answer: Some(0),
-        change: TaskChange::GoTo(item),
-        other: Other::Nothing,
-    }
-}
-
-// A jump to a label.
-fn jump_plan(func: &Func, label: u32) -> Option<Plan>
-    ensures { result ≡ jump_plan func.now label }
-{
-    let item = item_behind(func, label)?;
-    Some(goes_to(item))
+    let found = func.labels.items().get(label as usize)?;
+    Some(found.item)
 }
 
 // A jump to a label where a test holds.
@@ -87,10 +63,8 @@ fn branch_plan(func: &Func, holds: bool, item: u32, label: u32) -> Option<Plan>
     ensures { result ≡ branch_plan func.now holds item label }
 {
     let target = item_behind(func, label)?;
-    if holds {
-        return Some(goes_to(target));
-    }
-    Some(goes_to(item + 1))
+    let next = if holds { target } else { item + 1 };
+    Some(answers(0, TaskChange::GoTo(next)))
 }
 
 // A word of the frame is loaded into a register.
@@ -107,11 +81,7 @@ fn frame_store(frame: &FrameRoom, value: u32, word: u32) -> Option<Plan>
         (λ old. Some (record { answer = Some value; change = TaskChange.StoreWord word value; other = Other.Nothing })) }
 {
     frame.word(word)?;
-    Some(Plan {
-        answer: Some(value),
-        change: TaskChange::StoreWord { word, value },
-        other: Other::Nothing,
-    })
+    Some(answers(value, TaskChange::StoreWord { word, value }))
 }
 
 // A function is called.
@@ -119,17 +89,8 @@ fn invoke_plan(app: &App, func: u32) -> Option<Plan>
     ensures { result ≡ on_some (slice_get app.now.funcs func)
         (λ called. Some (record { answer = Some 0; change = TaskChange.Invoke func called.frame_words; other = Other.Nothing })) }
 {
-    match app.funcs.items().get(func as usize) {
-        Some(called) => Some(Plan {
-            answer: Some(0),
-            change: TaskChange::Invoke {
-                func,
-                words: called.frame_words,
-            },
-            other: Other::Nothing,
-        }),
-        None => None,
-    }
+    let words = app.funcs.items().get(func as usize)?.frame_words;
+    Some(answers(0, TaskChange::Invoke { func, words }))
 }
 
 // A function returns to its caller.
@@ -140,11 +101,7 @@ fn return_plan(task: &TaskRoom) -> Option<Plan>
     if !task.has_caller() {
         return None;
     }
-    Some(Plan {
-        answer: Some(0),
-        change: TaskChange::Return,
-        other: Other::Nothing,
-    })
+    Some(answers(0, TaskChange::Return))
 }
 
 // What an item does, of a function with this innermost frame.
@@ -215,25 +172,18 @@ fn item_plan(
             frame.item(),
             label,
         ),
-        Op::Jump { label } => jump_plan(func, label),
+        Op::Jump { label } => branch_plan(func, true, frame.item(), label),
         Op::Invoke { func } => invoke_plan(app, func.0),
         Op::Return => return_plan(task),
         Op::Serve(_) => None,
     }
 }
 
-// Whether a number is that of a register of task code besides x0.
-fn is_kept(number: u8) -> bool
-    ensures { result ≡ leb 5 number && ltb number 30 }
-{
-    5 <= number && number < 30
-}
-
 // Whether a register is one of task code.
 fn is_own(r: Reg) -> bool
     ensures { result ≡ is_own r }
 {
-    r.0 == 0 || is_kept(r.0)
+    r.0 == 0 || (5 <= r.0 && r.0 < 30)
 }
 
 // Whether the registers that an item names are those of task code.
@@ -243,30 +193,15 @@ fn names_own(op: &Op) -> bool
     match *op {
         Op::Alu { rd, rs1, rs2, .. } => is_own(rd) && is_own(rs1) && is_own(rs2),
         Op::AluImm { rd, rs1, .. } => is_own(rd) && is_own(rs1),
-        Op::Lui { rd, .. } => is_own(rd),
-        Op::Li { rd, .. } => is_own(rd),
-        Op::FrameLoad { rd, .. } => is_own(rd),
-        Op::FrameStore { rs, .. } => is_own(rs),
-        Op::Load { rd, .. } => is_own(rd),
-        Op::Store { rs, .. } => is_own(rs),
+        Op::Lui { rd, .. } | Op::Li { rd, .. } | Op::FrameLoad { rd, .. } | Op::Load { rd, .. } => {
+            is_own(rd)
+        }
+        Op::FrameStore { rs, .. } | Op::Store { rs, .. } => is_own(rs),
         Op::LoadAt { rd, index, .. } => is_own(rd) && is_own(index),
         Op::StoreAt { rs, index, .. } => is_own(rs) && is_own(index),
         Op::Branch { rs1, rs2, .. } => is_own(rs1) && is_own(rs2),
-        Op::Jump { .. } => true,
-        Op::Invoke { .. } => true,
-        Op::Return => true,
-        Op::Serve(_) => true,
+        Op::Jump { .. } | Op::Invoke { .. } | Op::Return | Op::Serve(_) => true,
     }
-}
-
-// The next operation of a task's functions in progress.
-fn next_operation(app: &App, task: &TaskRoom) -> Option<Op>
-    ensures { result ≡ next_operation app.now task.now.frames }
-{
-    let frame = task.innermost()?;
-    let func = app.funcs.items().get(frame.func() as usize)?;
-    let item = func.items.items().get(frame.item() as usize)?;
-    Some(item.op)
 }
 
 /// The next operation of a task that runs and owes no `back`.
@@ -276,7 +211,10 @@ pub fn own_operation(app: &App, task: &TaskRoom) -> Option<Op>
     if !is_active(task.state()) || task.owed() {
         return None;
     }
-    next_operation(app, task)
+    let frame = task.innermost()?;
+    let func = app.funcs.items().get(frame.func() as usize)?;
+    let item = func.items.items().get(frame.item() as usize)?;
+    Some(item.op)
 }
 
 /// The plan of an item that is no service.

@@ -21,7 +21,7 @@ use crate::{
     running_plan, ticks,
 };
 use osek_scheduler::{Plan, TaskState};
-use sloth_base::{App, Config, Event, NoMemory, TaskId};
+use sloth_base::{App, Config, Event, Result, TaskId};
 use std::alloc::Global;
 use std::marker::Model;
 
@@ -193,7 +193,7 @@ fn step(config: &Config, app: &App, store: &mut Store, event: &Event) -> Result<
 
 impl<'t> Osek<'t> {
     /// The scheduler before the system has started. All memory of later steps is taken here.
-    pub fn boot(alloc: Global, config: &'t Config, app: &'t App) -> Result<Osek<'t>, NoMemory>
+    pub fn boot(alloc: Global, config: &'t Config, app: &'t App) -> Result<Osek<'t>>
         requires { WellFormed config.now app.now }
         ensures { IfOk result (λ o. o ≡ record { config = config.now; app = app.now; system = opening config.now app.now }) }
     {
@@ -220,7 +220,7 @@ impl<'t> Osek<'t> {
         self.store.task(task.0 as usize).state()
     }
 
-    /// The due counters, and the Ready tasks that stand above a task of the configuration, a bit for each line. Takes no memory.
+    /// A bit for each line: the due counters, and the Ready tasks above a task of the configuration. Takes no memory.
     pub fn above(&self, task: TaskId) -> u32
         requires { task < length self.now.config.tasks }
         ensures { (line : ℕ) → bit_at result line ≡ cond (is_line_above self.now.config self.now.system task line) 1 0 }

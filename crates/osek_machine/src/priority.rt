@@ -1,38 +1,31 @@
 //! Priorities, and the task that is due.
 ghost use Rattle.std.specs.Prelude.{◌≡◌, ◌<◌, ◌≤◌, not, true, length, map};
 ghost use Rattle.sloth_base.specs.Limits.{task_limit};
-ghost use Rattle.osek_scheduler.specs.Priority.{ceiling, current_priority, greatest, is_active, rank};
+ghost use Rattle.osek_scheduler.specs.Priority.{ceiling, greatest, is_active, rank};
 ghost use Rattle.code_rules.specs.Code.{is_in};
 ghost use Rattle.osek_scheduler.specs.State.{counter};
 ghost use Rattle.osek_scheduler.specs.Next.{all_below, is_due, is_next_tick, is_ready, is_top, no_ticks, yields_to};
 
 use crate::Store;
-use crate::room::TaskRoom;
 use osek_scheduler::{TaskState, ceiling, highest};
-use sloth_base::{Config, TaskDecl};
+use sloth_base::Config;
 
 /// Whether a task in this state is Ready.
 pub fn is_ready(state: TaskState) -> bool
     ensures { result ≡ is_ready state }
 {
-    match state {
-        TaskState::Ready => true,
-        TaskState::Suspended | TaskState::Active | TaskState::Waiting(_) => false,
-    }
+    matches!(state, TaskState::Ready)
 }
 
 /// Whether a task in this state is Active.
 pub fn is_active(state: TaskState) -> bool
     ensures { result ≡ is_active state }
 {
-    match state {
-        TaskState::Active => true,
-        TaskState::Suspended | TaskState::Ready | TaskState::Waiting(_) => false,
-    }
+    matches!(state, TaskState::Active)
 }
 
 // Whether a number is among others.
-fn is_in(number: u32, numbers: &[u32]) -> bool
+fn includes(number: u32, numbers: &[u32]) -> bool
     ensures { result ≡ is_in number numbers.now }
 {
     for other in numbers {
@@ -54,17 +47,8 @@ fn highest_ceiling(config: &Config, held: &[u32]) -> u32
     top
 }
 
-// The priority of a task as it stands.
-fn current_priority(config: &Config, declared: &TaskDecl, task: &TaskRoom) -> u32
-    ensures { result ≡ current_priority config.now declared.now task.now }
-{
-    let held = highest_ceiling(config, task.held());
-    let raised = if task.raised() { highest(config) } else { 0 };
-    declared.priority.max(held.max(raised))
-}
-
 /// The place of a task in the order of the tasks that are due.
-pub(crate) fn rank(config: &Config, store: &Store, t: usize) -> u64
+pub fn rank(config: &Config, store: &Store, t: usize) -> u64
     requires declared { t < length config.now.tasks }
     requires there { t < length store.now.tasks }
     ensures { result ≡ rank config.now store.now t }
@@ -72,13 +56,16 @@ pub(crate) fn rank(config: &Config, store: &Store, t: usize) -> u64
     let declared = &config.tasks.items()[t];
     let task = store.task(t);
     if is_active(task.state()) {
-        return 2 * u64::from(current_priority(config, declared, task)) + 1;
+        let held = highest_ceiling(config, task.held());
+        let raised = if task.raised() { highest(config) } else { 0 };
+        let priority = declared.priority.max(held.max(raised));
+        return 2 * u64::from(priority) + 1;
     }
     2 * u64::from(declared.priority)
 }
 
-// Whether a task is Ready or Active.
-fn is_due(store: &Store, t: usize) -> bool
+/// Whether a task is Ready or Active.
+pub fn is_due(store: &Store, t: usize) -> bool
     requires { t < length store.now.tasks }
     ensures { result ≡ is_due store.now t }
 {
@@ -87,14 +74,16 @@ fn is_due(store: &Store, t: usize) -> bool
 }
 
 // Whether a task is not due, or left out, or of no greater rank than another.
-fn yields_to(config: &Config, store: &Store, others: &[u32], t: usize, u: usize) -> bool
+fn yields(config: &Config, store: &Store, others: &[u32], t: usize, u: usize) -> bool
     requires count { length store.now.tasks ≡ length config.now.tasks }
     requires first { t < length config.now.tasks }
     requires second { u < length config.now.tasks }
     requires small { u < 4294967296 }
     ensures { result ≡ yields_to config.now store.now others.now t u }
 {
-    !is_due(store, u) || is_in(u as u32, others) || rank(config, store, u) <= rank(config, store, t)
+    !is_due(store, u)
+        || includes(u as u32, others)
+        || rank(config, store, u) <= rank(config, store, t)
 }
 
 // Whether all tasks yield to one.
@@ -105,7 +94,7 @@ fn is_greatest(config: &Config, store: &Store, others: &[u32], t: usize) -> bool
     ensures { result ≡ all_below (length config.now.tasks) (yields_to config.now store.now others.now t) }
 {
     for u in 0..config.tasks.items().len() {
-        if !yields_to(config, store, others, t, u) {
+        if !yields(config, store, others, t, u) {
             return false;
         }
     }
@@ -116,16 +105,11 @@ fn is_greatest(config: &Config, store: &Store, others: &[u32], t: usize) -> bool
 pub fn no_ticks(config: &Config, store: &Store) -> bool
     ensures { result ≡ no_ticks config.now store.now }
 {
-    for c in 0..config.counters.items().len() {
-        if store.counter(c).due {
-            return false;
-        }
-    }
-    true
+    none_due(store, config.counters.items().len())
 }
 
 // Whether no counter of a lower number is due.
-fn is_first(store: &Store, c: usize) -> bool
+fn none_due(store: &Store, c: usize) -> bool
     ensures { result ≡ all_below c (λ d. not (counter store.now d).due) }
 {
     for d in 0..c {
@@ -141,7 +125,7 @@ pub fn is_next_tick(config: &Config, store: &Store, c: u32) -> bool
     ensures { result ≡ is_next_tick config.now store.now c }
 {
     let place = c as usize;
-    place < config.counters.items().len() && store.counter(place).due && is_first(store, place)
+    place < config.counters.items().len() && store.counter(place).due && none_due(store, place)
 }
 
 /// Whether a task is the greatest of those that are due and not left out, and no counter is due.
@@ -154,7 +138,7 @@ pub fn is_top(config: &Config, store: &Store, others: &[u32], t: u32) -> bool
     let place = t as usize;
     place < config.tasks.items().len()
         && is_due(store, place)
-        && !is_in(t, others)
+        && !includes(t, others)
         && is_greatest(config, store, others, place)
         && no_ticks(config, store)
 }

@@ -14,7 +14,7 @@ use crate::frame::FrameRoom;
 use crate::held_resources::Held;
 use crate::stack::Stack;
 use osek_scheduler::{TaskChange, TaskState};
-use sloth_base::{E_OK, NoMemory, Reg};
+use sloth_base::{E_OK, Reg, Result};
 use std::alloc::Global;
 use std::marker::Model;
 
@@ -30,25 +30,11 @@ const STATUS: usize = 5;
 /// The place of a1, x11.
 const VALUE: usize = 6;
 
-// The state of a task behind a setting of events: one of those that it waits for wakes it.
-fn woken(state: TaskState, events: u32) -> TaskState
-    ensures { result ≡ woken_task_state state events }
-{
-    match state {
-        TaskState::Waiting(mask) if events & mask != 0 => TaskState::Ready,
-        TaskState::Suspended | TaskState::Ready | TaskState::Active | TaskState::Waiting(_) =>
-            state,
-    }
-}
-
 // The number in a place; behind the last one, 0.
-fn number_at(numbers: &[u32], place: usize) -> u32
+fn place_value(numbers: &[u32], place: usize) -> u32
     ensures { result ≡ get_or numbers.now place 0 }
 {
-    match numbers.get(place) {
-        Some(number) => *number,
-        None => 0,
-    }
+    numbers.get(place).copied().unwrap_or(0)
 }
 
 /// A task as it stands.
@@ -81,7 +67,7 @@ impl Model for TaskRoom {
 
 impl TaskRoom {
     /// A task that was not activated yet.
-    pub fn new(alloc: Global) -> Result<TaskRoom, NoMemory>
+    pub fn new(alloc: Global) -> Result<TaskRoom>
         ensures { IfOk result (λ t. t ≡ sleeping_task) }
     {
         let frames = Stack::new(alloc)?;
@@ -167,21 +153,21 @@ impl TaskRoom {
         if r.0 == 0 {
             return 0;
         }
-        number_at(&self.registers, usize::from(r.0).saturating_sub(FIRST))
+        place_value(&self.registers, usize::from(r.0).saturating_sub(FIRST))
     }
 
     /// What it has in a0, the first operand of a service on an alarm.
     pub fn first_operand(&self) -> u32
         ensures { result ≡ first_operand self.now }
     {
-        number_at(&self.registers, STATUS)
+        place_value(&self.registers, STATUS)
     }
 
     /// What it has in a1, the second one.
     pub fn second_operand(&self) -> u32
         ensures { result ≡ second_operand self.now }
     {
-        number_at(&self.registers, VALUE)
+        place_value(&self.registers, VALUE)
     }
 
     // Gives a register a value; x0 stays zero.
@@ -200,17 +186,17 @@ impl TaskRoom {
         ensures { self.new ≡ answered_task status self.old }
     {
         self.registers[STATUS] = status;
-        self.frames.move_on();
+        self.frames.advance();
     }
 
     // Goes on behind a service with a value.
-    fn answer_with(&mut self, value: u32)
+    fn answer_value(&mut self, value: u32)
         requires { CanMove self.old.frames }
         ensures { self.new ≡ answered_task_with value self.old }
     {
         self.registers[STATUS] = E_OK;
         self.registers[VALUE] = value;
-        self.frames.move_on();
+        self.frames.advance();
     }
 
     // Events are set.
@@ -218,7 +204,12 @@ impl TaskRoom {
         ensures { self.new ≡ record self.old { events = bit_or self.old.events mask; state = woken_task_state self.old.state (bit_or self.old.events mask) } }
     {
         self.events |= mask;
-        self.state = woken(self.state, self.events);
+        match self.state {
+            TaskState::Waiting(waited) if self.events & waited != 0 => {
+                self.state = TaskState::Ready;
+            }
+            _ => {}
+        }
     }
 
     // Ends.
@@ -253,11 +244,11 @@ impl TaskRoom {
             TaskChange::Activate => self.state = TaskState::Ready,
             TaskChange::AddEvents(mask) => self.add_events(mask),
             TaskChange::Answer(status) => self.answer(status),
-            TaskChange::AnswerWith(value) => self.answer_with(value),
+            TaskChange::AnswerWith(value) => self.answer_value(value),
             TaskChange::End => self.end(),
             TaskChange::Wait(mask) => {
                 self.state = TaskState::Waiting(mask);
-                self.frames.move_on();
+                self.frames.advance();
                 self.raised = false;
             }
             TaskChange::Pause => {
@@ -289,13 +280,13 @@ impl TaskRoom {
             }
             TaskChange::Write { rd, value } => {
                 self.write(rd, value);
-                self.frames.move_on();
+                self.frames.advance();
             }
-            TaskChange::GoTo(item) => self.frames.go_to(item),
-            TaskChange::MoveOn => self.frames.move_on(),
+            TaskChange::GoTo(item) => self.frames.jump(item),
+            TaskChange::MoveOn => self.frames.advance(),
             TaskChange::StoreWord { word, value } => {
                 self.frames.store(word, value);
-                self.frames.move_on();
+                self.frames.advance();
             }
             TaskChange::Invoke { func, words } => self.frames.enter(FrameRoom::entry(func, words)),
             TaskChange::Return => self.frames.leave(),

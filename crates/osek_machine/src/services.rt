@@ -1,7 +1,7 @@
 //! What a service does.
 ghost use Rattle.std.specs.Prelude.{◌≡◌, ◌<◌, ◌==◌, cond, Some, None, length, bit_and};
 ghost use Rattle.osek_scheduler.specs.State.{task};
-ghost use Rattle.osek_scheduler.specs.Services.{if_suspended, is_alarm, is_resource, is_task, is_there, state_number};
+ghost use Rattle.osek_scheduler.specs.Services.{if_suspended, is_there, state_number};
 ghost use Rattle.osek_machine.specs.Clocked.{IsClocked};
 ghost use Rattle.osek_scheduler.specs.Outcomes.{plan};
 ghost use Rattle.osek_machine.specs.Plans.{service_plan};
@@ -16,7 +16,7 @@ use sloth_base::{
 };
 
 // The state of a task; one that is not there is Suspended.
-fn state_of(store: &Store, t: u32) -> TaskState
+fn task_state(store: &Store, t: u32) -> TaskState
     ensures { result ≡ (task store.now t).state }
 {
     let place = t as usize;
@@ -27,7 +27,7 @@ fn state_of(store: &Store, t: u32) -> TaskState
 }
 
 // The events of a task; one that is not there has none.
-fn events_of(store: &Store, t: u32) -> u32
+fn task_events(store: &Store, t: u32) -> u32
     ensures { result ≡ (task store.now t).events }
 {
     let place = t as usize;
@@ -48,8 +48,8 @@ pub fn answers(status: u32, change: TaskChange) -> Plan
     }
 }
 
-// The caller leaves.
-fn leaves(change: TaskChange, other: Other) -> Plan
+/// The caller leaves, or a task is entered.
+pub fn leaves(change: TaskChange, other: Other) -> Plan
     ensures { result ≡ plan None change other }
 {
     Plan {
@@ -60,7 +60,7 @@ fn leaves(change: TaskChange, other: Other) -> Plan
 }
 
 /// The caller goes on with a status, after what is done besides.
-pub fn goes_on(status: u32, other: Other) -> Plan
+pub fn continues(status: u32, other: Other) -> Plan
     ensures { result ≡ plan (Some status) (TaskChange.Answer status) other }
 {
     Plan {
@@ -75,10 +75,10 @@ fn activate_task(store: &Store, t: u32) -> Plan
     ensures { result ≡ if_suspended (task store.now t).state (plan (Some E_OK) (TaskChange.Answer E_OK) (Other.Activate t))
         (plan (Some E_OS_LIMIT) (TaskChange.Answer E_OS_LIMIT) Other.Nothing) }
 {
-    if is_suspended(state_of(store, t)) {
-        return goes_on(E_OK, Other::Activate(t));
+    if is_suspended(task_state(store, t)) {
+        return continues(E_OK, Other::Activate(t));
     }
-    goes_on(E_OS_LIMIT, Other::Nothing)
+    continues(E_OS_LIMIT, Other::Nothing)
 }
 
 // ChainTask.
@@ -90,10 +90,10 @@ fn chain_task(store: &Store, t: u32, caller: u32) -> Plan
     if t == caller {
         return leaves(TaskChange::End, Other::Activate(caller));
     }
-    if is_suspended(state_of(store, t)) {
+    if is_suspended(task_state(store, t)) {
         return leaves(TaskChange::End, Other::Activate(t));
     }
-    goes_on(E_OS_LIMIT, Other::Nothing)
+    continues(E_OS_LIMIT, Other::Nothing)
 }
 
 // The number of a task's state: running 0, waiting 1, ready or preempted 2, suspended 3.
@@ -113,10 +113,10 @@ fn set_event(store: &Store, t: u32, mask: u32) -> Plan
     ensures { result ≡ if_suspended (task store.now t).state (plan (Some E_OS_STATE) (TaskChange.Answer E_OS_STATE) Other.Nothing)
         (plan (Some E_OK) (TaskChange.Answer E_OK) (Other.AddEvents t mask)) }
 {
-    if is_suspended(state_of(store, t)) {
-        return goes_on(E_OS_STATE, Other::Nothing);
+    if is_suspended(task_state(store, t)) {
+        return continues(E_OS_STATE, Other::Nothing);
     }
-    goes_on(E_OK, Other::AddEvents { task: t, mask })
+    continues(E_OK, Other::AddEvents { task: t, mask })
 }
 
 // GetEvent.
@@ -124,10 +124,10 @@ fn get_event(store: &Store, t: u32) -> Plan
     ensures { result ≡ if_suspended (task store.now t).state (plan (Some E_OS_STATE) (TaskChange.Answer E_OS_STATE) Other.Nothing)
         (plan (Some E_OK) (TaskChange.AnswerWith (task store.now t).events) Other.Nothing) }
 {
-    if is_suspended(state_of(store, t)) {
-        return goes_on(E_OS_STATE, Other::Nothing);
+    if is_suspended(task_state(store, t)) {
+        return continues(E_OS_STATE, Other::Nothing);
     }
-    answers(E_OK, TaskChange::AnswerWith(events_of(store, t)))
+    answers(E_OK, TaskChange::AnswerWith(task_events(store, t)))
 }
 
 // WaitEvent.
@@ -135,10 +135,10 @@ fn wait_event(store: &Store, mask: u32, caller: u32) -> Plan
     ensures { result ≡ cond (bit_and (task store.now caller).events mask == 0) (plan None (TaskChange.Wait mask) Other.Nothing)
         (plan (Some E_OK) (TaskChange.Answer E_OK) Other.Nothing) }
 {
-    if events_of(store, caller) & mask == 0 {
+    if task_events(store, caller) & mask == 0 {
         return leaves(TaskChange::Wait(mask), Other::Nothing);
     }
-    goes_on(E_OK, Other::Nothing)
+    continues(E_OK, Other::Nothing)
 }
 
 // What a service does for its caller.
@@ -162,7 +162,7 @@ fn service_plan(
         Service::Schedule => answers(E_OK, TaskChange::Pause),
         Service::GetTaskID => answers(E_OK, TaskChange::AnswerWith(caller)),
         Service::GetTaskState => {
-            let number = state_number(caller, object, state_of(store, object));
+            let number = state_number(caller, object, task_state(store, object));
             answers(E_OK, TaskChange::AnswerWith(number))
         }
         Service::GetResource => answers(E_OK, TaskChange::Take(object)),
@@ -190,30 +190,6 @@ fn service_plan(
     }
 }
 
-// Whether a task is declared.
-fn is_task(config: &Config, t: u32) -> bool
-    ensures { result ≡ is_task config.now t }
-{
-    (t as usize) < config.tasks.items().len()
-}
-
-// Whether a resource is declared.
-fn is_resource(config: &Config, resource: u32) -> bool
-    ensures { result ≡ is_resource config.now resource }
-{
-    if resource == RES_SCHEDULER {
-        return config.res_scheduler;
-    }
-    (resource as usize) < config.resources.items().len()
-}
-
-// Whether an alarm is declared.
-fn is_alarm(config: &Config, alarm: u32) -> bool
-    ensures { result ≡ is_alarm config.now alarm }
-{
-    (alarm as usize) < config.alarms.items().len()
-}
-
 // Whether what a service names is there.
 fn is_there(config: &Config, task: &TaskRoom, service: Service, object: u32) -> bool
     ensures { result ≡ is_there config.now task.now.held service object }
@@ -223,9 +199,10 @@ fn is_there(config: &Config, task: &TaskRoom, service: Service, object: u32) -> 
     }
     match service.object_kind() {
         ObjectKind::Nothing => true,
-        ObjectKind::Task => is_task(config, object),
-        ObjectKind::Resource => is_resource(config, object),
-        ObjectKind::Alarm => is_alarm(config, object),
+        ObjectKind::Task => (object as usize) < config.tasks.items().len(),
+        ObjectKind::Resource if object == RES_SCHEDULER => config.res_scheduler,
+        ObjectKind::Resource => (object as usize) < config.resources.items().len(),
+        ObjectKind::Alarm => (object as usize) < config.alarms.items().len(),
     }
 }
 
@@ -235,20 +212,7 @@ pub fn call_in(op: &Op) -> Option<Call>
 {
     match *op {
         Op::Serve(call) => Some(call),
-        Op::Alu { .. } => None,
-        Op::AluImm { .. } => None,
-        Op::Lui { .. } => None,
-        Op::Li { .. } => None,
-        Op::FrameLoad { .. } => None,
-        Op::FrameStore { .. } => None,
-        Op::Load { .. } => None,
-        Op::Store { .. } => None,
-        Op::LoadAt { .. } => None,
-        Op::StoreAt { .. } => None,
-        Op::Branch { .. } => None,
-        Op::Jump { .. } => None,
-        Op::Invoke { .. } => None,
-        Op::Return => None,
+        _ => None,
     }
 }
 

@@ -7,7 +7,7 @@ ghost use Rattle.osek_scheduler.specs.Changes.{frames_at_item, with_word, outer_
 ghost use Rattle.osek_machine.specs.Frames.{HasWord, CanMove};
 
 use crate::frame::FrameRoom;
-use sloth_base::{BODY_LIMIT, NoMemory};
+use sloth_base::{BODY_LIMIT, Result};
 use std::alloc::Global;
 use std::marker::Model;
 
@@ -31,7 +31,7 @@ impl Model for Stack {
 
 impl Stack {
     /// No function in progress.
-    pub fn new(alloc: Global) -> Result<Stack, NoMemory>
+    pub fn new(alloc: Global) -> Result<Stack>
         ensures { IfOk result (λ s. s ≡ []) }
     {
         let frames = Vec::with_capacity(alloc, BODY_LIMIT)?;
@@ -77,22 +77,22 @@ impl Stack {
     }
 
     /// The innermost function goes on behind its item.
-    pub fn move_on(&mut self)
+    pub fn advance(&mut self)
         requires { CanMove self.old }
         ensures { self.new ≡ moved_frames self.old }
     {
         if let Some(mut frame) = self.take() {
-            frame.go_to(frame.item() + 1);
+            frame.set_item(frame.item() + 1);
             self.enter(frame);
         }
     }
 
     /// The innermost function goes to an item.
-    pub fn go_to(&mut self, item: u32)
+    pub fn jump(&mut self, item: u32)
         ensures { self.new ≡ frames_at_item item self.old }
     {
         if let Some(mut frame) = self.take() {
-            frame.go_to(item);
+            frame.set_item(item);
             self.enter(frame);
         }
     }
@@ -114,7 +114,7 @@ impl Stack {
         ensures { self.new ≡ moved_frames (outer_frames self.old) }
     {
         if self.take().is_some() {
-            self.move_on();
+            self.advance();
         }
     }
 }

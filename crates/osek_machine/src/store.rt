@@ -1,26 +1,28 @@
 //! The system as it stands, with room for all that it may become.
-ghost use Rattle.std.specs.Prelude.{◌≡◌, ◌≤◌, ◌<◌, ◌+◌, [], length, get_or, set, map, true, false, IfOk};
-ghost use Rattle.sloth_base.specs.Arithmetic.{size_of};
+ghost use Rattle.std.specs.Prelude.{◌≡◌, ◌<◌, length, map, true, false, IfOk};
 ghost use Rattle.sloth_base.specs.Limits.{task_limit};
-ghost use Rattle.osek_scheduler.specs.State.{alarm, counter, opening, sleeping_task, task, with_alarm, with_counter};
+ghost use Rattle.osek_scheduler.specs.State.{alarm, counter, no_counter, opening, sleeping_task, task, with_alarm, with_counter};
 ghost use Rattle.osek_scheduler.specs.declared.state.TaskState.TheVariants as mode;
 ghost use Rattle.osek_scheduler.specs.Steps.{admitted_state, autostarted_tasks, settled_state};
-ghost use Rattle.osek_scheduler.specs.Meaning.{bytes_after_store};
 ghost use Rattle.osek_scheduler.specs.Services.{if_suspended};
 ghost use Rattle.osek_machine.specs.Changes.{HasChangeRoom};
-ghost use Rattle.osek_scheduler.specs.Changes.{changed_task};
 ghost use Rattle.osek_machine.specs.Plans.{HasOther, HasPlanRoom, planned_system, is_inside, load_of, with_other};
 ghost use Rattle.osek_scheduler.specs.Changes.{with_change};
 
-use crate::arithmetic::size_of;
-use crate::clock::ClockRoom;
+use crate::arithmetic::width_bytes;
 use crate::data::Data;
 use crate::fresh::Fresh;
 use crate::room::TaskRoom;
 use osek_scheduler::{Alarm, Counter, Other, Plan, TaskChange, TaskState};
-use sloth_base::{App, Config, NoMemory, Width};
+use sloth_base::{App, Config, Result, Width};
 use std::alloc::{AllocError, Global};
 use std::marker::Model;
+
+// A counter as the system starts, and one that is not declared.
+const RESTING: Counter = Counter {
+    value: 0,
+    due: false,
+};
 
 /// The tasks, the data, the counters and the alarms as they stand.
 #[derive(Drop)]
@@ -29,7 +31,8 @@ pub struct Store {
     symbols: Vec<Data>,
     booted: bool,
     fresh: Fresh,
-    clock: ClockRoom,
+    counters: Vec<Counter>,
+    alarms: Vec<Alarm>,
 }
 
 impl Model for Store {
@@ -42,12 +45,12 @@ impl Model for Store {
       symbols = s.symbols.items;
       booted = s.booted;
       fresh = s.fresh;
-      clock = s.clock;
+      clock = record { counters = s.counters.items; alarms = s.alarms.items };
     } };
 }
 
 // A task for each declaration.
-fn sleeping_tasks(alloc: Global, config: &Config) -> Result<Vec<TaskRoom>, NoMemory>
+fn sleeping_tasks(alloc: Global, config: &Config) -> Result<Vec<TaskRoom>>
     ensures { IfOk result (λ tasks. tasks.items ≡ map (λ _. sleeping_task) config.now.tasks) }
 {
     let mut tasks = Vec::new(alloc);
@@ -61,7 +64,7 @@ fn sleeping_tasks(alloc: Global, config: &Config) -> Result<Vec<TaskRoom>, NoMem
 }
 
 // The data as they are declared.
-fn declared_data(alloc: Global, app: &App) -> Result<Vec<Data>, NoMemory>
+fn declared_data(alloc: Global, app: &App) -> Result<Vec<Data>>
     ensures { IfOk result (λ symbols. symbols.items ≡ map (λ y. y.bytes) app.now.symbols) }
 {
     let mut symbols = Vec::new(alloc);
@@ -74,22 +77,30 @@ fn declared_data(alloc: Global, app: &App) -> Result<Vec<Data>, NoMemory>
     Ok(symbols)
 }
 
-// Changes a task.
-fn change_task(tasks: &mut [TaskRoom], t: usize, change: &TaskChange)
-    requires declared { t < length tasks.old }
-    requires allows { HasChangeRoom change.now (get_or tasks.old t sleeping_task) }
-    ensures { tasks.new ≡ set tasks.old t (changed_task change.now (get_or tasks.old t sleeping_task)) }
+// A counter for each declaration.
+fn resting_counters(alloc: Global, config: &Config) -> Result<Vec<Counter>, AllocError>
+    ensures { IfOk result (λ counters. counters.items ≡ map (λ _. no_counter) config.now.counters) }
 {
-    tasks[t].apply(change);
+    let mut counters = Vec::new(alloc);
+    for _counter in config.counters.items() {
+        counters.push(RESTING)?;
+    }
+    Ok(counters)
 }
 
-// Stores a value in a symbol.
-fn store_value(symbols: &mut [Data], symbol: usize, width: Width, offset: u32, value: u32)
-    requires declared { symbol < length symbols.old }
-    requires inside { offset + size_of width ≤ length (get_or symbols.old symbol []) }
-    ensures { symbols.new ≡ set symbols.old symbol (bytes_after_store width (get_or symbols.old symbol []) offset value) }
+// The alarms as they are declared.
+fn declared_alarms(alloc: Global, config: &Config) -> Result<Vec<Alarm>, AllocError>
+    ensures { IfOk result (λ alarms. alarms.items ≡ map (λ d. record { left = d.time; cycle = d.cycle }) config.now.alarms) }
 {
-    symbols[symbol].store(width, offset, value);
+    let mut alarms = Vec::new(alloc);
+    for alarm in config.alarms.items() {
+        let declared = Alarm {
+            left: alarm.time,
+            cycle: alarm.cycle,
+        };
+        alarms.push(declared)?;
+    }
+    Ok(alarms)
 }
 
 // Activates the tasks that are to start by themselves.
@@ -108,26 +119,25 @@ fn autostart(tasks: &mut [TaskRoom], config: &Config)
 pub fn is_suspended(state: TaskState) -> bool
     ensures { result ≡ if_suspended state true false }
 {
-    match state {
-        TaskState::Suspended => true,
-        TaskState::Ready | TaskState::Active | TaskState::Waiting(_) => false,
-    }
+    matches!(state, TaskState::Suspended)
 }
 
 impl Store {
     /// Before the system has started.
-    pub fn opening(alloc: Global, config: &Config, app: &App) -> Result<Store, NoMemory>
+    pub fn opening(alloc: Global, config: &Config, app: &App) -> Result<Store>
         ensures { IfOk result (λ s. s ≡ opening config.now app.now) }
     {
         let tasks = sleeping_tasks(alloc, config)?;
         let symbols = declared_data(alloc, app)?;
-        let clock = ClockRoom::opening(alloc, config)?;
+        let counters = resting_counters(alloc, config)?;
+        let alarms = declared_alarms(alloc, config)?;
         Ok(Store {
             tasks,
             symbols,
             booted: false,
             fresh: Fresh::new(),
-            clock,
+            counters,
+            alarms,
         })
     }
 
@@ -165,7 +175,7 @@ impl Store {
         ensures { result ≡ is_inside self.now.symbols symbol width offset }
     {
         match self.symbols.get(symbol as usize) {
-            Some(data) => offset as usize + size_of(width) as usize <= data.len(),
+            Some(data) => offset as usize + width_bytes(width) as usize <= data.len(),
             None => false,
         }
     }
@@ -184,14 +194,15 @@ impl Store {
     pub fn counter(&self, c: usize) -> Counter
         ensures { result ≡ counter self.now c }
     {
-        self.clock.counter(c)
+        self.counters.get(c).copied().unwrap_or(RESTING)
     }
 
     /// An alarm; one that is not there is not in use.
     pub fn alarm(&self, a: usize) -> Alarm
         ensures { result ≡ alarm self.now a }
     {
-        self.clock.alarm(a)
+        let unused = Alarm { left: 0, cycle: 0 };
+        self.alarms.get(a).copied().unwrap_or(unused)
     }
 
     /// Replaces a counter.
@@ -199,7 +210,7 @@ impl Store {
         requires { c < length self.old.clock.counters }
         ensures { self.new ≡ with_counter self.old c counter }
     {
-        self.clock.set_counter(c, counter);
+        self.counters[c] = counter;
     }
 
     /// Replaces an alarm.
@@ -207,7 +218,7 @@ impl Store {
         requires { a < length self.old.clock.alarms }
         ensures { self.new ≡ with_alarm self.old a alarm }
     {
-        self.clock.set_alarm(a, alarm);
+        self.alarms[a] = alarm;
     }
 
     /// Changes a task.
@@ -216,7 +227,7 @@ impl Store {
         requires allows { HasChangeRoom change.now (task self.old t) }
         ensures { self.new ≡ with_change t change.now self.old }
     {
-        change_task(self.tasks.as_mut_slice(), t, change);
+        self.tasks[t].apply(change);
     }
 
     // Does what an event does besides.
@@ -235,13 +246,7 @@ impl Store {
                 width,
                 offset,
                 value,
-            } => store_value(
-                self.symbols.as_mut_slice(),
-                symbol as usize,
-                width,
-                offset,
-                value,
-            ),
+            } => self.symbols[symbol as usize].store(width, offset, value),
             Other::SetAlarm { alarm, left, cycle } => {
                 self.set_alarm(alarm as usize, Alarm { left, cycle });
             }

@@ -2,7 +2,7 @@
 ghost use Rattle.std.specs.Prelude.{◌≡◌, ◌<◌, ◌≤◌, ℕ, length};
 ghost use Rattle.sloth_base.specs.Named.{alarm_declaration};
 ghost use Rattle.osek_scheduler.specs.State.{counter};
-ghost use Rattle.osek_scheduler.specs.Services.{counted_on_state, next_value, ticked_state};
+ghost use Rattle.osek_scheduler.specs.Services.{counted_on_state, ticked_state};
 ghost use Rattle.osek_scheduler.specs.Steps.{due_state};
 ghost use Rattle.osek_machine.specs.Clocked.{IsClocked, NamesTask};
 ghost use Rattle.osek_machine.specs.Ticks.{acted_system, alarm_ticked_system, alarms_ticked_system, ticked_system};
@@ -11,21 +11,14 @@ use crate::{Store, is_suspended};
 use osek_scheduler::{Alarm, Counter, TaskChange};
 use sloth_base::{Action, Config};
 
-// The value behind one.
-fn next_value(max: u32, value: u32) -> u32
-    requires { value ≤ max }
-    ensures { result ≡ next_value max value }
-{
-    if value == max { 0 } else { value + 1 }
-}
-
 // A counter counts on.
-fn count_on(store: &mut Store, c: usize, max: u32)
+fn count(store: &mut Store, c: usize, max: u32)
     requires declared { c < length store.old.clock.counters }
     requires value { (counter store.old c).value ≤ max }
     ensures { store.new ≡ counted_on_state c max store.old }
 {
-    let value = next_value(max, store.counter(c).value);
+    let value = store.counter(c).value;
+    let value = if value == max { 0 } else { value + 1 };
     store.set_counter(c, Counter { value, due: false });
 }
 
@@ -87,7 +80,7 @@ fn count_tick(store: &mut Store, config: &Config, c: u32)
     requires clocked { IsClocked config.now store.old }
     ensures { store.new ≡ ticked_system config.now c store.old }
 {
-    count_on(store, c as usize, config.counters.items()[c as usize].max);
+    count(store, c as usize, config.counters.items()[c as usize].max);
     tick_alarms(store, config, c);
 }
 

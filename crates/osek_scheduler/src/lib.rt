@@ -1,16 +1,15 @@
-//! The abstract scheduler: the task model, the services, events, resources and the priority ceiling protocol, counters and alarms of OSEK OS 2.2.3,
-//! with no levels, interrupt lines, contexts or addresses. Definitions, which stand in `specs/`, their laws, and what every step keeps.
+//! The abstract scheduler: the task model, the services, events, resources and the priority ceiling protocol, counters
+//! and alarms of OSEK OS 2.2.3, with no levels, interrupt lines, contexts or addresses; and what every step keeps.
 //!
-//! States and priorities: `specs/State`, `specs/Priority`; what items and services mean: `specs/Meaning`, `specs/Services`; a service's outcome is a
-//! plan and then its changes: `specs/Outcomes`, `specs/Changes`; steps and runs: `specs/Steps`, `specs/Runs`; where arrivals stand: `specs/InTime`. A
-//! step has at most one next state, which a computed step finds (`step_is_computed`); ceilings are computed as they are defined (`ceiling`,
-//! `highest`). What a tick keeps is a lemma (`proofs/Ticking`, `ticked_keeps`). It stands on plain data of `sloth_base` (`Arithmetic`, `Named`,
-//! `ServiceCodes`), and on `code_rules` (`Code`) for held resources.
+//! States and priorities: `specs/State`, `specs/Priority`; what items and services mean: `specs/Meaning`,
+//! `specs/Services`, by plans and changes (`specs/Outcomes`, `specs/Changes`); steps and runs: `specs/Steps`,
+//! `specs/Runs`; where arrivals stand: `specs/InTime`. A step has at most one next state, which a computed step finds
+//! (`step_is_computed`).
 //!
-//! What every step keeps of a system with well-formed task code, for all events and all sixteen services (`validity`): no two tasks hold one resource,
-//! no two Active tasks have one current priority; a task that runs is at an item that means something; there is always a next event
-//! (`steps_keep_valid`, `steps_keep_apart`, `runs_are_valid`, `items_mean`, `running_goes_on`, `runs_never_stick`, `tasks_are_tidy`, ..;
-//! `specs/Valid`, `specs/Apart`, `specs/Tidy`, `specs/WellFormedRuns`).
+//! With well-formed task code, for all events and services: no two tasks hold one resource, no two Active tasks have
+//! one current priority, a task that runs is at an item that means something, and there is always a next event
+//! (`validity`: `steps_keep_valid`, `steps_keep_apart`, `runs_are_valid`, `items_mean`, `runs_never_stick`,
+//! `tasks_are_tidy`, ..; `specs/Valid`, `specs/Apart`, `specs/Tidy`, `specs/WellFormedRuns`).
 #![tactic(auto)]
 
 pub mod ceilings;

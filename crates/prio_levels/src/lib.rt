@@ -1,7 +1,7 @@
 //! Levels: the numbers by which the interrupt controller does the work of the scheduler.
 //!
-//! The level of a priority is the number of tasks of no greater priority; ceilings are those of the priority ceiling protocol (`assign`,
-//! `specs/Levels`). In range: `sloth_base` (`ConfigRange`).
+//! The level of a priority is the number of tasks of no greater priority; ceilings are those of the priority ceiling
+//! protocol (`assign`, `specs/Levels`). In range: `sloth_base` (`ConfigRange`).
 #![tactic(auto)]
 
 ghost use Rattle.std.specs.Prelude.{◌≡◌, ◌<◌, ◌≤◌, ℕ, if◌then◌else◌, max, length, Contains, slice_index, slice_index_or};
@@ -82,8 +82,8 @@ fn ceilings(tasks: &[TaskDecl]) -> [u8; CEILING_COUNT]
     ceilings
 }
 
-/// The level of a task is that of its priority, from 1. The ceiling of a resource is the level of the highest task that lists it,
-/// 0 where none does (OSEK OS 2.2.3, section 8.5). The ceiling of RES_SCHEDULER, the last entry, is the highest task's level.
+/// A task's level is that of its priority, from 1. A resource's ceiling is the level of the highest task that lists it,
+/// 0 if none does (OSEK OS 2.2.3, section 8.5); that of RES_SCHEDULER, the last entry, the highest level.
 pub fn assign(config: &Config) -> Levels
     requires { InRange config.now }
     ensures levels { AreLevels config.now result }

@@ -125,7 +125,8 @@ module _ (c : LoopCode) (is : IsLoopCode c) (level : Option ℕ) (f : ℕ) (know
       too_large k (inr within) le = let most = limit.most k within in omega (arith, le, most)
 
       by : (b : Bool) → (summary_of c.whole g).is_endless ≡ b → (get_or w.limited g false ≡ true) × (min size_limit (n + 1) ≤ (summary_of c.whole g).back)
-      by true e = let x = subst P e (summary i g item) (limit.limit + 1) in absurd (too_large x.0 x.1 x.2)
+      by true e = let x = subst P e (summary i g item) (limit.limit + 1) in
+          absurd (too_large x.0 (subst (λ v. SumsAny config app weights v None g x.0) is.of_all x.1) x.2)
       by false e =
           let x : IsExact config app weights kind None g (summary_of c.whole g) = subst P e (summary i g item) in
           let most = x.back.none_larger n part in

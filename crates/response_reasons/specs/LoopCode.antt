@@ -1,5 +1,6 @@
 -- Task code in which loops are sought, and how their lines are found.
-use Rattle.std.specs.Prelude.{ℕ, ◌+◌, ◌<◌, ◌≡◌, ◌&&◌, ltb, not, cond, Bool, false, List, length, get_or, Option, Some, None}
+use Rattle.std.specs.Prelude.{ℕ, ◌+◌, ◌<◌, ◌≡◌, ◌&&◌, ltb, not, cond, Bool, false, List, length, get_or, Option, None}
+use Rattle.sloth_base.specs.declared.app.App.{App}
 use Rattle.sloth_base.specs.declared.app.Func.{Func}
 use Rattle.sloth_base.specs.declared.app.Op.{Op}
 use Rattle.sloth_base.specs.declared.app.Op.TheVariants as op
@@ -17,7 +18,7 @@ use Rattle.walk_sums.specs.Graph.{ways_of}
 use Rattle.walk_sums.specs.Computed.{is_alive, going_size}
 use Rattle.walk_sums.specs.Links.{item_ways}
 use Rattle.walk_sums.specs.Kinds.{is_going}
-use Rattle.walk_sums.specs.Known.{AreSums}
+use Rattle.walk_sums.specs.Known.{endless_kind, AreSums}
 use Rattle.walk_sums.specs.KnownBodies.{no_body}
 use Rattle.walk_sums.specs.Search.{IsReachable}
 use Rattle.walk_sums.specs.WalkedCode.{WalkedCode, IsWalked}
@@ -32,9 +33,14 @@ pub record LoopCode : Type 0 where
   pub kind : Kind
   pub whole : List Summary
 
+-- parts of the kind may begin at items of any source line
+abbrev pub IsOfAllLines : Kind → Type 0
+IsOfAllLines kind = endless_kind kind ≡ kind
+
 pub record IsLoopCode (c : LoopCode) : Type 0 where
   pub walked : IsWalked c.walks
   pub fit : AreWeights c.walks.app c.weights
+  pub of_all : IsOfAllLines c.kind
   pub sums : AreSums c.walks.config c.walks.app c.weights c.kind None c.whole
 
 -- the functions through which a part may go, and whose parts have a limit
@@ -78,7 +84,11 @@ called_line body level whole own i o = None
 abbrev pub IsLeastLine : LoopCode → (level : Option ℕ) → (f : ℕ) → Option ℕ → Type 0
 IsLeastLine c level f line = IsLeastOf (HasLoopAt c.walks.config c.walks.app c.weights c.kind level f) line
 
--- those of all functions
-pub record AreLeastLines (c : LoopCode) (level : Option ℕ) (lines : List (Option ℕ)) : Type 0 where
-  pub count : length lines ≡ length c.walks.app.funcs
-  pub each : (f : ℕ) → f < length c.walks.app.funcs → IsLeastLine c level f (line_at lines f)
+-- the lines of all functions, each of its kind
+pub record AreEachLine (app : App) (IsLine : ℕ → Option ℕ → Type 0) (lines : List (Option ℕ)) : Type 0 where
+  pub count : length lines ≡ length app.funcs
+  pub each : (f : ℕ) → f < length app.funcs → IsLine f (line_at lines f)
+
+-- the least ones
+abbrev pub AreLeastLines : LoopCode → (level : Option ℕ) → List (Option ℕ) → Type 0
+AreLeastLines c level lines = AreEachLine c.walks.app (IsLeastLine c level) lines

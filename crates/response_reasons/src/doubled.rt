@@ -1,11 +1,11 @@
 //! Nodes twice: once before something has weighed on the way, and once afterwards.
-ghost use Rattle.std.specs.Prelude.{◌≡◌, ◌+◌, ◌<◌, ◌≤◌, ℕ, Some, length, get_or, Decides, IfOk, OnOk};
+ghost use Rattle.std.specs.Prelude.{◌≡◌, ◌+◌, ◌<◌, ℕ, Some, length, Decides, IfOk};
 ghost use Rattle.walk_sums.specs.Graph.{AreInside, ways_of};
 ghost use Rattle.walk_sums.specs.Search.{IsReachable};
 ghost use Rattle.response_reasons.specs.Doubled.{second_way, second_ways, first_ways, AreFirst, AreDoubled};
 
 use bound_rules::is_marked;
-use sloth_base::NoMemory;
+use sloth_base::Result;
 use std::alloc::Global;
 use text_pieces::push;
 use walk_sums::graph::Ways;
@@ -49,7 +49,7 @@ fn first_ways(ways: &[Ways], steps: &[u32], node: usize) -> Ways
     }
 }
 
-fn first_nodes(alloc: Global, ways: &[Ways], steps: &[u32]) -> Result<Vec<Ways>, NoMemory>
+fn first_nodes(alloc: Global, ways: &[Ways], steps: &[u32]) -> Result<Vec<Ways>>
     requires inside { AreInside ways.now }
     requires count { length steps.now ≡ length ways.now }
     requires few { length ways.now < 9223372036854775808 }
@@ -63,7 +63,7 @@ fn first_nodes(alloc: Global, ways: &[Ways], steps: &[u32]) -> Result<Vec<Ways>,
 }
 
 /// The first nodes and the second ones.
-pub fn doubled(alloc: Global, ways: &[Ways], steps: &[u32]) -> Result<Vec<Ways>, NoMemory>
+pub fn doubled(alloc: Global, ways: &[Ways], steps: &[u32]) -> Result<Vec<Ways>>
     requires inside { AreInside ways.now }
     requires count { length steps.now ≡ length ways.now }
     requires few { length ways.now < 9223372036854775808 }
@@ -77,12 +77,7 @@ pub fn doubled(alloc: Global, ways: &[Ways], steps: &[u32]) -> Result<Vec<Ways>,
 }
 
 /// Whether the first node of this number leads to the second one.
-pub fn is_on_loop(
-    alloc: Global,
-    twice: &[Ways],
-    count: usize,
-    node: usize,
-) -> Result<bool, NoMemory>
+pub fn is_on_loop(alloc: Global, twice: &[Ways], count: usize, node: usize) -> Result<bool>
     requires inside { AreInside twice.now }
     requires known { node < count }
     requires both { length twice.now ≡ count + count }

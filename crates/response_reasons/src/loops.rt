@@ -1,6 +1,6 @@
 //! Loops in bodies, function by function.
 ghost use Rattle.std.specs.Prelude.{◌≡◌, ◌+◌, ◌<◌, ℕ, None, Some, false, length, get_or, IfOk};
-ghost use Rattle.sloth_base.specs.Named.{function, item_of};
+ghost use Rattle.sloth_base.specs.Named.{item_of};
 ghost use Rattle.code_rules.specs.Code.{HasCall};
 ghost use Rattle.bound_rules.specs.Summaries.{summary_of};
 ghost use Rattle.run_windows.specs.Costs.{lesser};
@@ -8,12 +8,13 @@ ghost use Rattle.run_windows.specs.RunWindows.{IsLeastOf};
 ghost use Rattle.walk_sums.specs.Graph.{AreInside};
 ghost use Rattle.walk_sums.specs.Known.{AreSums};
 ghost use Rattle.walk_sums.specs.Weights.{AreWeights};
-ghost use Rattle.response_reasons.specs.LoopCode.{IsLoopCode, is_limited, AreLoopWays, IsLineOfLoop, line_at, called_line, IsLeastLine, AreLeastLines};
+ghost use Rattle.response_reasons.specs.LoopCode.{IsLoopCode, IsOfAllLines, is_limited, AreLoopWays, IsLineOfLoop};
+ghost use Rattle.response_reasons.specs.LoopCode.{line_at, called_line, IsLeastLine, AreLeastLines};
 
 use crate::doubled::{doubled, is_on_loop};
 use bound_rules::{Body, BodyWeights, Summary, is_marked, number_at, reaches_level, weights_at};
 use run_windows::fronts::lesser;
-use sloth_base::{App, Config, Func, NoMemory, Op};
+use sloth_base::{App, Config, Func, Op, Result};
 use std::alloc::Global;
 use std::marker::Model;
 use text_pieces::push;
@@ -77,7 +78,7 @@ fn is_limited(summary: &Summary) -> bool
 }
 
 /// The functions through which a part may go, and whose parts have a limit.
-fn limited_functions(alloc: Global, whole: &[Summary]) -> Result<Vec<bool>, NoMemory>
+fn limited_functions(alloc: Global, whole: &[Summary]) -> Result<Vec<bool>>
     ensures { IfOk result (λ limited. (g : ℕ) → get_or limited.items g false ≡ is_limited (summary_of whole.now g)) }
 {
     let mut limited = Vec::new(alloc);
@@ -88,12 +89,7 @@ fn limited_functions(alloc: Global, whole: &[Summary]) -> Result<Vec<bool>, NoMe
 }
 
 /// The line of an item that lies on a loop.
-fn own_line(
-    alloc: Global,
-    func: &Func,
-    twice: &[Ways],
-    item: usize,
-) -> Result<Option<u32>, NoMemory>
+fn own_line(alloc: Global, func: &Func, twice: &[Ways], item: usize) -> Result<Option<u32>>
     requires inside { AreInside twice.now }
     requires both { length twice.now ≡ length func.now.items + length func.now.items }
     requires known { item < length func.now.items }
@@ -108,7 +104,7 @@ fn own_line(
 }
 
 /// The line of a function, by a table.
-pub fn line_at(lines: &[Option<u32>], number: usize) -> Option<u32>
+pub fn numbered_line(lines: &[Option<u32>], number: usize) -> Option<u32>
     ensures { result ≡ line_at lines.now number }
 {
     match lines.get(number) {
@@ -134,16 +130,17 @@ fn called_line(
             if !is_marked(body.reached.items(), item) {
                 None
             } else if reaches_level(level, number_at(body.ceilings.items(), item)) {
-                line_at(whole, func.0 as usize)
+                numbered_line(whole, func.0 as usize)
             } else {
-                line_at(own, func.0 as usize)
+                numbered_line(own, func.0 as usize)
             }
         }
         _ => None,
     }
 }
 
-fn no_lines(alloc: Global, count: usize) -> Result<Vec<Option<u32>>, NoMemory>
+/// So many lines of nothing.
+pub fn no_lines(alloc: Global, count: usize) -> Result<Vec<Option<u32>>>
     ensures count { IfOk result (λ lines. length lines.items ≡ count) }
 {
     let mut lines = Vec::new(alloc);
@@ -162,6 +159,7 @@ impl<'a> Loops<'a> {
         whole: &'a [Summary],
     ) -> Loops<'a>
         requires weights { AreWeights walks.now.app weights.now }
+        requires of_all { IsOfAllLines kind }
         requires whole { AreSums walks.now.config walks.now.app weights.now kind None whole.now }
         ensures { result ≡ record { walks = walks.now; weights = weights.now; kind = kind; whole = whole.now } }
     {
@@ -178,7 +176,7 @@ impl<'a> Loops<'a> {
     }
 
     /// The nodes of a body, twice, and the ways between them.
-    fn ways(&self, level: Option<u32>, number: usize) -> Result<Vec<Ways>, NoMemory>
+    fn ways(&self, level: Option<u32>, number: usize) -> Result<Vec<Ways>>
         requires { number < length self.now.walks.app.funcs }
         ensures { IfOk result (λ twice. AreLoopWays self.now level number twice.items) }
     {
@@ -200,10 +198,12 @@ impl<'a> Loops<'a> {
         number: usize,
         whole: &[Option<u32>],
         own: &[Option<u32>],
-    ) -> Result<Option<u32>, NoMemory>
+    ) -> Result<Option<u32>>
         requires known { number < length self.now.walks.app.funcs }
-        requires whole { (g : ℕ) → HasCall self.now.walks.app number g → IsLeastLine self.now None g (line_at whole.now g) }
-        requires own { (g : ℕ) → HasCall self.now.walks.app number g → IsLeastLine self.now level g (line_at own.now g) }
+        requires whole { (g : ℕ) → HasCall self.now.walks.app number g
+            → IsLeastLine self.now None g (line_at whole.now g) }
+        requires own { (g : ℕ) → HasCall self.now.walks.app number g
+            → IsLeastLine self.now level g (line_at own.now g) }
         ensures { IfOk result (IsLeastLine self.now level number) }
     {
         let func = numbered_function(self.app, number);
@@ -219,7 +219,7 @@ impl<'a> Loops<'a> {
     }
 
     /// Those of all functions where their callers have raised the task.
-    pub fn whole_lines(&self) -> Result<Vec<Option<u32>>, NoMemory>
+    pub fn whole_lines(&self) -> Result<Vec<Option<u32>>>
         ensures { IfOk result (λ lines. AreLeastLines self.now None lines.items) }
     {
         let mut lines = no_lines(self.alloc, self.app.funcs.items().len())?;
@@ -231,11 +231,7 @@ impl<'a> Loops<'a> {
     }
 
     /// Those where functions raise it to a priority by what they hold themselves.
-    pub fn own_lines(
-        &self,
-        priority: u32,
-        whole: &[Option<u32>],
-    ) -> Result<Vec<Option<u32>>, NoMemory>
+    pub fn own_lines(&self, priority: u32, whole: &[Option<u32>]) -> Result<Vec<Option<u32>>>
         requires { AreLeastLines self.now None whole.now }
         ensures { IfOk result (λ lines. AreLeastLines self.now (Some priority) lines.items) }
     {

@@ -1,6 +1,5 @@
 //! Why tasks have no numbers.
-ghost use Rattle.std.specs.Prelude.{◌≡◌, ◌<◌, ◌≤◌, ℕ, Some, false, length, get_or, Decides, IfOk};
-ghost use Rattle.bound_rules.specs.declared.bodies.Body.{Body};
+ghost use Rattle.std.specs.Prelude.{◌≡◌, ◌<◌, ℕ, Some, false, length, get_or, Decides, IfOk};
 ghost use Rattle.walk_sums.specs.Rounds.{IsClean};
 ghost use Rattle.walk_sums.specs.Weights.{AreWeights, item_weights};
 ghost use Rattle.response_reasons.specs.Loops.{HasSectionLoop};
@@ -8,14 +7,16 @@ ghost use Rattle.walk_sums.specs.Counted.{counted_weights};
 ghost use Rattle.run_windows.specs.FirstUntold.{IsInside, first_untold};
 ghost use Rattle.run_windows.specs.Windows.{is_lower};
 ghost use Rattle.run_windows.specs.RunWindows.{IsLeastOf};
-ghost use Rattle.response_reasons.specs.Reasons.{HasRoundLoop, HasCountedLoop, HasActivatingLoop, HasMakingLoop, HasSectionMakingLoop, HasLevelLoop, IsUntoldLine, loop_reason, IsReasonFor, IsReasonIf};
+ghost use Rattle.response_reasons.specs.Reasons.{HasRoundLoop, HasCountedLoop, HasActivatingLoop, HasMakingLoop};
+ghost use Rattle.response_reasons.specs.Reasons.{HasSectionMakingLoop, HasLevelLoop, IsUntoldLine};
+ghost use Rattle.response_reasons.specs.Reasons.{loop_reason, IsReasonFor, IsReasonIf};
 
 use crate::lines::{section_line, turn_line};
 use bound_rules::{BodyWeights, is_marked};
 use run_windows::fronts::lesser;
 use run_windows::level::is_lower;
 use run_windows::{Costs, Untold, first_untold};
-use sloth_base::NoMemory;
+use sloth_base::Result;
 use walk_sums::{Counted, Kind, Walks, counted_weights, item_weights};
 
 /// Why a task has no number.
@@ -37,7 +38,7 @@ fn round_line(
     clean: &[bool],
     weights: &[BodyWeights],
     k: usize,
-) -> Result<Option<u32>, NoMemory>
+) -> Result<Option<u32>>
     requires weights { AreWeights walks.now.app weights.now }
     requires inside { k < length walks.now.config.tasks }
     requires clean { Decides (get_or clean.now k false) (IsClean walks.now.app k) }
@@ -51,7 +52,7 @@ fn round_line(
 }
 
 // That of one along which each item counts.
-fn item_line(walks: &Walks<'_>, clean: &[bool], k: usize) -> Result<Option<u32>, NoMemory>
+fn item_line(walks: &Walks<'_>, clean: &[bool], k: usize) -> Result<Option<u32>>
     requires inside { k < length walks.now.config.tasks }
     requires clean { Decides (get_or clean.now k false) (IsClean walks.now.app k) }
     ensures { IfOk result (IsLeastOf (HasRoundLoop walks.now.config walks.now.app (item_weights walks.now.app) k)) }
@@ -65,7 +66,7 @@ fn counted_line(
     clean: &[bool],
     counted: Counted,
     k: usize,
-) -> Result<Option<u32>, NoMemory>
+) -> Result<Option<u32>>
     requires inside { k < length walks.now.config.tasks }
     requires clean { Decides (get_or clean.now k false) (IsClean walks.now.app k) }
     ensures { IfOk result (IsLeastOf (HasCountedLoop walks.now.config walks.now.app counted k)) }
@@ -75,12 +76,7 @@ fn counted_line(
 }
 
 // Of itself a task makes nothing by ActivateTask.
-fn activating_line(
-    walks: &Walks<'_>,
-    clean: &[bool],
-    k: usize,
-    j: usize,
-) -> Result<Option<u32>, NoMemory>
+fn activating_line(walks: &Walks<'_>, clean: &[bool], k: usize, j: usize) -> Result<Option<u32>>
     requires small { j < 4294967296 }
     requires inside { k < length walks.now.config.tasks }
     requires clean { Decides (get_or clean.now k false) (IsClean walks.now.app k) }
@@ -93,12 +89,7 @@ fn activating_line(
     }
 }
 
-fn making_line(
-    walks: &Walks<'_>,
-    clean: &[bool],
-    k: usize,
-    j: usize,
-) -> Result<Option<u32>, NoMemory>
+fn making_line(walks: &Walks<'_>, clean: &[bool], k: usize, j: usize) -> Result<Option<u32>>
     requires small { j < 4294967296 }
     requires inside { k < length walks.now.config.tasks }
     requires clean { Decides (get_or clean.now k false) (IsClean walks.now.app k) }
@@ -111,7 +102,7 @@ fn making_line(
 
 // ---- sections
 
-fn section_item_line(walks: &Walks<'_>, h: usize, k: usize) -> Result<Option<u32>, NoMemory>
+fn section_item_line(walks: &Walks<'_>, h: usize, k: usize) -> Result<Option<u32>>
     requires above { h < length walks.now.config.tasks }
     requires inside { k < length walks.now.config.tasks }
     ensures { IfOk result (IsLeastOf (HasSectionLoop walks.now.config walks.now.app (item_weights walks.now.app) h k)) }
@@ -125,21 +116,17 @@ fn section_counted_line(
     counted: Counted,
     h: usize,
     k: usize,
-) -> Result<Option<u32>, NoMemory>
+) -> Result<Option<u32>>
     requires above { h < length walks.now.config.tasks }
     requires inside { k < length walks.now.config.tasks }
-    ensures { IfOk result (IsLeastOf (HasSectionLoop walks.now.config walks.now.app (counted_weights counted walks.now.app) h k)) }
+    ensures { IfOk result (IsLeastOf
+        (HasSectionLoop walks.now.config walks.now.app (counted_weights counted walks.now.app) h k)) }
 {
     let weights = counted_weights(walks.alloc(), walks.app(), counted)?;
     section_line(walks, &weights, h, k)
 }
 
-fn section_making_line(
-    walks: &Walks<'_>,
-    h: usize,
-    k: usize,
-    j: usize,
-) -> Result<Option<u32>, NoMemory>
+fn section_making_line(walks: &Walks<'_>, h: usize, k: usize, j: usize) -> Result<Option<u32>>
     requires small { j < 4294967296 }
     requires above { h < length walks.now.config.tasks }
     requires inside { k < length walks.now.config.tasks }
@@ -157,11 +144,12 @@ fn level_making_line(
     h: usize,
     k: usize,
     j: usize,
-) -> Result<Option<u32>, NoMemory>
+) -> Result<Option<u32>>
     requires small { j < 4294967296 }
     requires above { h < length walks.now.config.tasks }
     requires inside { k < length walks.now.config.tasks }
-    ensures { IfOk result (IsLeastOf (λ line. (is_lower costs.now h j ≡ false) × HasSectionMakingLoop walks.now.config walks.now.app h k j line)) }
+    ensures { IfOk result (IsLeastOf (λ line.
+        (is_lower costs.now h j ≡ false) × HasSectionMakingLoop walks.now.config walks.now.app h k j line)) }
 {
     if is_lower(costs, h, j) {
         Ok(None)
@@ -170,11 +158,12 @@ fn level_making_line(
     }
 }
 
-fn level_line(walks: &Walks<'_>, costs: &Costs, h: usize, k: usize) -> Result<Option<u32>, NoMemory>
+fn level_line(walks: &Walks<'_>, costs: &Costs, h: usize, k: usize) -> Result<Option<u32>>
     requires few { length costs.now.tasks < 4294967296 }
     requires above { h < length walks.now.config.tasks }
     requires inside { k < length walks.now.config.tasks }
-    ensures { IfOk result (IsLeastOf (HasLevelLoop walks.now.config walks.now.app costs.now (length costs.now.tasks) h k)) }
+    ensures { IfOk result (IsLeastOf
+        (HasLevelLoop walks.now.config walks.now.app costs.now (length costs.now.tasks) h k)) }
 {
     let mut least = None;
     for j in 0..costs.tasks.items().len() {
@@ -192,12 +181,13 @@ fn untold_line(
     costs: &Costs,
     h: usize,
     untold: Untold,
-) -> Result<Option<u32>, NoMemory>
+) -> Result<Option<u32>>
     requires few { length costs.now.tasks < 4294967296 }
     requires above { h < length walks.now.config.tasks }
     requires inside { IsInside (length walks.now.config.tasks) untold }
     requires small { length walks.now.config.tasks < 4294967296 }
-    requires clean { (t : ℕ) → t < length walks.now.config.tasks → Decides (get_or clean.now t false) (IsClean walks.now.app t) }
+    requires clean { (t : ℕ) → t < length walks.now.config.tasks
+        → Decides (get_or clean.now t false) (IsClean walks.now.app t) }
     ensures { IfOk result (IsUntoldLine walks.now.config walks.now.app costs.now h untold) }
 {
     match untold {
@@ -220,16 +210,12 @@ fn loop_reason(untold: Untold, line: Option<u32>) -> Reason
     }
 }
 
-fn reason_for(
-    walks: &Walks<'_>,
-    clean: &[bool],
-    costs: &Costs,
-    h: usize,
-) -> Result<Reason, NoMemory>
+fn first_reason(walks: &Walks<'_>, clean: &[bool], costs: &Costs, h: usize) -> Result<Reason>
     requires count { length costs.now.tasks ≡ length walks.now.config.tasks }
     requires small { length walks.now.config.tasks < 4294967296 }
     requires above { h < length walks.now.config.tasks }
-    requires clean { (t : ℕ) → t < length walks.now.config.tasks → Decides (get_or clean.now t false) (IsClean walks.now.app t) }
+    requires clean { (t : ℕ) → t < length walks.now.config.tasks
+        → Decides (get_or clean.now t false) (IsClean walks.now.app t) }
     ensures { IfOk result (IsReasonFor walks.now.config walks.now.app costs.now h (first_untold costs.now h)) }
 {
     match first_untold(costs, h) {
@@ -248,15 +234,16 @@ pub fn reason_if(
     costs: &Costs,
     h: usize,
     asked: bool,
-) -> Result<Option<Reason>, NoMemory>
+) -> Result<Option<Reason>>
     requires count { length costs.now.tasks ≡ length walks.now.config.tasks }
     requires small { length walks.now.config.tasks < 4294967296 }
     requires above { h < length walks.now.config.tasks }
-    requires clean { (t : ℕ) → t < length walks.now.config.tasks → Decides (get_or clean.now t false) (IsClean walks.now.app t) }
+    requires clean { (t : ℕ) → t < length walks.now.config.tasks
+        → Decides (get_or clean.now t false) (IsClean walks.now.app t) }
     ensures { IfOk result (IsReasonIf walks.now.config walks.now.app costs.now h asked) }
 {
     if asked {
-        let reason = reason_for(walks, clean, costs, h)?;
+        let reason = first_reason(walks, clean, costs, h)?;
         Ok(Some(reason))
     } else {
         Ok(None)

@@ -6,3 +6,9 @@ pub mod OneText
 pub mod Refused
 mod Unread
 mod Numbered
+mod Inside
+mod OwnSections
+mod OneSums
+mod OneNames
+mod OneParts
+pub mod OneTaskText

@@ -1,5 +1,6 @@
 pub mod Inputs
 pub mod Lines
+pub mod PartNames
 pub mod Parts
 pub mod Reasons
 pub mod ResponseText

@@ -1,6 +1,7 @@
 -- Of what the number of a window is made: a line for its start, for each part in front of all, for each kind of rounds and for each counter that ticks.
-use Rattle.std.specs.Prelude.{ℕ, zero, suc, ◌<◌, ◌==◌, ◌≡◌, not, cond, Bool, true, false, List, [], ◌++◌, codes, get_or, Option, Some, None}
+use Rattle.std.specs.Prelude.{ℕ, zero, suc, ◌<◌, ◌==◌, ◌≡◌, not, cond, Bool, true, false, List, [], ◌++◌, codes, get_or, length, ◌||◌, Option, Some, None}
 use Rattle.sloth_base.specs.declared.config.Config.{Config}
+use Rattle.sloth_base.specs.declared.app.App.{App}
 use Rattle.sloth_base.specs.Named.{declaration, counter_declaration}
 use Rattle.run_windows.specs.declared.costs.CounterCosts.{CounterCosts}
 use Rattle.run_windows.specs.declared.costs.Costs.{Costs}
@@ -14,21 +15,41 @@ use Rattle.run_windows.specs.Windows.{numbers_of, is_round}
 use Rattle.run_windows.specs.RunWindows.{IsNumber}
 use Rattle.run_windows.specs.Longest.{AreParts}
 use Rattle.run_costs.specs.declared.record.RunCosts.{RunCosts}
+use Rattle.response_reasons.specs.Calls.{StartsInside}
 use Rattle.response_text.specs.Lines.{number_words}
+use Rattle.response_text.specs.declared.named.Name.{Name}
+use Rattle.response_text.specs.declared.named.Name.TheVariants as name
+use Rattle.response_text.specs.declared.named.FrontNames.{FrontNames}
+use Rattle.response_text.specs.declared.named.Bounded.{Bounded}
+use Rattle.response_text.specs.declared.named.PartNames.{PartNames}
+use Rattle.response_text.specs.PartNames.{unbounded, AreFrontNames}
 
 -- ---- a line
 
+-- what a part is
+abbrev pub name_words : Config → Name → List ℕ
+name_words config name.Boot = codes " boot"
+name_words config (name.Entry t) = codes " enter " ++ (declaration config t).name
+name_words config (name.Tick c) = codes " tick " ++ (counter_declaration config c).name
+name_words config (name.Line line) = codes " line" ++ number_words (Some line)
+name_words config name.Work = codes " work"
+name_words config name.Nothing = []
+
+-- the last number of a line, and what it is
+abbrev pub last_words : Config → (number : Option ℕ) → Name → List ℕ
+last_words config number n = number_words number ++ (name_words config n ++ codes "\n")
+
 -- so many counts in front of all; no line of none
-abbrev pub front_line : (word : List ℕ) → (counts : ℕ) → List ℕ
-front_line word counts = cond (counts == 0) [] (word ++ (number_words (Some counts) ++ codes "\n"))
+abbrev pub front_line : Config → (word : List ℕ) → (counts : ℕ) → Name → List ℕ
+front_line config word counts n = cond (counts == 0) [] (word ++ last_words config (Some counts) n)
 
 -- so many of this cost
-abbrev pub some_line : (name word : List ℕ) → (n : ℕ) → (cost : Option ℕ) → List ℕ
-some_line name word n cost = ((name ++ word) ++ number_words (Some n)) ++ (number_words cost ++ codes "\n")
+abbrev pub some_line : Config → (name word : List ℕ) → (n : ℕ) → (cost : Option ℕ) → Name → List ℕ
+some_line config name word n cost is = ((name ++ word) ++ number_words (Some n)) ++ last_words config cost is
 
 -- no line of none
-abbrev pub part_line : (name word : List ℕ) → (n : ℕ) → (cost : Option ℕ) → List ℕ
-part_line name word n cost = cond (n == 0) [] (some_line name word n cost)
+abbrev pub part_line : Config → (name word : List ℕ) → (n : ℕ) → (cost : Option ℕ) → Name → List ℕ
+part_line config name word n cost is = cond (n == 0) [] (some_line config name word n cost is)
 
 -- ---- the start
 
@@ -58,8 +79,10 @@ section_of (start.Round k) p = 0
 section_of _ p = p.section
 
 -- what stands in front of all
-abbrev pub front_lines : Start → Parts → List ℕ
-front_lines s p = (front_line (codes "stretch") p.stretch ++ front_line (codes "service") p.service) ++ (front_line (codes "item") p.item ++ front_line (codes "section") (section_of s p))
+abbrev pub front_lines : Config → Start → Parts → FrontNames → List ℕ
+front_lines config s p names =
+    (front_line config (codes "stretch") p.stretch names.stretch ++ front_line config (codes "service") p.service names.service)
+    ++ (front_line config (codes "item") p.item names.item ++ front_line config (codes "section") (section_of s p) names.section)
 
 -- ---- rounds
 
@@ -67,20 +90,30 @@ front_lines s p = (front_line (codes "stretch") p.stretch ++ front_line (codes "
 abbrev pub first_word : (cut : Bool) → List ℕ
 first_word cut = cond cut (codes " first") []
 
--- the round of the task that is under way as the window begins
-abbrev pub begun_line : Config → Start → (counts t : ℕ) → List ℕ
-begun_line config s counts t = cond (is_round s t) (some_line (declaration config t).name (codes " first") 1 (Some counts)) []
+-- the work that the load says bounds them
+abbrev pub work_name : (bounded : Bool) → Name
+work_name bounded = cond bounded name.Work name.Nothing
+
+abbrev pub bounded_at : List Bounded → (t : ℕ) → Bounded
+bounded_at works t = get_or works t unbounded
+
+-- the round of the task that is under way as the window begins, which may be of either kind
+abbrev pub begun_line : Config → Start → (counts : ℕ) → Bounded → (t : ℕ) → List ℕ
+begun_line config s counts b t =
+    cond (is_round s t) (some_line config (declaration config t).name (codes " first") 1 (Some counts) (work_name (b.first || b.next))) []
 
 -- the rounds of a task that begin with its first item, and those that begin behind a WaitEvent
-abbrev pub round_line : Config → Costs → Start → Parts → (t : ℕ) → List ℕ
-round_line config costs s p t =
-    (begun_line config s p.section t ++ part_line (declaration config t).name (first_word (task costs t).is_cut) (numbers_of p.numbers t).activations (task costs t).first)
-    ++ part_line (declaration config t).name (codes " next") (numbers_of p.numbers t).settings (task costs t).next
+abbrev pub round_line : Config → Costs → List Bounded → Start → Parts → (t : ℕ) → List ℕ
+round_line config costs works s p t =
+    let b = bounded_at works t in
+    (begun_line config s p.section b t
+    ++ part_line config (declaration config t).name (first_word (task costs t).is_cut) (numbers_of p.numbers t).activations (task costs t).first (work_name b.first))
+    ++ part_line config (declaration config t).name (codes " next") (numbers_of p.numbers t).settings (task costs t).next (work_name b.next)
 
 -- those of the first tasks, so many of them
-unfoldable pub round_lines : Config → Costs → Start → Parts → (count : ℕ) → List ℕ
-round_lines config costs s p zero = []
-round_lines config costs s p (suc t) = round_lines config costs s p t ++ round_line config costs s p t
+unfoldable pub round_lines : Config → Costs → List Bounded → Start → Parts → (count : ℕ) → List ℕ
+round_lines config costs works s p zero = []
+round_lines config costs works s p (suc t) = round_lines config costs works s p t ++ round_line config costs works s p t
 
 -- ---- ticks
 
@@ -93,7 +126,7 @@ counter_costs costs c = get_or costs.counters c no_counter
 -- the ticks of a counter within so many counts
 abbrev pub tick_line : Config → Costs → (counts c : ℕ) → List ℕ
 tick_line config costs counts c =
-    part_line (counter_declaration config c).name [] (arrivals counts (counter_costs costs c).distance) (Some (counter_costs costs c).tick)
+    part_line config (counter_declaration config c).name [] (arrivals counts (counter_costs costs c).distance) (Some (counter_costs costs c).tick) name.Nothing
 
 -- those of the first counters, so many of them
 unfoldable pub tick_lines : Config → Costs → (counts count : ℕ) → List ℕ
@@ -103,9 +136,10 @@ tick_lines config costs counts (suc c) = tick_lines config costs counts c ++ tic
 -- ---- all
 
 -- the lines of all parts of a window
-abbrev pub part_lines : Config → Costs → (tasks counters : ℕ) → Start → Parts → List ℕ
-part_lines config costs tasks counters s p =
-    ((start_line config s ++ front_lines s p) ++ round_lines config costs s p tasks) ++ tick_lines config costs p.counts counters
+abbrev pub part_lines : Config → Costs → List Bounded → Start → Parts → FrontNames → List ℕ
+part_lines config costs works s p fronts =
+    ((start_line config s ++ front_lines config s p fronts) ++ round_lines config costs works s p (length config.tasks))
+    ++ tick_lines config costs p.counts (length config.counters)
 
 -- there is a window with something in it
 abbrev pub has_parts : Option Longest → Bool
@@ -117,9 +151,15 @@ abbrev pub IsNumbered : RunCosts → (h : ℕ) → Option Longest → Type 0
 IsNumbered costs h (Some l) = IsNumber costs.longest costs.late costs.costs h l.opens l.start (Some l.number) × (0 < l.number)
 IsNumbered costs h None = ⊥
 
--- These are the lines of the parts of task h's longest window, where they are shown.
-abbrev pub IsPartText : Config → RunCosts → (tasks counters h : ℕ) → (shown : Bool) → Option Longest → List ℕ → Type 0
-IsPartText config costs tasks counters h false l text = text ≡ []
-IsPartText config costs tasks counters h true None text = ⊥
-IsPartText config costs tasks counters h true (Some l) text =
-    (p : Parts) × AreParts costs.longest costs.late costs.costs h l p × (text ≡ part_lines config costs.costs tasks counters l.start p)
+-- it begins with a start of one of so many tasks
+abbrev pub BeginsInside : (n : ℕ) → Option Longest → Type 0
+BeginsInside n (Some l) = StartsInside n l.start
+BeginsInside n None = Unit {0}
+
+-- These are the lines of the parts of task h's longest window, by what those of all windows are, where they are shown.
+abbrev pub IsPartText : Config → App → RunCosts → PartNames → (h : ℕ) → (shown : Bool) → Option Longest → List ℕ → Type 0
+IsPartText config app costs names h false l text = text ≡ []
+IsPartText config app costs names h true None text = ⊥
+IsPartText config app costs names h true (Some l) text =
+    (p : Parts) × (fronts : FrontNames) × AreParts costs.longest costs.late costs.costs h l p × AreFrontNames config app costs.costs names h l.start fronts
+    × (text ≡ part_lines config costs.costs names.bounded l.start p fronts)

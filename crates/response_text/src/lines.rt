@@ -1,20 +1,20 @@
 //! The lines of responses.
-ghost use Rattle.std.specs.Prelude.{◌≡◌, ◌<◌, ◌≤◌, ◌++◌, [], cond, length, codes, decimal, OnOk, IfOk};
+ghost use Rattle.std.specs.Prelude.{◌≡◌, ◌<◌, ◌≤◌, ◌++◌, length, codes, decimal, OnOk, IfOk};
 ghost use Rattle.sloth_base.specs.ConfigRange.{InRange};
 ghost use Rattle.load_text.specs.Loads.{deadline};
 ghost use Rattle.response_text.specs.Lines.{number_words, is_never, made_words, response_words, is_met, is_met_behind, verdict_word, deadline_words, is_open, loop_words, reason_words, reason_at, lossless_words, task_words, response_at, response_line, response_lines, tick_words, counter_words, counter_row, counter_rows, demand_line, has_open};
 
 use crate::lossless::{is_lossless, is_within, is_within_limit};
-use crate::parts::task_name;
+use crate::part_lines::task_name;
 use crate::told::Response;
 use itoa::Buffer;
 use load_text::{Entry, deadline_of, distance_of};
 use response_reasons::Reason;
-use sloth_base::{App, Config, FIRST_COUNTER_LINE, NoMemory};
+use sloth_base::{App, Config, FIRST_COUNTER_LINE, Result};
 use std::alloc::Global;
 
 /// A word, and a number behind it.
-pub fn push_counts(text: &mut Vec<u8>, word: &[u8], number: u32) -> Result<(), NoMemory>
+pub fn push_counts(text: &mut Vec<u8>, word: &[u8], number: u32) -> Result<()>
     ensures { OnOk result (text.new.items ≡ text.old.items ++ (word.now ++ decimal number)) }
 {
     let mut buffer = Buffer::new();
@@ -24,7 +24,7 @@ pub fn push_counts(text: &mut Vec<u8>, word: &[u8], number: u32) -> Result<(), N
 }
 
 /// A number behind a space.
-pub fn push_number(text: &mut Vec<u8>, number: Option<u32>) -> Result<(), NoMemory>
+pub fn push_number(text: &mut Vec<u8>, number: Option<u32>) -> Result<()>
     ensures { OnOk result (text.new.items ≡ text.old.items ++ number_words number) }
 {
     match number {
@@ -48,7 +48,7 @@ fn is_never(number: Option<u32>) -> bool
 }
 
 /// Such a number, of a task that may never be made.
-pub fn push_made(text: &mut Vec<u8>, number: Option<u32>) -> Result<(), NoMemory>
+pub fn push_made(text: &mut Vec<u8>, number: Option<u32>) -> Result<()>
     ensures { OnOk result (text.new.items ≡ text.old.items ++ made_words number) }
 {
     if is_never(number) {
@@ -60,7 +60,7 @@ pub fn push_made(text: &mut Vec<u8>, number: Option<u32>) -> Result<(), NoMemory
 }
 
 // A number behind boot.
-fn push_behind(text: &mut Vec<u8>, number: Option<u32>) -> Result<(), NoMemory>
+fn push_behind(text: &mut Vec<u8>, number: Option<u32>) -> Result<()>
     ensures { OnOk result (text.new.items ≡ text.old.items ++ (codes " behind" ++ made_words number)) }
 {
     text.extend_from_slice(b" behind")?;
@@ -68,7 +68,7 @@ fn push_behind(text: &mut Vec<u8>, number: Option<u32>) -> Result<(), NoMemory>
     Ok(())
 }
 
-fn push_response(text: &mut Vec<u8>, response: Response) -> Result<(), NoMemory>
+fn push_response(text: &mut Vec<u8>, response: Response) -> Result<()>
     ensures { OnOk result (text.new.items ≡ text.old.items ++ response_words response) }
 {
     if response.comes {
@@ -117,11 +117,7 @@ fn verdict_word(met: bool, behind: bool) -> &'static [u8]
 }
 
 // Whether the deadline is met, if there is one.
-fn push_deadline(
-    text: &mut Vec<u8>,
-    response: Response,
-    deadline: Option<u32>,
-) -> Result<(), NoMemory>
+fn push_deadline(text: &mut Vec<u8>, response: Response, deadline: Option<u32>) -> Result<()>
     ensures { OnOk result (text.new.items ≡ text.old.items ++ deadline_words response deadline) }
 {
     match deadline {
@@ -135,13 +131,7 @@ fn push_deadline(
 
 // ---- reasons
 
-fn push_loop(
-    text: &mut Vec<u8>,
-    config: &Config,
-    word: &[u8],
-    task: usize,
-    line: u32,
-) -> Result<(), NoMemory>
+fn push_loop(text: &mut Vec<u8>, config: &Config, word: &[u8], task: usize, line: u32) -> Result<()>
     ensures { OnOk result (text.new.items ≡ text.old.items ++ loop_words config.now word.now task line) }
 {
     text.extend_from_slice(word)?;
@@ -150,7 +140,7 @@ fn push_loop(
 }
 
 // Why there is no number.
-fn push_reason(text: &mut Vec<u8>, config: &Config, reason: Option<Reason>) -> Result<(), NoMemory>
+fn push_reason(text: &mut Vec<u8>, config: &Config, reason: Option<Reason>) -> Result<()>
     ensures { OnOk result (text.new.items ≡ text.old.items ++ reason_words config.now reason) }
 {
     match reason {
@@ -177,7 +167,7 @@ pub fn reason_at(reasons: &[Option<Reason>], task: u32) -> Option<Reason>
 // ---- a line
 
 // That nothing is lost of a task or a counter, where it is so.
-fn push_lossless(text: &mut Vec<u8>, kept: bool) -> Result<(), NoMemory>
+fn push_lossless(text: &mut Vec<u8>, kept: bool) -> Result<()>
     ensures { OnOk result (text.new.items ≡ text.old.items ++ lossless_words kept) }
 {
     if kept {
@@ -194,7 +184,7 @@ fn push_words(
     load: &[Entry],
     task: u32,
     told: (Response, Option<Reason>),
-) -> Result<(), NoMemory>
+) -> Result<()>
     requires in_range { InRange config.now }
     requires there { task < length config.now.tasks }
     ensures { OnOk result (text.new.items ≡ text.old.items ++ task_words config.now app.now load.now task told.0 told.1) }
@@ -230,7 +220,7 @@ pub fn push_line(
     load: &[Entry],
     task: u32,
     told: (Response, Option<Reason>),
-) -> Result<(), NoMemory>
+) -> Result<()>
     requires in_range { InRange config.now }
     requires there { task < length config.now.tasks }
     ensures { OnOk result (text.new.items ≡ text.old.items ++ response_line config.now app.now load.now task told.0 told.1) }
@@ -249,7 +239,7 @@ pub fn response_lines(
     load: &[Entry],
     responses: &[Response],
     reasons: &[Option<Reason>],
-) -> Result<Vec<u8>, NoMemory>
+) -> Result<Vec<u8>>
     requires in_range { InRange config.now }
     ensures { IfOk result (λ text. text.items ≡ response_lines config.now app.now load.now responses.now reasons.now (length config.now.tasks)) }
 {
@@ -269,11 +259,7 @@ pub fn response_lines(
 
 // ---- ticks
 
-fn push_tick_words(
-    text: &mut Vec<u8>,
-    distance: Option<u32>,
-    tick: Option<u32>,
-) -> Result<(), NoMemory>
+fn push_tick_words(text: &mut Vec<u8>, distance: Option<u32>, tick: Option<u32>) -> Result<()>
     ensures { OnOk result (text.new.items ≡ text.old.items ++ tick_words distance tick) }
 {
     match distance {
@@ -292,11 +278,7 @@ fn push_tick_words(
 }
 
 // What stands behind the name of a counter.
-fn push_counter_words(
-    text: &mut Vec<u8>,
-    distance: Option<u32>,
-    tick: Option<u32>,
-) -> Result<(), NoMemory>
+fn push_counter_words(text: &mut Vec<u8>, distance: Option<u32>, tick: Option<u32>) -> Result<()>
     ensures { OnOk result (text.new.items ≡ text.old.items ++ counter_words distance tick) }
 {
     push_tick_words(text, distance, tick)?;
@@ -312,7 +294,7 @@ fn push_counter_row(
     load: &[Entry],
     tick: Option<u32>,
     counter: u32,
-) -> Result<(), NoMemory>
+) -> Result<()>
     requires in_range { InRange config.now }
     requires there { counter < length config.now.counters }
     ensures { OnOk result (text.new.items ≡ text.old.items ++ counter_row config.now load.now tick counter) }
@@ -331,7 +313,7 @@ pub fn push_counter_rows(
     config: &Config,
     load: &[Entry],
     tick: Option<u32>,
-) -> Result<(), NoMemory>
+) -> Result<()>
     requires { InRange config.now }
     ensures { OnOk result (text.new.items ≡ text.old.items ++ counter_rows config.now load.now tick (length config.now.counters)) }
 {
@@ -342,7 +324,7 @@ pub fn push_counter_rows(
 }
 
 /// The line of the demand, at the end.
-pub fn push_demand(text: &mut Vec<u8>, demand: Option<u32>) -> Result<(), NoMemory>
+pub fn push_demand(text: &mut Vec<u8>, demand: Option<u32>) -> Result<()>
     ensures { OnOk result (text.new.items ≡ text.old.items ++ demand_line demand) }
 {
     text.extend_from_slice(b"demand")?;

@@ -29,7 +29,7 @@ pub fn is_within_limit(number: Option<u32>, limit: Option<u32>) -> bool
     }
 }
 
-// Whether each arrival of a task finds it Suspended: nothing else makes it Ready, and its response is at most their distance.
+// Whether each arrival finds a task Suspended: nothing else makes it Ready, and it responds within their distance.
 fn keeps_arrivals(
     config: &Config,
     app: &App,
@@ -101,7 +101,7 @@ fn has_spaced(
     }
 }
 
-// Whether each expiry of the only alarm that makes a task Ready finds it Suspended: it has left before that expires again.
+// Whether each expiry of the only alarm that makes a task Ready finds it Suspended: it left before that expires again.
 fn keeps_expiries(
     config: &Config,
     app: &App,

@@ -1,7 +1,6 @@
 //! Tasks that nothing but their arrivals makes Ready, or one alarm.
 ghost use Rattle.std.specs.Prelude.{◌≡◌, ◌<◌, ◌==◌, length, count_by, position};
 ghost use Rattle.std.specs.List.{list_any};
-ghost use Rattle.sloth_base.specs.Named.{declaration};
 ghost use Rattle.sloth_base.specs.declared.service.Service.TheVariants as service;
 ghost use Rattle.response_laws.specs.Made.{calls_either, is_call_for, has_call, are_called, is_activating, is_plain, is_made_from_outside, is_made_by_arrivals, is_made_by_one_alarm};
 ghost use Rattle.response_laws.specs.Ticks.{activates};

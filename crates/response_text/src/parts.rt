@@ -1,98 +1,26 @@
 //! Of what the number of a task's longest window is made.
-ghost use Rattle.std.specs.Prelude.{◌≡◌, ◌++◌, [], true, Some, length, codes, OnOk, IfOk};
-ghost use Rattle.sloth_base.specs.Named.{declaration, counter_declaration};
+ghost use Rattle.std.specs.Prelude.{◌≡◌, ◌<◌, ◌++◌, true, Some, length, OnOk, IfOk};
 ghost use Rattle.run_windows.specs.Settling.{TakeCounts};
-ghost use Rattle.response_text.specs.Lines.{number_words};
-ghost use Rattle.response_text.specs.Parts.{front_line, some_line, part_line, start_word, start_name, start_line, section_of, front_lines, first_word, begun_line, round_line, round_lines, counter_costs, tick_line, tick_lines, part_lines, has_parts, IsNumbered, IsPartText};
+ghost use Rattle.walk_sums.specs.Weights.{AreWeights};
+ghost use Rattle.response_reasons.specs.Calls.{StartsInside};
+ghost use Rattle.response_text.specs.PartNames.{AreOwnSections};
+ghost use Rattle.response_text.specs.Parts.{front_line, work_name, bounded_at, start_word, start_name, start_line};
+ghost use Rattle.response_text.specs.Parts.{section_of, front_lines, first_word, begun_line, round_line, round_lines};
+ghost use Rattle.response_text.specs.Parts.{counter_costs, tick_line, tick_lines, part_lines, has_parts, IsNumbered};
+ghost use Rattle.response_text.specs.Parts.{BeginsInside, IsPartText};
 
+use crate::named::{Bounded, FrontNames, Name, PartNames};
+use crate::part_lines::{
+    counter_name, push_last, push_named, push_part, push_some, task_name, wide,
+};
+use crate::part_names::front_names;
 use run_costs::RunCosts;
 use run_windows::arrivals::arrivals;
 use run_windows::level::is_round;
 use run_windows::rounds::number_of;
 use run_windows::{Costs, CounterCosts, Longest, Parts, Start, task, window_parts};
-use sloth_base::{Config, NoMemory};
-use std::alloc::Global;
-use text_pieces::line;
-use text_pieces::pieces::Piece::{Sum, Word};
-
-// A name and a word behind it.
-fn push_named(text: &mut Vec<u8>, name: &[u8], word: &[u8]) -> Result<(), NoMemory>
-    ensures { OnOk result (text.new.items ≡ text.old.items ++ (name.now ++ word.now)) }
-{
-    text.extend_from_slice(name)?;
-    text.extend_from_slice(word)?;
-    Ok(())
-}
-
-fn wide(number: Option<u32>) -> Option<u64>
-    ensures { result ≡ number }
-{
-    match number {
-        Some(counts) => Some(u64::from(counts)),
-        None => None,
-    }
-}
-
-// A number behind a space.
-fn push_sum(text: &mut Vec<u8>, number: Option<u64>) -> Result<(), NoMemory>
-    ensures { OnOk result (text.new.items ≡ text.old.items ++ number_words number) }
-{
-    match number {
-        Some(counts) => line!(text; Word(b" "), Sum(u128::from(counts))),
-        None => line!(text; Word(b" none")),
-    }
-}
-
-// The last number of a line.
-fn push_last(text: &mut Vec<u8>, number: Option<u64>) -> Result<(), NoMemory>
-    ensures { OnOk result (text.new.items ≡ text.old.items ++ (number_words number ++ codes "\n")) }
-{
-    push_sum(text, number)?;
-    text.extend_from_slice(b"\n")?;
-    Ok(())
-}
-
-// So many of a cost.
-fn push_some(
-    text: &mut Vec<u8>,
-    name: &[u8],
-    word: &[u8],
-    number: u64,
-    cost: Option<u64>,
-) -> Result<(), NoMemory>
-    ensures { OnOk result (text.new.items ≡ text.old.items ++ some_line name.now word.now number cost) }
-{
-    push_named(text, name, word)?;
-    push_sum(text, Some(number))?;
-    push_last(text, cost)?;
-    Ok(())
-}
-
-// The same, and no line of none.
-fn push_part(
-    text: &mut Vec<u8>,
-    name: &[u8],
-    word: &[u8],
-    number: u64,
-    cost: Option<u64>,
-) -> Result<(), NoMemory>
-    ensures { OnOk result (text.new.items ≡ text.old.items ++ part_line name.now word.now number cost) }
-{
-    if number != 0 {
-        push_some(text, name, word, number, cost)?;
-    }
-    Ok(())
-}
-
-/// The name of a task; none behind the last one.
-pub fn task_name(config: &Config, task: usize) -> &[u8]
-    ensures { result.now ≡ (declaration config.now task).name }
-{
-    match config.tasks.items().get(task) {
-        Some(task) => task.name.bytes(),
-        None => b"",
-    }
-}
+use sloth_base::{Config, Result};
+use walk_sums::Walks;
 
 fn start_word(start: Start) -> &'static [u8]
     ensures { result.now ≡ start_word start }
@@ -120,7 +48,7 @@ fn start_name(config: &Config, start: Start) -> &[u8]
     }
 }
 
-fn push_start(text: &mut Vec<u8>, config: &Config, start: Start) -> Result<(), NoMemory>
+fn push_start(text: &mut Vec<u8>, config: &Config, start: Start) -> Result<()>
     ensures { OnOk result (text.new.items ≡ text.old.items ++ start_line config.now start) }
 {
     push_named(text, b"start", start_word(start))?;
@@ -129,12 +57,18 @@ fn push_start(text: &mut Vec<u8>, config: &Config, start: Start) -> Result<(), N
 }
 
 // So many counts in front of all; no line of none.
-fn push_front(text: &mut Vec<u8>, word: &[u8], counts: u64) -> Result<(), NoMemory>
-    ensures { OnOk result (text.new.items ≡ text.old.items ++ front_line word.now counts) }
+fn push_front(
+    text: &mut Vec<u8>,
+    config: &Config,
+    word: &[u8],
+    counts: u64,
+    name: Name,
+) -> Result<()>
+    ensures { OnOk result (text.new.items ≡ text.old.items ++ front_line config.now word.now counts name) }
 {
     if counts != 0 {
         text.extend_from_slice(word)?;
-        push_last(text, Some(counts))?;
+        push_last(text, config, Some(counts), name)?;
     }
     Ok(())
 }
@@ -150,13 +84,37 @@ fn section_of(start: Start, parts: &Parts) -> u64
     }
 }
 
-fn push_fronts(text: &mut Vec<u8>, start: Start, parts: &Parts) -> Result<(), NoMemory>
-    ensures { OnOk result (text.new.items ≡ text.old.items ++ front_lines start parts.now) }
+fn push_fronts(
+    text: &mut Vec<u8>,
+    config: &Config,
+    start: Start,
+    parts: &Parts,
+    names: FrontNames,
+) -> Result<()>
+    ensures { OnOk result (text.new.items ≡ text.old.items ++ front_lines config.now start parts.now names) }
 {
-    push_front(text, b"stretch", u64::from(parts.stretch))?;
-    push_front(text, b"service", u64::from(parts.service))?;
-    push_front(text, b"item", u64::from(parts.item))?;
-    push_front(text, b"section", section_of(start, parts))?;
+    push_front(
+        text,
+        config,
+        b"stretch",
+        u64::from(parts.stretch),
+        names.stretch,
+    )?;
+    push_front(
+        text,
+        config,
+        b"service",
+        u64::from(parts.service),
+        names.service,
+    )?;
+    push_front(text, config, b"item", u64::from(parts.item), names.item)?;
+    push_front(
+        text,
+        config,
+        b"section",
+        section_of(start, parts),
+        names.section,
+    )?;
     Ok(())
 }
 
@@ -166,18 +124,46 @@ fn first_word(cut: bool) -> &'static [u8]
     if cut { b" first" } else { b"" }
 }
 
+fn work_name(bounded: bool) -> Name
+    ensures { result ≡ work_name bounded }
+{
+    if bounded { Name::Work } else { Name::Nothing }
+}
+
+fn bounded_at(works: &[Bounded], t: usize) -> Bounded
+    ensures { result ≡ bounded_at works.now t }
+{
+    match works.get(t) {
+        Some(bounded) => *bounded,
+        None => Bounded {
+            first: false,
+            next: false,
+        },
+    }
+}
+
 // The round of a task that is under way as the window begins.
 fn push_begun(
     text: &mut Vec<u8>,
     config: &Config,
     start: Start,
     counts: u64,
+    bounded: Bounded,
     t: usize,
-) -> Result<(), NoMemory>
-    ensures { OnOk result (text.new.items ≡ text.old.items ++ begun_line config.now start counts t) }
+) -> Result<()>
+    ensures { OnOk result (text.new.items ≡ text.old.items ++ begun_line config.now start counts bounded t) }
 {
     if is_round(start, t) {
-        push_some(text, task_name(config, t), b" first", 1, Some(counts))?;
+        let is = work_name(bounded.first || bounded.next);
+        push_some(
+            text,
+            config,
+            task_name(config, t),
+            b" first",
+            1,
+            Some(counts),
+            is,
+        )?;
     }
     Ok(())
 }
@@ -187,19 +173,39 @@ fn push_round(
     text: &mut Vec<u8>,
     config: &Config,
     costs: &Costs,
+    works: &[Bounded],
     start: Start,
     parts: &Parts,
     t: usize,
-) -> Result<(), NoMemory>
-    ensures { OnOk result (text.new.items ≡ text.old.items ++ round_line config.now costs.now start parts.now t) }
+) -> Result<()>
+    ensures { OnOk result (text.new.items ≡ text.old.items ++
+        round_line config.now costs.now works.now start parts.now t) }
 {
-    push_begun(text, config, start, parts.section, t)?;
+    let bounded = bounded_at(works, t);
+    push_begun(text, config, start, parts.section, bounded, t)?;
     let name = task_name(config, t);
     let made = number_of(parts.numbers.items(), t);
     let costs = task(costs, t);
     let word = first_word(costs.is_cut);
-    push_part(text, name, word, made.activations, wide(costs.first))?;
-    push_part(text, name, b" next", made.settings, wide(costs.next))?;
+    let (first, next) = (work_name(bounded.first), work_name(bounded.next));
+    push_part(
+        text,
+        config,
+        name,
+        word,
+        made.activations,
+        wide(costs.first),
+        first,
+    )?;
+    push_part(
+        text,
+        config,
+        name,
+        b" next",
+        made.settings,
+        wide(costs.next),
+        next,
+    )?;
     Ok(())
 }
 
@@ -207,24 +213,17 @@ fn push_rounds(
     text: &mut Vec<u8>,
     config: &Config,
     costs: &Costs,
+    works: &[Bounded],
     start: Start,
     parts: &Parts,
-) -> Result<(), NoMemory>
-    ensures { OnOk result (text.new.items ≡ text.old.items ++ round_lines config.now costs.now start parts.now (length config.now.tasks)) }
+) -> Result<()>
+    ensures { OnOk result (text.new.items ≡ text.old.items ++
+        round_lines config.now costs.now works.now start parts.now (length config.now.tasks)) }
 {
     for t in 0..config.tasks.items().len() {
-        push_round(text, config, costs, start, parts, t)?;
+        push_round(text, config, costs, works, start, parts, t)?;
     }
     Ok(())
-}
-
-fn counter_name(config: &Config, counter: usize) -> &[u8]
-    ensures { result.now ≡ (counter_declaration config.now counter).name }
-{
-    match config.counters.items().get(counter) {
-        Some(counter) => counter.name.bytes(),
-        None => b"",
-    }
 }
 
 fn counter_costs(costs: &Costs, counter: usize) -> CounterCosts
@@ -246,28 +245,27 @@ fn push_tick(
     costs: &Costs,
     counts: u64,
     c: usize,
-) -> Result<(), NoMemory>
+) -> Result<()>
     ensures { OnOk result (text.new.items ≡ text.old.items ++ tick_line config.now costs.now counts c) }
 {
     let counter = counter_costs(costs, c);
     let ticks = arrivals(counts, counter.distance);
+    let tick = Some(u64::from(counter.tick));
     push_part(
         text,
+        config,
         counter_name(config, c),
         b"",
         ticks,
-        Some(u64::from(counter.tick)),
+        tick,
+        Name::Nothing,
     )?;
     Ok(())
 }
 
-fn push_ticks(
-    text: &mut Vec<u8>,
-    config: &Config,
-    costs: &Costs,
-    counts: u64,
-) -> Result<(), NoMemory>
-    ensures { OnOk result (text.new.items ≡ text.old.items ++ tick_lines config.now costs.now counts (length config.now.counters)) }
+fn push_ticks(text: &mut Vec<u8>, config: &Config, costs: &Costs, counts: u64) -> Result<()>
+    ensures { OnOk result (text.new.items ≡ text.old.items ++ tick_lines config.now costs.now counts
+        (length config.now.counters)) }
 {
     for c in 0..config.counters.items().len() {
         push_tick(text, config, costs, counts, c)?;
@@ -280,34 +278,44 @@ fn push_parts(
     text: &mut Vec<u8>,
     config: &Config,
     costs: &Costs,
+    works: &[Bounded],
     start: Start,
     parts: &Parts,
-) -> Result<(), NoMemory>
-    ensures { OnOk result (text.new.items ≡ text.old.items
-        ++ part_lines config.now costs.now (length config.now.tasks) (length config.now.counters) start parts.now) }
+    fronts: FrontNames,
+) -> Result<()>
+    ensures { OnOk result (text.new.items ≡ text.old.items ++
+        part_lines config.now costs.now works.now start parts.now fronts) }
 {
     push_start(text, config, start)?;
-    push_fronts(text, start, parts)?;
-    push_rounds(text, config, costs, start, parts)?;
+    push_fronts(text, config, start, parts, fronts)?;
+    push_rounds(text, config, costs, works, start, parts)?;
     push_ticks(text, config, costs, parts.counts)?;
     Ok(())
 }
 
 // Those of a window with something in it.
 fn window_text(
-    alloc: Global,
-    config: &Config,
+    walks: &Walks<'_>,
     found: &RunCosts,
+    names: &PartNames,
     h: usize,
     window: Longest,
-) -> Result<Vec<u8>, NoMemory>
+) -> Result<Vec<u8>>
     requires costs { TakeCounts found.now.costs }
+    requires sections { AreOwnSections walks.now.config walks.now.app names.now.weights found.now.costs }
+    requires fit { AreWeights walks.now.app names.now.weights }
+    requires above { h < length walks.now.config.tasks }
+    requires inside { StartsInside (length walks.now.config.tasks) window.start }
     requires number { IsNumbered found.now h (Some window) }
-    ensures { IfOk result (λ text. IsPartText config.now found.now (length config.now.tasks) (length config.now.counters) h true (Some window) text.items) }
+    ensures { IfOk result (λ text. IsPartText walks.now.config walks.now.app found.now names.now h true
+        (Some window) text.items) }
 {
-    let parts = window_parts(alloc, found.longest, found.late, &found.costs, h, window)?;
-    let mut text = Vec::new(alloc);
-    push_parts(&mut text, config, &found.costs, window.start, &parts)?;
+    let (config, costs, start) = (walks.config(), &found.costs, window.start);
+    let parts = window_parts(walks.alloc(), found.longest, found.late, costs, h, window)?;
+    let fronts = front_names(walks, names, costs, h, start)?;
+    let works = names.bounded.items();
+    let mut text = Vec::new(walks.alloc());
+    push_parts(&mut text, config, costs, works, start, &parts, fronts)?;
     Ok(text)
 }
 
@@ -323,25 +331,30 @@ pub fn has_parts(window: Option<Longest>) -> bool
 
 /// The lines of the parts of a task's longest window, where they are shown.
 pub fn part_text(
-    alloc: Global,
-    config: &Config,
+    walks: &Walks<'_>,
     found: &RunCosts,
+    names: &PartNames,
     h: usize,
     shown: bool,
     window: Option<Longest>,
-) -> Result<Vec<u8>, NoMemory>
+) -> Result<Vec<u8>>
     requires costs { TakeCounts found.now.costs }
+    requires sections { AreOwnSections walks.now.config walks.now.app names.now.weights found.now.costs }
+    requires fit { AreWeights walks.now.app names.now.weights }
+    requires above { h < length walks.now.config.tasks }
+    requires inside { shown ≡ true → BeginsInside (length walks.now.config.tasks) window }
     requires shown { shown ≡ true → IsNumbered found.now h window }
-    ensures { IfOk result (λ text. IsPartText config.now found.now (length config.now.tasks) (length config.now.counters) h shown window text.items) }
+    ensures { IfOk result (λ text. IsPartText walks.now.config walks.now.app found.now names.now h shown window
+        text.items) }
 {
     match window {
         Some(window) => {
             if shown {
-                window_text(alloc, config, found, h, window)
+                window_text(walks, found, names, h, window)
             } else {
-                Ok(Vec::new(alloc))
+                Ok(Vec::new(walks.alloc()))
             }
         }
-        None => Ok(Vec::new(alloc)),
+        None => Ok(Vec::new(walks.alloc())),
     }
 }

@@ -7,7 +7,7 @@ use crate::lines::response_at;
 use crate::told::Response;
 use response_reasons::{Reason, reason_if};
 use run_windows::Costs;
-use sloth_base::NoMemory;
+use sloth_base::Result;
 use text_pieces::push;
 use walk_sums::Walks;
 
@@ -27,7 +27,7 @@ pub fn reason(
     costs: &Costs,
     h: usize,
     response: Response,
-) -> Result<Option<Reason>, NoMemory>
+) -> Result<Option<Reason>>
     requires count { length costs.now.tasks ≡ length walks.now.config.tasks }
     requires small { length walks.now.config.tasks < 4294967296 }
     requires above { h < length walks.now.config.tasks }
@@ -42,7 +42,7 @@ pub fn reasons(
     walks: &Walks<'_>,
     costs: &Costs,
     responses: &[Response],
-) -> Result<Vec<Option<Reason>>, NoMemory>
+) -> Result<Vec<Option<Reason>>>
     requires count { length costs.now.tasks ≡ length walks.now.config.tasks }
     requires small { length walks.now.config.tasks < 4294967296 }
     ensures { IfOk result (λ reasons. AreReasons walks.now.config walks.now.app costs.now responses.now (length walks.now.config.tasks) reasons.items) }

@@ -1,5 +1,5 @@
 //! The lines of one task's response, from the texts.
-ghost use Rattle.std.specs.Prelude.{◌≡◌, ◌<◌, ◌≤◌, true, false, length, IfOk, IfErr};
+ghost use Rattle.std.specs.Prelude.{◌≡◌, ◌<◌, true, false, length, IfOk, IfErr};
 ghost use Rattle.sloth_base.specs.ConfigRange.{InRange};
 ghost use Rattle.least_fault.specs.Order.{ErrorIs};
 ghost use Rattle.call_graph.specs.Ranks.{RanksOf};
@@ -8,13 +8,18 @@ ghost use Rattle.sloth_base.specs.DeclaredNames.{task_names, counter_names};
 ghost use Rattle.run_windows.specs.Settling.{TakeCounts};
 ghost use Rattle.run_windows.specs.Longest.{IsLongest};
 ghost use Rattle.run_costs.specs.RunRecord.{IsRunRecord};
+ghost use Rattle.walk_sums.specs.Weights.{AreWeights};
 ghost use Rattle.response_text.specs.Inputs.{InputsErrorIs};
 ghost use Rattle.sloth_source.specs.TaskNames.{task_named};
-ghost use Rattle.response_text.specs.TaskText.{same_number, shows_behind, AreBothParts, task_lines, HasParts, HasPartsOf, HasLoadParts, IsTaskText};
+ghost use Rattle.response_text.specs.PartNames.{AreOwnSections};
+ghost use Rattle.response_text.specs.TaskText.{same_number, shows_behind, AreBothParts, task_lines, HasParts};
+ghost use Rattle.response_text.specs.TaskText.{HasPartsOf, HasLoadParts, IsTaskText};
 
 use crate::Told;
 use crate::inputs::load_of;
 use crate::lines::{is_open, push_line};
+use crate::named::PartNames;
+use crate::part_names::part_names;
 use crate::parts::{has_parts, part_text};
 use crate::reasons::reason;
 use crate::text::response_of;
@@ -26,7 +31,7 @@ use run_costs::{RunCosts, run_costs};
 use run_windows::level::comes;
 use run_windows::longest::number_of;
 use run_windows::{Longest, longest_window};
-use sloth_base::{App, BuildError, Config, List, NoMemory};
+use sloth_base::{App, BuildError, Config, List, Result};
 use sloth_source::{read_checked, task_named};
 use std::alloc::Global;
 use task_verify::Verified;
@@ -53,21 +58,26 @@ fn shows_behind(anywhere: Option<Longest>, behind: Option<Longest>) -> bool
 
 // The parts of both windows.
 fn both_parts(
-    alloc: Global,
-    config: &Config,
+    walks: &Walks<'_>,
     found: &RunCosts,
+    names: &PartNames,
     task: usize,
     anywhere: Option<Longest>,
     behind: Option<Longest>,
-) -> Result<Vec<u8>, NoMemory>
+) -> Result<Vec<u8>>
     requires take { TakeCounts found.now.costs }
     requires anywhere { IsLongest found.now.longest found.now.late found.now.costs task true anywhere }
     requires behind { IsLongest found.now.longest found.now.late found.now.costs task false behind }
-    ensures { IfOk result (λ text. AreBothParts config.now found.now task anywhere behind text.items) }
+    requires sections { AreOwnSections walks.now.config walks.now.app names.now.weights found.now.costs }
+    requires fit { AreWeights walks.now.app names.now.weights }
+    requires there { task < length walks.now.config.tasks }
+    requires count { length found.now.costs.tasks ≡ length walks.now.config.tasks }
+    ensures { IfOk result (λ text. AreBothParts walks.now.config walks.now.app found.now names.now task anywhere
+        behind text.items) }
 {
-    let mut text = part_text(alloc, config, found, task, has_parts(anywhere), anywhere)?;
+    let mut text = part_text(walks, found, names, task, has_parts(anywhere), anywhere)?;
     let shown = shows_behind(anywhere, behind);
-    let further = part_text(alloc, config, found, task, shown, behind)?;
+    let further = part_text(walks, found, names, task, shown, behind)?;
     text.extend_from_slice(&further)?;
     Ok(text)
 }
@@ -81,7 +91,7 @@ fn task_lines(
     task: u32,
     told: (Response, Option<Reason>),
     parts: &[u8],
-) -> Result<Told, NoMemory>
+) -> Result<Told>
     requires in_range { InRange config.now }
     requires there { task < length config.now.tasks }
     ensures { IfOk result (λ lines. lines ≡ task_lines config.now app.now load.now task told.0 told.1 parts.now) }
@@ -96,7 +106,7 @@ fn task_lines(
 }
 
 // Those of what is computed from costs.
-fn told_by(walks: &Walks<'_>, load: &[Entry], found: &RunCosts, task: u32) -> Result<Told, NoMemory>
+fn told_by(walks: &Walks<'_>, load: &[Entry], found: &RunCosts, task: u32) -> Result<Told>
     requires there { task < length walks.now.config.tasks }
     requires costs { IsRunRecord walks.now.config walks.now.app load.now found.now }
     ensures { IfOk result (λ told. HasParts walks.now.config walks.now.app load.now task told) }
@@ -107,7 +117,8 @@ fn told_by(walks: &Walks<'_>, load: &[Entry], found: &RunCosts, task: u32) -> Re
     let (longest, late, number) = (found.longest, found.late, task as usize);
     let anywhere = longest_window(alloc, longest, late, &found.costs, number, true)?;
     let behind = longest_window(alloc, longest, late, &found.costs, number, false)?;
-    let parts = both_parts(alloc, config, found, number, anywhere, behind)?;
+    let names = part_names(walks, load, found)?;
+    let parts = both_parts(walks, found, &names, number, anywhere, behind)?;
     let is_made = comes(&found.costs, number);
     let response = response_of(is_made, anywhere, behind);
     let clean = walks.clean_tasks()?;
@@ -122,7 +133,7 @@ fn checked_text(
     ranks: &Ranks,
     load: &[Entry],
     task: u32,
-) -> Result<Told, NoMemory>
+) -> Result<Told>
     requires belong { RanksOf verified.now.app ranks.now }
     requires there { task < length verified.now.config.tasks }
     ensures { IfOk result (λ told. HasParts verified.now.config verified.now.app load.now task told) }
@@ -142,9 +153,10 @@ fn named_text(
     ranks: &Ranks,
     load: &[Entry],
     name: &[u8],
-) -> Result<Option<Told>, NoMemory>
+) -> Result<Option<Told>>
     requires belong { RanksOf verified.now.app ranks.now }
-    ensures { IfOk result (λ told. HasPartsOf verified.now.config verified.now.app load.now (task_named verified.now.config name.now) told) }
+    ensures { IfOk result (λ told. HasPartsOf verified.now.config verified.now.app load.now
+        (task_named verified.now.config name.now) told) }
 {
     match task_named(verified.config(), name) {
         Some(task) => Ok(Some(checked_text(alloc, verified, ranks, load, task as u32)?)),
@@ -161,7 +173,8 @@ fn text_of(
     name: &[u8],
 ) -> Result<Option<Told>, BuildError>
     requires { RanksOf verified.now.app ranks.now }
-    ensures told { IfOk result (λ told. HasPartsOf verified.now.config verified.now.app load.now (task_named verified.now.config name.now) told) }
+    ensures told { IfOk result (λ told. HasPartsOf verified.now.config verified.now.app load.now
+        (task_named verified.now.config name.now) told) }
     ensures memory { IfErr result (λ error. error ≡ BuildError.Memory) }
 {
     Ok(named_text(alloc, verified, ranks, load, name)?)
@@ -178,14 +191,15 @@ fn text_for(
     requires belong { RanksOf verified.now.app ranks.now }
     requires short { length text.now < 4294967295 }
     ensures told { IfOk result (λ told. HasLoadParts verified.now.config verified.now.app text.now name.now told) }
-    ensures refused { IfErr result (λ error. ErrorIs (LoadFault (task_names verified.now.config) (counter_names verified.now.config) text.now) error) }
+    ensures refused { IfErr result (λ error. ErrorIs (LoadFault (task_names verified.now.config)
+        (counter_names verified.now.config) text.now) error) }
 {
     let load = load_of(alloc, verified.config(), text)?;
     text_of(alloc, verified, ranks, &load, name)
 }
 
-/// The line of the response of the task of this name under a load, and of what it is made, and whether its deadline is open; nothing where no task has the
-/// name; of texts of at most 4,294,967,294 bytes; or the first refusal (O1 to O15, A1 to A7, V1 to V12, then L1 to L4).
+/// The response line of a named task under a load, its parts, whether its deadline is open; nothing without the task;
+/// or the first refusal (O1 to O15, A1 to A7, V1 to V12, then L1 to L4). Texts: at most 4,294,967,294 bytes.
 pub fn response_parts(
     alloc: Global,
     oil: &[u8],

@@ -1,10 +1,9 @@
 //! The lines of responses, from the texts.
-ghost use Rattle.std.specs.Prelude.{◌≡◌, ◌<◌, ◌≤◌, length, IfOk, IfErr};
+ghost use Rattle.std.specs.Prelude.{◌≡◌, ◌<◌, length, IfOk, IfErr};
 ghost use Rattle.sloth_base.specs.ConfigRange.{InRange};
 ghost use Rattle.sloth_base.specs.DeclaredNames.{task_names, counter_names};
 ghost use Rattle.sloth_base.specs.Owners.{owners_in};
 ghost use Rattle.least_fault.specs.Order.{ErrorIs};
-ghost use Rattle.code_rules.specs.WellFormed.{WellFormed};
 ghost use Rattle.call_graph.specs.Ranks.{RanksOf};
 ghost use Rattle.load_text.specs.LoadText.{LoadFault};
 ghost use Rattle.load_text.specs.Loads.{IsLoad};
@@ -27,7 +26,7 @@ use run_responses::tick_number;
 use run_windows::level::comes;
 use run_windows::longest::number_of;
 use run_windows::{Costs, Longest, demand, longest_window};
-use sloth_base::{App, BuildError, Config, List, NoMemory};
+use sloth_base::{App, BuildError, Config, List, Result};
 use sloth_source::read_checked;
 use std::alloc::Global;
 use task_verify::Verified;
@@ -46,13 +45,7 @@ pub fn response_of(comes: bool, anywhere: Option<Longest>, behind: Option<Longes
 }
 
 // The response of a task.
-fn response(
-    alloc: Global,
-    longest: u32,
-    late: u32,
-    costs: &Costs,
-    task: usize,
-) -> Result<Response, NoMemory>
+fn response(alloc: Global, longest: u32, late: u32, costs: &Costs, task: usize) -> Result<Response>
     requires take { TakeCounts costs.now }
     requires there { task < length costs.now.tasks }
     ensures { IfOk result (IsTaskResponse longest late costs.now task) }
@@ -64,12 +57,7 @@ fn response(
 }
 
 /// Those of all tasks, by costs that runs keep, with the longest item and the longest stretch.
-pub fn responses(
-    alloc: Global,
-    longest: u32,
-    late: u32,
-    costs: &Costs,
-) -> Result<Vec<Response>, NoMemory>
+pub fn responses(alloc: Global, longest: u32, late: u32, costs: &Costs) -> Result<Vec<Response>>
     requires { TakeCounts costs.now }
     ensures { IfOk result (λ responses. AreResponses longest late costs.now (length costs.now.tasks) responses.items) }
 {
@@ -90,7 +78,7 @@ fn told_of(
     responses: &[Response],
     reasons: &[Option<Reason>],
     numbers: (Option<u32>, Option<u32>),
-) -> Result<Told, NoMemory>
+) -> Result<Told>
     requires in_range { InRange config.now }
     ensures { IfOk result (λ told. told ≡ told_of config.now app.now load.now responses.now reasons.now numbers.0 numbers.1) }
 {
@@ -105,7 +93,7 @@ fn told_of(
 }
 
 // Those of what is computed from costs.
-fn told_by(walks: &Walks<'_>, load: &[Entry], found: &RunCosts) -> Result<Told, NoMemory>
+fn told_by(walks: &Walks<'_>, load: &[Entry], found: &RunCosts) -> Result<Told>
     requires in_load { IsLoad (owners_in walks.now.config) load.now }
     requires costs { IsRunRecord walks.now.config walks.now.app load.now found.now }
     ensures { IfOk result (λ told. HasResponses walks.now.config walks.now.app load.now told) }
@@ -129,12 +117,7 @@ fn told_by(walks: &Walks<'_>, load: &[Entry], found: &RunCosts) -> Result<Told, 
 }
 
 // Those of task code that keeps all rules.
-fn checked_text(
-    alloc: Global,
-    verified: &Verified,
-    ranks: &Ranks,
-    load: &[Entry],
-) -> Result<Told, NoMemory>
+fn checked_text(alloc: Global, verified: &Verified, ranks: &Ranks, load: &[Entry]) -> Result<Told>
     requires belong { RanksOf verified.now.app ranks.now }
     requires in_load { IsLoad (owners_in verified.now.config) load.now }
     ensures { IfOk result (λ told. HasResponses verified.now.config verified.now.app load.now told) }
@@ -178,9 +161,9 @@ fn text_for(
     text_of(alloc, verified, ranks, &load)
 }
 
-/// The lines of the responses of all tasks in runs that keep a load, and of its demand, and whether a deadline is open, of texts of at most 4,294,967,294
-/// bytes; or the first refusal (O1 to O15, A1 to A7, V1 to V12, then L1 to L4). Each number is the least that its windows allow, and `none` stands exactly
-/// where there is none.
+/// The lines of the responses of all tasks in runs that keep a load, and of its demand, and whether a deadline is open,
+/// of texts of at most 4,294,967,294 bytes; or the first refusal (O1 to O15, A1 to A7, V1 to V12, then L1 to L4). Each
+/// number is the least that its windows allow, and `none` stands exactly where there is none.
 pub fn response_text(alloc: Global, oil: &[u8], src: &[u8], load: &[u8]) -> Result<Told, BuildError>
     requires oil { length oil.now < 4294967295 }
     requires src { length src.now < 4294967295 }

@@ -9,7 +9,7 @@ pub struct Told {
     pub is_open: bool,
 }
 
-/// Within how many counts a task leaves the processor behind what makes it Ready: 0 where nothing does, none where there is no such number.
+/// Within how many counts of what makes it Ready a task leaves: 0 where nothing does, none where there is no number.
 #[derive(Clone, Copy)]
 pub struct Response {
     /// Something may make it Ready.

@@ -3,6 +3,7 @@ use Rattle.std.specs.Prelude.{ℕ, false, Bool, List, length, get_or}
 use Rattle.sloth_base.specs.declared.config.Config.{Config}
 use Rattle.sloth_base.specs.declared.app.App.{App}
 use Rattle.sloth_base.specs.Named.{declaration}
+use Rattle.bound_rules.specs.declared.weights.BodyWeights.{BodyWeights}
 use Rattle.walk_sums.specs.declared.counted.Counted.{Counted}
 use Rattle.walk_sums.specs.declared.counted.Counted.TheVariants as counts
 use Rattle.walk_sums.specs.declared.tasks.RoundSums.{RoundSums}
@@ -12,10 +13,14 @@ use Rattle.run_costs.specs.Rounds.{AreRounds}
 use Rattle.run_costs.specs.Tables.{no_sums}
 use Rattle.run_costs.specs.CostsOf.{AreEach}
 
+-- the greatest sums of the rounds of each task
+abbrev pub AreRoundSums : Config → App → (clean : List Bool) → List BodyWeights → List RoundSums → Type 0
+AreRoundSums config app clean weights sums =
+    AreEach (length config.tasks) no_sums (λ t. AreRounds app (get_or clean t false) (declaration config t).extended t weights) sums
+
 -- how often the rounds of each task do what counts
 abbrev pub AreCountedSums : Config → App → (clean : List Bool) → Counted → List RoundSums → Type 0
-AreCountedSums config app clean c sums =
-    AreEach (length config.tasks) no_sums (λ t. AreRounds app (get_or clean t false) (declaration config t).extended t (counted_weights c app)) sums
+AreCountedSums config app clean c sums = AreRoundSums config app clean (counted_weights c app) sums
 
 -- of what makes task j Ready
 pub record AreMakingSums (config : Config) (app : App) (clean : List Bool) (j : ℕ) (sums : MakingSums) : Type 0 where

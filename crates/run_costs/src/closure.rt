@@ -16,7 +16,7 @@ use crate::services::{NamingTops, numbered_tops};
 use crate::tops::{numbered_top, task_tops};
 use bound_rules::is_marked;
 use load_text::{Entry, distance_of};
-use sloth_base::{Config, FIRST_COUNTER_LINE, List, NoMemory, Service};
+use sloth_base::{Config, FIRST_COUNTER_LINE, List, Result, Service};
 use std::alloc::Global;
 use text_pieces::push;
 use walk_sums::{Counted, Walks};
@@ -30,7 +30,7 @@ pub struct SettingTops {
     pub absolute: List<u64>,
 }
 
-fn setting_tops(walks: &Walks, alarm: u32) -> Result<SettingTops, NoMemory>
+fn setting_tops(walks: &Walks, alarm: u32) -> Result<SettingTops>
     ensures { IfOk result (AreSettingTops walks.now.config walks.now.app alarm) }
 {
     let relative = task_tops(walks, Counted::CallsFor(Service::SetRelAlarm, alarm))?;
@@ -41,7 +41,7 @@ fn setting_tops(walks: &Walks, alarm: u32) -> Result<SettingTops, NoMemory>
     })
 }
 
-fn all_setting_tops(walks: &Walks) -> Result<Vec<SettingTops>, NoMemory>
+fn all_setting_tops(walks: &Walks) -> Result<Vec<SettingTops>>
     ensures { IfOk result (λ all.
         AreEach (length walks.now.config.alarms) no_setting (AreSettingTops walks.now.config walks.now.app) all.items) }
 {
@@ -267,7 +267,7 @@ fn pass(
     grown
 }
 
-fn none_marked(alloc: Global, count: usize) -> Result<Vec<bool>, NoMemory>
+fn none_marked(alloc: Global, count: usize) -> Result<Vec<bool>>
     ensures count { IfOk result (λ marks. length marks.items ≡ count) }
     ensures none { IfOk result (λ marks. (t : ℕ) → marked marks.items t ≡ false) }
 {
@@ -283,7 +283,7 @@ fn settled_marks(
     load: &[Entry],
     naming: &[NamingTops],
     settings: &[SettingTops],
-) -> Result<Vec<bool>, NoMemory>
+) -> Result<Vec<bool>>
     requires naming { AreAllNamingTops walks.now.config walks.now.app naming.now }
     requires settings { AreEach (length walks.now.config.alarms) no_setting
         (AreSettingTops walks.now.config walks.now.app) settings.now }
@@ -298,7 +298,7 @@ fn settled_marks(
 }
 
 /// Which tasks come.
-pub fn coming(walks: &Walks, load: &[Entry], naming: &[NamingTops]) -> Result<Vec<bool>, NoMemory>
+pub fn coming(walks: &Walks, load: &[Entry], naming: &[NamingTops]) -> Result<Vec<bool>>
     requires { AreAllNamingTops walks.now.config walks.now.app naming.now }
     ensures { IfOk result (λ marks. AreComing walks.now.config walks.now.app load.now marks.items) }
 {

@@ -14,7 +14,7 @@ use crate::sections::sections;
 use crate::services::{NamingTops, numbered_tops};
 use bound_rules::{BodyWeights, Summary};
 use run_windows::{Level, SectionMakings};
-use sloth_base::{List, NoMemory};
+use sloth_base::{List, Result};
 use text_pieces::push;
 use walk_sums::{Kind, Walks};
 
@@ -22,7 +22,7 @@ fn section_table(
     walks: &Walks,
     tops: &[NamingTops],
     above: usize,
-) -> Result<Vec<List<SectionMakings>>, NoMemory>
+) -> Result<Vec<List<SectionMakings>>>
     requires tops { AreAllNamingTops walks.now.config walks.now.app tops.now }
     requires above { above < length walks.now.config.tasks }
     ensures { IfOk result (λ table. AreEach (length walks.now.config.tasks) []
@@ -43,7 +43,7 @@ fn level(
     whole: &[Summary],
     tops: &[NamingTops],
     above: usize,
-) -> Result<Level, NoMemory>
+) -> Result<Level>
     requires weigh { AllWeigh walks.now.app weights.now }
     requires fit { AreWeights walks.now.app weights.now }
     requires whole { AreSums walks.now.config walks.now.app weights.now kinds.Sections None whole.now }
@@ -60,11 +60,7 @@ fn level(
 }
 
 /// The sections for each task, and what they make.
-pub fn levels(
-    walks: &Walks,
-    weights: &[BodyWeights],
-    tops: &[NamingTops],
-) -> Result<Vec<Level>, NoMemory>
+pub fn levels(walks: &Walks, weights: &[BodyWeights], tops: &[NamingTops]) -> Result<Vec<Level>>
     requires weigh { AllWeigh walks.now.app weights.now }
     requires fit { AreWeights walks.now.app weights.now }
     requires tops { AreAllNamingTops walks.now.config walks.now.app tops.now }

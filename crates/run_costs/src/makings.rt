@@ -16,7 +16,7 @@ use crate::rounds::{NO_SUMS, counted_sums};
 use crate::services::{NamingTops, numbered_tops};
 use bound_rules::is_marked;
 use run_windows::Makings;
-use sloth_base::{List, NoMemory};
+use sloth_base::{List, Result};
 use text_pieces::push;
 use walk_sums::{Counted, RoundSums, Sum, Walks};
 
@@ -57,12 +57,7 @@ pub struct MakingSums {
 }
 
 // Those for one task.
-fn making_sums(
-    walks: &Walks,
-    clean: &[bool],
-    tops: &NamingTops,
-    named: u32,
-) -> Result<MakingSums, NoMemory>
+fn making_sums(walks: &Walks, clean: &[bool], tops: &NamingTops, named: u32) -> Result<MakingSums>
     requires { AreNamingTops walks.now.config walks.now.app named tops.now }
     ensures { IfOk result (AreMakingSums walks.now.config walks.now.app clean.now named) }
 {
@@ -125,7 +120,7 @@ fn summed_makers(
     steady: &[bool],
     sums: &MakingSums,
     named: usize,
-) -> Result<Vec<Makings>, NoMemory>
+) -> Result<Vec<Makings>>
     requires named { named < length walks.now.config.tasks }
     requires clean { (t : ℕ) → t < length walks.now.config.tasks
         → Decides (get_or clean.now t false) (IsClean walks.now.app t) }
@@ -151,7 +146,7 @@ fn makers(
     steady: &[bool],
     tops: &NamingTops,
     named: usize,
-) -> Result<Vec<Makings>, NoMemory>
+) -> Result<Vec<Makings>>
     requires well_formed { WellFormed walks.now.config walks.now.app }
     requires named { named < length walks.now.config.tasks }
     requires clean { (t : ℕ) → t < length walks.now.config.tasks
@@ -172,7 +167,7 @@ pub fn makings(
     clean: &[bool],
     steady: &[bool],
     tops: &[NamingTops],
-) -> Result<Vec<List<Makings>>, NoMemory>
+) -> Result<Vec<List<Makings>>>
     requires clean { (t : ℕ) → t < length walks.now.config.tasks
         → Decides (get_or clean.now t false) (IsClean walks.now.app t) }
     requires steady { (t : ℕ) → t < length walks.now.config.tasks

@@ -10,7 +10,7 @@ ghost use Rattle.sloth_base.specs.declared.service.Service.TheVariants as servic
 use code_lengths::tick_path;
 use load_text::{Entry, distance_of};
 use run_windows::{AlarmCosts, CounterCosts};
-use sloth_base::{Action, App, Config, FIRST_COUNTER_LINE, Func, NoMemory, Service};
+use sloth_base::{Action, App, Config, FIRST_COUNTER_LINE, Func, Result, Service};
 use std::alloc::Global;
 use text_pieces::push;
 use walk_sums::{calls_object, numbered_function};
@@ -82,7 +82,7 @@ fn alarm(config: &Config, app: &App, number: usize) -> AlarmCosts
 }
 
 /// Of each alarm.
-pub fn alarms(alloc: Global, config: &Config, app: &App) -> Result<Vec<AlarmCosts>, NoMemory>
+pub fn alarms(alloc: Global, config: &Config, app: &App) -> Result<Vec<AlarmCosts>>
     requires { length config.now.alarms ≤ alarm_limit }
     ensures { IfOk result (λ list. AreEach (length config.now.alarms) no_alarm
         (IsAlarm config.now app.now) list.items) }
@@ -107,11 +107,7 @@ fn counter(config: &Config, load: &[Entry], number: usize) -> CounterCosts
 }
 
 /// Of each counter.
-pub fn counters(
-    alloc: Global,
-    config: &Config,
-    load: &[Entry],
-) -> Result<Vec<CounterCosts>, NoMemory>
+pub fn counters(alloc: Global, config: &Config, load: &[Entry]) -> Result<Vec<CounterCosts>>
     requires few { length config.now.counters ≤ counter_limit }
     requires alarms { length config.now.alarms ≤ alarm_limit }
     ensures { IfOk result (λ list. AreEach (length config.now.counters) no_counter

@@ -25,7 +25,7 @@ use event_weights::lengths;
 use load_text::Entry;
 use run_counts::count_weights;
 use run_windows::{Costs, TaskCosts};
-use sloth_base::{App, Config, List, NoMemory};
+use sloth_base::{App, Config, List, Result};
 use std::alloc::Global;
 use walk_sums::{Walks, known_code};
 
@@ -55,7 +55,7 @@ fn known_costs(
     clean: &[bool],
     naming: &[NamingTops],
     tasks: List<TaskCosts>,
-) -> Result<Costs, NoMemory>
+) -> Result<Costs>
     requires counts { AreCounts walks.now.app weights.now }
     requires fit { AreWeights walks.now.app weights.now }
     requires clean { (t : ℕ) → t < length walks.now.config.tasks
@@ -85,7 +85,7 @@ fn known_costs(
     })
 }
 
-fn costs(walks: &Walks, load: &[Entry], weights: &[BodyWeights]) -> Result<Costs, NoMemory>
+fn costs(walks: &Walks, load: &[Entry], weights: &[BodyWeights]) -> Result<Costs>
     requires counts { AreCounts walks.now.app weights.now }
     requires fit { AreWeights walks.now.app weights.now }
     ensures { IfOk result (AreRunCosts walks.now.config walks.now.app load.now) }
@@ -105,7 +105,7 @@ fn longest_stretch(config: &Config, app: &App, weights: &[BodyWeights]) -> u32
     running_counts(config, app, heaviest_ending(weights)).max(boot_path(config))
 }
 
-fn walked_record(walks: &Walks, load: &[Entry]) -> Result<RunCosts, NoMemory>
+fn walked_record(walks: &Walks, load: &[Entry]) -> Result<RunCosts>
     ensures { IfOk result (IsRunRecord walks.now.config walks.now.app load.now) }
 {
     let config = walks.config();
@@ -129,7 +129,7 @@ pub fn run_costs(
     app: &App,
     ranks: &Ranks,
     load: &[Entry],
-) -> Result<RunCosts, NoMemory>
+) -> Result<RunCosts>
     requires well_formed { WellFormed config.now app.now }
     requires belong { RanksOf app.now ranks.now }
     ensures { IfOk result (IsRunRecord config.now app.now load.now) }

@@ -5,13 +5,13 @@ ghost use Rattle.walk_sums.specs.declared.kinds.Kind.TheVariants as kinds;
 ghost use Rattle.walk_sums.specs.Counted.{counted_weights};
 ghost use Rattle.walk_sums.specs.Weights.{AreWeights};
 ghost use Rattle.walk_sums.specs.Known.{AreSums};
-ghost use Rattle.run_costs.specs.Makings.{AreCountedSums};
+ghost use Rattle.run_costs.specs.Makings.{AreRoundSums, AreCountedSums};
 ghost use Rattle.run_costs.specs.Rounds.{AreRounds};
 ghost use Rattle.run_costs.specs.Tops.{AreTaskTops};
 ghost use Rattle.run_costs.specs.Tables.{both, rounds_by, AreRoundTables};
 
 use bound_rules::{BodyWeights, Summary, is_marked};
-use sloth_base::{List, NoMemory};
+use sloth_base::{List, Result};
 use text_pieces::push;
 use walk_sums::{Counted, Kind, RoundSums, Sum, Walks, counted_weights};
 
@@ -39,7 +39,7 @@ fn all_marked(marks: &[bool], count: usize) -> bool
     true
 }
 
-fn turns(walks: &Walks, weights: &[BodyWeights], clean: &[bool]) -> Result<Vec<Summary>, NoMemory>
+fn turns(walks: &Walks, weights: &[BodyWeights], clean: &[bool]) -> Result<Vec<Summary>>
     requires { AreWeights walks.now.app weights.now }
     ensures { IfOk result (λ turns. (t : ℕ) → t < length walks.now.config.tasks → get_or clean.now t false ≡ false
         → AreSums walks.now.config walks.now.app weights.now kinds.Turns None turns.items) }
@@ -52,11 +52,7 @@ fn turns(walks: &Walks, weights: &[BodyWeights], clean: &[bool]) -> Result<Vec<S
 }
 
 /// The summaries by these weights.
-pub fn round_tables(
-    walks: &Walks,
-    weights: &[BodyWeights],
-    clean: &[bool],
-) -> Result<RoundTables, NoMemory>
+pub fn round_tables(walks: &Walks, weights: &[BodyWeights], clean: &[bool]) -> Result<RoundTables>
     requires { AreWeights walks.now.app weights.now }
     ensures { IfOk result (AreRoundTables walks.now.config walks.now.app weights.now clean.now) }
 {
@@ -134,7 +130,7 @@ fn no_counted_sums(
     clean: &[bool],
     tops: &[u64],
     counted: Counted,
-) -> Result<Vec<RoundSums>, NoMemory>
+) -> Result<Vec<RoundSums>>
     requires tops { AreTaskTops walks.now.config walks.now.app counted tops.now }
     requires none { (t : ℕ) → get_or tops.now t 0 ≡ 0 }
     ensures { IfOk result (λ sums. AreCountedSums walks.now.config walks.now.app clean.now counted sums.items) }
@@ -146,15 +142,10 @@ fn no_counted_sums(
     Ok(sums)
 }
 
-fn weighed_sums(
-    walks: &Walks,
-    weights: &[BodyWeights],
-    clean: &[bool],
-    counted: Counted,
-) -> Result<Vec<RoundSums>, NoMemory>
-    requires is { weights.now ≡ counted_weights counted walks.now.app }
-    requires fit { AreWeights walks.now.app weights.now }
-    ensures { IfOk result (λ sums. AreCountedSums walks.now.config walks.now.app clean.now counted sums.items) }
+/// The greatest sums of the rounds of all tasks, by weights of items and by which tasks are clean.
+pub fn round_sums(walks: &Walks, weights: &[BodyWeights], clean: &[bool]) -> Result<Vec<RoundSums>>
+    requires { AreWeights walks.now.app weights.now }
+    ensures { IfOk result (λ sums. AreRoundSums walks.now.config walks.now.app clean.now weights.now sums.items) }
 {
     let tables = round_tables(walks, weights, clean)?;
     let mut sums = Vec::new(walks.alloc());
@@ -171,7 +162,7 @@ pub fn counted_sums(
     clean: &[bool],
     tops: &[u64],
     counted: Counted,
-) -> Result<Vec<RoundSums>, NoMemory>
+) -> Result<Vec<RoundSums>>
     requires { AreTaskTops walks.now.config walks.now.app counted tops.now }
     ensures { IfOk result (λ sums. AreCountedSums walks.now.config walks.now.app clean.now counted sums.items) }
 {
@@ -180,5 +171,5 @@ pub fn counted_sums(
     }
     let app = walks.app();
     let weights = counted_weights(walks.alloc(), app, counted)?;
-    weighed_sums(walks, &weights, clean, counted)
+    round_sums(walks, &weights, clean)
 }

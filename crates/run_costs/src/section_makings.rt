@@ -19,7 +19,7 @@ use crate::services::NamingTops;
 use crate::tops::numbered_top;
 use bound_rules::is_marked;
 use run_windows::SectionMakings;
-use sloth_base::NoMemory;
+use sloth_base::Result;
 use text_pieces::push;
 use walk_sums::{Counted, Sum, Walks, counted_weights};
 
@@ -48,12 +48,7 @@ fn some_marked(marks: &[bool]) -> bool
 }
 
 // The sums of the sections of the tasks that are asked for, of what counts.
-fn asked_sums(
-    walks: &Walks,
-    above: usize,
-    asked: &[bool],
-    counted: Counted,
-) -> Result<Vec<Sum>, NoMemory>
+fn asked_sums(walks: &Walks, above: usize, asked: &[bool], counted: Counted) -> Result<Vec<Sum>>
     requires above { above < length walks.now.config.tasks }
     requires lower { (k : ℕ) → k < length walks.now.config.tasks → get_or asked.now k false ≡ true
         → IsLower walks.now.config above k }
@@ -88,12 +83,7 @@ fn is_asked(walks: &Walks, above: usize, named: usize, task: usize, top: u64) ->
         && (is_lower(walks, above, task) && does(walks, above, task, top))
 }
 
-fn asked_tasks(
-    walks: &Walks,
-    above: usize,
-    named: usize,
-    tops: &[u64],
-) -> Result<Vec<bool>, NoMemory>
+fn asked_tasks(walks: &Walks, above: usize, named: usize, tops: &[u64]) -> Result<Vec<bool>>
     requires above { above < length walks.now.config.tasks }
     requires named { named < length walks.now.config.tasks }
     ensures { IfOk result (λ asked. AreEach (length walks.now.config.tasks) false
@@ -132,7 +122,7 @@ fn asked_row(
     activates: bool,
     asked: &[bool],
     sums: &[Sum],
-) -> Result<Vec<Option<u32>>, NoMemory>
+) -> Result<Vec<Option<u32>>>
     ensures { IfOk result (λ row. AreEach (length walks.now.config.tasks) None
         (λ k m. m ≡ times (get_or asked.now k false) (is_limited walks.now.config activates above named k)
         (get_or sums.now k no_sum)) row.items) }
@@ -154,7 +144,7 @@ fn row(
     tops: &[u64],
     activates: bool,
     counted: Counted,
-) -> Result<Vec<Option<u32>>, NoMemory>
+) -> Result<Vec<Option<u32>>>
     requires well_formed { WellFormed walks.now.config walks.now.app }
     requires above { above < length walks.now.config.tasks }
     requires named { named < length walks.now.config.tasks }
@@ -173,7 +163,7 @@ fn joined_rows(
     named: usize,
     activations: &[Option<u32>],
     settings: &[Option<u32>],
-) -> Result<Vec<SectionMakings>, NoMemory>
+) -> Result<Vec<SectionMakings>>
     requires activations { AreEach (length walks.now.config.tasks) None
         (AreTimes walks.now.config walks.now.app above named true (counts.Activations named)) activations.now }
     requires settings { AreEach (length walks.now.config.tasks) None
@@ -198,7 +188,7 @@ pub fn section_makers(
     tops: &NamingTops,
     above: usize,
     named: usize,
-) -> Result<Vec<SectionMakings>, NoMemory>
+) -> Result<Vec<SectionMakings>>
     requires well_formed { WellFormed walks.now.config walks.now.app }
     requires tops { AreNamingTops walks.now.config walks.now.app named tops.now }
     requires above { above < length walks.now.config.tasks }
@@ -207,21 +197,9 @@ pub fn section_makers(
         (IsRunSectionMaking walks.now.config walks.now.app above named) row.items) }
 {
     let (either, setting) = (tops.either.items(), tops.setting.items());
-    let activations = row(
-        walks,
-        above,
-        named,
-        either,
-        true,
-        Counted::Activations(named as u32),
-    )?;
-    let settings = row(
-        walks,
-        above,
-        named,
-        setting,
-        false,
-        Counted::Settings(named as u32),
-    )?;
+    let activated = Counted::Activations(named as u32);
+    let activations = row(walks, above, named, either, true, activated)?;
+    let set = Counted::Settings(named as u32);
+    let settings = row(walks, above, named, setting, false, set)?;
     joined_rows(walks, above, named, &activations, &settings)
 }

@@ -13,7 +13,7 @@ ghost use Rattle.run_costs.specs.SectionSums.{is_lower, has_some, is_endless};
 use crate::makings::many;
 use bound_rules::{BodyWeights, Summary};
 use run_windows::SectionCosts;
-use sloth_base::NoMemory;
+use sloth_base::Result;
 use text_pieces::push;
 use walk_sums::{Sum, Walks, Weighed};
 
@@ -73,7 +73,7 @@ pub fn sections(
     weights: &[BodyWeights],
     whole: &[Summary],
     above: usize,
-) -> Result<Vec<SectionCosts>, NoMemory>
+) -> Result<Vec<SectionCosts>>
     requires weigh { AllWeigh walks.now.app weights.now }
     requires fit { AreWeights walks.now.app weights.now }
     requires whole { AreSums walks.now.config walks.now.app weights.now kinds.Sections None whole.now }

@@ -7,7 +7,7 @@ ghost use Rattle.run_costs.specs.CostsOf.{AreEach, AreServices};
 
 use crate::tops::{numbered_top, task_tops};
 use run_windows::Services;
-use sloth_base::{List, NoMemory, Service};
+use sloth_base::{List, Result, Service};
 use text_pieces::push;
 use walk_sums::{Counted, Walks};
 
@@ -25,7 +25,7 @@ pub struct NamingTops {
 }
 
 // The same of calls that name a task.
-fn naming_tops(walks: &Walks, named: u32) -> Result<NamingTops, NoMemory>
+fn naming_tops(walks: &Walks, named: u32) -> Result<NamingTops>
     ensures { IfOk result (AreNamingTops walks.now.config walks.now.app named) }
 {
     let activation = task_tops(walks, Counted::CallsFor(Service::ActivateTask, named))?;
@@ -41,7 +41,7 @@ fn naming_tops(walks: &Walks, named: u32) -> Result<NamingTops, NoMemory>
 }
 
 /// Those of all tasks, by the task that is named.
-pub fn all_naming_tops(walks: &Walks) -> Result<Vec<NamingTops>, NoMemory>
+pub fn all_naming_tops(walks: &Walks) -> Result<Vec<NamingTops>>
     ensures { IfOk result (λ all. AreAllNamingTops walks.now.config walks.now.app all.items) }
 {
     let mut all = Vec::new(walks.alloc());
@@ -63,11 +63,7 @@ fn reached_services(tops: &NamingTops, task: usize) -> Services
 }
 
 // The services of all tasks that name one.
-fn naming_services(
-    walks: &Walks,
-    tops: &NamingTops,
-    named: usize,
-) -> Result<Vec<Services>, NoMemory>
+fn naming_services(walks: &Walks, tops: &NamingTops, named: usize) -> Result<Vec<Services>>
     requires { AreNamingTops walks.now.config walks.now.app named tops.now }
     ensures { IfOk result (λ row.
         AreEach (length walks.now.config.tasks) no_services (AreServices walks.now.app named) row.items) }
@@ -88,7 +84,7 @@ pub fn numbered_tops(all: &[NamingTops], named: usize) -> &NamingTops
 }
 
 /// The services of all tasks, by the task that they name.
-pub fn services(walks: &Walks, all: &[NamingTops]) -> Result<Vec<List<Services>>, NoMemory>
+pub fn services(walks: &Walks, all: &[NamingTops]) -> Result<Vec<List<Services>>>
     requires { AreAllNamingTops walks.now.config walks.now.app all.now }
     ensures { IfOk result (λ table. AreEach (length walks.now.config.tasks) []
         (λ j. AreEach (length walks.now.config.tasks) no_services (AreServices walks.now.app j)) table.items) }
@@ -104,7 +100,7 @@ pub fn services(walks: &Walks, all: &[NamingTops]) -> Result<Vec<List<Services>>
 // ---- the longest service
 
 // The tops of the service of a code.
-fn code_tops(walks: &Walks, code: u8) -> Result<Vec<u64>, NoMemory>
+fn code_tops(walks: &Walks, code: u8) -> Result<Vec<u64>>
     ensures { IfOk result (λ tops. AreServiceTops walks.now.config walks.now.app code tops.items) }
 {
     match Service::from_code(code) {
@@ -114,7 +110,7 @@ fn code_tops(walks: &Walks, code: u8) -> Result<Vec<u64>, NoMemory>
 }
 
 /// The tops of each service, by its code.
-pub fn service_tops(walks: &Walks) -> Result<Vec<List<u64>>, NoMemory>
+pub fn service_tops(walks: &Walks) -> Result<Vec<List<u64>>>
     ensures { IfOk result (λ all. AreEach 16 [] (AreServiceTops walks.now.config walks.now.app) all.items) }
 {
     let mut all = Vec::new(walks.alloc());

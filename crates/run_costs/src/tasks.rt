@@ -21,7 +21,7 @@ use bound_rules::{BodyWeights, is_marked};
 use code_lengths::entry_path;
 use load_text::{Entry, distance_of, work_of};
 use run_windows::{TaskCosts, call_path};
-use sloth_base::{List, NoMemory, Service};
+use sloth_base::{List, Result, Service};
 use text_pieces::push;
 use walk_sums::{Sum, Walks};
 
@@ -188,7 +188,7 @@ pub fn tasks(
     weights: &[BodyWeights],
     clean: &[bool],
     services: &[List<u64>],
-) -> Result<Vec<TaskCosts>, NoMemory>
+) -> Result<Vec<TaskCosts>>
     requires weights { AreWeights walks.now.app weights.now }
     requires clean { (t : ℕ) → t < length walks.now.config.tasks
         → Decides (get_or clean.now t false) (IsClean walks.now.app t) }

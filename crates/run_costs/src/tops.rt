@@ -1,9 +1,9 @@
 //! Whether walks come to what is counted, and the greatest ceiling under which they do.
 ghost use Rattle.std.specs.Prelude.{◌≡◌, ◌<◌, ◌+◌, length, get_or, IfOk};
-ghost use Rattle.run_costs.specs.Tops.{under, op_top, item_top, body_top, AreTops, AreTaskTops};
+ghost use Rattle.run_costs.specs.Tops.{op_top, item_top, body_top, AreTops, AreTaskTops};
 
 use bound_rules::{Body, is_marked, number_at};
-use sloth_base::{Func, NoMemory, Op};
+use sloth_base::{Func, Op, Result};
 use std::alloc::Global;
 use text_pieces::push;
 use walk_sums::{Counted, Walks, is_ending_counted, numbered_body, numbered_function};
@@ -18,22 +18,18 @@ pub fn numbered_top(table: &[u64], number: usize) -> u64
     }
 }
 
-// Behind a call under a ceiling.
-fn under(ceiling: u32, top: u64) -> u64
-    ensures { result ≡ under ceiling top }
-{
-    if top == 0 {
-        0
-    } else {
-        top.max(u64::from(ceiling) + 1)
-    }
-}
-
 fn op_top(counted: Counted, ceiling: u32, table: &[u64], op: Op) -> u64
     ensures { result ≡ op_top counted ceiling table.now op }
 {
     match op {
-        Op::Invoke { func } => under(ceiling, numbered_top(table, func.0 as usize)),
+        Op::Invoke { func } => {
+            let top = numbered_top(table, func.0 as usize);
+            if top == 0 {
+                0
+            } else {
+                top.max(u64::from(ceiling) + 1)
+            }
+        }
         _ => {
             if is_ending_counted(counted, op) {
                 u64::from(ceiling) + 1
@@ -66,7 +62,7 @@ fn body_top(counted: Counted, func: &Func, body: &Body, table: &[u64]) -> u64
     top
 }
 
-fn none(alloc: Global, count: usize) -> Result<Vec<u64>, NoMemory>
+fn none(alloc: Global, count: usize) -> Result<Vec<u64>>
     ensures { IfOk result (λ table. length table.items ≡ count) }
 {
     let mut table = Vec::new(alloc);
@@ -77,7 +73,7 @@ fn none(alloc: Global, count: usize) -> Result<Vec<u64>, NoMemory>
 }
 
 /// For each function one more than the greatest ceiling under which its walks come to what counts, 0 where none does.
-fn function_tops(walks: &Walks, counted: Counted) -> Result<Vec<u64>, NoMemory>
+fn function_tops(walks: &Walks, counted: Counted) -> Result<Vec<u64>>
     ensures { IfOk result (λ table. AreTops walks.now.config walks.now.app counted table.items) }
 {
     let app = walks.app();
@@ -93,7 +89,7 @@ fn function_tops(walks: &Walks, counted: Counted) -> Result<Vec<u64>, NoMemory>
 }
 
 /// The same for each task.
-pub fn task_tops(walks: &Walks, counted: Counted) -> Result<Vec<u64>, NoMemory>
+pub fn task_tops(walks: &Walks, counted: Counted) -> Result<Vec<u64>>
     ensures { IfOk result (λ tops. AreTaskTops walks.now.config walks.now.app counted tops.items) }
 {
     let table = function_tops(walks, counted)?;

@@ -8,7 +8,7 @@ ghost use Rattle.run_counts.specs.Counts.{AreBodyCounts, AreCountsBy, AreCounts}
 
 use bound_rules::BodyWeights;
 use event_weights::{ItemLengths, ending_counts, going_counts, length_of, lengths};
-use sloth_base::{App, Func, List, NoMemory};
+use sloth_base::{App, Func, List, Result};
 use std::alloc::Global;
 use text_pieces::push;
 use walk_sums::numbered_function;
@@ -34,12 +34,7 @@ fn ending_at(lengths: &ItemLengths, number: usize, func: &Func, item: usize) -> 
 }
 
 /// Those of the items of a body.
-fn going_list(
-    alloc: Global,
-    lengths: &ItemLengths,
-    number: usize,
-    func: &Func,
-) -> Result<Vec<u32>, NoMemory>
+fn going_list(alloc: Global, lengths: &ItemLengths, number: usize, func: &Func) -> Result<Vec<u32>>
     requires short { (f i : ℕ) → length_of lengths.now.bodies f i ≤ 36 }
     ensures count { IfOk result (λ counts. length counts.items ≡ length func.now.items) }
     ensures exact { IfOk result (λ counts. (i : ℕ) → i < length func.now.items
@@ -52,12 +47,7 @@ fn going_list(
     Ok(counts)
 }
 
-fn ending_list(
-    alloc: Global,
-    lengths: &ItemLengths,
-    number: usize,
-    func: &Func,
-) -> Result<Vec<u32>, NoMemory>
+fn ending_list(alloc: Global, lengths: &ItemLengths, number: usize, func: &Func) -> Result<Vec<u32>>
     requires short { (f i : ℕ) → length_of lengths.now.bodies f i ≤ 36 }
     ensures count { IfOk result (λ counts. length counts.items ≡ length func.now.items) }
     ensures exact { IfOk result (λ counts. (i : ℕ) → i < length func.now.items
@@ -75,7 +65,7 @@ fn body_counts(
     lengths: &ItemLengths,
     number: usize,
     func: &Func,
-) -> Result<BodyWeights, NoMemory>
+) -> Result<BodyWeights>
     requires short { (f i : ℕ) → length_of lengths.now.bodies f i ≤ 36 }
     ensures { IfOk result (AreBodyCounts lengths.now.bodies number func.now) }
 {
@@ -88,7 +78,7 @@ fn body_counts(
 }
 
 /// Those of all bodies, by the lengths of items.
-fn counts_by(alloc: Global, app: &App, lengths: &ItemLengths) -> Result<Vec<BodyWeights>, NoMemory>
+fn counts_by(alloc: Global, app: &App, lengths: &ItemLengths) -> Result<Vec<BodyWeights>>
     requires short { (f i : ℕ) → length_of lengths.now.bodies f i ≤ 36 }
     ensures { IfOk result (λ weights. AreCountsBy app.now lengths.now.bodies weights.items) }
 {
@@ -101,11 +91,7 @@ fn counts_by(alloc: Global, app: &App, lengths: &ItemLengths) -> Result<Vec<Body
 }
 
 /// The counts of all items by their lengths, as weights by which sections are summed.
-pub fn weights_by(
-    alloc: Global,
-    app: &App,
-    lengths: &ItemLengths,
-) -> Result<Vec<BodyWeights>, NoMemory>
+pub fn weights_by(alloc: Global, app: &App, lengths: &ItemLengths) -> Result<Vec<BodyWeights>>
     requires short { (f i : ℕ) → length_of lengths.now.bodies f i ≤ 36 }
     ensures are { IfOk result (λ weights. AreCountsBy app.now lengths.now.bodies weights.items) }
     ensures fit { IfOk result (λ weights. AreWeights app.now weights.items) }
@@ -114,7 +100,7 @@ pub fn weights_by(
 }
 
 /// The same, with the fewest long branches.
-pub fn count_weights(alloc: Global, app: &App) -> Result<Vec<BodyWeights>, NoMemory>
+pub fn count_weights(alloc: Global, app: &App) -> Result<Vec<BodyWeights>>
     requires { IsTaskCode app.now }
     ensures are { IfOk result (λ weights. AreCounts app.now weights.items) }
     ensures fit { IfOk result (λ weights. AreWeights app.now weights.items) }

@@ -32,8 +32,12 @@ impl Drop for Inputs {
     }
 }
 
-// The arrivals of a text, for a configuration.
-fn arrivals_of(alloc: Global, config: &Config, arr: &[u8]) -> Result<Vec<Arrival>, BuildError>
+/// The arrivals of a text of at most 4,294,967,294 bytes, for a configuration; or its least fault, T1 to T4.
+pub fn config_arrivals(
+    alloc: Global,
+    config: &Config,
+    arr: &[u8],
+) -> Result<Vec<Arrival>, BuildError>
     requires { length arr.now < 4294967295 }
     ensures read { IfOk result (λ arrivals. AreArrivalsOf (task_names config.now) (counter_names config.now) arr.now arrivals.items) }
     ensures in_range { IfOk result (λ arrivals. AreArrivals (owners_in config.now) arrivals.items) }
@@ -56,7 +60,7 @@ pub fn read_inputs(alloc: Global, oil: &[u8], src: &[u8], arr: &[u8]) -> Result<
     ensures refused { IfErr result (InputsErrorIs oil.now src.now arr.now) }
 {
     let Source { config, app, .. } = read(alloc, oil, src)?;
-    let arrivals = arrivals_of(alloc, &config, arr)?;
+    let arrivals = config_arrivals(alloc, &config, arr)?;
     Ok(Inputs {
         config,
         app,

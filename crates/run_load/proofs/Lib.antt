@@ -2,7 +2,6 @@ mod Above
 mod Keeping
 mod KeptWork
 mod LineNumbers
-mod Reading
 mod SeenLines
 mod SeenWithin
 mod Telling

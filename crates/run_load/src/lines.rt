@@ -2,7 +2,7 @@
 ghost use Rattle.std.specs.Prelude.{List as Items};
 ghost use Rattle.std.specs.Prelude.{◌≡◌, ◌<◌, ◌++◌, ℕ, Some, true, false, length, IfOk, OnOk};
 ghost use Rattle.sloth_base.specs.ConfigRange.{InRange};
-ghost use Rattle.sloth_base.specs.Named.{declaration, counter_declaration};
+ghost use Rattle.sloth_base.specs.Named.{counter_declaration};
 ghost use Rattle.code_rules.specs.WellFormed.{WellFormed};
 ghost use Rattle.load_text.specs.Loads.{work};
 ghost use Rattle.response_text.specs.Lines.{number_words, made_words};
@@ -12,7 +12,7 @@ ghost use Rattle.run_load.specs.Soon.{line_at};
 ghost use Rattle.run_load.specs.Work.{above_limit, above_among};
 
 use crate::seen::longest;
-use crate::soon::{EarlyArrival, first_soon, line_at};
+use crate::soon::{EarlyArrival, first_soon, line_number};
 use crate::ticks::longest_tick;
 use crate::watch::watch;
 use crate::work::{Excess, earlier, first_above};
@@ -20,7 +20,7 @@ use load_text::{Entry, distance_of, work_of};
 use response_text::lines::{push_made, push_number, response_at};
 use response_text::told::Response;
 use run_windows::{Costs, task};
-use sloth_base::{App, Arrival, Config, FIRST_COUNTER_LINE, List, NoMemory, Stamped};
+use sloth_base::{App, Arrival, Config, FIRST_COUNTER_LINE, List, Result, Stamped};
 use std::alloc::Global;
 use text_pieces::line;
 use text_pieces::pieces::Piece::{Count, Number, Sum, Word};
@@ -42,15 +42,6 @@ pub struct LoadRun<'a> {
     pub events: &'a [Stamped],
 }
 
-fn task_name(config: &Config, task: usize) -> &[u8]
-    ensures { result.now ≡ (declaration config.now task).name }
-{
-    match config.tasks.items().get(task) {
-        Some(task) => task.name.bytes(),
-        None => b"",
-    }
-}
-
 fn counter_name(config: &Config, counter: usize) -> &[u8]
     ensures { result.now ≡ (counter_declaration config.now counter).name }
 {
@@ -66,11 +57,11 @@ fn owner_name(config: &Config, line: u8) -> &[u8]
     if line >= FIRST_COUNTER_LINE {
         counter_name(config, usize::from(line - FIRST_COUNTER_LINE))
     } else {
-        task_name(config, usize::from(line))
+        config.task_name(usize::from(line))
     }
 }
 
-fn push_gap(text: &mut Vec<u8>, distance: Option<u32>, gap: u32) -> Result<(), NoMemory>
+fn push_gap(text: &mut Vec<u8>, distance: Option<u32>, gap: u32) -> Result<()>
     ensures { OnOk result (text.new.items ≡ text.old.items ++ gap_words distance gap) }
 {
     match distance {
@@ -86,7 +77,7 @@ fn push_soon(
     load: &[Entry],
     number: usize,
     soon: &EarlyArrival,
-) -> Result<(), NoMemory>
+) -> Result<()>
     ensures { (arr : Items ℕ) → number ≡ line_at arr soon.now.place → OnOk result (text.new.items ≡ text.old.items ++ arrivals_line config.now load.now arr (Some soon.now)) }
 {
     line!(text; Word(b"arrival "), Count(number), Word(b" "), Word(owner_name(config, soon.line)))?;
@@ -102,12 +93,12 @@ fn push_arrivals(
     load: &[Entry],
     arr: &[u8],
     found: &Option<EarlyArrival>,
-) -> Result<(), NoMemory>
+) -> Result<()>
     ensures { OnOk result (text.new.items ≡ text.old.items ++ arrivals_line config.now load.now arr.now found.now) }
 {
     match found {
         Some(soon) => {
-            let number = line_at(alloc, arr, soon.place)?;
+            let number = line_number(alloc, arr, soon.place)?;
             push_soon(text, config, load, number, soon)
         }
         None => line!(text; Word(b"arrivals keep\n")),
@@ -115,19 +106,19 @@ fn push_arrivals(
 }
 
 // Whether rounds keep the work, or the first that does not.
-fn push_work(text: &mut Vec<u8>, config: &Config, found: &Option<Excess>) -> Result<(), NoMemory>
+fn push_work(text: &mut Vec<u8>, config: &Config, found: &Option<Excess>) -> Result<()>
     ensures { OnOk result (text.new.items ≡ text.old.items ++ work_line config.now found.now) }
 {
     match found {
         Some(above) => {
-            let name = task_name(config, above.task as usize);
+            let name = config.task_name(above.task as usize);
             line!(text; Word(b"work "), Word(name), Word(b" "), Number(above.at), Word(b" "), Sum(above.own), Word(b" "), Number(above.limit), Word(b"\n"))
         }
         None => line!(text; Word(b"work keeps\n")),
     }
 }
 
-fn push_told(text: &mut Vec<u8>, comes: bool, number: Option<u32>) -> Result<(), NoMemory>
+fn push_told(text: &mut Vec<u8>, comes: bool, number: Option<u32>) -> Result<()>
     ensures { OnOk result (text.new.items ≡ text.old.items ++ told_words comes (number_words number)) }
 {
     if comes {
@@ -136,7 +127,7 @@ fn push_told(text: &mut Vec<u8>, comes: bool, number: Option<u32>) -> Result<(),
     line!(text; Word(b" never"))
 }
 
-fn push_told_behind(text: &mut Vec<u8>, response: Response) -> Result<(), NoMemory>
+fn push_told_behind(text: &mut Vec<u8>, response: Response) -> Result<()>
     ensures { OnOk result (text.new.items ≡ text.old.items ++ told_words response.comes (made_words response.behind)) }
 {
     if response.comes {
@@ -152,10 +143,10 @@ fn push_seen(
     response: Response,
     all: u64,
     behind: u64,
-) -> Result<(), NoMemory>
+) -> Result<()>
     ensures { OnOk result (text.new.items ≡ text.old.items ++ seen_line config.now task response all behind) }
 {
-    line!(text; Word(task_name(config, task as usize)), Word(b" "), Sum(u128::from(all)), Word(b" of"))?;
+    line!(text; Word(config.task_name(task as usize)), Word(b" "), Sum(u128::from(all)), Word(b" of"))?;
     push_told(text, response.comes, response.anywhere)?;
     line!(text; Word(b" behind "), Sum(u128::from(behind)), Word(b" of"))?;
     push_told_behind(text, response)?;
@@ -170,7 +161,7 @@ struct TaskRun {
     above: Option<Excess>,
 }
 
-fn task_run(alloc: Global, run: &LoadRun, task: u32, cuts: bool) -> Result<TaskRun, NoMemory>
+fn task_run(alloc: Global, run: &LoadRun, task: u32, cuts: bool) -> Result<TaskRun>
     requires well_formed { WellFormed run.now.config.now run.now.app.now }
     requires declared { task < length run.now.config.now.tasks }
     ensures all { IfOk result (λ t. t.all ≡ longest_seen run.now.config.now run.now.app.now task true run.now.events.now) }
@@ -189,7 +180,7 @@ fn task_run(alloc: Global, run: &LoadRun, task: u32, cuts: bool) -> Result<TaskR
     })
 }
 
-fn cuts_of(costs: &Costs, t: usize) -> bool
+fn is_cut(costs: &Costs, t: usize) -> bool
     ensures { result ≡ cuts_of costs.now t }
 {
     task(costs, t).is_cut
@@ -207,7 +198,7 @@ impl Drop for Seen {
     }
 }
 
-fn seen_tasks(alloc: Global, run: &LoadRun, responses: &[Response]) -> Result<Seen, NoMemory>
+fn seen_tasks(alloc: Global, run: &LoadRun, responses: &[Response]) -> Result<Seen>
     requires well_formed { WellFormed run.now.config.now run.now.app.now }
     ensures text { IfOk result (λ seen. seen.text.items ≡ seen_lines run.now.config.now run.now.app.now run.now.events.now responses.now (length run.now.config.now.tasks)) }
     ensures above { IfOk result (λ seen. seen.above
@@ -216,7 +207,7 @@ fn seen_tasks(alloc: Global, run: &LoadRun, responses: &[Response]) -> Result<Se
     let mut text = Vec::new(alloc);
     let mut above = None;
     for task in 0..run.config.tasks.items().len() as u32 {
-        let cuts = cuts_of(run.costs, task as usize);
+        let cuts = is_cut(run.costs, task as usize);
         let seen = task_run(alloc, run, task, cuts)?;
         let response = response_at(responses, task);
         push_seen(&mut text, run.config, task, response, seen.all, seen.behind)?;
@@ -225,12 +216,7 @@ fn seen_tasks(alloc: Global, run: &LoadRun, responses: &[Response]) -> Result<Se
     Ok(Seen { text, above })
 }
 
-fn push_tick(
-    text: &mut Vec<u8>,
-    run: &LoadRun,
-    tick: Option<u32>,
-    counter: u32,
-) -> Result<(), NoMemory>
+fn push_tick(text: &mut Vec<u8>, run: &LoadRun, tick: Option<u32>, counter: u32) -> Result<()>
     requires in_range { InRange run.now.config.now }
     requires there { counter < length run.now.config.now.counters }
     ensures { OnOk result (text.new.items ≡ text.old.items ++ tick_line run.now.config.now run.now.load.now run.now.events.now tick counter) }
@@ -243,7 +229,7 @@ fn push_tick(
 }
 
 // The lines of all counters.
-fn push_ticks(text: &mut Vec<u8>, run: &LoadRun, tick: Option<u32>) -> Result<(), NoMemory>
+fn push_ticks(text: &mut Vec<u8>, run: &LoadRun, tick: Option<u32>) -> Result<()>
     requires { InRange run.now.config.now }
     ensures { OnOk result (text.new.items ≡ text.old.items ++ tick_lines run.now.config.now run.now.load.now run.now.events.now tick (length run.now.config.now.counters)) }
 {
@@ -253,7 +239,7 @@ fn push_ticks(text: &mut Vec<u8>, run: &LoadRun, tick: Option<u32>) -> Result<()
     Ok(())
 }
 
-/// The lines of a run with these arrivals, whose text is given too, beside the responses of its tasks and the number of its ticks.
+/// The lines of a run with these arrivals, whose text is given too, beside its tasks' responses and number of ticks.
 pub fn told_run(
     alloc: Global,
     run: &LoadRun,
@@ -261,7 +247,7 @@ pub fn told_run(
     arrivals: &[Arrival],
     responses: &[Response],
     tick: Option<u32>,
-) -> Result<ToldRun, NoMemory>
+) -> Result<ToldRun>
     requires well_formed { WellFormed run.now.config.now run.now.app.now }
     ensures { IfOk result (λ told. told ≡ told_run run.now.config.now run.now.app.now run.now.load.now run.now.costs.now arr.now arrivals.now run.now.events.now responses.now tick) }
 {

@@ -1,50 +1,15 @@
 //! What is seen of the abstract scheduler between two events.
-ghost use Rattle.std.specs.Prelude.{◌≡◌, ◌<◌, not, ◌&&◌, ◌||◌, leb, map, length};
+ghost use Rattle.std.specs.Prelude.{◌≡◌, ◌<◌, not, ◌&&◌, ◌||◌, leb, length};
 ghost use Rattle.osek_scheduler.specs.Next.{all_below, is_due};
-ghost use Rattle.osek_scheduler.specs.Priority.{ceiling, current_priority, greatest, is_active, rank};
+ghost use Rattle.osek_scheduler.specs.Priority.{is_active, rank};
 ghost use Rattle.osek_scheduler.specs.State.{task as task_of};
 ghost use Rattle.response_laws.specs.Busy.{is_quiet};
 ghost use Rattle.response_laws.specs.Sums.{is_over};
 ghost use Rattle.sim_induction.specs.Spent.{is_running};
 
-use osek_machine::priority::is_ready;
-use osek_machine::room::TaskRoom;
+use osek_machine::priority::{is_due, rank};
 use osek_machine::{Store, is_active, no_ticks};
-use osek_scheduler::{ceiling, highest};
-use sloth_base::{Config, TaskDecl};
-
-// The greatest ceiling of these resources.
-fn highest_ceiling(config: &Config, held: &[u32]) -> u32
-    ensures { result ≡ greatest (map (ceiling config.now) held.now) }
-{
-    let mut top = 0;
-    for resource in held {
-        top = ceiling(config, *resource).max(top);
-    }
-    top
-}
-
-fn current_priority(config: &Config, declared: &TaskDecl, task: &TaskRoom) -> u32
-    ensures { result ≡ current_priority config.now declared.now task.now }
-{
-    let held = highest_ceiling(config, task.held());
-    let raised = if task.raised() { highest(config) } else { 0 };
-    declared.priority.max(held.max(raised))
-}
-
-// The place of a task in the order of the tasks that are due.
-fn rank(config: &Config, store: &Store, t: usize) -> u64
-    requires declared { t < length config.now.tasks }
-    requires there { t < length store.now.tasks }
-    ensures { result ≡ rank config.now store.now t }
-{
-    let declared = &config.tasks.items()[t];
-    let task = store.task(t);
-    if is_active(task.state()) {
-        return 2 * u64::from(current_priority(config, declared, task)) + 1;
-    }
-    2 * u64::from(declared.priority)
-}
+use sloth_base::Config;
 
 // Whether a task is not Active, or of no greater rank than another.
 fn is_below(config: &Config, store: &Store, t: usize, u: usize) -> bool
@@ -85,14 +50,6 @@ fn is_over(config: &Config, h: usize, t: usize) -> bool
     ensures { result ≡ is_over config.now h t }
 {
     config.tasks.items()[h].priority <= config.tasks.items()[t].priority
-}
-
-fn is_due(store: &Store, t: usize) -> bool
-    requires { t < length store.now.tasks }
-    ensures { result ≡ is_due store.now t }
-{
-    let state = store.task(t).state();
-    is_ready(state) || is_active(state)
 }
 
 // Whether no task of at least the priority of h is due.

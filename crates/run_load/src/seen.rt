@@ -1,6 +1,5 @@
 //! The longest responses that are seen in a run.
 ghost use Rattle.std.specs.Prelude.{◌≡◌, ◌&&◌, ◌||◌, cond, false};
-ghost use Rattle.sloth_base.specs.Events.{is_boot};
 ghost use Rattle.run_load.specs.Seen.{end_of_response, response, is_behind, longest};
 
 use crate::watch::{Watched, is_admission};
@@ -23,22 +22,10 @@ fn end_of_response(task: u32, behind: &[Watched]) -> u64
     last
 }
 
-fn response(task: u32, made: &Watched, behind: &[Watched]) -> u64
-    ensures { result ≡ response task made.now behind.now }
-{
-    end_of_response(task, behind).saturating_sub(u64::from(made.edge))
-}
-
-fn is_boot(event: &Event) -> bool
-    ensures { result ≡ is_boot event.now }
-{
-    matches!(event, Event::Boot)
-}
-
 fn is_behind(quiet: bool, seen: &Watched) -> bool
     ensures { result ≡ is_behind quiet seen.now }
 {
-    quiet || (!is_boot(&seen.event.event) && seen.quiet)
+    quiet || (!matches!(seen.event.event, Event::Boot) && seen.quiet)
 }
 
 // The response to an event, where it counts.
@@ -46,7 +33,7 @@ fn counted(task: u32, counts: bool, seen: &Watched, behind: &[Watched]) -> u64
     ensures { result ≡ cond counts (response task seen.now behind.now) 0 }
 {
     if counts {
-        response(task, seen, behind)
+        end_of_response(task, behind).saturating_sub(u64::from(seen.edge))
     } else {
         0
     }

@@ -2,16 +2,16 @@
 ghost use Rattle.std.specs.Prelude.{◌≡◌, ◌-◌, ◌==◌, ◌&&◌, not, cond, length, map, set, Some, IfOk};
 ghost use Rattle.text_pieces.specs.Names.{referent};
 ghost use Rattle.trace_text.specs.ArrivalsText.{is_comment};
-ghost use Rattle.run_load.specs.Soon.{no_lasts, gap, is_soon, soon, first_soon, line_among, line_at};
+ghost use Rattle.run_load.specs.Soon.{no_lasts, gap, is_soon, first_soon, line_among, line_at};
 
-use crate::watch::moment_at;
+use crate::watch::moment;
 use load_text::{Entry, distance_of};
-use sloth_base::{Arrival, LINE_COUNT, NoMemory};
+use sloth_base::{Arrival, LINE_COUNT, Result};
 use std::alloc::Global;
 use text_pieces::lines;
 use trace_text::is_comment;
 
-/// An arrival, by its place among those of a run, and how far it is behind the one of its line before it; 0 where there is none.
+/// An arrival, by its place among those of a run, and its distance from the one of its line before it; 0 without one.
 #[derive(Clone, Copy)]
 pub struct EarlyArrival {
     pub place: usize,
@@ -22,21 +22,17 @@ pub struct EarlyArrival {
 fn gap(lasts: &[Option<u32>; LINE_COUNT], arrival: &Arrival) -> Option<u32>
     ensures { result ≡ gap lasts.now arrival.now }
 {
-    match moment_at(lasts, usize::from(arrival.line.0)) {
-        Some(before) => Some(arrival.at.saturating_sub(before)),
-        None => None,
-    }
+    let before = moment(lasts, usize::from(arrival.line.0))?;
+    Some(arrival.at.saturating_sub(before))
 }
 
 fn is_soon(distance: Option<u32>, gap: Option<u32>) -> bool
     ensures { result ≡ is_soon distance gap }
 {
-    match distance {
-        Some(counts) => match gap {
-            Some(behind) => behind < counts,
-            None => false,
-        },
-        None => true,
+    match (distance, gap) {
+        (Some(counts), Some(behind)) => behind < counts,
+        (Some(_), None) => false,
+        (None, _) => true,
     }
 }
 
@@ -49,25 +45,17 @@ fn keep(lasts: &mut [Option<u32>; LINE_COUNT], arrival: &Arrival)
     }
 }
 
-fn soon(lasts: &[Option<u32>; LINE_COUNT], place: usize, arrival: &Arrival) -> EarlyArrival
-    ensures { result ≡ soon lasts.now place arrival.now }
-{
-    EarlyArrival {
-        place,
-        line: arrival.line.0,
-        gap: gap(lasts, arrival).unwrap_or(0),
-    }
-}
-
 /// The first arrival that comes too soon.
 pub fn first_soon(load: &[Entry], arrivals: &[Arrival]) -> Option<EarlyArrival>
     ensures { result ≡ first_soon load.now no_lasts 0 arrivals.now }
 {
     let mut lasts = [None; LINE_COUNT];
     for (place, arrival) in arrivals.iter().enumerate() {
-        let distance = distance_of(load, arrival.line.0);
-        if is_soon(distance, gap(&lasts, arrival)) {
-            return Some(soon(&lasts, place, arrival));
+        let line = arrival.line.0;
+        let behind = gap(&lasts, arrival);
+        if is_soon(distance_of(load, line), behind) {
+            let gap = behind.unwrap_or(0);
+            return Some(EarlyArrival { place, line, gap });
         }
         keep(&mut lasts, arrival);
     }
@@ -106,7 +94,7 @@ fn line_among(lines: &[&[u8]], place: usize) -> usize
 }
 
 /// The number of the line of a text at which the arrival of a place stands.
-pub fn line_at(alloc: Global, text: &[u8], place: usize) -> Result<usize, NoMemory>
+pub fn line_number(alloc: Global, text: &[u8], place: usize) -> Result<usize>
     ensures { IfOk result (λ number. number ≡ line_at text.now place) }
 {
     let lines = lines(alloc, text)?;

@@ -1,5 +1,5 @@
 //! How long ticks are seen to take in a run, from an arrival of their counter on.
-ghost use Rattle.std.specs.Prelude.{◌≡◌, ◌&&◌, ◌||◌, not, false};
+ghost use Rattle.std.specs.Prelude.{◌≡◌, ◌&&◌, ◌||◌, false};
 ghost use Rattle.run_load.specs.Ticks.{arrives, ticks, is_due, tick_end, tick_time, longest_tick};
 
 use crate::watch::end_count;
@@ -8,19 +8,13 @@ use sloth_base::{Event, Stamped};
 fn arrives(counter: u32, event: &Event) -> bool
     ensures { result ≡ arrives counter event.now }
 {
-    match *event {
-        Event::Due(other) => other == counter,
-        _ => false,
-    }
+    matches!(*event, Event::Due(other) if other == counter)
 }
 
 fn ticks(counter: u32, event: &Event) -> bool
     ensures { result ≡ ticks counter event.now }
 {
-    match *event {
-        Event::Tick(other) => other == counter,
-        _ => false,
-    }
+    matches!(*event, Event::Tick(other) if other == counter)
 }
 
 // Whether the counter is due after an event.
@@ -55,7 +49,7 @@ fn tick_time(counter: u32, due: bool, last: u64, event: &Stamped, later: &[Stamp
     }
 }
 
-/// The longest time from an arrival of a counter to the end of its tick, or, where none comes, of the last event; 0 where none arrives.
+/// The longest time from a counter's arrival to the end of its tick, or else of the last event; 0 where none arrives.
 pub fn longest_tick(counter: u32, events: &[Stamped]) -> u64
     ensures { result ≡ longest_tick counter false 0 events.now }
 {

@@ -12,7 +12,7 @@ ghost use Rattle.run_load.specs.Watched.{noted, edge, watched_run};
 use crate::running::{is_quiet, is_running};
 use osek_machine::priority::is_ready;
 use osek_machine::{Osek, Store};
-use sloth_base::{App, COUNTER_LIMIT, Config, Event, NoMemory, Stamped, TaskId};
+use sloth_base::{App, COUNTER_LIMIT, Config, Event, Result, Stamped, TaskId};
 use std::alloc::Global;
 use text_pieces::push;
 
@@ -38,7 +38,7 @@ struct Between {
     quiet: bool,
 }
 
-fn found_in(config: &Config, store: &Store, task: u32) -> Between
+fn found_state(config: &Config, store: &Store, task: u32) -> Between
     requires count { length store.now.tasks ≡ length config.now.tasks }
     requires declared { task < length config.now.tasks }
     ensures running { result.running ≡ is_running config.now store.now task }
@@ -59,7 +59,7 @@ fn found(osek: &Osek, task: u32) -> Between
     ensures ready { result.ready ≡ is_ready (task_of osek.now.system task).state }
     ensures quiet { result.quiet ≡ is_quiet osek.now.config task osek.now.system }
 {
-    found_in(osek.config(), osek.store(), task)
+    found_state(osek.config(), osek.store(), task)
 }
 
 // Whether a task is Ready that was not.
@@ -136,7 +136,7 @@ fn spanned(event: &Stamped) -> u64
     }
 }
 
-fn counts_if(test: bool, counts: u64) -> u64
+fn counted(test: bool, counts: u64) -> u64
     ensures is { result ≡ cond test counts 0 }
     ensures within { result ≤ counts }
 {
@@ -148,17 +148,14 @@ fn own_counts(start: u64, event: &Stamped, running: bool, turn: bool) -> u64
     ensures { result ≡ cond running (cond (is_admit event.now) 0 (event.now.stamp.from - start)) 0
         + cond turn (cond (is_admit event.now) 0 (event.now.stamp.at + 1 - event.now.stamp.from)) 0 }
 {
-    counts_if(running, unseen(start, event)) + counts_if(turn, spanned(event))
+    counted(running, unseen(start, event)) + counted(turn, spanned(event))
 }
 
 /// The moment in a place, if there is one.
-pub fn moment_at(moments: &[Option<u32>], place: usize) -> Option<u32>
+pub fn moment(moments: &[Option<u32>], place: usize) -> Option<u32>
     ensures { result ≡ get_or moments.now place None }
 {
-    match moments.get(place) {
-        Some(moment) => *moment,
-        None => None,
-    }
+    moments.get(place).copied().unwrap_or(None)
 }
 
 // The moments behind an event: an arrival of a counter is noted, where none is since its last tick.
@@ -186,7 +183,7 @@ fn edge(moments: &[Option<u32>; COUNTER_LIMIT], event: &Stamped) -> u32
     ensures { result ≡ edge event.now.event event.now.stamp.at moments.now }
 {
     match event.event {
-        Event::Tick(counter) => { moment_at(moments, counter as usize).unwrap_or(event.stamp.at) }
+        Event::Tick(counter) => { moment(moments, counter as usize).unwrap_or(event.stamp.at) }
         _ => event.stamp.at,
     }
 }
@@ -198,7 +195,7 @@ pub fn watch(
     app: &App,
     events: &[Stamped],
     task: u32,
-) -> Result<Vec<Watched>, NoMemory>
+) -> Result<Vec<Watched>>
     requires well_formed { WellFormed config.now app.now }
     requires declared { task < length config.now.tasks }
     ensures { IfOk result (λ watched. watched.items ≡ watched_run config.now app.now task events.now) }

@@ -1,8 +1,7 @@
 //! The first round that is above the work which a load says of its task.
 ghost use Rattle.std.specs.Prelude.{◌≡◌, ◌≤◌, false, IfSome, None};
-ghost use Rattle.run_counts.specs.Stages.{is_entry};
 ghost use Rattle.run_counts.specs.Rounds.{goes_on_waiting, is_left};
-ghost use Rattle.run_load.specs.Work.{open_behind, with_own, is_above, above, first_above, earlier};
+ghost use Rattle.run_load.specs.Work.{open_behind, with_own, is_above, first_above, earlier};
 
 use crate::watch::Watched;
 use sloth_base::{Event, Service};
@@ -36,19 +35,7 @@ fn goes_on_waiting(task: u32, event: &Event) -> bool
 pub fn is_left(task: u32, event: &Event) -> bool
     ensures { result ≡ is_left task event.now }
 {
-    match *event {
-        Event::Left { task: other, .. } => other == task,
-        _ => false,
-    }
-}
-
-fn is_entry(task: u32, event: &Event) -> bool
-    ensures { result ≡ is_entry task event.now }
-{
-    match *event {
-        Event::Enter(other) => other == task,
-        _ => false,
-    }
+    matches!(*event, Event::Left { task: other, .. } if other == task)
 }
 
 fn open_behind(cuts: bool, task: u32, begun: Option<u128>, event: &Event) -> Option<u128>
@@ -60,7 +47,7 @@ fn open_behind(cuts: bool, task: u32, begun: Option<u128>, event: &Event) -> Opt
         Some(0)
     } else if is_left(task, event) {
         None
-    } else if is_entry(task, event) {
+    } else if matches!(*event, Event::Enter(other) if other == task) {
         Some(begun.unwrap_or(0))
     } else {
         begun
@@ -71,10 +58,7 @@ fn with_own(begun: Option<u128>, own: u64) -> Option<u128>
     requires { IfSome begun (λ counts. counts ≤ 4294967295) }
     ensures { result ≡ with_own begun own }
 {
-    match begun {
-        Some(counts) => Some(counts + u128::from(own)),
-        None => None,
-    }
+    Some(begun? + u128::from(own))
 }
 
 fn is_above(begun: Option<u128>, limit: u32) -> bool
@@ -87,18 +71,6 @@ fn is_above(begun: Option<u128>, limit: u32) -> bool
     }
 }
 
-fn above(task: u32, limit: u32, begun: Option<u128>, place: usize, seen: &Watched) -> Excess
-    ensures { result ≡ above task limit begun place seen.now }
-{
-    Excess {
-        task,
-        place,
-        at: seen.event.stamp.at,
-        own: begun.unwrap_or(0),
-        limit,
-    }
-}
-
 /// The first event with which a round of a task is above a limit of its own counts.
 pub fn first_above(cuts: bool, task: u32, limit: u32, watched: &[Watched]) -> Option<Excess>
     ensures { result ≡ first_above cuts task limit None 0 watched.now }
@@ -107,7 +79,14 @@ pub fn first_above(cuts: bool, task: u32, limit: u32, watched: &[Watched]) -> Op
     for (place, seen) in watched.iter().enumerate() {
         let counts = with_own(begun, seen.own);
         if is_above(counts, limit) {
-            return Some(above(task, limit, counts, place, seen));
+            let (at, own) = (seen.event.stamp.at, counts.unwrap_or(0));
+            return Some(Excess {
+                task,
+                place,
+                at,
+                own,
+                limit,
+            });
         }
         begun = open_behind(cuts, task, counts, &seen.event.event);
     }

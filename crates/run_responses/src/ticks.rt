@@ -7,11 +7,11 @@ use run_windows::bounds::{room, window_bound};
 use run_windows::level::comes;
 use run_windows::window::Window;
 use run_windows::{Costs, Made, Start, TaskCosts};
-use sloth_base::{List, NoMemory};
+use sloth_base::{List, Result};
 use std::alloc::Global;
 
 // The costs of counters alone.
-fn tick_costs(alloc: Global, costs: &Costs) -> Result<Costs, NoMemory>
+fn tick_costs(alloc: Global, costs: &Costs) -> Result<Costs>
     ensures { IfOk result (λ ticks. ticks ≡ tick_costs costs.now) }
 {
     let counters = costs.counters.items().to_vec(alloc)?;
@@ -98,14 +98,9 @@ fn greater_number(
     }
 }
 
-/// Within how many counts of an arrival of its counter a tick has ended, in runs that keep these costs: the greater number of two windows. None where one has
-/// more than 2,147,483,647 counts.
-pub fn tick_number(
-    alloc: Global,
-    longest: u32,
-    late: u32,
-    costs: &Costs,
-) -> Result<Option<u32>, NoMemory>
+/// Within how many counts of an arrival of its counter a tick has ended, in runs that keep these costs: the greater
+/// number of two windows. None where one has more than 2,147,483,647 counts.
+pub fn tick_number(alloc: Global, longest: u32, late: u32, costs: &Costs) -> Result<Option<u32>>
     ensures { IfOk result (λ told. IsTickNumber longest late costs.now told) }
 {
     let ticks = tick_costs(alloc, costs)?;

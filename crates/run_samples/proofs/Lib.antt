@@ -3,4 +3,3 @@ pub mod NextSample
 pub mod OneSample
 mod DueArrivals
 pub mod Noted
-mod RunAdmissions

@@ -1,7 +1,6 @@
 -- Which arrivals of a run are lost. An arrival is kept where it makes its line pending, masked code does not store to that pending byte
 -- behind it before code loads it, and the line's task is Ready at the next count that finds interrupts open: then it is what made the task Ready.
-use Rattle.std.specs.Prelude.{ℕ, zero, suc, ◌≡◌, ◌+◌, ◌==◌, ◌&&◌, not, nat_lt, Bool, true, false, if◌then◌else◌, List, [], ◌∷◌, ◌++◌, length, filter, get_or, Option, Some, None}
-use Rattle.std.specs.List.{find}
+use Rattle.std.specs.Prelude.{ℕ, zero, suc, ◌+◌, ◌==◌, ◌&&◌, not, nat_lt, Bool, true, false, if◌then◌else◌, List, [], ◌∷◌, ◌++◌, get_or, Option, Some, None}
 use Rattle.sloth_base.specs.Owners.{first_counter_line}
 use Rattle.sloth_base.specs.declared.event.Arrival.{Arrival}
 use Rattle.sloth_base.specs.declared.image.Image.{Image}
@@ -10,17 +9,13 @@ use Rattle.osek_scheduler.specs.declared.state.TaskState.TheVariants as mode
 use Rattle.rv32_machine.specs.Start.{start}
 use Rattle.rv32_machine.specs.Run.{state_after}
 use Rattle.run_samples.specs.Accesses.{accesses_at}
-use Rattle.sloth_runner.specs.Runner.{run_end}
-use Rattle.sloth_runner.specs.declared.runner.RunEnd.TheVariants as ends
 use Rattle.sloth_runner.specs.declared.machine_states.Seen.{Seen}
 use Rattle.run_samples.specs.declared.accesses.Access.{Access}
 use Rattle.run_samples.specs.declared.accesses.AccessKind.{AccessKind}
 use Rattle.run_samples.specs.declared.accesses.AccessKind.TheVariants as kind
 use Rattle.run_samples.specs.declared.admissions.Admission.{Admission}
 use Rattle.run_samples.specs.declared.samples.Sample.{Sample}
-use Rattle.run_samples.specs.declared.telling.Told.{Told}
-use Rattle.run_samples.specs.declared.telling.Told.TheVariants as told
-use Rattle.run_samples.specs.Samples.{AreSamples, no_sample, seen_behind}
+use Rattle.run_samples.specs.Samples.{no_sample, seen_behind}
 
 abbrev pub is_ready : TaskState → Bool
 is_ready mode.Suspended = false
@@ -111,41 +106,3 @@ run_notes image arrivals samples from (suc k) =
 abbrev pub run_admissions : Image → List Arrival → List Sample → (from : ℕ) → ℕ → List Admission
 run_admissions image arrivals samples from k =
     (settled (run_notes image arrivals samples from k) (seen_behind image arrivals (from + k))).admissions
-
--- what became of the arrivals of n counts of a run, each of which is executed
-pub record AreAdmissions (image : Image) (arrivals : List Arrival) (n : ℕ) (all : List Admission) : Type 0 where
-  pub whole : run_end image arrivals n ≡ ends.Whole
-  pub samples : List Sample
-  pub counted : length samples ≡ n
-  pub are_samples : AreSamples image arrivals 0 samples
-  pub are : all ≡ run_admissions image arrivals samples 0 n
-
--- the same, or where and why the run stops
-abbrev pub IsTold : Image → List Arrival → ℕ → Told → Type 0
-IsTold image arrivals n (told.All all) = AreAdmissions image arrivals n all.items
-IsTold image arrivals n (told.Stopped halt) = run_end image arrivals n ≡ ends.Stopped halt.pc halt.stop
-
--- ---- numbers
-
-abbrev pub is_of : (line : ℕ) → Admission → Bool
-is_of line a = a.arrival.line == line
-
-abbrev pub is_kept_of : (line : ℕ) → Admission → Bool
-is_kept_of line a = (a.arrival.line == line) && not a.lost
-
-abbrev pub is_lost_of : (line : ℕ) → Admission → Bool
-is_lost_of line a = (a.arrival.line == line) && a.lost
-
--- how many arrivals of a line came, and how many of them are kept and lost
-abbrev pub came_count : List Admission → (line : ℕ) → ℕ
-came_count all line = length (filter (is_of line) all)
-
-abbrev pub kept_count : List Admission → (line : ℕ) → ℕ
-kept_count all line = length (filter (is_kept_of line) all)
-
-abbrev pub lost_count : List Admission → (line : ℕ) → ℕ
-lost_count all line = length (filter (is_lost_of line) all)
-
--- the first one that is lost, if one is
-abbrev pub first_lost : List Admission → (line : ℕ) → Option Admission
-first_lost all line = find (is_lost_of line) all

@@ -15,7 +15,7 @@ use osek_scheduler::TaskState;
 use rv32_instr::{Instr, InstrKind};
 use rv32_machine::{Bus, SlothBus, Step};
 use sloth_base::{
-    Arrival, CONTROLLER_BASE, FIRST_COUNTER_LINE, LINE_COUNT, Line, NoMemory, TASK_LIMIT,
+    Arrival, CONTROLLER_BASE, FIRST_COUNTER_LINE, LINE_COUNT, Line, NoMemory, Result, TASK_LIMIT,
 };
 use sloth_inspect::states;
 use sloth_runner::Runner;
@@ -43,12 +43,7 @@ pub struct Access {
 fn is_waiting(state: TaskState) -> bool
     ensures { result ≡ is_waiting state }
 {
-    match state {
-        TaskState::Suspended => false,
-        TaskState::Ready => false,
-        TaskState::Active => false,
-        TaskState::Waiting(mask) => mask != 0,
-    }
+    matches!(state, TaskState::Waiting(mask) if mask != 0)
 }
 
 // Whether the line is that of a task that waits for events. The bus keeps its contents.
@@ -70,10 +65,7 @@ fn can_raise(bus: &mut SlothBus, line: Line) -> bool
     ensures is { result ≡ can_raise bus.old line }
     ensures same { bus.new ≡ bus.old }
 {
-    if bus.is_pending(line) {
-        return false;
-    }
-    !is_waiting_line(bus, line)
+    !bus.is_pending(line) && !is_waiting_line(bus, line)
 }
 
 fn arrival_kind(raises: bool) -> AccessKind
@@ -100,7 +92,7 @@ fn arrival_access(bus: &mut SlothBus, raised: &[u8; 32], arrival: &Arrival) -> A
 }
 
 // Appends an access.
-fn push_access(noted: &mut Vec<Access>, access: &Access) -> Result<(), NoMemory>
+fn push_access(noted: &mut Vec<Access>, access: &Access) -> Result<()>
     ensures { OnOk result (noted.new.items ≡ noted.old.items ++ access.now ∷ []) }
 {
     noted.push(*access).map_err(|_| NoMemory)
@@ -115,11 +107,7 @@ fn set_raised(raised: &mut [u8; 32], arrival: &Arrival)
 }
 
 // The same of all arrivals of a moment.
-fn push_arrivals(
-    bus: &mut SlothBus,
-    arrivals: &[Arrival],
-    noted: &mut Vec<Access>,
-) -> Result<(), NoMemory>
+fn push_arrivals(bus: &mut SlothBus, arrivals: &[Arrival], noted: &mut Vec<Access>) -> Result<()>
     requires { AreLines arrivals.now }
     ensures noted { OnOk result (noted.new.items ≡ noted.old.items ++ arrival_accesses bus.old (replicate line_count 0) arrivals.now) }
     ensures same { bus.new ≡ bus.old }
@@ -139,7 +127,7 @@ fn push_first(
     coming: &[Arrival],
     due: usize,
     noted: &mut Vec<Access>,
-) -> Result<(), NoMemory>
+) -> Result<()>
     requires due { due ≤ length coming.now }
     requires lines { AreLines coming.now }
     ensures noted { OnOk result (noted.new.items ≡ noted.old.items ++ arrival_accesses bus.old (replicate line_count 0) (take due coming.now)) }
@@ -170,57 +158,12 @@ fn stored_line(kind: InstrKind, registers: &[u32; 32]) -> Option<Line>
         InstrKind::Sb { rs1, imm, .. } => {
             pending_line(registers[usize::from(rs1.0)].wrapping_add(imm.cast_unsigned()))
         }
-        InstrKind::Lui { .. }
-        | InstrKind::Auipc { .. }
-        | InstrKind::Jal { .. }
-        | InstrKind::Jalr { .. }
-        | InstrKind::Beq { .. }
-        | InstrKind::Bne { .. }
-        | InstrKind::Blt { .. }
-        | InstrKind::Bge { .. }
-        | InstrKind::Bltu { .. }
-        | InstrKind::Bgeu { .. }
-        | InstrKind::Lb { .. }
-        | InstrKind::Lh { .. }
-        | InstrKind::Lw { .. }
-        | InstrKind::Lbu { .. }
-        | InstrKind::Lhu { .. }
-        | InstrKind::Sh { .. }
-        | InstrKind::Sw { .. }
-        | InstrKind::Addi { .. }
-        | InstrKind::Slti { .. }
-        | InstrKind::Sltiu { .. }
-        | InstrKind::Xori { .. }
-        | InstrKind::Ori { .. }
-        | InstrKind::Andi { .. }
-        | InstrKind::Slli { .. }
-        | InstrKind::Srli { .. }
-        | InstrKind::Srai { .. }
-        | InstrKind::Add { .. }
-        | InstrKind::Sub { .. }
-        | InstrKind::Sll { .. }
-        | InstrKind::Slt { .. }
-        | InstrKind::Sltu { .. }
-        | InstrKind::Xor { .. }
-        | InstrKind::Srl { .. }
-        | InstrKind::Sra { .. }
-        | InstrKind::Or { .. }
-        | InstrKind::And { .. }
-        | InstrKind::Fence { .. }
-        | InstrKind::Csrrw { .. }
-        | InstrKind::Csrrs { .. }
-        | InstrKind::Csrrc { .. }
-        | InstrKind::Csrrwi { .. }
-        | InstrKind::Csrrsi { .. }
-        | InstrKind::Csrrci { .. }
-        | InstrKind::Ecall
-        | InstrKind::Ebreak
-        | InstrKind::Mret => None,
+        _ => None,
     }
 }
 
 // The same of an instruction, if it is one.
-fn stored_line_of(instr: &Option<Instr>, registers: &[u32; 32]) -> Option<Line>
+fn instr_stored_line(instr: &Option<Instr>, registers: &[u32; 32]) -> Option<Line>
     ensures { result ≡ stored_line_of instr.now registers.now }
 {
     match instr {
@@ -234,14 +177,11 @@ fn fetched(bus: &mut SlothBus, address: u32) -> Option<Instr>
     ensures is { result ≡ fetched bus.old address }
     ensures same { bus.new ≡ bus.old }
 {
-    match bus.fetch(address) {
-        Ok(instr) => instr,
-        Err(_) => None,
-    }
+    bus.fetch(address).unwrap_or(None)
 }
 
 // A store, or else a load of what a step touched.
-fn access_of(count: u32, stored: &Option<Line>, touched: &Option<Line>) -> Option<Access>
+fn noted_access(count: u32, stored: &Option<Line>, touched: &Option<Line>) -> Option<Access>
     ensures { result ≡ access_of count stored.now touched.now }
 {
     match stored {
@@ -274,12 +214,12 @@ fn code_access(bus: &mut SlothBus, step: &Step) -> Option<Access>
         return None;
     }
     let instr = fetched(bus, step.pc);
-    let stored = stored_line_of(&instr, &step.regs);
-    access_of(step.count, &stored, &step.touched)
+    let stored = instr_stored_line(&instr, &step.regs);
+    noted_access(step.count, &stored, &step.touched)
 }
 
 /// Notes what the arrivals of the next moment of a run do. They do not come yet.
-pub fn note_arrivals(runner: &mut Runner, noted: &mut Vec<Access>) -> Result<(), NoMemory>
+pub fn note_arrivals(runner: &mut Runner, noted: &mut Vec<Access>) -> Result<()>
     requires { HasRun runner.old (image_of runner.old) (count_of runner.old) }
     ensures noted { OnOk result (noted.new.items ≡ noted.old.items
         ++ accesses_at (given_arrivals runner.old) (count_of runner.old) (state_after (count_of runner.old) (given_arrivals runner.old) (start (image_of runner.old)))) }

@@ -1,6 +1,6 @@
 //! Which arrivals of a run are lost.
 ghost use Rattle.std.specs.Prelude.{◌≡◌, ◌++◌, OnOk};
-ghost use Rattle.run_samples.specs.Admissions.{is_ready, has_effect, is_raise, is_store, is_by_code, is_code_at, is_stored_first, admission_of, admissions_of, no_notes, with_accesses, with_code, settled, with_sample};
+ghost use Rattle.run_samples.specs.Admissions.{is_ready, has_effect, is_store, is_by_code, is_code_at, is_stored_first, admission_of, admissions_of, no_notes, with_accesses, with_code, settled, with_sample};
 ghost use Rattle.run_samples.specs.Samples.{IsSampling, seen_behind, sampled_image, sampled_arrivals, sampled_count};
 ghost use Rattle.rv32_machine.specs.Start.{start};
 ghost use Rattle.rv32_machine.specs.Run.{state_after};
@@ -8,7 +8,7 @@ ghost use Rattle.run_samples.specs.Accesses.{accesses_at};
 
 use crate::{Access, AccessKind, Sample, Sampler};
 use osek_scheduler::TaskState;
-use sloth_base::{Arrival, FIRST_COUNTER_LINE, Line, NoMemory};
+use sloth_base::{Arrival, FIRST_COUNTER_LINE, Line, NoMemory, Result};
 use sloth_runner::task_states::Seen;
 use std::alloc::Global;
 use std::marker::Model;
@@ -23,12 +23,7 @@ pub struct Admission {
 fn is_ready(state: TaskState) -> bool
     ensures { result ≡ is_ready state }
 {
-    match state {
-        TaskState::Suspended => false,
-        TaskState::Ready => true,
-        TaskState::Active => false,
-        TaskState::Waiting(_) => false,
-    }
+    matches!(state, TaskState::Ready)
 }
 
 // Whether a line that was raised has made its task Ready, or the tasks are not seen yet.
@@ -46,36 +41,20 @@ fn has_effect(seen: &Option<Seen>, line: Line) -> bool
     }
 }
 
-// Whether an arrival makes its line pending.
-fn is_raise(kind: AccessKind) -> bool
-    ensures { result ≡ is_raise kind }
-{
-    match kind {
-        AccessKind::Raises => true,
-        AccessKind::Finds | AccessKind::Loads | AccessKind::Stores => false,
-    }
-}
-
 fn is_store(kind: AccessKind) -> bool
     ensures { result ≡ is_store kind }
 {
-    match kind {
-        AccessKind::Raises | AccessKind::Finds | AccessKind::Loads => false,
-        AccessKind::Stores => true,
-    }
+    matches!(kind, AccessKind::Stores)
 }
 
 fn is_by_code(kind: AccessKind) -> bool
     ensures { result ≡ is_by_code kind }
 {
-    match kind {
-        AccessKind::Raises | AccessKind::Finds => false,
-        AccessKind::Loads | AccessKind::Stores => true,
-    }
+    matches!(kind, AccessKind::Loads | AccessKind::Stores)
 }
 
 // Whether code accesses the line's pending byte.
-fn is_code_at(line: u8, access: &Access) -> bool
+fn is_code_access(line: u8, access: &Access) -> bool
     ensures { result ≡ is_code_at line access.now }
 {
     access.arrival.line.0 == line && is_by_code(access.kind)
@@ -86,18 +65,18 @@ fn is_stored_first(line: u8, behind: &[Access]) -> bool
     ensures { result ≡ is_stored_first line behind.now }
 {
     for access in behind {
-        if is_code_at(line, access) {
+        if is_code_access(line, access) {
             return is_store(access.kind);
         }
     }
     false
 }
 
-fn admission_of(seen: &Option<Seen>, access: &Access, behind: &[Access]) -> Admission
+fn settled_admission(seen: &Option<Seen>, access: &Access, behind: &[Access]) -> Admission
     ensures { result ≡ admission_of seen.now access.now behind.now }
 {
     let line = access.arrival.line;
-    let kept = is_raise(access.kind)
+    let kept = matches!(access.kind, AccessKind::Raises)
         && (has_effect(seen, line) && !is_stored_first(line.0, behind));
     Admission {
         arrival: access.arrival,
@@ -110,14 +89,14 @@ fn push_admissions(
     admissions: &mut Vec<Admission>,
     seen: &Option<Seen>,
     accesses: &[Access],
-) -> Result<(), NoMemory>
+) -> Result<()>
     ensures { OnOk result (admissions.new.items ≡ admissions.old.items ++ admissions_of seen.now accesses.now) }
 {
     let mut rest = accesses;
     while let Some((access, behind)) = rest.split_first() {
         if !is_by_code(access.kind) {
             admissions
-                .push(admission_of(seen, access, behind))
+                .push(settled_admission(seen, access, behind))
                 .map_err(|_| NoMemory)?;
         }
         rest = behind;
@@ -152,7 +131,7 @@ impl Noting {
     }
 
     /// Notes what the arrivals of the next count of a sampler do.
-    pub fn note(&mut self, sampler: &mut Sampler) -> Result<(), NoMemory>
+    pub fn note(&mut self, sampler: &mut Sampler) -> Result<()>
         requires sampling { IsSampling sampler.old }
         ensures noted { OnOk result (self.new ≡ with_accesses self.old (accesses_at (sampled_arrivals sampler.old) (sampled_count sampler.old)
             (state_after (sampled_count sampler.old) (sampled_arrivals sampler.old) (start (sampled_image sampler.old))))) }
@@ -162,7 +141,7 @@ impl Noting {
     }
 
     // Of all arrivals it is known what became of them: the tasks are seen so.
-    fn settle(&mut self, seen: &Option<Seen>) -> Result<(), NoMemory>
+    fn settle(&mut self, seen: &Option<Seen>) -> Result<()>
         ensures { OnOk result (self.new ≡ settled self.old seen.now) }
     {
         push_admissions(&mut self.admissions, seen, self.accesses.as_slice())?;
@@ -171,7 +150,7 @@ impl Noting {
     }
 
     // What code does with a pending byte.
-    fn note_code(&mut self, access: &Option<Access>) -> Result<(), NoMemory>
+    fn note_code(&mut self, access: &Option<Access>) -> Result<()>
         ensures { OnOk result (self.new ≡ with_code self.old access.now) }
     {
         if let Some(access) = access {
@@ -181,7 +160,7 @@ impl Noting {
     }
 
     /// What a count shows: the tasks, if it finds interrupts open, and else what its instruction does.
-    pub fn show(&mut self, sample: &Sample) -> Result<(), NoMemory>
+    pub fn show(&mut self, sample: &Sample) -> Result<()>
         ensures { OnOk result (self.new ≡ with_sample self.old sample.now) }
     {
         if sample.interrupts.masked {
@@ -191,7 +170,7 @@ impl Noting {
     }
 
     /// The end of a sampler's run tells what became of the others.
-    pub fn end(&mut self, sampler: &mut Sampler) -> Result<(), NoMemory>
+    pub fn end(&mut self, sampler: &mut Sampler) -> Result<()>
         requires sampling { IsSampling sampler.old }
         ensures ended { OnOk result (self.new ≡ settled self.old (seen_behind (sampled_image sampler.old) (sampled_arrivals sampler.old) (sampled_count sampler.old))) }
         ensures same { sampler.new ≡ sampler.old }
@@ -200,18 +179,7 @@ impl Noting {
         self.settle(&seen)
     }
 
-    /// What became of the arrivals of which it is known.
-    pub fn into_admissions(self) -> Vec<Admission>
-        ensures { result.items ≡ self.admissions }
-    {
-        let Noting {
-            admissions,
-            accesses: _,
-        } = self;
-        admissions
-    }
-
-    /// The same, lent.
+    /// What became of the arrivals of which it is known, lent.
     pub fn admissions(&self) -> &[Admission]
         ensures { result.now ≡ self.now.admissions }
     {

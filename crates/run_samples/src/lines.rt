@@ -1,22 +1,16 @@
 //! What is printed of a whole system at a count of a run.
-ghost use Rattle.std.specs.Prelude.{◌≡◌, ◌<◌, ◌+◌, ◌≤◌, ◌++◌, ◌==◌, [], OnOk, get_or, length};
+ghost use Rattle.std.specs.Prelude.{◌≡◌, ◌<◌, ◌+◌, ◌≤◌, ◌++◌, [], OnOk, get_or, length};
 ghost use Rattle.sloth_base.specs.ImageRange.{InFormat};
-ghost use Rattle.sloth_base.specs.Limits.{name_limit, alarm_limit, task_limit};
-ghost use Rattle.run_samples.specs.SystemText.{active_text, shown_state, state_line, events_line, task_part, task_parts, counter_line, counter_lines, alarm_line, alarm_lines, system_text};
+ghost use Rattle.sloth_base.specs.Limits.{name_limit, alarm_limit};
+ghost use Rattle.run_samples.specs.SystemText.{shown_state, state_line, events_line, task_part, task_parts, counter_line, counter_lines, alarm_line, alarm_lines, system_text};
 
 use crate::ServiceWords;
 use osek_scheduler::TaskState;
-use sloth_base::{ALARM_LIMIT, Image, NoMemory};
+use sloth_base::{ALARM_LIMIT, Image, Result};
 use sloth_runner::task_states::Seen;
+use text_pieces::line;
+use text_pieces::pieces::Piece::{Number, Word};
 use trace_text::LineText;
-
-// The word of an Active task.
-fn active_text(runs: bool) -> &'static [u8]
-    ensures is { result.now ≡ active_text runs }
-    ensures short { length result.now ≤ 7 }
-{
-    if runs { b"running" } else { b"active" }
-}
 
 // Appends the word of a state, and the events that a task waits for.
 fn push_shown(line: &mut LineText, state: TaskState, runs: bool)
@@ -27,7 +21,8 @@ fn push_shown(line: &mut LineText, state: TaskState, runs: bool)
     match state {
         TaskState::Suspended => line.push(b"suspended"),
         TaskState::Ready => line.push(b"ready"),
-        TaskState::Active => line.push(active_text(runs)),
+        TaskState::Active if runs => line.push(b"running"),
+        TaskState::Active => line.push(b"active"),
         TaskState::Waiting(mask) => {
             line.push(b"waiting ");
             line.push_number(mask);
@@ -49,57 +44,15 @@ pub fn state_line(name: &[u8], runs: bool, state: TaskState) -> LineText
     line
 }
 
-// The line of the events that are set, empty where none is.
+// Appends the line of the events that are set, if one is.
 #[tactic(auto, unfolding(crate::specs::SystemText::events_line))]
-fn events_line(mask: u32) -> LineText
-    ensures { result ≡ events_line mask }
+fn push_events(text: &mut Vec<u8>, mask: u32) -> Result<()>
+    ensures { OnOk result (text.new.items ≡ text.old.items ++ events_line mask) }
 {
-    let mut line = LineText::new();
-    if mask != 0 {
-        line.push(b"  events ");
-        line.push_number(mask);
-        line.push(b"\n");
+    if mask == 0 {
+        return Ok(());
     }
-    line
-}
-
-// The line of a counter.
-#[tactic(auto, unfolding(crate::specs::SystemText::counter_line))]
-fn counter_line(name: &[u8], value: u32) -> LineText
-    requires { length name.now ≤ name_limit }
-    ensures { result ≡ counter_line name.now value }
-{
-    let mut line = LineText::new();
-    line.push(b"counter ");
-    line.push(name);
-    line.push(b" ");
-    line.push_number(value);
-    line.push(b"\n");
-    line
-}
-
-// The line of an alarm, empty where it is not in use.
-#[tactic(auto, unfolding(crate::specs::SystemText::alarm_line))]
-fn alarm_line(alarm: u32, left: u32) -> LineText
-    ensures { result ≡ alarm_line alarm left }
-{
-    let mut line = LineText::new();
-    if left != 0 {
-        line.push(b"alarm ");
-        line.push_number(alarm);
-        line.push(b" ");
-        line.push_number(left);
-        line.push(b"\n");
-    }
-    line
-}
-
-// Whether a task is the running one.
-fn is_running(seen: &Seen, task: usize) -> bool
-    requires { task < task_limit }
-    ensures { result ≡ (seen.now.running == task + 1) }
-{
-    seen.running == task as u32 + 1
+    line!(text; Word(b"  events "), Number(mask), Word(b"\n"))
 }
 
 // Appends the lines of a task.
@@ -110,41 +63,44 @@ fn push_task(
     seen: &Seen,
     words: &ServiceWords,
     task: usize,
-) -> Result<(), NoMemory>
+) -> Result<()>
     requires format { InFormat image.now }
     requires task { task < length image.now.tasks }
     ensures { OnOk result (text.new.items ≡ text.old.items ++ task_part image.now seen.now words.now task) }
 {
     let name = image.tasks.items()[task].bytes();
-    let runs = is_running(seen, task);
+    let runs = seen.running == task as u32 + 1;
     text.extend_from_slice(state_line(name, runs, seen.tasks[task]).bytes())?;
-    text.extend_from_slice(events_line(words.events[task]).bytes())?;
-    Ok(())
+    push_events(text, words.events[task])
 }
 
 // Appends the line of a counter.
+#[tactic(auto, unfolding(crate::specs::SystemText::counter_line))]
 fn push_counter(
     text: &mut Vec<u8>,
     image: &Image,
     words: &ServiceWords,
     counter: usize,
-) -> Result<(), NoMemory>
+) -> Result<()>
     requires format { InFormat image.now }
     requires counter { counter < length image.now.counters }
     ensures { OnOk result (text.new.items ≡ text.old.items ++ counter_line (get_or image.now.counters counter []) (get_or words.now.counters counter 0)) }
 {
     let name = image.counters.items()[counter].bytes();
-    text.extend_from_slice(counter_line(name, words.counters[counter]).bytes())?;
-    Ok(())
+    line!(text; Word(b"counter "), Word(name), Word(b" "), Number(words.counters[counter]), Word(b"\n"))
 }
 
-// Appends the line of an alarm.
-fn push_alarm(text: &mut Vec<u8>, words: &ServiceWords, alarm: usize) -> Result<(), NoMemory>
+// Appends the line of an alarm, if it is in use.
+#[tactic(auto, unfolding(crate::specs::SystemText::alarm_line))]
+fn push_alarm(text: &mut Vec<u8>, words: &ServiceWords, alarm: usize) -> Result<()>
     requires { alarm < alarm_limit }
     ensures { OnOk result (text.new.items ≡ text.old.items ++ alarm_line alarm (get_or words.now.alarms alarm 0)) }
 {
-    text.extend_from_slice(alarm_line(alarm as u32, words.alarms[alarm]).bytes())?;
-    Ok(())
+    let left = words.alarms[alarm];
+    if left == 0 {
+        return Ok(());
+    }
+    line!(text; Word(b"alarm "), Number(alarm as u32), Word(b" "), Number(left), Word(b"\n"))
 }
 
 // Appends the lines of the tasks.
@@ -154,7 +110,7 @@ fn push_tasks(
     seen: &Seen,
     words: &ServiceWords,
     tasks: usize,
-) -> Result<(), NoMemory>
+) -> Result<()>
     requires format { InFormat image.now }
     requires tasks { tasks ≡ length image.now.tasks }
     ensures { OnOk result (text.new.items ≡ text.old.items ++ task_parts image.now seen.now words.now tasks) }
@@ -171,7 +127,7 @@ fn push_counters(
     image: &Image,
     words: &ServiceWords,
     counters: usize,
-) -> Result<(), NoMemory>
+) -> Result<()>
     requires format { InFormat image.now }
     requires counters { counters ≡ length image.now.counters }
     ensures { OnOk result (text.new.items ≡ text.old.items ++ counter_lines image.now words.now counters) }
@@ -183,7 +139,7 @@ fn push_counters(
 }
 
 // Appends the lines of the alarms that are in use.
-fn push_alarms(text: &mut Vec<u8>, words: &ServiceWords) -> Result<(), NoMemory>
+fn push_alarms(text: &mut Vec<u8>, words: &ServiceWords) -> Result<()>
     ensures { OnOk result (text.new.items ≡ text.old.items ++ alarm_lines words.now alarm_limit) }
 {
     for alarm in 0..ALARM_LIMIT {
@@ -192,13 +148,13 @@ fn push_alarms(text: &mut Vec<u8>, words: &ServiceWords) -> Result<(), NoMemory>
     Ok(())
 }
 
-/// Appends what is printed of a whole system at a count of a run: each task with its events, each counter, and each alarm that is in use.
+/// Appends what is printed of a system at a count: each task with its events, each counter, each alarm that is in use.
 pub fn push_system(
     text: &mut Vec<u8>,
     image: &Image,
     seen: &Seen,
     words: &ServiceWords,
-) -> Result<(), NoMemory>
+) -> Result<()>
     requires { InFormat image.now }
     ensures { OnOk result (text.new.items ≡ text.old.items ++ system_text image.now seen.now words.now) }
 {

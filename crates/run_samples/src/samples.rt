@@ -11,7 +11,7 @@ ghost use Rattle.run_samples.specs.Samples.{AreSampledLevels, IsSample, IsSampli
 
 use crate::Access;
 use crate::accesses::{note_arrivals, step_access};
-use sloth_base::{Arrival, Image, Line, NoMemory, TASK_LIMIT};
+use sloth_base::{Arrival, Image, Line, Result, TASK_LIMIT};
 use sloth_runner::task_states::Seen;
 use sloth_runner::{Halt, Interrupts, Runner, interrupts_shown, level_bytes, tasks_seen};
 use std::alloc::Global;
@@ -28,7 +28,7 @@ pub struct Sample {
     pub access: Option<Access>,
 }
 
-/// A run of an image, taken count by count. It keeps the image and the arrivals, lent, and no sample but the last one's tasks.
+/// A run of an image, taken count by count. It keeps image and arrivals, lent, and of samples the last one's tasks.
 pub struct Sampler<'a> {
     pub(crate) runner: Runner<'a>,
     pub(crate) last: Option<Seen>,
@@ -43,11 +43,7 @@ impl Drop for Sampler<'_> {
 
 impl<'a> Sampler<'a> {
     /// A sampler that has run nothing, with all memory of a run.
-    pub fn new(
-        alloc: Global,
-        image: &'a Image,
-        arrivals: &'a [Arrival],
-    ) -> Result<Sampler<'a>, NoMemory>
+    pub fn new(alloc: Global, image: &'a Image, arrivals: &'a [Arrival]) -> Result<Sampler<'a>>
         requires format { InFormat image.now }
         requires arrivals { AreArrivals (owners_named image.now) arrivals.now }
         ensures sampling { IfOk result IsSampling }
@@ -88,7 +84,7 @@ impl<'a> Sampler<'a> {
     }
 
     /// Notes what the arrivals of the next count do. The sampler stays as it is.
-    pub(crate) fn note_arrivals(&mut self, noted: &mut Vec<Access>) -> Result<(), NoMemory>
+    pub(crate) fn note_arrivals(&mut self, noted: &mut Vec<Access>) -> Result<()>
         requires sampling { IsSampling self.old }
         ensures noted { OnOk result (noted.new.items ≡ noted.old.items
             ++ accesses_at (sampled_arrivals self.old) (sampled_count self.old)

@@ -9,7 +9,7 @@ ghost use Rattle.sloth_runner.specs.Moments.{sloth_state};
 ghost use Rattle.run_samples.specs.ServiceWords.{words_behind, AreWordsRead};
 
 use crate::Sampler;
-use sloth_base::{Arrival, Image, NoMemory};
+use sloth_base::{Arrival, Image, Result};
 pub use sloth_inspect::ServiceWords;
 use sloth_inspect::service_words::service_words;
 use sloth_runner::{Halt, Runner};
@@ -44,7 +44,7 @@ impl<'a> Sampler<'a> {
     }
 
     // Runs up to this count, and tells what the service words say there.
-    fn service_words_at(&mut self, count: u32) -> WordsRead
+    fn words_behind(&mut self, count: u32) -> WordsRead
         requires sampling { IsSampling self.old }
         requires fresh { sampled_count self.old ≡ 0 }
         requires few { count ≤ count_limit }
@@ -60,17 +60,12 @@ impl<'a> Sampler<'a> {
 }
 
 /// What the service words say at a count of the run of an image with arrivals.
-pub fn words_at(
-    alloc: Global,
-    image: &Image,
-    arrivals: &[Arrival],
-    count: u32,
-) -> Result<WordsRead, NoMemory>
+pub fn words_at(alloc: Global, image: &Image, arrivals: &[Arrival], count: u32) -> Result<WordsRead>
     requires format { InFormat image.now }
     requires arrivals { AreArrivals (owners_named image.now) arrivals.now }
     requires count { count ≤ count_limit }
     ensures { IfOk result (AreWordsRead image.now arrivals.now count) }
 {
     let mut sampler = Sampler::new(alloc, image, arrivals)?;
-    Ok(sampler.service_words_at(count))
+    Ok(sampler.words_behind(count))
 }

@@ -1,7 +1,7 @@
 -- The windows of starts are within the greatest of their numbers, and within no less.
-use Rattle.std.proofs.Common.{◌≡◌, ◌∙◌, ℕ, ◌+◌, ◌-◌, ◌<◌, ◌≤◌, ◌⊎◌, inl, inr, Bool, true, false, cond, List, length, Some, None, refl, sym, subst, arith}
+use Rattle.std.proofs.Common.{◌≡◌, ◌∙◌, ℕ, ◌+◌, ◌-◌, ◌<◌, ◌≤◌, ◌⊎◌, inl, inr, Bool, true, false, cond, List, length, Some, None, refl, sym, ap, subst, arith}
 use Rattle.std.specs.Prelude.{nat_lt}
-use Rattle.std.proofs.lemmas.Bool.{cases_eq, ltb-true, ltb-false}
+use Rattle.std.proofs.lemmas.Bool.{cases_eq, ltb-true, ltb-false, true≢false}
 use Rattle.run_windows.specs.declared.costs.Costs.{Costs}
 use Rattle.run_windows.specs.declared.window.Start.{Start}
 use Rattle.run_windows.specs.declared.window.Window.{Window}
@@ -9,7 +9,7 @@ use Rattle.run_windows.specs.declared.longest.Longest.{Longest}
 use Rattle.run_windows.specs.Costs.{window_limit}
 use Rattle.run_windows.specs.Windows.{IsBound}
 use Rattle.run_windows.specs.RunWindows.{margin, lead_of, start_at, run_window, IsNumber, IsWindowWithin, IsStartWithin}
-use Rattle.run_windows.specs.Longest.{IsAmong, longer, IsLonger, IsMost}
+use Rattle.run_windows.specs.Longest.{ComesBefore, IsFirstWindow, longer, IsNewWindow, IsLonger, IsMost}
 use Rattle.run_windows.proofs.OneBound.{one_bound}
 
 module _ (longest late : ℕ) (costs : Costs) (h : ℕ) where
@@ -58,13 +58,18 @@ module _ (longest late : ℕ) (costs : Costs) (h : ℕ) where
     where
       Grown : Longest → Type 0
       Grown m = (most.number ≤ m.number) × (x ≤ m.number) × ((r : ℕ) → most.number ≤ r → IsStartWithin longest late costs h r s → m.number ≤ r)
-          × ((m ≡ most) ⊎ ((m.start ≡ s) × IsNumber longest late costs h m.opens s (Some m.number)))
+          × ((m ≡ most) ⊎ IsNewWindow longest late costs h s most m)
 
       grown : Grown one
       grown =
           subst Grown (sym e)
           (longer_so Grown most s true x
-          (λ less. (omega (arith, less), omega arith, (λ r le within. number_least true s x r there opening (within true)), inr (refl, opening)))
+          (λ less. (
+            omega (arith, less),
+            omega arith,
+            (λ r le within. number_least true s x r there opening (within true)),
+            inr (record { is = refl; number = opening; more = less; first = λ n e number. absurd (true≢false e) }),
+          ))
           (λ few. (omega arith, few, (λ r le within. le), inl refl)))
 
       both : (r : ℕ) → x ≤ r → y ≤ r → IsStartWithin longest late costs h r s
@@ -76,7 +81,12 @@ module _ (longest late : ℕ) (costs : Costs) (h : ℕ) where
         more = let le = grown.0 in omega (arith, le, less);
         within = both y (let le = grown.1 in omega (arith, le, less)) (omega arith);
         least = λ r le within. number_least false s y r there serving (within false);
-        some = inr (refl, serving);
+        some = inr (record {
+          is = refl;
+          number = serving;
+          more = let le = grown.0 in omega (arith, le, less);
+          first = λ n e number. let few = number_least true s n x there number (within_number true s x x opening (omega arith)) in let le = grown.1 in omega (arith, few, le, less);
+        });
       }
 
       first : y ≤ one.number → IsLonger longest late costs h s most one
@@ -87,9 +97,9 @@ module _ (longest late : ℕ) (costs : Costs) (h : ℕ) where
   wider : (s : Start) (r next : ℕ) → r ≤ next → IsStartWithin longest late costs h r s → IsStartWithin longest late costs h next s
   wider s r next le within opens = let w = within opens in let few = w.2 in (w.0, w.1, omega (arith, few, le))
 
-  pub one_more : (ss : List Start) (count : ℕ) (s : Start) (most next : Longest) → count < length ss → s ≡ start_at ss count → IsMost longest late costs h ss count most
+  pub one_more : (ss : List Start) (count : ℕ) (s : Start) (most next : Longest) → h < length costs.tasks → count < length ss → s ≡ start_at ss count → IsMost longest late costs h ss count most
       → IsLonger longest late costs h s most next → IsMost longest late costs h ss (count + 1) next
-  one_more ss count s most next lt is old own = record {
+  one_more ss count s most next there lt is old own = record {
     within = λ i less. each i less (cases_eq i count);
     least = λ r all.
         own.least r (old.least r (λ i less. all i (omega (arith, less))))
@@ -102,9 +112,24 @@ module _ (longest late : ℕ) (costs : Costs) (h : ℕ) where
       each i less (inr other) = wider (start_at ss i) most.number next.number own.more (old.within i (omega (arith, less, other)))
 
       Attained : Longest → Type 0
-      Attained m = (m.number ≡ 0) ⊎ (IsAmong ss m.start × IsNumber longest late costs h m.opens m.start (Some m.number))
+      Attained m = (m.number ≡ 0) ⊎ IsFirstWindow longest late costs h ss m
 
-      by : (next ≡ most) ⊎ ((next.start ≡ s) × IsNumber longest late costs h next.opens s (Some next.number)) → Attained next
+      before : IsNewWindow longest late costs h s most next → (j : ℕ) (opens : Bool) (n : ℕ) → ComesBefore j opens count next.opens
+          → IsNumber longest late costs h opens (start_at ss j) (Some n) → n < next.number
+      before new j opens n (inl less) number =
+          let few = number_least opens (start_at ss j) n most.number there number (old.within j less opens) in
+          let more = new.more in
+          omega (arith, few, more)
+      before new j opens n (inr (same, stretch, closed)) number =
+          new.first n closed
+          (subst (λ v. IsNumber longest late costs h v s (Some n)) stretch (subst (λ v. IsNumber longest late costs h opens v (Some n)) (ap (start_at ss) same ∙ sym is) number))
+
+      by : (next ≡ most) ⊎ IsNewWindow longest late costs h s most next → Attained next
       by (inl same) = subst Attained (sym same) old.some
-      by (inr (start_is, number)) =
-          inr ((count, lt, start_is ∙ is), subst (λ v. IsNumber longest late costs h next.opens v (Some next.number)) (sym start_is) number)
+      by (inr new) = inr (record {
+        place = count;
+        known = lt;
+        is = new.is ∙ is;
+        number = subst (λ v. IsNumber longest late costs h next.opens v (Some next.number)) (sym new.is) new.number;
+        first = λ j opens n known comes number. before new j opens n comes number;
+      })

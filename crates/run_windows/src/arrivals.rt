@@ -1,7 +1,8 @@
 //! Arrivals, expiries of alarms, and what they make within so many counts.
 ghost use Rattle.std.specs.Prelude.{◌≡◌, ◌≤◌, ◌<◌, ◌+◌, ◌/◌, Some};
 ghost use Rattle.run_windows.specs.Costs.{capped};
-ghost use Rattle.run_windows.specs.Arrivals.{arrivals, booted_expiries, cyclic_expiries, expiries, acts_on, expiring, ticking, tick_counts};
+ghost use Rattle.run_windows.specs.Arrivals.{arrivals, booted_expiries, cyclic_expiries, expiries, acts_on, expiring};
+ghost use Rattle.run_windows.specs.Arrivals.{ticking, tick_counts};
 
 use crate::numbers::times;
 use crate::{AlarmCosts, CounterCosts, plus};

@@ -1,29 +1,26 @@
 //! Bounds of windows.
 ghost use Rattle.std.specs.Prelude.{◌≡◌, ◌<◌, length, IfOk};
 ghost use Rattle.run_windows.specs.Costs.{greatest_sum, window_limit};
-ghost use Rattle.run_windows.specs.Windows.{numbers_of, is_made, is_target_made, IsBound};
+ghost use Rattle.run_windows.specs.Windows.{numbers_of, is_target_made, IsBound};
 ghost use Rattle.run_windows.specs.Settling.{TakeCounts};
 
 use crate::numbers::WINDOW_LIMIT;
 use crate::rounds::number_of;
 use crate::settle::settle;
-use crate::window::Window;
+use crate::window::{NEVER, Window};
 use crate::{Costs, Made};
-use sloth_base::NoMemory;
+use sloth_base::Result;
 use std::alloc::Global;
 use text_pieces::push;
-
-fn is_made(made: Made) -> bool
-    ensures { result ≡ is_made made }
-{
-    !(made.activations == 0 && made.settings == 0)
-}
 
 fn is_target_made(target: Option<usize>, numbers: &[Made]) -> bool
     ensures { result ≡ is_target_made target (numbers_of numbers.now) }
 {
     match target {
-        Some(h) => is_made(number_of(numbers, h)),
+        Some(h) => {
+            let made = number_of(numbers, h);
+            !(made.activations == 0 && made.settings == 0)
+        }
         None => true,
     }
 }
@@ -63,18 +60,12 @@ pub fn window_bound(costs: &Costs, window: &Window, numbers: &mut [Made]) -> Opt
 }
 
 /// Numbers of so many tasks.
-pub fn room(alloc: Global, count: usize) -> Result<Vec<Made>, NoMemory>
+pub fn room(alloc: Global, count: usize) -> Result<Vec<Made>>
     ensures { IfOk result (λ numbers. length numbers.items ≡ count) }
 {
     let mut numbers = Vec::new(alloc);
     for i in 0..count {
-        push(
-            &mut numbers,
-            Made {
-                activations: 0,
-                settings: 0,
-            },
-        )?;
+        push(&mut numbers, NEVER)?;
     }
     Ok(numbers)
 }

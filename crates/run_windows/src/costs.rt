@@ -111,7 +111,7 @@ impl Drop for Level {
     }
 }
 
-/// All that the response times of a configuration's tasks under a load are computed from. Lists are in the order of the configuration's numbers.
+/// What response times of a configuration's tasks under a load are computed from. Lists are in its numbers' order.
 pub struct Costs {
     pub tasks: List<TaskCosts>,
     /// Which tasks something may make Ready.

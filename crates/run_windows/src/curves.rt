@@ -1,5 +1,5 @@
 //! How much comes within windows at least, by their counts.
-ghost use Rattle.std.specs.Prelude.{◌≡◌, ◌≤◌, ◌+◌, ◌*◌, ℕ};
+ghost use Rattle.std.specs.Prelude.{◌≤◌, ◌+◌, ◌*◌, ℕ};
 ghost use Rattle.run_windows.specs.Windows.{Numbers, numbers_of, shared, round_counts, IsAtMost, IsSolution};
 ghost use Rattle.run_windows.specs.Arrivals.{tick_counts};
 ghost use Rattle.run_windows.specs.Settling.{AreBelow};
@@ -53,7 +53,8 @@ fn greater(number: u64, rate: u64, counts: u64) -> Curve
 
 // The counts of rounds of a task.
 fn task_curve(made: Made, rates: Made, counts: u64, task: &TaskCosts) -> Curve
-    ensures { (more : ℕ) (m : Made) → IsAtMost made m → AreRatesOf rates more m → IsCurve result more (shared m task.now.first task.now.next) }
+    ensures { (more : ℕ) (m : Made) → IsAtMost made m → AreRatesOf rates more m
+        → IsCurve result more (shared m task.now.first task.now.next) }
 {
     let first = greater(made.activations, rates.activations, counts);
     let next = greater(made.settings, rates.settings, counts);
@@ -64,7 +65,8 @@ fn task_curve(made: Made, rates: Made, counts: u64, task: &TaskCosts) -> Curve
 }
 
 fn round_curve(numbers: &[Made], rates: &[Made], counts: u64, tasks: &[TaskCosts]) -> Curve
-    ensures { (more : ℕ) (m : Numbers) → ((k : ℕ) → IsAtMost (numbers_of numbers.now k) (m k)) → ((k : ℕ) → AreRatesOf (numbers_of rates.now k) more (m k))
+    ensures { (more : ℕ) (m : Numbers) → ((k : ℕ) → IsAtMost (numbers_of numbers.now k) (m k))
+        → ((k : ℕ) → AreRatesOf (numbers_of rates.now k) more (m k))
         → IsCurve result more (round_counts m 0 tasks.now) }
 {
     let mut total = Curve { burst: 0, rate: 0 };

@@ -8,15 +8,9 @@ ghost use Rattle.run_windows.specs.Cycles.{IsOpen, HasNone, share_of, one_share,
 use crate::level::{counted, makers, rule_of};
 use crate::numbers::plus;
 use crate::rounds::{activations, number_of, of_makings, round_makings, settings};
-use crate::window::{Rule, Window};
+use crate::window::{NEVER, Rule, Window};
 use crate::{Costs, Made, Makings};
 use sloth_base::TASK_LIMIT;
-
-/// Numbers of nothing.
-pub const NONE: Made = Made {
-    activations: 0,
-    settings: 0,
-};
 
 /// Whether what counts of a task grows with what is made of it.
 pub fn is_open(which: Rule) -> bool
@@ -190,7 +184,7 @@ fn closes(
     if !is_share_counted(sets, rule) {
         return false;
     }
-    let mut marks = [NONE; TASK_LIMIT];
+    let mut marks = [NEVER; TASK_LIMIT];
     marks[t] = one_share(sets);
     reach(costs, window, sets, t, &mut marks);
     if round_makings(sets, &marks, makers(costs, t)) == 0 {

@@ -1,7 +1,9 @@
 //! The counts in front of windows.
 ghost use Rattle.std.specs.Prelude.{◌≡◌, ◌≤◌, ◌&&◌};
 ghost use Rattle.run_windows.specs.Costs.{greatest_sum, section, joins, lesser, section_counts};
-ghost use Rattle.run_windows.specs.RunWindows.{is_joined, is_apart, call_words, call_path, may_serve, services_front, makes, services_of, is_made_in_front, activation_front, setting_front, longest_round, start_counts, start_service, front_of};
+ghost use Rattle.run_windows.specs.RunWindows.{is_joined, is_apart, call_path, may_serve, services_front, makes};
+ghost use Rattle.run_windows.specs.RunWindows.{services_of, is_made_in_front, activation_front, setting_front};
+ghost use Rattle.run_windows.specs.RunWindows.{start_counts, start_service, front_of};
 
 use crate::level::{comes, greater, is_below, is_lower};
 use crate::numbers::reckoned;
@@ -20,27 +22,23 @@ pub enum Way {
     Setting,
 }
 
-fn may_serve(costs: &Costs, h: usize, k: usize) -> bool
+/// Whether task k may serve in front of a window of h: it comes and is lower, or is h itself, which is entered once.
+pub fn may_serve(costs: &Costs, h: usize, k: usize) -> bool
     ensures { result ≡ may_serve costs.now h k }
 {
     comes(costs, k) && (is_lower(costs, h, k) || (k == h && task(costs, h).is_entered_once))
-}
-
-fn call_words(service: Service) -> u32
-    ensures { result ≡ call_words service }
-{
-    if service.has_mask() { 3 } else { 1 }
 }
 
 /// The counts of the longest way of a service, with the item of its call.
 pub fn call_path(service: Service) -> u32
     ensures { result ≡ call_path service }
 {
-    call_words(service) + served_path(service).max(leaving_path(service, false))
+    let words = if service.has_mask() { 3 } else { 1 };
+    words + served_path(service).max(leaving_path(service, false))
 }
 
-// The longest service of a task that may serve.
-fn services_front(costs: &Costs, h: usize) -> u32
+/// The longest service of a task that may serve.
+pub fn services_front(costs: &Costs, h: usize) -> u32
     ensures { result ≡ services_front costs.now h 0 costs.now.tasks }
 {
     let mut most: u32 = 0;
@@ -174,15 +172,6 @@ pub fn section_counts(costs: &Costs, h: usize, k: usize) -> Option<u32>
     lesser(task(costs, k).section_work, section(costs, h, k).counts)
 }
 
-// The counts of the longest round of a task.
-fn longest_round(costs: &Costs, k: usize) -> u64
-    ensures is { result ≡ longest_round costs.now k }
-    ensures short { result ≤ greatest_sum }
-{
-    let task = task(costs, k);
-    greater(task.first, task.next)
-}
-
 /// The counts of other tasks with which a start begins.
 pub fn start_counts(costs: &Costs, h: usize, start: Start) -> u64
     ensures is { result ≡ start_counts costs.now h start }
@@ -190,7 +179,7 @@ pub fn start_counts(costs: &Costs, h: usize, start: Start) -> u64
 {
     match start {
         Start::Section(k) => reckoned(section_counts(costs, h, k)),
-        Start::Round(k) => longest_round(costs, k),
+        Start::Round(k) => greater(task(costs, k).first, task(costs, k).next),
         Start::Free | Start::Boot | Start::Activation(_) | Start::Setting(_) => 0,
     }
 }
@@ -208,7 +197,8 @@ pub fn start_service(costs: &Costs, h: usize, start: Start) -> u32
     }
 }
 
-/// Those of other tasks in front of a window of h that opens with the event of its start; or with admissions in front of a service.
+/// Those of other tasks in front of a window of h that opens with the event of its start; or with admissions in front
+/// of a service.
 pub fn front_of(costs: &Costs, h: usize, opens: bool, start: Start) -> u64
     ensures is { result ≡ front_of opens costs.now h start }
     ensures short { result ≤ 12294967296 }

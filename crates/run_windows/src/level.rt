@@ -1,10 +1,12 @@
 //! Which makings of a task count in a window, and what a start makes.
 ghost use Rattle.std.specs.Prelude.{◌≡◌, ◌≤◌};
-ghost use Rattle.run_windows.specs.Costs.{greatest_sum, reckoned, task, comes, making, makers, section_makers, section_making};
-ghost use Rattle.run_windows.specs.Windows.{is_lower, is_left_out, is_below, is_round, lower_rule, level_rule, target_rule, rule_of, counted, greater, section_made, round_made, activated_once, set_once, begun_by, begun, is_boot, span_of};
+ghost use Rattle.run_windows.specs.Costs.{greatest_sum, reckoned, task, comes, making, makers, section_makers};
+ghost use Rattle.run_windows.specs.Costs.{section_making};
+ghost use Rattle.run_windows.specs.Windows.{is_lower, is_left_out, is_below, is_round, level_rule, rule_of, counted};
+ghost use Rattle.run_windows.specs.Windows.{greater, round_made, activated_once, begun, is_boot, span_of};
 
 use crate::numbers::reckoned;
-use crate::window::{Rule, Window};
+use crate::window::{NEVER, Rule, Window};
 use crate::{Costs, Made, Makings, SectionMakings, Start, TaskCosts};
 
 /// A task; nothing behind the last one.
@@ -121,35 +123,19 @@ pub fn is_round(start: Start, j: usize) -> bool
     }
 }
 
-fn lower_rule(start: Start, j: usize) -> Rule
-    ensures { result ≡ lower_rule start j }
-{
-    if is_round(start, j) {
-        Rule::Settings
-    } else {
-        Rule::Out
-    }
-}
-
 fn level_rule(costs: &Costs, h: usize, start: Start, j: usize) -> Rule
     ensures { result ≡ level_rule costs.now h start j }
 {
     if is_left_out(costs, h, j) {
-        return lower_rule(start, j);
-    }
-    if j == h && task(costs, h).is_entered_once {
+        if is_round(start, j) {
+            Rule::Settings
+        } else {
+            Rule::Out
+        }
+    } else if j == h && task(costs, h).is_entered_once {
         Rule::Once
     } else {
         Rule::Each
-    }
-}
-
-fn target_rule(costs: &Costs, target: Option<usize>, start: Start, j: usize) -> Rule
-    ensures { result ≡ target_rule costs.now target start j }
-{
-    match target {
-        Some(h) => level_rule(costs, h, start, j),
-        None => Rule::Each,
     }
 }
 
@@ -157,7 +143,10 @@ fn target_rule(costs: &Costs, target: Option<usize>, start: Start, j: usize) -> 
 pub fn rule_of(costs: &Costs, window: &Window, j: usize) -> Rule
     ensures { result ≡ rule_of costs.now window.now j }
 {
-    target_rule(costs, window.target, window.start, j)
+    match window.target {
+        Some(h) => level_rule(costs, h, window.start, j),
+        None => Rule::Each,
+    }
 }
 
 /// Of so many activations and settings those that count.
@@ -165,10 +154,7 @@ pub fn counted(rule: Rule, activations: u64, settings: u64) -> Made
     ensures { result ≡ counted rule activations settings }
 {
     match rule {
-        Rule::Out => Made {
-            activations: 0,
-            settings: 0,
-        },
+        Rule::Out => NEVER,
         Rule::Settings => Made {
             activations: 0,
             settings,
@@ -185,15 +171,6 @@ pub fn counted(rule: Rule, activations: u64, settings: u64) -> Made
             },
             settings: 0,
         },
-    }
-}
-
-fn section_made(made: SectionMakings) -> Made
-    ensures { result ≡ section_made made }
-{
-    Made {
-        activations: reckoned(made.activations),
-        settings: reckoned(made.settings),
     }
 }
 
@@ -226,47 +203,34 @@ fn activated(test: bool) -> Made
     }
 }
 
-fn signalled(test: bool) -> Made
-    ensures { result ≡ set_once test }
-{
-    Made {
-        activations: 0,
-        settings: if test { 1 } else { 0 },
-    }
-}
-
-fn begun_by(costs: &Costs, h: usize, start: Start, j: usize) -> Made
-    ensures { result ≡ begun_by costs.now h start j }
-{
-    match start {
-        Start::Free => activated(false),
-        Start::Boot => activated(task(costs, j).is_autostarted),
-        Start::Activation(t) => activated(t == j),
-        Start::Setting(t) => signalled(t == j),
-        Start::Section(k) => section_made(section_making(costs, h, k, j)),
-        Start::Round(k) => round_made(costs, k, j),
-    }
-}
-
 /// What the start of a window makes of a task.
 pub fn begun(costs: &Costs, window: &Window, j: usize) -> Made
     ensures { result ≡ begun costs.now window.now j }
 {
-    begun_by(costs, window.target.unwrap_or(0), window.start, j)
+    match window.start {
+        Start::Free => NEVER,
+        Start::Boot => activated(task(costs, j).is_autostarted),
+        Start::Activation(t) => activated(t == j),
+        Start::Setting(t) => Made {
+            activations: 0,
+            settings: if t == j { 1 } else { 0 },
+        },
+        Start::Section(k) => {
+            let made = section_making(costs, window.target.unwrap_or(0), k, j);
+            Made {
+                activations: reckoned(made.activations),
+                settings: reckoned(made.settings),
+            }
+        }
+        Start::Round(k) => round_made(costs, k, j),
+    }
 }
 
 /// Whether a window begins with the system.
 pub fn is_boot(start: Start) -> bool
     ensures { result ≡ is_boot start }
 {
-    match start {
-        Start::Boot => true,
-        Start::Free
-        | Start::Activation(_)
-        | Start::Setting(_)
-        | Start::Section(_)
-        | Start::Round(_) => false,
-    }
+    matches!(start, Start::Boot)
 }
 
 /// The counts within which a window of so many counts counts arrivals.

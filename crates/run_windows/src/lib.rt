@@ -1,15 +1,16 @@
-//! Response times by windows that hold what comes into runs, and the demand of a load.
+//! Response times by windows that hold what comes into runs, and the demand of a load, from a record of costs: plain
+//! numbers by task, counter and alarm (`costs`, `specs/Costs`).
 //!
-//! From a record of costs (`costs`), plain numbers by task, counter and alarm. A window of a start has the longest item and a stretch in front, and an item
-//! and a stretch behind (`specs/RunWindows`); its bound is the least number of counts that holds all that comes within it (`specs/Windows`, `specs/Arrivals`),
-//! which `settle` finds from zeros up: further on where `rates` leave no solution below (`curves`), and not at all where `cycles` of makings have no end
-//! (`specs/Cycles`). Of each start two windows count: a stretch stands in front of it, or a service behind admissions.
-//! Rounds of a lower task that waits while it is raised, and whose sections have no end, join a window that begins with one of them (`joins` of `specs/Costs`). `longest_window`
-//! tells the least number within which all windows of a task are, or all but boot's, where all that they are computed from has a number; none exactly where
-//! there is none (`IsRunResponse`); with a window of that number, of which `window_parts` says of what it is made (`AreParts` of `specs/Longest`). `first_untold`
-//! is the first thing of these that has no number (`specs/FirstUntold`). `demand`: what the
-//! arrivals of a load ask of the processor. Endless, and everything above 8,000,000,000, counts as 8,000,000,001 (`specs/Costs`). That runs keep these numbers, where
-//! they keep the costs: `run_responses`.
+//! A window of a start has the longest item and a stretch in front, and an item and a stretch behind
+//! (`specs/RunWindows`); its bound is the least number of counts that holds all that comes within it (`specs/Windows`,
+//! `specs/Arrivals`), which `settle` finds from zeros up: further on where `rates` leave no solution below, and not at
+//! all where `cycles` of makings have no end (`specs/Cycles`). Rounds of a lower task that waits while it is raised may
+//! join (`joins`).
+//!
+//! `longest_window` tells the least number within which all windows of a task are, or all but boot's, and the first
+//! window of that number; none exactly where there is none (`IsRunResponse`, `IsFirstWindow`); `window_parts` of what
+//! it is made (`AreParts`; `specs/Longest`); `first_untold` the first thing without a number (`specs/FirstUntold`).
+//! Above 8,000,000,000 counts as 8,000,000,001. That runs keep these numbers: `run_responses`.
 #![tactic(auto)]
 
 pub mod arrivals;

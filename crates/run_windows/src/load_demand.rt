@@ -6,7 +6,7 @@ ghost use Rattle.run_windows.specs.Demand.{demand_limit, hundredths, IsDemand};
 use crate::bounds::{bound, room};
 use crate::window::Window;
 use crate::{Costs, Made, Start};
-use sloth_base::NoMemory;
+use sloth_base::Result;
 use std::alloc::Global;
 
 /// The counts above which a demand is not told.
@@ -39,9 +39,9 @@ fn told_demand(costs: &Costs, numbers: &mut [Made]) -> Option<u32>
     }
 }
 
-/// How many hundredths of the processor's counts the arrivals within 2,000,000,000 counts ask for, rounded up; none where it is
-/// above 400, or where what it is computed from has no limit.
-pub fn demand(alloc: Global, costs: &Costs) -> Result<Option<u32>, NoMemory>
+/// How many hundredths of the processor's counts the arrivals within 2,000,000,000 counts ask for, rounded up; none
+/// where it is above 400, or where what it is computed from has no limit.
+pub fn demand(alloc: Global, costs: &Costs) -> Result<Option<u32>>
     requires { TakeCounts costs.now }
     ensures { IfOk result (λ p. IsDemand costs.now p) }
 {

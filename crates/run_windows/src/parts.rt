@@ -11,7 +11,7 @@ use crate::numbers::WINDOW_LIMIT;
 use crate::responses::{begun_item, window_of};
 use crate::settle::settle;
 use crate::{Costs, Longest, Made};
-use sloth_base::{List, NoMemory};
+use sloth_base::{List, Result};
 use std::alloc::Global;
 
 /// What a window has in front, and what comes within it.
@@ -73,7 +73,8 @@ fn settled_counts(
     requires costs { TakeCounts costs.now }
     requires count { length numbers.old ≡ length costs.now.tasks }
     requires number { IsNumber longest late costs.now h window.opens window.start (Some window.number) }
-    ensures least { IsLeast costs.now (run_window longest late costs.now h window.opens window.start) (numbers_of numbers.new) result }
+    ensures least { IsLeast costs.now (run_window longest late costs.now h window.opens window.start)
+        (numbers_of numbers.new) result }
     ensures count { length numbers.new ≡ length costs.now.tasks }
 {
     let bounded = window_of(longest, late, costs, h, window.opens, window.start);
@@ -88,7 +89,7 @@ pub fn window_parts(
     costs: &Costs,
     h: usize,
     window: Longest,
-) -> Result<Parts, NoMemory>
+) -> Result<Parts>
     requires costs { TakeCounts costs.now }
     requires number { IsNumber longest late costs.now h window.opens window.start (Some window.number) }
     requires some { 0 < window.number }

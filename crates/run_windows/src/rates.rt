@@ -1,7 +1,7 @@
 //! How often tasks are made in windows at least, for each of their counts.
 ghost use Rattle.std.specs.Prelude.{◌≡◌, ◌<◌, ℕ, None, Some, cond, length};
 ghost use Rattle.run_windows.specs.Arrivals.{arrivals, acts_on, expiries, expiring, ticking};
-ghost use Rattle.run_windows.specs.Windows.{numbers_of, rule_of};
+ghost use Rattle.run_windows.specs.Windows.{rule_of};
 ghost use Rattle.run_windows.specs.Cycles.{IsRate, AreRates};
 
 use crate::arrivals::acts_on;
@@ -61,7 +61,8 @@ fn alarm_rate(
     ticks: u64,
     alarm: &AlarmCosts,
 ) -> u64
-    ensures { (counts x : ℕ) → IsRate ticks counts x → IsRate result counts (cond (acts_on sets counter task alarm.now) (expiries boot alarm.now x) 0) }
+    ensures { (counts x : ℕ) → IsRate ticks counts x
+        → IsRate result counts (cond (acts_on sets counter task alarm.now) (expiries boot alarm.now x) 0) }
 {
     if acts_on(sets, counter, task, alarm) {
         expiry_rate(boot, alarm, ticks)
@@ -78,7 +79,8 @@ fn expiring_rate(
     ticks: u64,
     alarms: &[AlarmCosts],
 ) -> u64
-    ensures { (counts x : ℕ) → IsRate ticks counts x → IsRate result counts (expiring boot sets counter task x alarms.now) }
+    ensures { (counts x : ℕ) → IsRate ticks counts x
+        → IsRate result counts (expiring boot sets counter task x alarms.now) }
 {
     let mut total = 0;
     for alarm in alarms {

@@ -6,34 +6,19 @@ ghost use Rattle.run_windows.specs.Longest.{longer, IsLongerIf, IsMostIf, IsLong
 
 use crate::bounds::{room, window_bound};
 use crate::fronts::front_of;
+use crate::level::is_boot;
 use crate::starts::run_starts;
 use crate::told::are_told;
 use crate::window::Window;
 use crate::{Costs, Longest, Made, Start};
-use sloth_base::NoMemory;
+use sloth_base::Result;
 use std::alloc::Global;
 
 /// The item that a lower task has begun where a window begins.
 pub fn begun_item(longest: u32, start: Start) -> u32
     ensures { result ≡ begun_item longest start }
 {
-    match start {
-        Start::Boot => 0,
-        Start::Free
-        | Start::Activation(_)
-        | Start::Setting(_)
-        | Start::Section(_)
-        | Start::Round(_) => longest,
-    }
-}
-
-// The counts in front of all, with the margin.
-fn window_front(longest: u32, late: u32, costs: &Costs, h: usize, opens: bool, start: Start) -> u64
-    ensures { result ≡ (run_window longest late costs.now h opens start).front }
-{
-    let stretches = u64::from(late) + u64::from(late);
-    let items = u64::from(longest) + u64::from(begun_item(longest, start));
-    items + stretches + front_of(costs, h, opens, start)
+    if is_boot(start) { 0 } else { longest }
 }
 
 /// The window of a start.
@@ -47,10 +32,13 @@ pub fn window_of(
 ) -> Window
     ensures { result ≡ run_window longest late costs.now h opens start }
 {
+    let stretches = u64::from(late) + u64::from(late);
+    let items = u64::from(longest) + u64::from(begun_item(longest, start));
+    let margin = items + stretches;
     Window {
         target: Some(h),
         start,
-        front: window_front(longest, late, costs, h, opens, start),
+        front: margin + front_of(costs, h, opens, start),
         span: None,
     }
 }
@@ -168,7 +156,8 @@ fn told_longest(
 ) -> Option<Longest>
     requires costs { TakeCounts costs.now }
     requires count { length numbers.old ≡ length costs.now.tasks }
-    ensures { h < length costs.now.tasks → (boot : Bool) → starts.now ≡ run_starts costs.now h boot → IsLongest longest late costs.now h boot result }
+    ensures { h < length costs.now.tasks → (boot : Bool) → starts.now ≡ run_starts costs.now h boot
+        → IsLongest longest late costs.now h boot result }
 {
     if !are_told(costs, h) {
         return None;
@@ -176,10 +165,10 @@ fn told_longest(
     longest_of(longest, late, costs, h, starts, numbers)
 }
 
-/// The longest window of a task, less than their number, and within how many counts the task leaves the processor behind what makes it Ready, in runs that
-/// keep these costs, where no item has more instructions than the longest, and no stretch takes more counts than `late`: the least number that all windows
-/// allow; or, where what makes it is behind boot, all but boot's. None where something that it is computed from has no number, or a window has more than
-/// 2,147,483,647 counts.
+/// The longest window of a task, less than their number, and within how many counts the task leaves the processor
+/// behind what makes it Ready, in runs that keep these costs, where no item has more instructions than the longest, and
+/// no stretch takes more counts than `late`: the least number that all windows allow; or, where what makes it is behind
+/// boot, all but boot's. None where what it needs has no number, or a window has more than 2,147,483,647 counts.
 pub fn longest_window(
     alloc: Global,
     longest: u32,
@@ -187,7 +176,7 @@ pub fn longest_window(
     costs: &Costs,
     h: usize,
     boot: bool,
-) -> Result<Option<Longest>, NoMemory>
+) -> Result<Option<Longest>>
     requires { TakeCounts costs.now }
     ensures { IfOk result (λ l. h < length costs.now.tasks → IsLongest longest late costs.now h boot l) }
 {

@@ -1,12 +1,13 @@
 //! What comes within a window: activations, settings of events and counts.
 ghost use Rattle.std.specs.Prelude.{◌≡◌};
 ghost use Rattle.run_windows.specs.Costs.{capped};
-ghost use Rattle.run_windows.specs.Windows.{numbers_of, shared, of_makings, round_makings, rule_of, counted, activations, settings, round_counts, window_counts};
+ghost use Rattle.run_windows.specs.Windows.{numbers_of, shared, of_makings, round_makings, rule_of, counted};
+ghost use Rattle.run_windows.specs.Windows.{activations, settings, round_counts, window_counts};
 
 use crate::arrivals::{arrivals, tick_counts, ticking};
 use crate::level::{begun, counted, is_boot, makers, rule_of, span_of};
 use crate::numbers::{reckoned, times};
-use crate::window::Window;
+use crate::window::{NEVER, Window};
 use crate::{Costs, Made, Makings, TaskCosts, plus, task};
 
 /// How often task k is made; never behind the last one.
@@ -15,10 +16,7 @@ pub fn number_of(numbers: &[Made], k: usize) -> Made
 {
     match numbers.get(k) {
         Some(made) => *made,
-        None => Made {
-            activations: 0,
-            settings: 0,
-        },
+        None => NEVER,
     }
 }
 
@@ -94,7 +92,8 @@ pub fn settings(costs: &Costs, window: &Window, numbers: &[Made], counts: u64, j
 
 /// How often a task is made within a window of so many counts, in which all are made that often.
 pub fn made_within(costs: &Costs, window: &Window, numbers: &[Made], counts: u64, j: usize) -> Made
-    ensures { result ≡ counted (rule_of costs.now window.now j) (capped (activations costs.now window.now (numbers_of numbers.now) counts j))
+    ensures { result ≡ counted (rule_of costs.now window.now j)
+        (capped (activations costs.now window.now (numbers_of numbers.now) counts j))
         (capped (settings costs.now window.now (numbers_of numbers.now) counts j)) }
 {
     let activated = activations(costs, window, numbers, counts, j);

@@ -1,13 +1,13 @@
-//! The least numbers and counts of a window: from zeros up, each made what is needed with those so far, until nothing grows.
-ghost use Rattle.std.specs.Prelude.{◌≡◌, ◌≤◌, ◌<◌, true, false, length};
+//! The least numbers and counts of a window: from zeros up, each made what those so far need, until nothing grows.
+ghost use Rattle.std.specs.Prelude.{◌≡◌, ◌<◌, true, false, length};
 ghost use Rattle.run_windows.specs.Costs.{greatest_sum};
 ghost use Rattle.run_windows.specs.Settling.{AreBelow, slack, IsMet, HasGrown, TakeCounts, IsFound};
 
 use crate::curves::counts_ahead;
-use crate::cycles::{NONE, has_cycle};
+use crate::cycles::has_cycle;
 use crate::rates::raise_rates;
 use crate::rounds::{made_within, window_counts};
-use crate::window::Window;
+use crate::window::{NEVER, Window};
 use crate::{Costs, Made};
 use sloth_base::TASK_LIMIT;
 
@@ -62,7 +62,7 @@ fn rise(costs: &Costs, window: &Window, limit: u64, numbers: &mut [Made]) -> Opt
     requires below { AreBelow costs.now window.now numbers.old 0 }
     ensures { IsFound limit costs.now window.now numbers.new result }
 {
-    let mut rates = [NONE; TASK_LIMIT];
+    let mut rates = [NEVER; TASK_LIMIT];
     let mut passes = FEW_PASSES;
     let mut counts = 0;
     loop {
@@ -97,10 +97,7 @@ pub fn settle(costs: &Costs, window: &Window, limit: u64, numbers: &mut [Made]) 
     ensures count { length numbers.new ≡ length costs.now.tasks }
 {
     for made in numbers.iter_mut() {
-        *made = Made {
-            activations: 0,
-            settings: 0,
-        };
+        *made = NEVER;
     }
     rise(costs, window, limit, numbers)
 }

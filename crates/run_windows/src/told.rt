@@ -2,12 +2,16 @@
 ghost use Rattle.std.specs.Prelude.{◌≡◌, Some, length, Decides};
 ghost use Rattle.run_windows.specs.declared.told.Untold.{Untold};
 ghost use Rattle.run_windows.specs.RunWindows.{AreTold};
-ghost use Rattle.run_windows.specs.FirstUntold.{IsInside, is_told, are_rounds_told, are_makings_told, are_section_makings_told, earlier, first_below, untold_rounds, untold_making, level_rounds, level_making, level_makings, joined_making, making_of_joined, untold_joined, untold_section, untold_section_making, untold_apart, untold_lower, first_untold};
+ghost use Rattle.run_windows.specs.FirstUntold.{IsInside, is_told, are_makings_told, earlier, first_below};
+ghost use Rattle.run_windows.specs.FirstUntold.{untold_rounds, untold_making, level_rounds, level_making};
+ghost use Rattle.run_windows.specs.FirstUntold.{level_makings, joined_making, making_of_joined, untold_joined};
+ghost use Rattle.run_windows.specs.FirstUntold.{untold_section, untold_section_making, untold_apart, untold_lower};
+ghost use Rattle.run_windows.specs.FirstUntold.{first_untold};
 
 use crate::fronts::{is_apart, is_joined, section_counts};
 use crate::level::{is_left_out, is_lower, making, section_making};
 use crate::numbers::{ENDLESS, reckoned};
-use crate::{Costs, Makings, SectionMakings, TaskCosts, task};
+use crate::{Costs, Makings, task};
 
 /// Something without a number, of a level.
 #[derive(Clone, Copy)]
@@ -39,16 +43,11 @@ fn earlier(one: Option<Untold>, other: Option<Untold>) -> Option<Untold>
 
 // ---- rounds
 
-fn are_rounds_told(costs: &TaskCosts) -> bool
-    ensures { result ≡ are_rounds_told costs.now }
-{
-    is_told(costs.first) && is_told(costs.next)
-}
-
 fn untold_rounds(costs: &Costs, k: usize) -> Option<Untold>
     ensures { result ≡ untold_rounds costs.now k }
 {
-    if are_rounds_told(&task(costs, k)) {
+    let task = task(costs, k);
+    if is_told(task.first) && is_told(task.next) {
         None
     } else {
         Some(Untold::Rounds(k))
@@ -178,12 +177,6 @@ fn untold_joined(costs: &Costs, h: usize, k: usize) -> Option<Untold>
 
 // ---- lower tasks whose sections count
 
-fn are_section_makings_told(makings: &SectionMakings) -> bool
-    ensures { result ≡ are_section_makings_told makings.now }
-{
-    is_told(makings.activations) && is_told(makings.settings)
-}
-
 fn untold_section(costs: &Costs, h: usize, k: usize) -> Option<Untold>
     ensures { result ≡ untold_section costs.now h k }
 {
@@ -197,7 +190,8 @@ fn untold_section(costs: &Costs, h: usize, k: usize) -> Option<Untold>
 fn untold_section_making(costs: &Costs, h: usize, k: usize, j: usize) -> Option<Untold>
     ensures { result ≡ untold_section_making costs.now h k j }
 {
-    if is_lower(costs, h, j) || are_section_makings_told(&section_making(costs, h, k, j)) {
+    let made = section_making(costs, h, k, j);
+    if is_lower(costs, h, j) || (is_told(made.activations) && is_told(made.settings)) {
         None
     } else {
         Some(Untold::SectionMakings(k))
@@ -238,9 +232,10 @@ fn first_untold_lower(costs: &Costs, h: usize) -> Option<Untold>
     found
 }
 
-/// The first that has no number, of all that the windows of a task are computed from: rounds of its level, how often they make tasks of it Ready, by the task
-/// that makes them first, and for each lower task in turn its sections, and how often they make tasks of the level Ready; or its rounds, if they join, and how
-/// often these make such tasks and it Ready, and the level makes it Ready.
+/// The first that has no number, of all that the windows of a task are computed from: rounds of its level, how often
+/// they make tasks of it Ready, by the task that makes them first, and for each lower task in turn its sections, and
+/// how often they make tasks of the level Ready; or its rounds, if they join, and how often these make such tasks and
+/// it Ready, and the level makes it Ready.
 pub fn first_untold(costs: &Costs, h: usize) -> Option<Untold>
     ensures is { result ≡ first_untold costs.now h }
     ensures inside { (u : Untold) → result ≡ Some u → IsInside (length costs.now.tasks) u }

@@ -37,6 +37,12 @@ pub struct Made {
     pub settings: u64,
 }
 
+/// Never.
+pub const NEVER: Made = Made {
+    activations: 0,
+    settings: 0,
+};
+
 /// Which makings of a task count.
 #[derive(Clone, Copy)]
 pub enum Rule {

@@ -1,4 +1,4 @@
-//! Accesses to data by an index under a mask from 2,048 to 32,767, too wide for an instruction: six instructions (`wide`, `specs/FarAccesses`).
+//! Accesses to data by an index under a mask from 2,048 to 32,767, in six instructions (`wide`, `specs/FarAccesses`).
 ghost use Rattle.std.specs.Prelude.{◌≡◌, ◌<◌, ◌++◌, ◌∷◌, []};
 ghost use Rattle.rv32_instr.specs.Range.{InRange};
 ghost use Rattle.rv32_expand.specs.FarAccesses.{far_indexed, wide, IsWide};

@@ -1,5 +1,4 @@
-//! Instructions by their mnemonics, with their operands in the order of RISC-V assembly; a load and a store name the base
-//! and then the offset.
+//! Instructions by mnemonic, operands in the order of RISC-V assembly; loads and stores name the base, then the offset.
 ghost use Rattle.std.specs.Prelude.{◌≡◌};
 ghost use Rattle.rv32_instr.specs.declared.InstrKind.TheVariants.{Lui, Auipc, Jal, Jalr, Beq, Bne, Blt, Bge, Bltu, Bgeu, Lb, Lh, Lw, Lbu, Lhu, Sb, Sh, Sw, Addi, Slti, Sltiu, Xori, Ori, Andi, Slli, Srli, Srai, Add, Sub, Sll, Slt, Sltu, Xor, Srl, Sra, Or, And, Csrrw, Csrrs, Csrrwi, Csrrci, Mret};
 

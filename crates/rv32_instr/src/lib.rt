@@ -1,9 +1,9 @@
 //! The instructions of RV32I, with the CSR instructions and `mret`, and their words.
 //!
-//! The table of instructions, both ways, each the other's inverse (`encode`, `decode`; `specs/Encode`, `specs/Table`, `specs/Range`). Instructions by
-//! mnemonics, and the two parts of a constant (`asm`, `access`, `constant`; `specs/Access`). What an instruction does: `specs/Effect`,
-//! `specs/Execute`; loads and stores: `specs/Memory`, `specs/Ram`. They restate the RISC-V unprivileged manual. The state: `sloth_base` (`Machine`,
-//! `Lines`).
+//! The table of instructions, both ways, each the other's inverse (`encode`, `decode`; `specs/Encode`, `specs/Table`,
+//! `specs/Range`). Instructions by mnemonics, and the two parts of a constant (`asm`, `access`, `constant`;
+//! `specs/Access`). What an instruction does: `specs/Effect`, `specs/Execute`; loads and stores: `specs/Memory`,
+//! `specs/Ram`. They restate the RISC-V unprivileged manual. The state: `sloth_base` (`Machine`, `Lines`).
 #![tactic(auto)]
 
 ghost use Rattle.std.specs.Prelude.{◌≡◌};

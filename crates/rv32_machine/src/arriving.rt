@@ -6,7 +6,7 @@ ghost use Rattle.sloth_base.specs.MemoryMap.{line_count};
 
 use crate::Machine;
 use machine_memory::SlothBus;
-use sloth_base::{Image, Line, NoMemory};
+use sloth_base::{Image, Line, Result};
 use std::alloc::Global;
 
 impl Machine<SlothBus> {
@@ -14,7 +14,7 @@ impl Machine<SlothBus> {
     ghost use Rattle.rv32_machine.specs.Start.{start};
 
     /// The machine that starts on this image.
-    pub fn starting(alloc: Global, image: &Image) -> Result<Machine<SlothBus>, NoMemory>
+    pub fn starting(alloc: Global, image: &Image) -> Result<Machine<SlothBus>>
         requires { InFormat image.now }
         ensures state { IfOk result (λ machine. state (λ bus. bus) machine ≡ start image.now) }
         ensures count { IfOk result (λ machine. machine.count ≡ 0) }

@@ -5,7 +5,7 @@ ghost use Rattle.rv32_machine.specs.Start.{flat_start};
 
 use machine_memory::{Bus, Place, Ram, extended, locate};
 use rv32_instr::{Bad, Instr, decode};
-use sloth_base::{Image, Line, NoMemory, Width};
+use sloth_base::{Image, Line, Result, Width};
 use std::alloc::Global;
 
 /// RAM without a controller.
@@ -18,7 +18,7 @@ impl FlatBus {
     ghost use Rattle.rv32_machine.specs.Flat.{flat_memory};
 
     /// RAM that begins with the image's memory; the rest is zero.
-    pub fn new(alloc: Global, image: &Image) -> Result<FlatBus, NoMemory>
+    pub fn new(alloc: Global, image: &Image) -> Result<FlatBus>
         requires { InFormat image.now }
         ensures { IfOk result (λ bus. flat_memory bus ≡ flat_start image.now) }
     {

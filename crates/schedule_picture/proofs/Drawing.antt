@@ -5,15 +5,15 @@ use Rattle.std.specs.List.{flat_map}
 use Rattle.std.proofs.Math.Numerals.{add-one}
 use Rattle.lane_drawing.specs.Drawing.{is_above, head_lines, axis_lines, lane_line, bar_line, row_middle, legend_lines}
 use Rattle.lane_drawing.specs.declared.bars.Bar.{Bar}
-use Rattle.schedule_picture.specs.Picture.{Drawing, longest_of, tasks_above, task_lane, task_lanes, counter_lane, counter_lanes, mark_lines, picture_text}
+use Rattle.schedule_picture.specs.Picture.{Drawing, longest_length, tasks_above, task_lane, task_lanes, counter_lane, counter_lanes, mark_lines, picture_text}
 
-pub no_names : (names : List (List ℕ)) → longest_of names 0 ≡ 6
-unfolding longest_of
+pub no_names : (names : List (List ℕ)) → longest_length names 0 ≡ 6
+unfolding longest_length
 no_names names = refl
 
-pub one_name_more : (names : List (List ℕ)) (k : ℕ) → longest_of names (k + 1) ≡ max (longest_of names k) (length (get_or names k []))
-unfolding longest_of
-one_name_more names k = ap (longest_of names) (add-one k)
+pub one_name_more : (names : List (List ℕ)) (k : ℕ) → longest_length names (k + 1) ≡ max (longest_length names k) (length (get_or names k []))
+unfolding longest_length
+one_name_more names k = ap (longest_length names) (add-one k)
 
 pub no_tasks : (levels : List ℕ) (task : ℕ) → tasks_above levels task 0 ≡ 0
 unfolding tasks_above

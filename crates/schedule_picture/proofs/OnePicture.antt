@@ -18,7 +18,7 @@ use Rattle.std.specs.List.{flat_map}
 use Rattle.lane_drawing.specs.Drawing.{head_lines, axis_lines, lane_line, bar_line, row_middle, legend_lines}
 use Rattle.lane_drawing.proofs.Growing.{one_bars}
 use Rattle.schedule_picture.specs.LaneLooks.{owned_lanes, look_of}
-use Rattle.schedule_picture.specs.Picture.{Drawing, IsPictureOf, scale_of, lane_text, shown_arrivals, tasks_above, task_lane, task_lanes, counter_lane, counter_lanes, mark_lines, picture_text}
+use Rattle.schedule_picture.specs.Picture.{Drawing, IsPictureOf, picture_scale, lane_text, shown_arrivals, tasks_above, task_lane, task_lanes, counter_lane, counter_lanes, mark_lines, picture_text}
 use Rattle.schedule_picture.specs.Items.{bar_words}
 use Rattle.schedule_picture.specs.Marks.{run_marks, run_addresses}
 use Rattle.schedule_picture.specs.declared.marks.Mark.{Mark}
@@ -80,7 +80,7 @@ module _ (image : Image) (A : List Admission) (marks : List Mark) (addresses lev
 pub one_picture : (image : Image) (A : List Arrival) (from to : ℕ) (text other : List ℕ) → IsPictureOf image A from to text → IsPictureOf image A from to other
     → text ≡ other
 one_picture image A from to text other h i =
-    let scale = scale_of image from to in
+    let scale = picture_scale image from to in
     let samples : h.samples ≡ i.samples = one-samples image A 0 h.samples i.samples h.are_samples i.are_samples (h.counted ∙ sym i.counted) in
     let levels : h.levels ≡ i.levels = one_levels image A to h.levels i.levels h.are_levels i.are_levels in
     let same : (lane : ℕ) → lane ≤ owned_lanes image → h.bars lane ≡ i.bars lane =

@@ -35,7 +35,7 @@ use Rattle.lane_drawing.specs.Strips.{Lane, IsStrip, IsFreshStrip, ShowsMore, em
 use Rattle.lane_drawing.proofs.Growing.{same_strip}
 use Rattle.schedule_picture.specs.Lanes.{HaveChanged}
 use Rattle.schedule_picture.specs.LaneLooks.{owned_lanes, lane_look, look_of}
-use Rattle.schedule_picture.specs.Picture.{IsPictureOf, picture_text, scale_of}
+use Rattle.schedule_picture.specs.Picture.{IsPictureOf, picture_text, picture_scale}
 use Rattle.schedule_picture.specs.Samples.{HasGiven, HasGivenFirst, HasBars, StopsBefore}
 use Rattle.schedule_picture.proofs.Shown.{HasShown}
 
@@ -186,7 +186,7 @@ module _ (image : Image) (A : List Arrival) where
       subst (λ k. E k A) (h.count ∙ counted) (subst (E (sampled_count s)) h.arrivals_are whole)
 
   pub picture_of : (from to : ℕ) (s : Sampler) (strips : List Lane) (admissions : List Admission) (marks : List Mark) (addresses levels : List ℕ) (scale : Scale) (text : List ℕ)
-      → HasBars image A from to s strips admissions marks addresses → AreSampledLevels (sampled_image s) (sampled_arrivals s) (sampled_count s) levels → scale ≡ scale_of image from to
+      → HasBars image A from to s strips admissions marks addresses → AreSampledLevels (sampled_image s) (sampled_arrivals s) (sampled_count s) levels → scale ≡ picture_scale image from to
       → text ≡ picture_text (record {
         image = image;
         admissions = admissions;
@@ -213,9 +213,9 @@ module _ (image : Image) (A : List Arrival) where
         are_levels = subst N (h.given.count ∙ h.counted) (subst M h.given.arrivals_are (subst L h.given.image_is are));
         bars = λ lane. (get_or strips lane empty_lane).bars;
         are_bars = h.are_bars;
-        is = is ∙ ap (D admissions marks addresses) at ∙ ap (λ a. D a marks addresses (scale_of image from to)) h.noted
-            ∙ ap (λ m. D (run_admissions image A h.samples from (to - from)) m addresses (scale_of image from to)) h.marked
-            ∙ ap (λ p. D (run_admissions image A h.samples from (to - from)) (run_marks image A h.samples from (to - from)) p (scale_of image from to)) h.addressed;
+        is = is ∙ ap (D admissions marks addresses) at ∙ ap (λ a. D a marks addresses (picture_scale image from to)) h.noted
+            ∙ ap (λ m. D (run_admissions image A h.samples from (to - from)) m addresses (picture_scale image from to)) h.marked
+            ∙ ap (λ p. D (run_admissions image A h.samples from (to - from)) (run_marks image A h.samples from (to - from)) p (picture_scale image from to)) h.addressed;
       }
 
   -- there is an address for each count of the picture

@@ -25,17 +25,17 @@ item_mark None = None
 item_mark (Some mark) = if is_item mark.kind then Some mark else None
 
 -- the mark of an item on an address
-abbrev pub item_at : Image → (address : ℕ) → Option Mark
-item_at image address = item_mark (mark_on image.marks address)
+abbrev pub address_item : Image → (address : ℕ) → Option Mark
+address_item image address = item_mark (mark_on image.marks address)
 
 -- the first one and the last one at so many counts from one on, by the addresses of counts
 unfoldable pub first_item : Image → (addresses : List ℕ) → (from : ℕ) → ℕ → Option Mark
 first_item image addresses from zero = None
-first_item image addresses from (suc n) = option_or (item_at image (get_or addresses from 0)) (first_item image addresses (from + 1) n)
+first_item image addresses from (suc n) = option_or (address_item image (get_or addresses from 0)) (first_item image addresses (from + 1) n)
 
 unfoldable pub last_item : Image → (addresses : List ℕ) → (from : ℕ) → ℕ → Option Mark
 last_item image addresses from zero = None
-last_item image addresses from (suc n) = option_or (item_at image (get_or addresses (from + n) 0)) (last_item image addresses from n)
+last_item image addresses from (suc n) = option_or (address_item image (get_or addresses (from + n) 0)) (last_item image addresses from n)
 
 -- what the listing says of them
 abbrev pub first_item_words : List (List ℕ) → Option Mark → List ℕ

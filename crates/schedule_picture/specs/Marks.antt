@@ -36,9 +36,9 @@ is_task_activated arrivals before now task =
 
 -- who acts from a count that finds interrupts open to the next: the counter whose line is taken there, or the running task, told by its number
 -- and 1 more, where no line is
-abbrev pub actor_of : (taken : Option ℕ) (running : ℕ) → Option Actor
-actor_of None running = if running == 0 then None else Some (actor.Task (running - 1))
-actor_of (Some line) running = if nat_lt line first_counter_line then None else Some (actor.Counter (line - first_counter_line))
+abbrev pub acting : (taken : Option ℕ) (running : ℕ) → Option Actor
+acting None running = if running == 0 then None else Some (actor.Task (running - 1))
+acting (Some line) running = if nat_lt line first_counter_line then None else Some (actor.Counter (line - first_counter_line))
 
 -- what is marked of a task, where it is Ready: that it is woken, or activated
 abbrev pub task_marks : List Arrival → Actor → (before now : Seen) → (task : ℕ) → List Mark
@@ -83,7 +83,7 @@ expiries_at at (Some counter) before now = expiries at counter before now alarm_
 abbrev pub marks_when_open : List Arrival → (taken : Option ℕ) (before now : Option Seen) → List Mark
 marks_when_open arrivals taken None now = []
 marks_when_open arrivals taken (Some before) None = []
-marks_when_open arrivals taken (Some before) (Some now) = marks_by arrivals (actor_of taken before.running) before now
+marks_when_open arrivals taken (Some before) (Some now) = marks_by arrivals (acting taken before.running) before now
 
 -- what one marks that finds them masked: alarms that have had ticks left at the count before, and have none
 abbrev pub marks_when_masked : (taken : Option ℕ) → Option Seen → (before now : List ℕ) → List Mark

@@ -28,17 +28,17 @@ use Rattle.schedule_picture.specs.declared.marks.Sign.{Sign}
 use Rattle.schedule_picture.specs.declared.marks.Sign.TheVariants as sign
 
 -- the length of the longest of the first names, so many of them, and at least that of `kernel`
-unfoldable pub longest_of : List (List ℕ) → ℕ → ℕ
-longest_of names zero = 6
-longest_of names (suc k) = max (longest_of names k) (length (get_or names k []))
+unfoldable pub longest_length : List (List ℕ) → ℕ → ℕ
+longest_length names zero = 6
+longest_length names (suc k) = max (longest_length names k) (length (get_or names k []))
 
 -- the same of the names of all lanes
 abbrev pub longest_name : Image → ℕ
-longest_name image = max (longest_of image.tasks (length image.tasks)) (longest_of image.counters (length image.counters))
+longest_name image = max (longest_length image.tasks (length image.tasks)) (longest_length image.counters (length image.counters))
 
 -- where the counts of a picture stand
-abbrev pub scale_of : Image → (from to : ℕ) → Scale
-scale_of image from to = record { left = left_margin (longest_name image); from = from; to = to }
+abbrev pub picture_scale : Image → (from to : ℕ) → Scale
+picture_scale image from to = record { left = left_margin (longest_name image); from = from; to = to }
 
 -- how many of the first tasks, so many of them, stand above a task
 unfoldable pub tasks_above : (levels : List ℕ) (task : ℕ) → ℕ → ℕ
@@ -177,7 +177,7 @@ pub record IsPictureOf (image : Image) (arrivals : List Arrival) (from to : ℕ)
     marks = run_marks image arrivals samples from (to - from);
     addresses = run_addresses image arrivals samples from (to - from);
     levels = levels;
-    scale = scale_of image from to;
+    scale = picture_scale image from to;
     bars = bars;
   })
 

@@ -7,7 +7,7 @@ ghost use Rattle.schedule_picture.specs.Picture.{admission_line, is_shown, shown
 
 use lane_drawing::{Scale, arrival_line};
 use run_samples::Admission;
-use sloth_base::NoMemory;
+use sloth_base::Result;
 
 // Whether an arrival is of a line, in the counts of a picture.
 fn is_shown(scale: Scale, line: u8, admission: &Admission) -> bool
@@ -26,7 +26,7 @@ pub fn push_arrivals(
     middle: u32,
     admissions: &[Admission],
     line: u8,
-) -> Result<(), NoMemory>
+) -> Result<()>
     requires scale { IsScale scale }
     requires name { length name.now ≤ name_limit }
     requires high { 13 ≤ middle }

@@ -3,7 +3,8 @@ ghost use Rattle.std.specs.Prelude.{◌≡◌, ◌≤◌, ◌+◌, ◌-◌, ◌+
 ghost use Rattle.sloth_base.specs.ImageRange.{InFormat, AreAscending};
 ghost use Rattle.lane_drawing.specs.Bars.{IsBarInside};
 ghost use Rattle.trace_text.specs.Listing.{mark_on};
-ghost use Rattle.schedule_picture.specs.Items.{is_item, item_mark, item_at, first_item, last_item, first_item_words, last_item_words, items_words, is_running, bar_words};
+ghost use Rattle.schedule_picture.specs.Items.{is_item, item_mark, address_item, first_item, last_item};
+ghost use Rattle.schedule_picture.specs.Items.{first_item_words, last_item_words, items_words, bar_words};
 
 use lane_drawing::{Bar, Look, Scale};
 use sloth_base::{Image, Mark, MarkKind};
@@ -12,14 +13,11 @@ use trace_text::{LineText, push_mark};
 fn is_item(kind: MarkKind) -> bool
     ensures { result ≡ is_item kind }
 {
-    match kind {
-        MarkKind::Item | MarkKind::Jump => true,
-        MarkKind::Opening | MarkKind::Idle | MarkKind::Back => false,
-    }
+    matches!(kind, MarkKind::Item | MarkKind::Jump)
 }
 
 // The mark on an address.
-fn mark_on(marks: &[Mark], address: u32) -> Option<Mark>
+fn found_mark(marks: &[Mark], address: u32) -> Option<Mark>
     requires { AreAscending marks.now }
     ensures { result ≡ mark_on marks.now address }
 {
@@ -39,21 +37,13 @@ fn item_mark(mark: Option<Mark>) -> Option<Mark>
     }
 }
 
-// The mark of an item on an address.
-fn item_at(image: &Image, address: u32) -> Option<Mark>
-    requires { InFormat image.now }
-    ensures { result ≡ item_at image.now address }
-{
-    item_mark(mark_on(image.marks.items(), address))
-}
-
-// That of the address of a count.
-fn item_of(image: &Image, addresses: &[u32], place: usize) -> Option<Mark>
+// The mark of an item on the address of a count.
+fn count_item(image: &Image, addresses: &[u32], place: usize) -> Option<Mark>
     requires format { InFormat image.now }
     requires within { place < length addresses.now }
-    ensures { result ≡ item_at image.now (get_or addresses.now place 0) }
+    ensures { result ≡ address_item image.now (get_or addresses.now place 0) }
 {
-    item_at(image, addresses[place])
+    item_mark(found_mark(image.marks.items(), addresses[place]))
 }
 
 // The first one at the counts from one to below another.
@@ -64,7 +54,7 @@ fn first_item(image: &Image, addresses: &[u32], from: usize, to: usize) -> Optio
     ensures { result ≡ first_item image.now addresses.now from (to - from) }
 {
     for place in from..to {
-        if let Some(mark) = item_of(image, addresses, place) {
+        if let Some(mark) = count_item(image, addresses, place) {
             return Some(mark);
         }
     }
@@ -79,7 +69,7 @@ fn last_item(image: &Image, addresses: &[u32], from: usize, to: usize) -> Option
     ensures { result ≡ last_item image.now addresses.now from (to - from) }
 {
     for behind in 0..to - from {
-        if let Some(mark) = item_of(image, addresses, to - 1 - behind) {
+        if let Some(mark) = count_item(image, addresses, to - 1 - behind) {
             return Some(mark);
         }
     }
@@ -127,16 +117,6 @@ fn items_words(image: &Image, addresses: &[u32], from: usize, to: usize) -> Line
     line
 }
 
-fn is_running(look: Look) -> bool
-    ensures { result ≡ is_running look }
-{
-    match look {
-        Look::Runs => true,
-        Look::Served | Look::Preempted | Look::Ready | Look::Waiting | Look::Tick | Look::Kernel =>
-            false,
-    }
-}
-
 /// The words of a bar of a picture, where these are the addresses of its counts.
 pub fn bar_words(image: &Image, addresses: &[u32], scale: Scale, bar: Bar) -> LineText
     requires format { InFormat image.now }
@@ -144,7 +124,7 @@ pub fn bar_words(image: &Image, addresses: &[u32], scale: Scale, bar: Bar) -> Li
     requires inside { IsBarInside scale.from scale.to bar }
     ensures { result ≡ bar_words image.now addresses.now scale.from bar }
 {
-    if is_running(bar.look) {
+    if matches!(bar.look, Look::Runs) {
         items_words(
             image,
             addresses,

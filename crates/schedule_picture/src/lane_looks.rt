@@ -1,18 +1,12 @@
 //! What a lane shows at a count.
 ghost use Rattle.std.specs.Prelude.{◌≡◌, ◌≤◌, ◌<◌, ◌+◌, cond, Some, None};
 ghost use Rattle.sloth_base.specs.Limits.{task_limit, counter_limit};
-ghost use Rattle.schedule_picture.specs.LaneLooks.{is_kernel, is_tick, state_look, lane_look};
+ghost use Rattle.schedule_picture.specs.LaneLooks.{is_tick, state_look, lane_look};
 
 use lane_drawing::{Look, task_look};
 use run_samples::Sample;
 use sloth_base::FIRST_COUNTER_LINE;
 use sloth_runner::task_states::Seen;
-
-fn is_kernel(sample: &Sample) -> bool
-    ensures { result ≡ is_kernel sample.now }
-{
-    sample.interrupts.masked || sample.taken.is_some()
-}
 
 fn state_look(seen: &Option<Seen>, kernel: bool, task: usize) -> Option<Look>
     requires { task ≤ 29 }
@@ -41,14 +35,15 @@ fn shown(look: Look, is_shown: bool) -> Option<Look>
     if is_shown { Some(look) } else { None }
 }
 
-/// The look of a lane in a sample: a task's, behind those of all tasks a counter's, and behind these the lane of kernel code.
+/// The look of a lane in a sample: a task's, behind those of all tasks a counter's, and behind these the lane of kernel
+/// code.
 pub fn lane_look(tasks: usize, counters: usize, sample: &Sample, lane: usize) -> Option<Look>
     requires tasks { tasks ≤ task_limit }
     requires counters { counters ≤ counter_limit }
     requires lane { lane ≤ tasks + counters }
     ensures { result ≡ lane_look tasks counters sample.now lane }
 {
-    let kernel = is_kernel(sample);
+    let kernel = sample.interrupts.masked || sample.taken.is_some();
     if lane < tasks {
         return state_look(&sample.seen, kernel, lane);
     }

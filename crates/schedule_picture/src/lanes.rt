@@ -8,14 +8,15 @@ ghost use Rattle.schedule_picture.specs.LaneLooks.{lane_look};
 use crate::lane_looks::lane_look;
 use lane_drawing::Strip;
 use run_samples::Sample;
-use sloth_base::NoMemory;
+use sloth_base::{NoMemory, Result};
 use std::alloc::Global;
 
 /// So many lanes, and one for kernel code, that have shown nothing yet.
-pub fn empty_strips(alloc: Global, owned: usize, from: u32) -> Result<Vec<Strip>, NoMemory>
+pub fn empty_strips(alloc: Global, owned: usize, from: u32) -> Result<Vec<Strip>>
     requires { owned ≤ task_limit + counter_limit }
     ensures lanes { IfOk result (λ strips. length strips.items ≡ owned + 1) }
-    ensures fresh { IfOk result (λ strips. (lane : ℕ) → lane < owned + 1 → IsFreshStrip from (get_or strips.items lane empty_lane)) }
+    ensures fresh { IfOk result (λ strips. (lane : ℕ) → lane < owned + 1
+        → IsFreshStrip from (get_or strips.items lane empty_lane)) }
 {
     let mut strips = Vec::new(alloc);
     for _ in 0..owned + 1 {
@@ -31,12 +32,13 @@ pub fn show(
     counters: usize,
     count: u32,
     sample: &Sample,
-) -> Result<(), NoMemory>
+) -> Result<()>
     requires tasks { tasks ≤ task_limit }
     requires counters { counters ≤ counter_limit }
     requires lanes { length strips.old.items ≡ tasks + counters + 1 }
     ensures shows { OnOk result
-        (HaveChanged (λ lane. ShowsMore count (lane_look tasks counters sample.now lane)) (tasks + counters + 1) strips.old.items strips.new.items) }
+        (HaveChanged (λ lane. ShowsMore count (lane_look tasks counters sample.now lane))
+        (tasks + counters + 1) strips.old.items strips.new.items) }
 {
     for lane in 0..tasks + counters + 1 {
         strips[lane].show(count, lane_look(tasks, counters, sample, lane))?;
@@ -45,8 +47,9 @@ pub fn show(
 }
 
 /// The bars of what was shown last end below this count.
-pub fn close(strips: &mut Vec<Strip>, count: u32) -> Result<(), NoMemory>
-    ensures { OnOk result (HaveChanged (λ lane old new. new.bars ≡ old.bars ++ last_bar old count) (length strips.old.items) strips.old.items strips.new.items) }
+pub fn close(strips: &mut Vec<Strip>, count: u32) -> Result<()>
+    ensures { OnOk result (HaveChanged (λ lane old new. new.bars
+        ≡ old.bars ++ last_bar old count) (length strips.old.items) strips.old.items strips.new.items) }
 {
     for lane in 0..strips.len() {
         strips[lane].close(count)?;

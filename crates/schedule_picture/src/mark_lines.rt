@@ -1,14 +1,15 @@
 //! The marks of a picture.
-ghost use Rattle.std.specs.Prelude.{◌≡◌, ◌≤◌, ◌<◌, ◌+◌, ◌++◌, OnOk, IsTrue, ltb, length};
+ghost use Rattle.std.specs.Prelude.{◌≡◌, ◌≤◌, ◌<◌, ◌+◌, ◌++◌, OnOk, IsTrue, length};
 ghost use Rattle.sloth_base.specs.ImageRange.{InFormat};
 ghost use Rattle.sloth_base.specs.Limits.{task_limit, counter_limit, name_limit};
 ghost use Rattle.lane_drawing.specs.Scale.{IsScale};
-ghost use Rattle.schedule_picture.specs.Picture.{actor_name, actor_row, arrow_between, bar_edge, has_actor, has_object, is_marked, mark_line, mark_lines};
+ghost use Rattle.schedule_picture.specs.Picture.{actor_name, actor_row, arrow_between, bar_edge, has_actor, has_object};
+ghost use Rattle.schedule_picture.specs.Picture.{is_marked, mark_line, mark_lines};
 
 use crate::marks::{Actor, Mark, Sign};
 use crate::text::{row_middle, tasks_above};
 use lane_drawing::{Scale, arrow_line, expiry_line};
-use sloth_base::{Image, NoMemory, TASK_LIMIT};
+use sloth_base::{Image, Result, TASK_LIMIT};
 use trace_text::LineText;
 
 // Whether who acts is one of the image's.
@@ -110,23 +111,13 @@ fn mark_line(image: &Image, levels: &[u8; TASK_LIMIT], scale: Scale, mark: &Mark
     ensures { result ≡ mark_line image.now levels.now scale mark.now }
 {
     match &mark.sign {
-        Sign::Wakes(task) => arrow_between(
-            image,
-            levels,
-            scale,
-            mark,
-            b" wakes ",
-            usize::from(*task),
-        ),
+        Sign::Wakes(task) => {
+            let task = usize::from(*task);
+            arrow_between(image, levels, scale, mark, b" wakes ", task)
+        }
         Sign::Activates(task) => {
-            arrow_between(
-                image,
-                levels,
-                scale,
-                mark,
-                b" activates ",
-                usize::from(*task),
-            )
+            let task = usize::from(*task);
+            arrow_between(image, levels, scale, mark, b" activates ", task)
         }
         Sign::Expires(alarm) => {
             let middle = row_middle(actor_row(image, levels, &mark.actor));
@@ -142,7 +133,7 @@ pub fn push_marks(
     levels: &[u8; TASK_LIMIT],
     scale: Scale,
     marks: &[Mark],
-) -> Result<(), NoMemory>
+) -> Result<()>
     requires format { InFormat image.now }
     requires scale { IsScale scale }
     ensures { OnOk result (text.new.items ≡ text.old.items ++ mark_lines image.now levels.now scale marks.now) }

@@ -4,11 +4,13 @@ ghost use Rattle.std.specs.List.{list_any};
 ghost use Rattle.sloth_base.specs.Limits.{task_limit, alarm_limit};
 ghost use Rattle.schedule_picture.specs.declared.marks.Actor.TheVariants.{Counter};
 ghost use Rattle.schedule_picture.specs.declared.marks.Sign.TheVariants.{Wakes, Activates, Expires};
-ghost use Rattle.schedule_picture.specs.Marks.{is_task_woken, comes_between, is_task_activated, actor_of, task_marks, tasks_marks, is_alarm_over, ticking, expiries, expiries_at, marks_when_open, marks_when_masked, marks_at, no_watch, watched};
+ghost use Rattle.schedule_picture.specs.Marks.{is_task_woken, comes_between, is_task_activated, acting, task_marks};
+ghost use Rattle.schedule_picture.specs.Marks.{tasks_marks, is_alarm_over, ticking, expiries};
+ghost use Rattle.schedule_picture.specs.Marks.{marks_when_open, marks_when_masked, marks_at, no_watch, watched};
 
 use lane_drawing::{is_activated, is_over, is_woken};
 use run_samples::Sample;
-use sloth_base::{ALARM_LIMIT, Arrival, FIRST_COUNTER_LINE, Line, NoMemory, TASK_LIMIT};
+use sloth_base::{ALARM_LIMIT, Arrival, FIRST_COUNTER_LINE, Line, NoMemory, Result, TASK_LIMIT};
 use sloth_runner::task_states::Seen;
 use std::alloc::Global;
 use std::marker::Model;
@@ -36,14 +38,6 @@ pub struct Mark {
     pub sign: Sign,
 }
 
-// Whether a task waits at one count and is Ready at the next that finds interrupts open.
-fn is_task_woken(before: &Seen, now: &Seen, task: usize) -> bool
-    requires { task < task_limit }
-    ensures { result ≡ is_task_woken before.now now.now task }
-{
-    is_woken(before.tasks[task], now.tasks[task])
-}
-
 // Whether an arrival of a line comes after a count, and at another at the latest.
 fn comes_between(line: usize, after: u32, last: u32, arrival: &Arrival) -> bool
     ensures { result ≡ comes_between line after last arrival.now }
@@ -59,7 +53,8 @@ fn has_come(arrivals: &[Arrival], line: usize, after: u32, last: u32) -> bool
         .any(|arrival| comes_between(line, after, last, arrival))
 }
 
-// Whether a task is Suspended at one count and Ready at the next that finds interrupts open, and no arrival of its own comes between.
+// Whether a task is Suspended at one count and Ready at the next that finds interrupts open, and no arrival of its own
+// comes between.
 fn is_task_activated(arrivals: &[Arrival], before: &Seen, now: &Seen, task: usize) -> bool
     requires { task < task_limit }
     ensures { result ≡ is_task_activated arrivals.now before.now now.now task }
@@ -68,8 +63,8 @@ fn is_task_activated(arrivals: &[Arrival], before: &Seen, now: &Seen, task: usiz
         && !has_come(arrivals, task, before.count, now.count)
 }
 
-fn actor_of(taken: &Option<Line>, running: u32) -> Option<Actor>
-    ensures { result ≡ actor_of taken.now running }
+fn acting(taken: &Option<Line>, running: u32) -> Option<Actor>
+    ensures { result ≡ acting taken.now running }
 {
     match taken {
         None => {
@@ -90,7 +85,7 @@ fn actor_of(taken: &Option<Line>, running: u32) -> Option<Actor>
 }
 
 // Appends a mark, if it is one.
-fn push_if(marks: &mut Vec<Mark>, is_one: bool, mark: Mark) -> Result<(), NoMemory>
+fn push_marked(marks: &mut Vec<Mark>, is_one: bool, mark: Mark) -> Result<()>
     ensures { OnOk result (marks.new.items ≡ marks.old.items ++ cond is_one (mark ∷ []) []) }
 {
     if is_one {
@@ -100,23 +95,18 @@ fn push_if(marks: &mut Vec<Mark>, is_one: bool, mark: Mark) -> Result<(), NoMemo
 }
 
 // Appends the mark of a task, if it is woken.
-fn push_wake(
-    marks: &mut Vec<Mark>,
-    by: Actor,
-    before: &Seen,
-    now: &Seen,
-    task: usize,
-) -> Result<(), NoMemory>
+fn push_wake(marks: &mut Vec<Mark>, by: Actor, before: &Seen, now: &Seen, task: usize) -> Result<()>
     requires { task < task_limit }
     ensures { OnOk result (marks.new.items ≡ marks.old.items
-        ++ cond (is_task_woken before.now now.now task) (record { at = now.now.count; actor = by; sign = Wakes task } ∷ []) []) }
+        ++ cond (is_task_woken before.now now.now task) (record { at = now.now.count; actor = by; sign = Wakes task }
+        ∷ []) []) }
 {
     let mark = Mark {
         at: now.count,
         actor: by,
         sign: Sign::Wakes(task as u8),
     };
-    push_if(marks, is_task_woken(before, now, task), mark)
+    push_marked(marks, is_woken(before.tasks[task], now.tasks[task]), mark)
 }
 
 // Appends the mark of a task, if it is activated.
@@ -127,17 +117,18 @@ fn push_activation(
     before: &Seen,
     now: &Seen,
     task: usize,
-) -> Result<(), NoMemory>
+) -> Result<()>
     requires { task < task_limit }
     ensures { OnOk result (marks.new.items ≡ marks.old.items
-        ++ cond (is_task_activated arrivals.now before.now now.now task) (record { at = now.now.count; actor = by; sign = Activates task } ∷ []) []) }
+        ++ cond (is_task_activated arrivals.now before.now now.now task)
+        (record { at = now.now.count; actor = by; sign = Activates task } ∷ []) []) }
 {
     let mark = Mark {
         at: now.count,
         actor: by,
         sign: Sign::Activates(task as u8),
     };
-    push_if(marks, is_task_activated(arrivals, before, now, task), mark)
+    push_marked(marks, is_task_activated(arrivals, before, now, task), mark)
 }
 
 // Appends what is marked of a task.
@@ -148,7 +139,7 @@ fn push_task_marks(
     before: &Seen,
     now: &Seen,
     task: usize,
-) -> Result<(), NoMemory>
+) -> Result<()>
     requires { task < task_limit }
     ensures { OnOk result (marks.new.items ≡ marks.old.items ++ task_marks arrivals.now by before.now now.now task) }
 {
@@ -164,21 +155,14 @@ fn push_tasks_marks(
     by: Actor,
     before: &Seen,
     now: &Seen,
-) -> Result<(), NoMemory>
-    ensures { OnOk result (marks.new.items ≡ marks.old.items ++ tasks_marks arrivals.now by before.now now.now task_limit) }
+) -> Result<()>
+    ensures { OnOk result (marks.new.items
+        ≡ marks.old.items ++ tasks_marks arrivals.now by before.now now.now task_limit) }
 {
     for task in 0..TASK_LIMIT {
         push_task_marks(marks, arrivals, by, before, now, task)?;
     }
     Ok(())
-}
-
-// Whether an alarm's ticks come to 0.
-fn is_alarm_over(before: &[u32; ALARM_LIMIT], now: &[u32; ALARM_LIMIT], alarm: usize) -> bool
-    requires { alarm < alarm_limit }
-    ensures { result ≡ is_alarm_over before.now now.now alarm }
-{
-    is_over(before[alarm], now[alarm])
 }
 
 fn ticking(taken: &Option<Line>) -> Option<u8>
@@ -204,17 +188,18 @@ fn push_expiry(
     before: &[u32; ALARM_LIMIT],
     now: &[u32; ALARM_LIMIT],
     alarm: usize,
-) -> Result<(), NoMemory>
+) -> Result<()>
     requires { alarm < alarm_limit }
     ensures { OnOk result (marks.new.items ≡ marks.old.items
-        ++ cond (is_alarm_over before.now now.now alarm) (record { at = at; actor = Counter counter; sign = Expires alarm } ∷ []) []) }
+        ++ cond (is_alarm_over before.now now.now alarm)
+        (record { at = at; actor = Counter counter; sign = Expires alarm } ∷ []) []) }
 {
     let mark = Mark {
         at,
         actor: Actor::Counter(counter),
         sign: Sign::Expires(alarm as u8),
     };
-    push_if(marks, is_alarm_over(before, now, alarm), mark)
+    push_marked(marks, is_over(before[alarm], now[alarm]), mark)
 }
 
 // Appends the marks of the alarms that expire at the tick of a counter which begins at a count.
@@ -224,7 +209,7 @@ fn push_expiries(
     counter: u8,
     before: &[u32; ALARM_LIMIT],
     now: &[u32; ALARM_LIMIT],
-) -> Result<(), NoMemory>
+) -> Result<()>
     ensures { OnOk result (marks.new.items ≡ marks.old.items ++ expiries at counter before.now now.now alarm_limit) }
 {
     for alarm in 0..ALARM_LIMIT {
@@ -239,13 +224,14 @@ fn push_when_open(
     arrivals: &[Arrival],
     last: &Sample,
     now: &Option<Seen>,
-) -> Result<(), NoMemory>
-    ensures { OnOk result (marks.new.items ≡ marks.old.items ++ marks_when_open arrivals.now last.now.taken last.now.seen now.now) }
+) -> Result<()>
+    ensures { OnOk result (marks.new.items
+        ≡ marks.old.items ++ marks_when_open arrivals.now last.now.taken last.now.seen now.now) }
 {
     let (Some(before), Some(now)) = (&last.seen, now) else {
         return Ok(());
     };
-    match actor_of(&last.taken, before.running) {
+    match acting(&last.taken, before.running) {
         Some(by) => push_tasks_marks(marks, arrivals, by, before, now),
         None => Ok(()),
     }
@@ -257,8 +243,9 @@ fn push_when_masked(
     last: &Sample,
     before: &[u32; ALARM_LIMIT],
     now: &[u32; ALARM_LIMIT],
-) -> Result<(), NoMemory>
-    ensures { OnOk result (marks.new.items ≡ marks.old.items ++ marks_when_masked last.now.taken last.now.seen before.now now.now) }
+) -> Result<()>
+    ensures { OnOk result (marks.new.items
+        ≡ marks.old.items ++ marks_when_masked last.now.taken last.now.seen before.now now.now) }
 {
     let Some(seen) = &last.seen else {
         return Ok(());
@@ -277,8 +264,9 @@ fn push_marks(
     sample: &Sample,
     before: &[u32; ALARM_LIMIT],
     now: &[u32; ALARM_LIMIT],
-) -> Result<(), NoMemory>
-    ensures { OnOk result (marks.new.items ≡ marks.old.items ++ marks_at arrivals.now last.now sample.now before.now now.now) }
+) -> Result<()>
+    ensures { OnOk result (marks.new.items
+        ≡ marks.old.items ++ marks_at arrivals.now last.now sample.now before.now now.now) }
 {
     let Some(last) = last else {
         return Ok(());
@@ -290,8 +278,8 @@ fn push_marks(
     }
 }
 
-/// A run that is watched: its arrivals, the last sample that found interrupts open, the ticks that alarms had left at the last count, and the marks and the
-/// addresses so far.
+/// A run that is watched: its arrivals, the last sample that found interrupts open, the ticks that alarms had left at
+/// the last count, and the marks and the addresses so far.
 #[derive(Drop)]
 pub struct Watching<'a> {
     arrivals: &'a [Arrival],
@@ -306,7 +294,13 @@ impl<'a> Model for Watching<'a> {
 
     ghost Value = { Watch };
 
-    ghost view = { λ watching. record { arrivals = watching.arrivals.now; last = watching.last; alarms = watching.alarms; marks = watching.marks.items; addresses = watching.addresses.items } };
+    ghost view = { λ watching. record {
+      arrivals = watching.arrivals.now;
+      last = watching.last;
+      alarms = watching.alarms;
+      marks = watching.marks.items;
+      addresses = watching.addresses.items;
+    } };
 }
 
 impl<'a> Watching<'a> {
@@ -329,7 +323,7 @@ impl<'a> Watching<'a> {
         sample: &Sample,
         alarms: &[u32; ALARM_LIMIT],
         address: u32,
-    ) -> Result<(), NoMemory>
+    ) -> Result<()>
         ensures { OnOk result (self.new ≡ watched self.old sample.now alarms.now address) }
     {
         push_marks(

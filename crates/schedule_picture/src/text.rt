@@ -8,7 +8,8 @@ ghost use Rattle.lane_drawing.specs.Drawing.{is_above};
 ghost use Rattle.lane_drawing.specs.Scale.{IsScale};
 ghost use Rattle.schedule_picture.specs.Drawn.{IsDrawable, drawing_of};
 ghost use Rattle.schedule_picture.specs.LaneLooks.{owned_lanes};
-ghost use Rattle.schedule_picture.specs.Picture.{longest_of, longest_name, scale_of, tasks_above, bar_lines, task_lane, task_lanes, counter_lane, counter_lanes, picture_text};
+ghost use Rattle.schedule_picture.specs.Picture.{longest_length, longest_name, picture_scale, tasks_above, bar_lines};
+ghost use Rattle.schedule_picture.specs.Picture.{task_lane, task_lanes, counter_lane, counter_lanes, picture_text};
 
 use crate::arrivals::push_arrivals;
 use crate::items::bar_words;
@@ -18,7 +19,7 @@ use lane_drawing::{
     Bar, Scale, Strip, push_axis, push_bar, push_head, push_lane, push_legend, push_name,
 };
 use run_samples::Admission;
-use sloth_base::{FIRST_COUNTER_LINE, Image, Name, NoMemory, TASK_LIMIT};
+use sloth_base::{FIRST_COUNTER_LINE, Image, Name, Result, TASK_LIMIT};
 use std::alloc::Global;
 
 /// What is drawn.
@@ -35,9 +36,9 @@ pub struct Drawn<'a> {
 
 // The length of the longest name, and at least that of `kernel`.
 #[tactic(auto, using(crate::proofs::Drawing::no_names, crate::proofs::Drawing::one_name_more))]
-fn longest_of(names: &[Name]) -> usize
+fn longest_length(names: &[Name]) -> usize
     requires { All (λ name. length name ≤ name_limit) names.now }
-    ensures is { result ≡ longest_of names.now (length names.now) }
+    ensures is { result ≡ longest_length names.now (length names.now) }
     ensures some { 6 ≤ result }
     ensures short { result ≤ name_limit }
 {
@@ -55,16 +56,16 @@ fn longest_name(image: &Image) -> usize
     ensures some { 6 ≤ result }
     ensures short { result ≤ name_limit }
 {
-    longest_of(image.tasks.items()).max(longest_of(image.counters.items()))
+    longest_length(image.tasks.items()).max(longest_length(image.counters.items()))
 }
 
 /// Where the counts of a picture stand.
-pub fn scale_of(image: &Image, from: u32, to: u32) -> Scale
+pub fn picture_scale(image: &Image, from: u32, to: u32) -> Scale
     requires format { InFormat image.now }
     requires ordered { from ≤ to }
     requires short { to ≤ from + picture_limit }
     requires few { to ≤ count_limit }
-    ensures is { result ≡ scale_of image.now from to }
+    ensures is { result ≡ picture_scale image.now from to }
     ensures scale { IsScale result }
 {
     Scale {
@@ -125,13 +126,14 @@ fn push_bars(
     name: &[u8],
     middle: u32,
     bars: &[Bar],
-) -> Result<(), NoMemory>
+) -> Result<()>
     requires drawable { IsDrawable drawn.now }
     requires name { length name.now ≤ name_limit }
     requires high { 12 ≤ middle }
     requires inside { All (IsBarInside drawn.now.scale.from drawn.now.scale.to) bars.now }
     ensures { OnOk result (text.new.items ≡ text.old.items
-        ++ bar_lines drawn.now.scale name.now middle (bar_words drawn.now.image.now drawn.now.addresses.now drawn.now.scale.from) bars.now) }
+        ++ bar_lines drawn.now.scale name.now middle
+        (bar_words drawn.now.image.now drawn.now.addresses.now drawn.now.scale.from) bars.now) }
 {
     for bar in bars {
         let words = bar_words(drawn.image, drawn.addresses, drawn.scale, *bar);
@@ -142,7 +144,7 @@ fn push_bars(
 
 // Appends the lane of a task.
 #[tactic(auto, unfolding(crate::specs::Picture::task_lane))]
-fn push_task(text: &mut Vec<u8>, drawn: &Drawn, task: usize) -> Result<(), NoMemory>
+fn push_task(text: &mut Vec<u8>, drawn: &Drawn, task: usize) -> Result<()>
     requires drawable { IsDrawable drawn.now }
     requires task { task < length drawn.now.image.now.tasks }
     ensures { OnOk result (text.new.items ≡ text.old.items ++ task_lane (drawing_of drawn.now) task) }
@@ -164,7 +166,7 @@ fn push_task(text: &mut Vec<u8>, drawn: &Drawn, task: usize) -> Result<(), NoMem
 
 // Appends the lane of a counter.
 #[tactic(auto, unfolding(crate::specs::Picture::counter_lane))]
-fn push_counter(text: &mut Vec<u8>, drawn: &Drawn, counter: usize) -> Result<(), NoMemory>
+fn push_counter(text: &mut Vec<u8>, drawn: &Drawn, counter: usize) -> Result<()>
     requires drawable { IsDrawable drawn.now }
     requires counter { counter < length drawn.now.image.now.counters }
     ensures { OnOk result (text.new.items ≡ text.old.items ++ counter_lane (drawing_of drawn.now) counter) }
@@ -178,7 +180,7 @@ fn push_counter(text: &mut Vec<u8>, drawn: &Drawn, counter: usize) -> Result<(),
 }
 
 // Appends the lanes of the tasks.
-fn push_tasks(text: &mut Vec<u8>, drawn: &Drawn, tasks: usize) -> Result<(), NoMemory>
+fn push_tasks(text: &mut Vec<u8>, drawn: &Drawn, tasks: usize) -> Result<()>
     requires drawable { IsDrawable drawn.now }
     requires tasks { tasks ≡ length drawn.now.image.now.tasks }
     ensures { OnOk result (text.new.items ≡ text.old.items ++ task_lanes (drawing_of drawn.now) tasks) }
@@ -190,7 +192,7 @@ fn push_tasks(text: &mut Vec<u8>, drawn: &Drawn, tasks: usize) -> Result<(), NoM
 }
 
 // Appends the lanes of the counters.
-fn push_counters(text: &mut Vec<u8>, drawn: &Drawn, counters: usize) -> Result<(), NoMemory>
+fn push_counters(text: &mut Vec<u8>, drawn: &Drawn, counters: usize) -> Result<()>
     requires drawable { IsDrawable drawn.now }
     requires counters { counters ≡ length drawn.now.image.now.counters }
     ensures { OnOk result (text.new.items ≡ text.old.items ++ counter_lanes (drawing_of drawn.now) counters) }
@@ -202,7 +204,7 @@ fn push_counters(text: &mut Vec<u8>, drawn: &Drawn, counters: usize) -> Result<(
 }
 
 /// The text of a picture.
-pub fn text_of(alloc: Global, drawn: &Drawn) -> Result<Vec<u8>, NoMemory>
+pub fn drawn_text(alloc: Global, drawn: &Drawn) -> Result<Vec<u8>>
     requires { IsDrawable drawn.now }
     ensures { IfOk result (λ text. text.items ≡ picture_text (drawing_of drawn.now)) }
 {

@@ -2,7 +2,7 @@
 use crate::frames::{Frame, Mode};
 use crate::tables::Tables;
 use crate::walking::push_points;
-use sloth_base::NoMemory;
+use sloth_base::Result;
 use std::alloc::Global;
 use text_pieces::push;
 use walk_sums::Point;
@@ -39,7 +39,7 @@ fn reach_all(
     reached: &mut Vec<Reached>,
     turn: usize,
     from: Reached,
-) -> Result<(), NoMemory> {
+) -> Result<()> {
     let Some(place) = tables.place(from.func, from.whole) else {
         return Ok(());
     };
@@ -68,7 +68,7 @@ fn reached_frames(
     reached: &[Reached],
     turn: usize,
     item: usize,
-) -> Result<Vec<Frame>, NoMemory> {
+) -> Result<Vec<Frame>> {
     let mut frames = Vec::new(alloc);
     let (mut next, mut item) = (Some(turn), item);
     for _turn in 0..reached.len() {
@@ -86,7 +86,7 @@ fn reached_frames(
 }
 
 /// The functions in progress at a cycle, the innermost at its first item.
-pub fn cycle_start(tables: &Tables, body: usize, whole: bool) -> Result<Vec<Frame>, NoMemory> {
+pub fn cycle_start(tables: &Tables, body: usize, whole: bool) -> Result<Vec<Frame>> {
     let alloc = tables.walks.alloc();
     let mut reached = Vec::new(alloc);
     push(
@@ -112,7 +112,7 @@ pub fn cycle_start(tables: &Tables, body: usize, whole: bool) -> Result<Vec<Fram
 }
 
 /// The points of the positions of a cycle, its first item at both ends; through what it calls by the shortest way.
-pub fn cycle_points(tables: &Tables, at: Frame) -> Result<Vec<Point>, NoMemory> {
+pub fn cycle_points(tables: &Tables, at: Frame) -> Result<Vec<Point>> {
     let alloc = tables.walks.alloc();
     let mut points = Vec::new(alloc);
     let func = at.point.func;

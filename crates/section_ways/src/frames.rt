@@ -1,5 +1,5 @@
 //! Functions in progress, as a search goes through them.
-use sloth_base::NoMemory;
+use sloth_base::Result;
 use std::alloc::Global;
 use text_pieces::push;
 use walk_sums::Point;
@@ -21,7 +21,7 @@ pub struct Frame {
 }
 
 /// The points of these, the outermost first.
-pub fn frame_points(alloc: Global, frames: &[Frame]) -> Result<Vec<Point>, NoMemory> {
+pub fn frame_points(alloc: Global, frames: &[Frame]) -> Result<Vec<Point>> {
     let mut points = Vec::new(alloc);
     for frame in frames {
         push(&mut points, frame.point)?;

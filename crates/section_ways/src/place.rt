@@ -134,8 +134,7 @@ impl Place<'_> {
         }
     }
 
-    // The greatest part that begins in what an item calls and goes on in this mode; `behind` is the size behind the
-    // call.
+    // The greatest part that begins in what an item calls and goes on in this mode; `behind`: the size behind the call.
     fn called_part(&self, mode: Mode, item: usize, behind: u32) -> Part {
         let Some((func, whole)) = self.call(item) else {
             return NO_PART;

@@ -4,7 +4,7 @@ use crate::place::{Nexts, Place};
 use crate::sizes::{NO_SIZE, Size, item_size};
 use crate::tables::{Entry, no_entry};
 use bound_rules::number_at;
-use sloth_base::NoMemory;
+use sloth_base::Result;
 use std::alloc::Global;
 use text_pieces::push;
 
@@ -56,14 +56,14 @@ impl Search {
         }
     }
 
-    fn open(&mut self, item: usize) -> Result<(), NoMemory> {
+    fn open(&mut self, item: usize) -> Result<()> {
         self.set(item, OPEN);
         push(&mut self.stack, item)
     }
 }
 
 // The last of these items, from this one on.
-fn last_items(alloc: Global, items: &[usize], first: usize) -> Result<Vec<usize>, NoMemory> {
+fn last_items(alloc: Global, items: &[usize], first: usize) -> Result<Vec<usize>> {
     let mut last = Vec::new(alloc);
     for item in items {
         if *item == first || !last.is_empty() {
@@ -87,7 +87,7 @@ fn finish(
     entry: &mut Entry,
     item: usize,
     nexts: Nexts,
-) -> Result<(), NoMemory> {
+) -> Result<()> {
     if entry.cycle.is_empty() {
         if let Some(first) = search.next(nexts, OPEN) {
             let alloc = place.tables.walks.alloc();
@@ -108,7 +108,7 @@ fn finish(
 const TURNS: usize = 1_000_000;
 
 // Goes on from the open items until all that they go on to are done.
-fn dive(place: &Place, search: &mut Search, entry: &mut Entry) -> Result<(), NoMemory> {
+fn dive(place: &Place, search: &mut Search, entry: &mut Entry) -> Result<()> {
     for _turn in 0..TURNS {
         let Some(last) = search.stack.as_slice().last() else {
             return Ok(());
@@ -124,7 +124,7 @@ fn dive(place: &Place, search: &mut Search, entry: &mut Entry) -> Result<(), NoM
 }
 
 /// What is known of a function, by the items before which the task is raised.
-pub fn searched(place: &Place) -> Result<Entry, NoMemory> {
+pub fn searched(place: &Place) -> Result<Entry> {
     let alloc = place.tables.walks.alloc();
     let count = place.func.items.items().len();
     let mut entry = no_entry(alloc, count)?;

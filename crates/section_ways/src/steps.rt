@@ -12,7 +12,7 @@ ghost use Rattle.walk_sums.specs.Positions.{place_of, position_of};
 use crate::pair::Trial;
 use bound_rules::number_at;
 use raised_sections::chains_itself;
-use sloth_base::{App, Func, NoMemory, Op};
+use sloth_base::{App, Func, Op, Result};
 use task_verify::way;
 use text_pieces::push;
 use walk_sums::{Point, Standing, is_next_item};
@@ -105,7 +105,7 @@ impl Trial<'_> {
         at: Standing,
         called: usize,
         to: Point,
-    ) -> Result<bool, NoMemory>
+    ) -> Result<bool>
         requires item { IsItem self.now.app at.point.func at.point.item (op_is.Invoke called) }
         requires told { AreTold self.now.config self.now.app self.now.above self.now.task stack.old.items }
         requires raised { at.raised ≡
@@ -124,7 +124,7 @@ impl Trial<'_> {
     }
 
     // Back to behind the call.
-    fn leave(&self, stack: &mut Vec<Standing>, at: Standing, to: Point) -> Result<bool, NoMemory>
+    fn leave(&self, stack: &mut Vec<Standing>, at: Standing, to: Point) -> Result<bool>
         requires item { IsItem self.now.app at.point.func at.point.item op_is.Return }
         requires told { AreTold self.now.config self.now.app self.now.above self.now.task stack.old.items }
         ensures { IfOk result (λ goes. goes ≡ true
@@ -143,13 +143,7 @@ impl Trial<'_> {
     }
 
     // On inside the function.
-    fn stay(
-        &self,
-        stack: &mut Vec<Standing>,
-        at: Standing,
-        op: Op,
-        to: Point,
-    ) -> Result<bool, NoMemory>
+    fn stay(&self, stack: &mut Vec<Standing>, at: Standing, op: Op, to: Point) -> Result<bool>
         requires item { IsItem self.now.app at.point.func at.point.item op }
         requires plain { is_plain op ≡ true }
         requires told { AreTold self.now.config self.now.app self.now.above self.now.task stack.old.items }
@@ -168,12 +162,7 @@ impl Trial<'_> {
     }
 
     // From a position behind which only the functions around it are on the stack.
-    fn advance_inner(
-        &self,
-        stack: &mut Vec<Standing>,
-        at: Standing,
-        to: Point,
-    ) -> Result<bool, NoMemory>
+    fn advance_inner(&self, stack: &mut Vec<Standing>, at: Standing, to: Point) -> Result<bool>
         requires told { AreTold self.now.config self.now.app self.now.above self.now.task stack.old.items }
         requires raised { at.raised ≡
             is_raised_at self.now.config self.now.app self.now.above self.now.task (position_of stack.old.items) }
@@ -192,7 +181,7 @@ impl Trial<'_> {
     }
 
     /// Goes to the position with this innermost point, if a walk does; else says no, and the stack has no meaning.
-    pub fn advance(&self, stack: &mut Vec<Standing>, to: Point) -> Result<bool, NoMemory>
+    pub fn advance(&self, stack: &mut Vec<Standing>, to: Point) -> Result<bool>
         requires { AreTold self.now.config self.now.app self.now.above self.now.task stack.old.items }
         ensures { IfOk result (λ goes. goes ≡ true
             → IsAdvance self.now.config self.now.app self.now.above self.now.task

@@ -1,10 +1,9 @@
-//! What is known of all functions, where their callers have raised the task and where it has to be raised to a
-//! priority.
+//! What is known of all functions, where their callers raised the task and where it has to be raised to a priority.
 use crate::frames::Mode;
 use crate::place::Place;
 use crate::search::searched;
 use crate::sizes::{NO_PART, NO_SIZE, Part, Size, item_size};
-use sloth_base::NoMemory;
+use sloth_base::Result;
 use std::alloc::Global;
 use text_pieces::push;
 use walk_sums::Walks;
@@ -106,7 +105,7 @@ impl Tables<'_> {
 }
 
 /// Nothing known of so many items.
-pub fn no_entry(alloc: Global, count: usize) -> Result<Entry, NoMemory> {
+pub fn no_entry(alloc: Global, count: usize) -> Result<Entry> {
     let mut sizes = Vec::new(alloc);
     for _item in 0..count {
         push(&mut sizes, NO_SIZE)?;
@@ -119,7 +118,7 @@ pub fn no_entry(alloc: Global, count: usize) -> Result<Entry, NoMemory> {
     })
 }
 
-fn no_entries(alloc: Global, count: usize) -> Result<Vec<Entry>, NoMemory> {
+fn no_entries(alloc: Global, count: usize) -> Result<Vec<Entry>> {
     let mut entries = Vec::new(alloc);
     for _func in 0..count {
         push(&mut entries, no_entry(alloc, 0)?)?;
@@ -127,7 +126,7 @@ fn no_entries(alloc: Global, count: usize) -> Result<Vec<Entry>, NoMemory> {
     Ok(entries)
 }
 
-fn found_entry(tables: &Tables, func: usize, whole: bool) -> Result<Entry, NoMemory> {
+fn found_entry(tables: &Tables, func: usize, whole: bool) -> Result<Entry> {
     match tables.place(func, whole) {
         Some(place) => searched(&place),
         None => no_entry(tables.walks.alloc(), 0),
@@ -141,7 +140,7 @@ fn put(entries: &mut [Entry], func: usize, entry: Entry) {
 }
 
 /// The tables of walked task code for a priority.
-pub fn all_tables<'a>(walks: &'a Walks<'a>, priority: u32) -> Result<Tables<'a>, NoMemory> {
+pub fn all_tables<'a>(walks: &'a Walks<'a>, priority: u32) -> Result<Tables<'a>> {
     let alloc = walks.alloc();
     let count = walks.app().funcs.items().len();
     let whole = no_entries(alloc, count)?;

@@ -11,7 +11,7 @@ ghost use Rattle.section_ways.specs.Standings.{AreTold, IsStart, IsRaisedAt, IsS
 use crate::pair::Trial;
 use crate::steps::point_op;
 use bound_rules::{is_marked, is_schedule};
-use sloth_base::{App, NoMemory, Op, Service};
+use sloth_base::{App, Op, Result, Service};
 use std::alloc::Global;
 use text_pieces::push;
 use walk_sums::{Point, Standing, is_same};
@@ -63,7 +63,7 @@ fn counts_here(app: &App, at: Point, point: Point) -> bool
 }
 
 // The stack of one function in progress.
-fn single_stack(alloc: Global, at: Standing) -> Result<Vec<Standing>, NoMemory>
+fn single_stack(alloc: Global, at: Standing) -> Result<Vec<Standing>>
     ensures { IfOk result (λ stack. stack.items ≡ at ∷ []) }
 {
     let mut stack = Vec::new(alloc);
@@ -88,14 +88,8 @@ impl Trial<'_> {
         self.is_reached(to) && is_call(self.app(), from, to.func)
     }
 
-    // A further function in progress, which the one at this point calls, in front of which the stack is that of those
-    // around it.
-    fn take_call(
-        &self,
-        stack: &mut Vec<Standing>,
-        at: Standing,
-        to: Point,
-    ) -> Result<bool, NoMemory>
+    // A further function in progress, called at this point, in front of which the stack is that of those around it.
+    fn take_call(&self, stack: &mut Vec<Standing>, at: Standing, to: Point) -> Result<bool>
         requires { IsStart self.now.config self.now.app self.now.above self.now.task (stack.old.items ++ at ∷ []) }
         ensures { IfOk result (λ taken. taken ≡ true
             → IsStart self.now.config self.now.app self.now.above self.now.task stack.new.items) }
@@ -109,7 +103,7 @@ impl Trial<'_> {
         Ok(true)
     }
 
-    fn take_next(&self, stack: &mut Vec<Standing>, to: Point) -> Result<bool, NoMemory>
+    fn take_next(&self, stack: &mut Vec<Standing>, to: Point) -> Result<bool>
         requires { IsStart self.now.config self.now.app self.now.above self.now.task stack.old.items }
         ensures { IfOk result (λ taken. taken ≡ true
             → IsStart self.now.config self.now.app self.now.above self.now.task stack.new.items) }
@@ -120,7 +114,7 @@ impl Trial<'_> {
         self.take_call(stack, at, to)
     }
 
-    fn take_all(&self, stack: &mut Vec<Standing>, points: &[Point]) -> Result<bool, NoMemory>
+    fn take_all(&self, stack: &mut Vec<Standing>, points: &[Point]) -> Result<bool>
         requires { IsStart self.now.config self.now.app self.now.above self.now.task stack.old.items }
         ensures { IfOk result (λ taken. taken ≡ true
             → IsStart self.now.config self.now.app self.now.above self.now.task stack.new.items) }
@@ -142,7 +136,7 @@ impl Trial<'_> {
     }
 
     /// The position of these points, the outermost first, if walks lead to it.
-    pub fn walked_stack(&self, points: &[Point]) -> Result<Option<Vec<Standing>>, NoMemory>
+    pub fn walked_stack(&self, points: &[Point]) -> Result<Option<Vec<Standing>>>
         ensures found { IfOk result (λ found. IfSome found (λ stack.
             IsStart self.now.config self.now.app self.now.above self.now.task stack.items)) }
         ensures lower { IsLower self.now.config self.now.above self.now.task }
@@ -165,12 +159,7 @@ impl Trial<'_> {
     }
 
     // Whether this one, behind these, is at the point, which counts, and the task is raised there.
-    fn stands_there(
-        &self,
-        stack: &mut Vec<Standing>,
-        at: Standing,
-        point: Point,
-    ) -> Result<bool, NoMemory>
+    fn stands_there(&self, stack: &mut Vec<Standing>, at: Standing, point: Point) -> Result<bool>
         requires { at.raised ≡
             is_raised_at self.now.config self.now.app self.now.above self.now.task (position_of stack.old.items) }
         ensures { IfOk result (λ stands. stands ≡ true → (stack.new.items ≡ stack.old.items ++ at ∷ [])
@@ -184,7 +173,7 @@ impl Trial<'_> {
     }
 
     // Whether the innermost point is this one, counts, and the task is raised there.
-    fn is_there(&self, stack: &mut Vec<Standing>, point: Point) -> Result<bool, NoMemory>
+    fn is_there(&self, stack: &mut Vec<Standing>, point: Point) -> Result<bool>
         requires { AreTold self.now.config self.now.app self.now.above self.now.task stack.old.items }
         ensures { IfOk result (λ stands. stands ≡ true → (stack.new.items ≡ stack.old.items)
             × IsRaisedAt self.now.config self.now.app self.now.above self.now.task stack.old.items point) }
@@ -196,12 +185,7 @@ impl Trial<'_> {
     }
 
     // Whether a section goes on from one point to the next.
-    fn goes_further(
-        &self,
-        stack: &mut Vec<Standing>,
-        from: Point,
-        to: Point,
-    ) -> Result<bool, NoMemory>
+    fn goes_further(&self, stack: &mut Vec<Standing>, from: Point, to: Point) -> Result<bool>
         requires at { IsRaisedAt self.now.config self.now.app self.now.above self.now.task stack.old.items from }
         requires told { AreTold self.now.config self.now.app self.now.above self.now.task stack.old.items }
         ensures { IfOk result (λ goes. goes ≡ true
@@ -218,7 +202,7 @@ impl Trial<'_> {
     }
 
     // Whether a section goes on from the first of these points to the others.
-    fn goes_through(&self, stack: &mut Vec<Standing>, points: &[Point]) -> Result<bool, NoMemory>
+    fn goes_through(&self, stack: &mut Vec<Standing>, points: &[Point]) -> Result<bool>
         requires some { 0 < length points.now }
         requires told { AreTold self.now.config self.now.app self.now.above self.now.task stack.old.items }
         requires at { IsRaisedAt self.now.config self.now.app self.now.above self.now.task
@@ -237,7 +221,7 @@ impl Trial<'_> {
 
     /// Whether these are points of a section from the position of the stack, each of which counts: the stack is then
     /// the last position.
-    pub fn is_section(&self, stack: &mut Vec<Standing>, points: &[Point]) -> Result<bool, NoMemory>
+    pub fn is_section(&self, stack: &mut Vec<Standing>, points: &[Point]) -> Result<bool>
         requires { AreTold self.now.config self.now.app self.now.above self.now.task stack.old.items }
         ensures { IfOk result (λ is. is ≡ true
             → IsStretch self.now.config self.now.app self.now.above self.now.task

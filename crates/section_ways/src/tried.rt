@@ -6,7 +6,7 @@ ghost use Rattle.section_ways.specs.SectionWays.{IsSectionWay};
 ghost use Rattle.section_ways.specs.Standings.{IsStart, IsClosedWay, is_raised_at};
 
 use crate::pair::Trial;
-use sloth_base::{Config, NoMemory};
+use sloth_base::{Config, Result};
 use stack_bounds::body_of;
 use walk_sums::{Point, Standing, is_standing};
 
@@ -34,11 +34,7 @@ impl Trial<'_> {
     }
 
     // Whether they are the points of a section from this position on.
-    fn is_section_behind(
-        &self,
-        stack: &mut Vec<Standing>,
-        points: &[Point],
-    ) -> Result<bool, NoMemory>
+    fn is_section_behind(&self, stack: &mut Vec<Standing>, points: &[Point]) -> Result<bool>
         requires lower { IsLower self.now.config self.now.above self.now.task }
         requires start { IsStart self.now.config self.now.app self.now.above self.now.task stack.old.items }
         ensures { IfOk result (λ is. is ≡ true
@@ -47,9 +43,8 @@ impl Trial<'_> {
         self.is_section(stack, points)
     }
 
-    /// Whether these are the points of a section, behind walks to the position that begins it, the outermost function
-    /// first.
-    pub fn is_section_way(&self, start: &[Point], points: &[Point]) -> Result<bool, NoMemory>
+    /// Whether these are a section's points, behind walks to the position that begins it, the outermost function first.
+    pub fn is_section_way(&self, start: &[Point], points: &[Point]) -> Result<bool>
         ensures { IfOk result (λ is. is ≡ true
             → IsSectionWay self.now.config self.now.app self.now.above self.now.task points.now) }
     {
@@ -65,7 +60,7 @@ impl Trial<'_> {
         first: &[Standing],
         stack: &mut Vec<Standing>,
         points: &[Point],
-    ) -> Result<bool, NoMemory>
+    ) -> Result<bool>
         requires start { IsStart self.now.config self.now.app self.now.above self.now.task stack.old.items }
         requires same { first.now ≡ stack.old.items }
         ensures { IfOk result (λ is. is ≡ true
@@ -81,7 +76,7 @@ impl Trial<'_> {
     }
 
     /// Whether they are those of a section that ends at the position at which it begins.
-    pub fn is_closed_way(&self, start: &[Point], points: &[Point]) -> Result<bool, NoMemory>
+    pub fn is_closed_way(&self, start: &[Point], points: &[Point]) -> Result<bool>
         ensures lower { IsLower self.now.config self.now.above self.now.task }
         ensures closed { IfOk result (λ is. is ≡ true
             → IsClosedWay self.now.config self.now.app self.now.above self.now.task points.now) }

@@ -3,12 +3,12 @@ use crate::frames::{Frame, Mode};
 use crate::place::Nexts;
 use crate::sizes::{both, is_better};
 use crate::tables::Tables;
-use sloth_base::{NoMemory, Op};
+use sloth_base::{Op, Result};
 use text_pieces::push;
 use walk_sums::Point;
 
 /// The functions in progress where a greatest section begins; `whole` says that the body counts as raised.
-pub fn section_start(tables: &Tables, body: usize, whole: bool) -> Result<Vec<Frame>, NoMemory> {
+pub fn section_start(tables: &Tables, body: usize, whole: bool) -> Result<Vec<Frame>> {
     let mut frames = Vec::new(tables.walks.alloc());
     let (mut func, mut whole, mut mode) = (body, whole, Mode::On);
     for _turn in 0..tables.walks.app().funcs.items().len() + 1 {
@@ -51,7 +51,7 @@ fn choice(tables: &Tables, frame: Frame, nexts: Nexts) -> Option<usize> {
 }
 
 // Back to the caller, if a part goes on behind the call.
-fn leave(tables: &Tables, frames: &mut Vec<Frame>, left: Frame) -> Result<bool, NoMemory> {
+fn leave(tables: &Tables, frames: &mut Vec<Frame>, left: Frame) -> Result<bool> {
     if matches!(left.mode, Mode::On) {
         return Ok(false);
     }
@@ -73,7 +73,7 @@ fn enter(
     frame: Frame,
     func: usize,
     next: Option<usize>,
-) -> Result<bool, NoMemory> {
+) -> Result<bool> {
     let inner = tables.size(func, true, 0);
     let further = further_size(tables, frame, next);
     let mode = match frame.mode {
@@ -88,7 +88,7 @@ fn enter(
 }
 
 // Goes to the next position; or says that the part ends.
-fn step(tables: &Tables, frames: &mut Vec<Frame>) -> Result<bool, NoMemory> {
+fn step(tables: &Tables, frames: &mut Vec<Frame>) -> Result<bool> {
     let Some(mut frame) = frames.pop() else {
         return Ok(false);
     };
@@ -119,7 +119,7 @@ pub fn push_points(
     points: &mut Vec<Point>,
     frames: &mut Vec<Frame>,
     limit: usize,
-) -> Result<(), NoMemory> {
+) -> Result<()> {
     for _turn in points.len()..limit {
         let Some(frame) = frames.as_slice().last() else {
             return Ok(());

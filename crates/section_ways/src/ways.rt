@@ -10,7 +10,7 @@ use crate::pair::Trial;
 use crate::tables::{Tables, all_tables};
 use crate::walking::{push_points, section_start};
 use bound_rules::Bound;
-use sloth_base::{Config, List, NoMemory};
+use sloth_base::{Config, List, Result};
 use walk_sums::{Point, Walks};
 
 /// A lower task, and the points of a section of it, or of a cycle within one.
@@ -41,7 +41,7 @@ impl Trial<'_> {
         start: &[Point],
         points: Vec<Point>,
         items: u32,
-    ) -> Result<Option<Vec<Point>>, NoMemory>
+    ) -> Result<Option<Vec<Point>>>
         ensures { IfOk result (λ found. IfSome found (λ points. ArePointsOf self.now.config self.now.app self.now.above
             (bound_is.Items items) self.now.task points.items)) }
     {
@@ -55,7 +55,7 @@ impl Trial<'_> {
     }
 
     // The points of a section of the task of an item less.
-    fn section(&self, tables: &Tables, items: u32) -> Result<Option<Vec<Point>>, NoMemory>
+    fn section(&self, tables: &Tables, items: u32) -> Result<Option<Vec<Point>>>
         ensures { IfOk result (λ found. IfSome found (λ points. ArePointsOf self.now.config self.now.app self.now.above
             (bound_is.Items items) self.now.task points.items)) }
     {
@@ -69,11 +69,7 @@ impl Trial<'_> {
     }
 
     // These points without the last one, which is the first again, if they are those of a cycle.
-    fn proven_cycle(
-        &self,
-        start: &[Point],
-        mut points: Vec<Point>,
-    ) -> Result<Option<Vec<Point>>, NoMemory>
+    fn proven_cycle(&self, start: &[Point], mut points: Vec<Point>) -> Result<Option<Vec<Point>>>
         ensures { IfOk result (λ found. IfSome found (λ points. ArePointsOf self.now.config self.now.app self.now.above
             bound_is.Endless self.now.task points.items)) }
     {
@@ -87,7 +83,7 @@ impl Trial<'_> {
     }
 
     // The points of a cycle of the task.
-    fn cycle(&self, tables: &Tables) -> Result<Option<Vec<Point>>, NoMemory>
+    fn cycle(&self, tables: &Tables) -> Result<Option<Vec<Point>>>
         ensures { IfOk result (λ found. IfSome found (λ points. ArePointsOf self.now.config self.now.app self.now.above
             bound_is.Endless self.now.task points.items)) }
     {
@@ -101,7 +97,7 @@ impl Trial<'_> {
     }
 
     // The points of which a bound is made, if they are the task's.
-    fn points(&self, tables: &Tables, bound: Bound) -> Result<Option<Vec<Point>>, NoMemory>
+    fn points(&self, tables: &Tables, bound: Bound) -> Result<Option<Vec<Point>>>
         ensures { IfOk result (λ found. IfSome found (λ points. ArePointsOf self.now.config self.now.app self.now.above
             bound self.now.task points.items)) }
     {
@@ -119,7 +115,7 @@ fn task_points(
     above: usize,
     task: usize,
     bound: Bound,
-) -> Result<Option<Vec<Point>>, NoMemory>
+) -> Result<Option<Vec<Point>>>
     requires above { above < length walks.now.config.tasks }
     requires inside { task < length walks.now.config.tasks }
     ensures { IfOk result (λ found. IfSome found (λ points.
@@ -134,7 +130,7 @@ fn task_points(
 
 /// A lower task of task `above`, and the points of which the bound of that is made, if they are found: of a section of
 /// it of an item less, or of a cycle within one.
-pub fn lower_way(walks: &Walks, above: usize, bound: Bound) -> Result<Option<Way>, NoMemory>
+pub fn lower_way(walks: &Walks, above: usize, bound: Bound) -> Result<Option<Way>>
     requires { above < length walks.now.config.tasks }
     ensures { IfOk result (IsShown walks.now.config walks.now.app above bound) }
 {

@@ -2,14 +2,14 @@
 ghost use Rattle.std.specs.Prelude.{◌≡◌, ◌<◌, ◌≤◌, ◌++◌, OnOk};
 ghost use Rattle.sloth_base.specs.Limits.{task_limit, alarm_limit};
 ghost use Rattle.service_gen.specs.Alarms.{IsActionInRange, IsAlarmInRange, AreAlarmsInRange};
-ghost use Rattle.service_gen.specs.AlarmPieces.{basing_code, activating_code, event_adding_code, waking_code, action_code, action_size, losing_code, alarm_code, alarms_code};
+ghost use Rattle.service_gen.specs.AlarmPieces.{basing_code, activating_code, event_adding_code, waking_code};
+ghost use Rattle.service_gen.specs.AlarmPieces.{action_code, action_size, losing_code, alarm_code, alarms_code};
 ghost use Rattle.block_parts.specs.Ticks.{suspension_test, awaited_events_test};
 
 use crate::alarms::NumberedAlarm;
 use block_parts::ticks::ask_awaited;
 use block_parts::{ask_busy, start_again};
-use masked_code::emit::emit;
-use masked_code::past;
+use masked_code::{past, put};
 use rv32_instr::{Instr, X1, X3, X4, ZERO, addi, beq, bne, hi, lo, lui, lw, or, sb, slli, sw};
 use sloth_base::Action;
 use sloth_region::{CONTROLLER_HIGH, WORDS_HIGH, alarm_left, enabled_byte, events, pending_byte};
@@ -40,14 +40,8 @@ fn lose(code: &mut Vec<Instr>, alarm: u8, size: u32) -> Result<(), AllocError>
     requires { (alarm < alarm_limit) × (size ≤ 17) }
     ensures { OnOk result (code.new.items ≡ code.old.items ++ losing_code alarm size) }
 {
-    let lost = [
-        lw(X1, X4, alarm_left(alarm)),
-        beq(X1, ZERO, past(5 + size)),
-        addi(X1, X1, -1),
-        sw(X1, X4, alarm_left(alarm)),
-        bne(X1, ZERO, past(2 + size)),
-    ];
-    emit(code, &lost)?;
+    put!(code; lw(X1, X4, alarm_left(alarm)), beq(X1, ZERO, past(5 + size)), addi(X1, X1, -1),
+        sw(X1, X4, alarm_left(alarm)), bne(X1, ZERO, past(2 + size)))?;
     start_again(code, alarm)
 }
 
@@ -78,21 +72,15 @@ fn activate(code: &mut Vec<Instr>, task: u8) -> Result<(), AllocError>
     requires { task < task_limit }
     ensures { OnOk result (code.new.items ≡ code.old.items ++ activating_code task) }
 {
-    let activated = [
-        lui(X4, CONTROLLER_HIGH),
-        addi(X1, ZERO, 1),
-        sb(X1, X4, pending_byte(task)),
-        lui(X4, WORDS_HIGH),
-        slli(X1, X1, task),
-        or(X3, X3, X1),
-    ];
-    emit(code, &activated)
+    put!(code; lui(X4, CONTROLLER_HIGH), addi(X1, ZERO, 1), sb(X1, X4, pending_byte(task)), lui(X4, WORDS_HIGH),
+        slli(X1, X1, task), or(X3, X3, X1))
 }
 
 /// Events of a task are set.
 fn set(code: &mut Vec<Instr>, task: u8, mask: u32) -> Result<(), AllocError>
     requires { task < task_limit }
-    ensures { OnOk result (code.new.items ≡ code.old.items ++ (suspension_test task ++ (event_adding_code task mask ++ (awaited_events_test task ++ (waking_code task ++ basing_code))))) }
+    ensures { OnOk result (code.new.items ≡ code.old.items ++ (suspension_test task ++
+        (event_adding_code task mask ++ (awaited_events_test task ++ (waking_code task ++ basing_code))))) }
 {
     ask_busy(code, task)?;
     add_events(code, task, mask)?;
@@ -106,15 +94,8 @@ fn add_events(code: &mut Vec<Instr>, task: u8, mask: u32) -> Result<(), AllocErr
     requires { task < task_limit }
     ensures { OnOk result (code.new.items ≡ code.old.items ++ event_adding_code task mask) }
 {
-    let added = [
-        lw(X1, X4, events(task)),
-        lui(X4, hi(mask)),
-        addi(X4, X4, lo(mask)),
-        or(X1, X1, X4),
-        lui(X4, WORDS_HIGH),
-        sw(X1, X4, events(task)),
-    ];
-    emit(code, &added)
+    put!(code; lw(X1, X4, events(task)), lui(X4, hi(mask)), addi(X4, X4, lo(mask)), or(X1, X1, X4),
+        lui(X4, WORDS_HIGH), sw(X1, X4, events(task)))
 }
 
 /// The task's line is raised and enabled.
@@ -122,18 +103,13 @@ fn wake(code: &mut Vec<Instr>, task: u8) -> Result<(), AllocError>
     requires { task < task_limit }
     ensures { OnOk result (code.new.items ≡ code.old.items ++ waking_code task) }
 {
-    let woken = [
-        lui(X4, CONTROLLER_HIGH),
-        addi(X1, ZERO, 1),
-        sb(X1, X4, pending_byte(task)),
-        sb(X1, X4, enabled_byte(task)),
-    ];
-    emit(code, &woken)
+    put!(code; lui(X4, CONTROLLER_HIGH), addi(X1, ZERO, 1), sb(X1, X4, pending_byte(task)),
+        sb(X1, X4, enabled_byte(task)))
 }
 
 /// x4 := the base of memory.
 pub fn base(code: &mut Vec<Instr>) -> Result<(), AllocError>
     ensures { OnOk result (code.new.items ≡ code.old.items ++ basing_code) }
 {
-    emit(code, &[lui(X4, WORDS_HIGH)])
+    put!(code; lui(X4, WORDS_HIGH))
 }

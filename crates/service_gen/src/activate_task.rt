@@ -5,7 +5,7 @@ ghost use Rattle.service_gen.specs.TaskPieces.{status_code};
 ghost use Rattle.service_gen.specs.ActivateTask.{IsActivateTaskCode};
 
 use block_parts::{go_back, look_at, open, raise};
-use masked_code::emit::emit;
+use masked_code::put;
 use rv32_instr::{A0, Instr, X1, slli, xori};
 use std::alloc::{AllocError, Global};
 
@@ -27,5 +27,5 @@ pub fn code(alloc: Global, task: u8) -> Result<Vec<Instr>, AllocError>
 fn tell(code: &mut Vec<Instr>) -> Result<(), AllocError>
     ensures { OnOk result (code.new.items ≡ code.old.items ++ status_code) }
 {
-    emit(code, &[xori(A0, X1, 1), slli(A0, A0, 2)])
+    put!(code; xori(A0, X1, 1), slli(A0, A0, 2))
 }

@@ -1,8 +1,10 @@
-//! The code of counters and alarms (OSEK OS 2.2.3, sections 9 and 13.6): the ticks of counters, and the services on alarms.
+//! The code of counters and alarms (OSEK OS 2.2.3, sections 9 and 13.6): the ticks of counters, and the services on
+//! alarms.
 //!
-//! From the taking of a counter's line, with any arrivals and any number of alarms: the effect of the tick as a fold over its alarms, which lines it
-//! touches, and its length (`tick`; `specs/Tick`, `specs/Alarms`). Of SetRelAlarm, SetAbsAlarm, CancelAlarm and GetAlarm the same as of other
-//! services (`block`; a file of `specs/` for each). Lengths: `code_lengths` (`CodeLengths`); leaving: `masked_code` (`Kernel`).
+//! From the taking of a counter's line, with any arrivals and any number of alarms: the effect of the tick as a fold
+//! over its alarms, which lines it touches, and its length (`tick`; `specs/Tick`, `specs/Alarms`). Of SetRelAlarm,
+//! SetAbsAlarm, CancelAlarm and GetAlarm the same as of other services (`block`; a file of `specs/` for each). Lengths:
+//! `code_lengths` (`CodeLengths`); leaving: `masked_code` (`Kernel`).
 ghost use Rattle.std.specs.Prelude.{◌≡◌, ◌<◌, [], IfOk, length, slice_index};
 ghost use Rattle.code_lengths.specs.CodeLengths.{service_length, tick_length};
 ghost use Rattle.sloth_base.specs.ConfigRange.{InRange};
@@ -17,25 +19,26 @@ use crate::alarms::alarms_of;
 use crate::{cancel_alarm, get_alarm, set_abs_alarm, set_rel_alarm, tick_code};
 use block_parts::opening;
 use rv32_instr::{Block, Instr};
-use sloth_base::{Config, FIRST_COUNTER_LINE, Levels, List, NoMemory, Service, block_number};
+use sloth_base::{Config, FIRST_COUNTER_LINE, Levels, List, Result, Service, block_number};
 use sloth_region::Map;
 use std::alloc::{AllocError, Global};
 
-/// The block of the tick of a counter, 0 or 1, at the address of the handler of its line: 11 instructions, and at most 34 for each alarm of the
-/// counter. It saves no register. `NoMemory` where memory is wanting, and no other error.
+/// The block of the tick of a counter, 0 or 1, at the address of the handler of its line: 11 instructions, and at most
+/// 34 for each alarm of the counter. It saves no register. `NoMemory` where memory is wanting, and no other error.
 pub fn tick(
     alloc: Global,
     counter: u32,
     config: &Config,
     levels: &Levels,
     map: &Map,
-) -> Result<Block, NoMemory>
+) -> Result<Block>
     requires exists { counter < length config.now.counters }
     requires range { InRange config.now }
     ensures at { IfOk result (λ block. block.at ≡ slice_index map.now.handlers (counter_line counter)) }
     ensures marks { IfOk result (λ block. block.marks ≡ []) }
     ensures size { IfOk result (λ block. length block.code ≡ tick_length counter config.now.alarms) }
-    ensures effect { IfOk result (λ block. IsTickCode counter (counter_declaration config.now counter).max (counter_alarms config.now counter) block.code) }
+    ensures effect { IfOk result (λ block. IsTickCode counter (counter_declaration config.now counter).max
+        (counter_alarms config.now counter) block.code) }
 {
     let alarms = alarms_of(alloc, config.alarms.items(), counter)?;
     let max = config.counters.items()[counter as usize].max;
@@ -47,8 +50,8 @@ pub fn tick(
     })
 }
 
-/// The block of a service on alarms with its alarm, 0 to 31, at its address in the map. Its first instruction, under an opening mark, masks
-/// interrupts. `NoMemory` where memory is wanting, and no other error.
+/// The block of a service on alarms with its alarm, 0 to 31, at its address in the map. Its first instruction, under an
+/// opening mark, masks interrupts. `NoMemory` where memory is wanting, and no other error.
 pub fn block(
     alloc: Global,
     service: Service,
@@ -56,7 +59,7 @@ pub fn block(
     config: &Config,
     levels: &Levels,
     map: &Map,
-) -> Result<Block, NoMemory>
+) -> Result<Block>
     requires alarm { HasAlarmBlock config.now service object }
     requires range { InRange config.now }
     ensures block { IfOk result (IsServiceBlock service object map.now.places.blocks no_marks) }

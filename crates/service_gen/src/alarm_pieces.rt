@@ -1,11 +1,12 @@
 //! Pieces of code that several services on alarms have. x4 holds the base of memory, a0 and a1 the operands.
 ghost use Rattle.std.specs.Prelude.{◌≡◌, ◌<◌, ◌^◌, ◌++◌, OnOk};
 ghost use Rattle.sloth_base.specs.Limits.{alarm_limit};
-ghost use Rattle.service_gen.specs.ServicePieces.{used_alarm_test, unused_alarm_test, least_cycle_test, greatest_value_test, cycle_test, alarm_value_test, setting_code, refusing_code};
+ghost use Rattle.service_gen.specs.ServicePieces.{used_alarm_test, unused_alarm_test, least_cycle_test};
+ghost use Rattle.service_gen.specs.ServicePieces.{greatest_value_test, cycle_test, alarm_value_test, setting_code};
+ghost use Rattle.service_gen.specs.ServicePieces.{refusing_code};
 
 use block_parts::{BACK, go_back};
-use masked_code::emit::emit;
-use masked_code::past;
+use masked_code::{past, put};
 use rv32_instr::{A0, A1, Instr, X1, X4, ZERO, addi, beq, bltu, bne, hi, lo, lui, lw, sw};
 use sloth_base::{E_OK, E_OS_NOFUNC, E_OS_STATE, E_OS_VALUE};
 use sloth_region::{alarm_cycle, alarm_left};
@@ -31,12 +32,7 @@ pub fn ask_used(code: &mut Vec<Instr>, alarm: u8) -> Result<(), AllocError>
     requires { alarm < alarm_limit }
     ensures { OnOk result (code.new.items ≡ code.old.items ++ used_alarm_test alarm) }
 {
-    let asked = [
-        lw(X1, X4, alarm_left(alarm)),
-        addi(A0, ZERO, E_OS_NOFUNC as i32),
-        beq(X1, ZERO, past(2)),
-    ];
-    emit(code, &asked)
+    put!(code; lw(X1, X4, alarm_left(alarm)), addi(A0, ZERO, E_OS_NOFUNC as i32), beq(X1, ZERO, past(2)))
 }
 
 /// On behind so many instructions where the alarm is in use.
@@ -44,8 +40,7 @@ pub fn ask_unused(code: &mut Vec<Instr>, alarm: u8, passed: u32) -> Result<(), A
     requires { (alarm < alarm_limit) × (passed < 100) }
     ensures { OnOk result (code.new.items ≡ code.old.items ++ unused_alarm_test alarm passed) }
 {
-    let asked = [lw(X1, X4, alarm_left(alarm)), bne(X1, ZERO, past(passed))];
-    emit(code, &asked)
+    put!(code; lw(X1, X4, alarm_left(alarm)), bne(X1, ZERO, past(passed)))
 }
 
 /// On behind so many instructions where the cycle isn't in range. Leaves the counter's greatest value in x1.
@@ -63,13 +58,7 @@ fn ask_least(code: &mut Vec<Instr>, least: u32, passed: u32) -> Result<(), Alloc
     requires { passed < 103 }
     ensures { OnOk result (code.new.items ≡ code.old.items ++ least_cycle_test least passed) }
 {
-    let asked = [
-        beq(A1, ZERO, past(3)),
-        lui(X1, hi(least)),
-        addi(X1, X1, lo(least)),
-        bltu(A1, X1, past(passed)),
-    ];
-    emit(code, &asked)
+    put!(code; beq(A1, ZERO, past(3)), lui(X1, hi(least)), addi(X1, X1, lo(least)), bltu(A1, X1, past(passed)))
 }
 
 /// On behind so many instructions where the cycle is above the greatest value.
@@ -77,12 +66,7 @@ fn ask_most(code: &mut Vec<Instr>, max: u32, passed: u32) -> Result<(), AllocErr
     requires { passed < 100 }
     ensures { OnOk result (code.new.items ≡ code.old.items ++ greatest_value_test max passed) }
 {
-    let asked = [
-        lui(X1, hi(max)),
-        addi(X1, X1, lo(max)),
-        bltu(X1, A1, past(passed)),
-    ];
-    emit(code, &asked)
+    put!(code; lui(X1, hi(max)), addi(X1, X1, lo(max)), bltu(X1, A1, past(passed)))
 }
 
 /// On behind so many instructions where a0 is above the greatest value.
@@ -90,7 +74,7 @@ pub fn ask_value(code: &mut Vec<Instr>, passed: u32) -> Result<(), AllocError>
     requires { passed < 100 }
     ensures { OnOk result (code.new.items ≡ code.old.items ++ alarm_value_test passed) }
 {
-    emit(code, &[bltu(X1, A0, past(passed))])
+    put!(code; bltu(X1, A0, past(passed)))
 }
 
 /// The alarm gets the ticks in a0 and the cycle in a1.
@@ -98,12 +82,7 @@ pub fn set(code: &mut Vec<Instr>, alarm: u8) -> Result<(), AllocError>
     requires { alarm < alarm_limit }
     ensures { OnOk result (code.new.items ≡ code.old.items ++ setting_code alarm) }
 {
-    let stored = [
-        sw(A0, X4, alarm_left(alarm)),
-        sw(A1, X4, alarm_cycle(alarm)),
-        addi(A0, ZERO, E_OK as i32),
-    ];
-    emit(code, &stored)?;
+    put!(code; sw(A0, X4, alarm_left(alarm)), sw(A1, X4, alarm_cycle(alarm)), addi(A0, ZERO, E_OK as i32))?;
     go_back(code)
 }
 
@@ -111,8 +90,8 @@ pub fn set(code: &mut Vec<Instr>, alarm: u8) -> Result<(), AllocError>
 pub fn refuse(code: &mut Vec<Instr>) -> Result<(), AllocError>
     ensures { OnOk result (code.new.items ≡ code.old.items ++ refusing_code) }
 {
-    emit(code, &[addi(A0, ZERO, E_OS_VALUE as i32)])?;
+    put!(code; addi(A0, ZERO, E_OS_VALUE as i32))?;
     go_back(code)?;
-    emit(code, &[addi(A0, ZERO, E_OS_STATE as i32)])?;
+    put!(code; addi(A0, ZERO, E_OS_STATE as i32))?;
     go_back(code)
 }

@@ -6,7 +6,7 @@ ghost use Rattle.service_gen.specs.CancelAlarm.{IsCancelAlarmCode};
 
 use crate::alarm_pieces::ask_used;
 use block_parts::{go_back, open};
-use masked_code::emit::emit;
+use masked_code::put;
 use rv32_instr::{A0, Instr, X4, ZERO, addi, sw};
 use sloth_base::E_OK;
 use sloth_region::alarm_left;
@@ -30,6 +30,5 @@ fn cancel(code: &mut Vec<Instr>, alarm: u8) -> Result<(), AllocError>
     requires { alarm < alarm_limit }
     ensures { OnOk result (code.new.items ≡ code.old.items ++ cancelling_code alarm) }
 {
-    let cancelled = [sw(ZERO, X4, alarm_left(alarm)), addi(A0, ZERO, E_OK as i32)];
-    emit(code, &cancelled)
+    put!(code; sw(ZERO, X4, alarm_left(alarm)), addi(A0, ZERO, E_OK as i32))
 }

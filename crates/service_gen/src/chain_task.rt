@@ -1,13 +1,11 @@
-//! ChainTask: the running task ends, and another, or itself, is activated; but where that task isn't Suspended nothing
-//! happens.
+//! ChainTask: the running task ends, and another, or itself, is activated; but nothing happens if that isn't Suspended.
 ghost use Rattle.std.specs.Prelude.{◌≡◌, ◌<◌, ◌++◌, IfOk, OnOk};
 ghost use Rattle.sloth_base.specs.Limits.{task_limit};
 ghost use Rattle.block_parts.specs.Services.{refusing_code};
 ghost use Rattle.service_gen.specs.ChainTask.{IsChainTaskCode};
 
 use block_parts::{BACK, ask, end, go_back, leave, look_at, open, raise};
-use masked_code::emit::emit;
-use masked_code::past;
+use masked_code::{past, put};
 use rv32_instr::{A0, Instr, X1, ZERO, addi, bne};
 use sloth_base::E_OS_LIMIT;
 use std::alloc::{AllocError, Global};
@@ -33,9 +31,5 @@ pub fn code(alloc: Global, task: u8) -> Result<Vec<Instr>, AllocError>
 fn refuse(code: &mut Vec<Instr>) -> Result<(), AllocError>
     ensures { OnOk result (code.new.items ≡ code.old.items ++ refusing_code) }
 {
-    let refused = [
-        bne(X1, ZERO, past(1 + BACK)),
-        addi(A0, ZERO, E_OS_LIMIT as i32),
-    ];
-    emit(code, &refused)
+    put!(code; bne(X1, ZERO, past(1 + BACK)), addi(A0, ZERO, E_OS_LIMIT as i32))
 }

@@ -1,7 +1,9 @@
-//! The code of the operating system services on events (OSEK OS 2.2.3, section 13.5): SetEvent, ClearEvent, GetEvent, WaitEvent.
+//! The code of the operating system services on events (OSEK OS 2.2.3, section 13.5): SetEvent, ClearEvent, GetEvent,
+//! WaitEvent.
 //!
-//! From an opening mark, with any arrivals: the effect within 160 instructions, and the length (`block`; a file of `specs/` for each). The way back,
-//! the look at a task: `block_parts` (`Back`, `SuspensionTest`); leaving: `masked_code` (`Kernel`).
+//! From an opening mark, with any arrivals: the effect within 160 instructions, and the length (`block`; a file of
+//! `specs/` for each). The way back, the look at a task: `block_parts` (`Back`, `SuspensionTest`); leaving:
+//! `masked_code` (`Kernel`).
 ghost use Rattle.std.specs.Prelude.{◌≡◌, IfOk, length};
 ghost use Rattle.code_lengths.specs.CodeLengths.{service_length};
 ghost use Rattle.block_parts.specs.ServiceBlock.{IsServiceBlock};
@@ -10,7 +12,7 @@ ghost use Rattle.service_gen.specs.EventBlock.{HasEventBlock, IsEventServiceBloc
 use crate::{clear_event, get_event, set_event, wait_event};
 use block_parts::opening;
 use rv32_instr::{Block, Instr};
-use sloth_base::{Config, Levels, List, NoMemory, Service, block_number};
+use sloth_base::{Config, Levels, List, Result, Service, block_number};
 use sloth_region::Map;
 use std::alloc::{AllocError, Global};
 
@@ -24,7 +26,7 @@ pub fn block(
     config: &Config,
     levels: &Levels,
     map: &Map,
-) -> Result<Block, NoMemory>
+) -> Result<Block>
     requires { HasEventBlock service object }
     ensures block { IfOk result (IsServiceBlock service object map.now.places.blocks no_marks) }
     ensures effect { IfOk result (λ block. IsEventServiceBlock service object block.code) }

@@ -3,7 +3,7 @@ ghost use Rattle.std.specs.Prelude.{◌≡◌, ◌<◌, ◌++◌, OnOk};
 ghost use Rattle.sloth_base.specs.MemoryMap.{line_count};
 ghost use Rattle.service_gen.specs.EventPieces.{own_finding_code};
 
-use masked_code::emit::emit;
+use masked_code::put;
 use rv32_instr::{Instr, X1, X4, add, lw, slli};
 use sloth_base::Reg;
 use sloth_region::CUR;
@@ -14,12 +14,5 @@ pub fn find_own(code: &mut Vec<Instr>, other: Reg) -> Result<(), AllocError>
     requires { other < line_count }
     ensures { OnOk result (code.new.items ≡ code.old.items ++ own_finding_code other) }
 {
-    let found = [
-        lw(X1, X4, CUR),
-        slli(other, X1, 3),
-        slli(X1, X1, 2),
-        add(X1, X1, other),
-        add(X1, X1, X4),
-    ];
-    emit(code, &found)
+    put!(code; lw(X1, X4, CUR), slli(other, X1, 3), slli(X1, X1, 2), add(X1, X1, other), add(X1, X1, X4))
 }

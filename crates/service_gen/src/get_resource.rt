@@ -5,7 +5,7 @@ ghost use Rattle.service_gen.specs.TaskPieces.{ok_back_code};
 ghost use Rattle.service_gen.specs.GetResource.{IsGetResourceCode};
 
 use block_parts::{go_back, open, take};
-use masked_code::emit::emit;
+use masked_code::put;
 use rv32_instr::{A0, Instr, ZERO, addi};
 use sloth_base::E_OK;
 use std::alloc::{AllocError, Global};
@@ -26,6 +26,6 @@ pub fn code(alloc: Global, resource: u8, ceiling: u8) -> Result<Vec<Instr>, Allo
 fn go_on(code: &mut Vec<Instr>) -> Result<(), AllocError>
     ensures { OnOk result (code.new.items ≡ code.old.items ++ ok_back_code) }
 {
-    emit(code, &[addi(A0, ZERO, E_OK as i32)])?;
+    put!(code; addi(A0, ZERO, E_OK as i32))?;
     go_back(code)
 }

@@ -4,7 +4,7 @@ ghost use Rattle.service_gen.specs.TaskPieces.{own_telling_code};
 ghost use Rattle.service_gen.specs.GetTaskID.{IsGetTaskIDCode};
 
 use block_parts::{go_back, open};
-use masked_code::emit::emit;
+use masked_code::put;
 use rv32_instr::{A0, A1, Instr, X4, ZERO, addi, lw};
 use sloth_base::E_OK;
 use sloth_region::CUR;
@@ -25,10 +25,5 @@ pub fn code(alloc: Global) -> Result<Vec<Instr>, AllocError>
 fn tell_own(code: &mut Vec<Instr>) -> Result<(), AllocError>
     ensures { OnOk result (code.new.items ≡ code.old.items ++ own_telling_code) }
 {
-    let told = [
-        lw(A1, X4, CUR),
-        addi(A1, A1, -1),
-        addi(A0, ZERO, E_OK as i32),
-    ];
-    emit(code, &told)
+    put!(code; lw(A1, X4, CUR), addi(A1, A1, -1), addi(A0, ZERO, E_OK as i32))
 }

@@ -5,8 +5,7 @@ ghost use Rattle.service_gen.specs.TaskPieces.{active_task_test, active_telling_
 ghost use Rattle.service_gen.specs.GetTaskState.{IsGetTaskStateCode};
 
 use block_parts::{BACK, go_back, open, tell_resting};
-use masked_code::emit::emit;
-use masked_code::past;
+use masked_code::{past, put};
 use rv32_instr::{A0, A1, Instr, X1, X3, X4, ZERO, addi, beq, lbu, lw, slli, sltu};
 use sloth_base::E_OK;
 use sloth_region::{CUR, active, enabled_byte};
@@ -42,12 +41,7 @@ fn ask_active(code: &mut Vec<Instr>, task: u8) -> Result<(), AllocError>
     requires { task < task_limit }
     ensures { OnOk result (code.new.items ≡ code.old.items ++ active_task_test task) }
 {
-    let asked = [
-        addi(A0, ZERO, E_OK as i32),
-        lw(X1, X4, active(task)),
-        beq(X1, ZERO, past(TELL_ACTIVE + BACK)),
-    ];
-    emit(code, &asked)
+    put!(code; addi(A0, ZERO, E_OK as i32), lw(X1, X4, active(task)), beq(X1, ZERO, past(TELL_ACTIVE + BACK)))
 }
 
 /// a1 := 0 where the task runs, and 2 where it is preempted.
@@ -55,13 +49,7 @@ fn tell_active(code: &mut Vec<Instr>, task: u8) -> Result<(), AllocError>
     requires { task < task_limit }
     ensures { OnOk result (code.new.items ≡ code.old.items ++ active_telling_code task) }
 {
-    let told = [
-        lw(X1, X4, CUR),
-        addi(X1, X1, -1 - task as i32),
-        sltu(A1, ZERO, X1),
-        slli(A1, A1, 1),
-    ];
-    emit(code, &told)
+    put!(code; lw(X1, X4, CUR), addi(X1, X1, -1 - task as i32), sltu(A1, ZERO, X1), slli(A1, A1, 1))
 }
 
 /// a1 := 1; goes on at the way back where the task waits.
@@ -69,10 +57,5 @@ fn ask_waiting(code: &mut Vec<Instr>, task: u8) -> Result<(), AllocError>
     requires { task < task_limit }
     ensures { OnOk result (code.new.items ≡ code.old.items ++ waiting_task_test task) }
 {
-    let asked = [
-        lbu(X1, X3, enabled_byte(task)),
-        addi(A1, ZERO, WAITING),
-        beq(X1, ZERO, past(TELL_RESTING)),
-    ];
-    emit(code, &asked)
+    put!(code; lbu(X1, X3, enabled_byte(task)), addi(A1, ZERO, WAITING), beq(X1, ZERO, past(TELL_RESTING)))
 }

@@ -1,10 +1,11 @@
 //! The code of the operating system services (OSEK OS 2.2.3, section 13), and of the ticks of counters.
 //!
-//! Of each of the sixteen services: its block at its place with its marks, and with the effect that one table says (`block`, `specs/Calls`, which
-//! also says with which objects a service is called). From an opening mark, with any arrivals: the effect within 160 instructions, and the length, a
-//! file of `specs/` for each: services on tasks and resources (`task_block`, `specs/TaskBlock`), on events (`event_block`, `specs/EventBlock`), on alarms
-//! (`alarm_block`, `specs/AlarmBlock`); there the tick of a counter too, from the taking of its line (`alarm_block::tick`).
-//! What all blocks share: `block_parts` (`ServiceBlock`); leaving: `masked_code` (`Kernel`).
+//! Of each of the sixteen services: its block at its place with its marks, and with the effect that one table says
+//! (`block`, `specs/Calls`, which also says with which objects a service is called). From an opening mark, with any
+//! arrivals: the effect within 160 instructions, and the length, a file of `specs/` for each: services on tasks and
+//! resources (`task_block`, `specs/TaskBlock`), on events (`event_block`, `specs/EventBlock`), on alarms
+//! (`alarm_block`, `specs/AlarmBlock`); there the tick of a counter too, from the taking of its line
+//! (`alarm_block::tick`). What all blocks share: `block_parts` (`ServiceBlock`); leaving: `masked_code` (`Kernel`).
 #![tactic(auto)]
 
 ghost use Rattle.std.specs.Prelude.{IfOk};
@@ -41,7 +42,7 @@ mod wait_event;
 
 pub use alarm_block::tick;
 use rv32_instr::Block;
-use sloth_base::{Config, Levels, NoMemory, Service};
+use sloth_base::{Config, Levels, Result, Service};
 use sloth_region::Map;
 use std::alloc::Global;
 
@@ -53,7 +54,7 @@ pub fn block(
     config: &Config,
     levels: &Levels,
     map: &Map,
-) -> Result<Block, NoMemory>
+) -> Result<Block>
     requires called { IsCalledWith config.now service object }
     requires range { InRange config.now }
     ensures block { IfOk result (IsServiceBlock service object map.now.places.blocks (further_marks service)) }

@@ -4,8 +4,7 @@ ghost use Rattle.service_gen.specs.TaskPieces.{way_back_address_code, way_back_c
 ghost use Rattle.service_gen.specs.Schedule.{IsScheduleCode};
 
 use block_parts::{lower, open};
-use masked_code::emit::emit;
-use masked_code::past;
+use masked_code::{past, put};
 use rv32_instr::{
     A0, Instr, MEPC, MIE, MSTATUS, PLEVEL, X1, X30, X31, ZERO, addi, csrrci, csrrw, jal, mret,
 };
@@ -35,26 +34,19 @@ pub fn code(alloc: Global) -> Result<Vec<Instr>, AllocError>
 fn pass_back(code: &mut Vec<Instr>) -> Result<(), AllocError>
     ensures { OnOk result (code.new.items ≡ code.old.items ++ way_back_address_code) }
 {
-    emit(code, &[jal(X1, past(COME_BACK))])
+    put!(code; jal(X1, past(COME_BACK)))
 }
 
 /// The way back: to the level in x30, and to the address in x31.
 fn come_back(code: &mut Vec<Instr>) -> Result<(), AllocError>
     ensures { OnOk result (code.new.items ≡ code.old.items ++ way_back_code) }
 {
-    let came_back = [
-        csrrci(ZERO, MSTATUS, MIE),
-        csrrw(ZERO, PLEVEL, X30),
-        csrrw(ZERO, MEPC, X31),
-        mret(),
-    ];
-    emit(code, &came_back)
+    put!(code; csrrci(ZERO, MSTATUS, MIE), csrrw(ZERO, PLEVEL, X30), csrrw(ZERO, MEPC, X31), mret())
 }
 
 /// With the status E_OK to the address in x1.
 fn stop_at_back(code: &mut Vec<Instr>) -> Result<(), AllocError>
     ensures { OnOk result (code.new.items ≡ code.old.items ++ way_back_stop_code) }
 {
-    let stopped = [csrrw(ZERO, MEPC, X1), addi(A0, ZERO, E_OK as i32), mret()];
-    emit(code, &stopped)
+    put!(code; csrrw(ZERO, MEPC, X1), addi(A0, ZERO, E_OK as i32), mret())
 }

@@ -1,5 +1,5 @@
-//! SetEvent: the events of the mask are set for a task that isn't Suspended, and it becomes Ready where it waits for one of
-//! its set events.
+//! SetEvent: the events of the mask are set for a task that isn't Suspended, and it becomes Ready where it waits for
+//! one of its set events.
 ghost use Rattle.std.specs.Prelude.{◌≡◌, ◌<◌, ◌++◌, IfOk, OnOk};
 ghost use Rattle.sloth_base.specs.Limits.{task_limit};
 ghost use Rattle.service_gen.specs.EventPieces.{mask_adding_code};
@@ -8,7 +8,7 @@ ghost use Rattle.service_gen.specs.SetEvent.{IsSetEventCode};
 
 use block_parts::events::ask_awaited;
 use block_parts::{WAKE, go_back, look_at, open, raise, refuse};
-use masked_code::emit::emit;
+use masked_code::put;
 use rv32_instr::{Instr, X1, X3, X4, X30, lw, or, sb, sw};
 use sloth_region::{enabled_byte, events};
 use std::alloc::{AllocError, Global};
@@ -41,12 +41,7 @@ fn add_events(code: &mut Vec<Instr>, task: u8) -> Result<(), AllocError>
     requires { task < task_limit }
     ensures { OnOk result (code.new.items ≡ code.old.items ++ mask_adding_code task) }
 {
-    let added = [
-        lw(X1, X4, events(task)),
-        or(X1, X1, X30),
-        sw(X1, X4, events(task)),
-    ];
-    emit(code, &added)
+    put!(code; lw(X1, X4, events(task)), or(X1, X1, X30), sw(X1, X4, events(task)))
 }
 
 /// Enables the task's line. x1 holds 1.
@@ -54,5 +49,5 @@ fn enable(code: &mut Vec<Instr>, task: u8) -> Result<(), AllocError>
     requires { task < task_limit }
     ensures { OnOk result (code.new.items ≡ code.old.items ++ enabling_code task) }
 {
-    emit(code, &[sb(X1, X3, enabled_byte(task))])
+    put!(code; sb(X1, X3, enabled_byte(task)))
 }

@@ -8,8 +8,7 @@ use crate::alarm_pieces::{
     CYCLE, REFUSAL, SET, VALUE, ask_cycle, ask_unused, ask_value, refuse, set,
 };
 use block_parts::open;
-use masked_code::emit::emit;
-use masked_code::past;
+use masked_code::{past, put};
 use rv32_instr::{A0, Instr, ZERO, beq};
 use std::alloc::{AllocError, Global};
 
@@ -36,6 +35,6 @@ fn ask_ticks(code: &mut Vec<Instr>, passed: u32) -> Result<(), AllocError>
     requires { passed < 99 }
     ensures { OnOk result (code.new.items ≡ code.old.items ++ ticks_test passed) }
 {
-    emit(code, &[beq(A0, ZERO, past(VALUE + passed))])?;
+    put!(code; beq(A0, ZERO, past(VALUE + passed)))?;
     ask_value(code, passed)
 }

@@ -1,8 +1,9 @@
 //! The code of the operating system services on tasks and resources (OSEK OS 2.2.3, sections 13.2 and 13.4).
 //!
-//! From an opening mark, with any arrivals: the effect within 160 instructions, and the length, of TerminateTask, ActivateTask, ChainTask, GetTaskID,
-//! GetTaskState, GetResource, ReleaseResource and Schedule, and from the mark of the way back from Schedule (`block`; a file of `specs/` for each).
-//! What all blocks share: `block_parts` (`ServiceBlock`); leaving: `masked_code` (`Kernel`).
+//! From an opening mark, with any arrivals: the effect within 160 instructions, and the length, of TerminateTask,
+//! ActivateTask, ChainTask, GetTaskID, GetTaskState, GetResource, ReleaseResource and Schedule, and from the mark of
+//! the way back from Schedule (`block`; a file of `specs/` for each). What all blocks share: `block_parts`
+//! (`ServiceBlock`); leaving: `masked_code` (`Kernel`).
 ghost use Rattle.std.specs.Prelude.{◌≡◌, ◌∷◌, IfOk, length};
 ghost use Rattle.sloth_base.specs.ServiceCodes.{code_of};
 ghost use Rattle.code_lengths.specs.CodeLengths.{service_length};
@@ -17,12 +18,11 @@ use crate::{
 };
 use block_parts::{back_mark, opening};
 use rv32_instr::{Block, Instr};
-use sloth_base::{Config, Levels, List, Mark, NoMemory, Service, block_number};
+use sloth_base::{Config, Levels, List, Mark, Result, Service, block_number};
 use sloth_region::Map;
 use std::alloc::{AllocError, Global};
 
-/// The block of a service with its object, at its address in the map. Its first instruction, under an opening mark,
-/// masks interrupts.
+/// A service's block with its object, by the map. Its first instruction, under an opening mark, masks interrupts.
 #[tactic(auto, using(block_parts::proofs::Objects::few_objects))]
 pub fn block(
     alloc: Global,
@@ -31,7 +31,7 @@ pub fn block(
     config: &Config,
     levels: &Levels,
     map: &Map,
-) -> Result<Block, NoMemory>
+) -> Result<Block>
     requires { HasBlock service object }
     ensures block { IfOk result (IsServiceBlock service object map.now.places.blocks (further_marks service)) }
     ensures effect { IfOk result (λ block. IsTaskServiceBlock service object levels.now block.code) }

@@ -1,5 +1,5 @@
-//! The tick of a counter: its value grows, and its alarms lose a tick, in order. It runs where the counter's line is taken, saves no register,
-//! and leaves x1 alone with anything.
+//! The tick of a counter: its value grows, and its alarms lose a tick, in order. It runs where the counter's line is
+//! taken, saves no register, and leaves x1 alone with anything.
 ghost use Rattle.std.specs.Prelude.{◌≡◌, ◌<◌, ◌^◌, ◌++◌, IfOk, OnOk};
 ghost use Rattle.sloth_base.specs.Limits.{counter_limit};
 ghost use Rattle.service_gen.specs.Alarms.{AreAlarmsInRange};
@@ -10,7 +10,7 @@ use crate::actions::{base, run_all};
 use crate::alarms::NumberedAlarm;
 use crate::task_bits::look_at_all;
 use block_parts::ask_greatest;
-use masked_code::emit::emit;
+use masked_code::put;
 use rv32_instr::{Instr, X1, X3, X4, ZERO, addi, lui, lw, mret, sw};
 use sloth_region::{CONTROLLER_HIGH, counter_value};
 use std::alloc::{AllocError, Global};
@@ -42,26 +42,21 @@ fn count(code: &mut Vec<Instr>, counter: u8, max: u32) -> Result<(), AllocError>
     ensures added { OnOk result (code.new.items ≡ code.old.items ++ counting_code counter max) }
     ensures fits { max < 2 ^ 32 }
 {
-    emit(code, &[lw(X1, X4, counter_value(counter))])?;
+    put!(code; lw(X1, X4, counter_value(counter)))?;
     ask_greatest(code, max)?;
-    let counted = [
-        addi(X1, ZERO, -1),
-        addi(X1, X1, 1),
-        sw(X1, X4, counter_value(counter)),
-    ];
-    emit(code, &counted)
+    put!(code; addi(X1, ZERO, -1), addi(X1, X1, 1), sw(X1, X4, counter_value(counter)))
 }
 
 /// No task has been looked at.
 fn clear(code: &mut Vec<Instr>) -> Result<(), AllocError>
     ensures { OnOk result (code.new.items ≡ code.old.items ++ look_clearing_code) }
 {
-    emit(code, &[addi(X3, ZERO, 0)])
+    put!(code; addi(X3, ZERO, 0))
 }
 
 /// x3 := the address of the controller, and back to what was interrupted.
 fn finish(code: &mut Vec<Instr>) -> Result<(), AllocError>
     ensures { OnOk result (code.new.items ≡ code.old.items ++ returning_code) }
 {
-    emit(code, &[lui(X3, CONTROLLER_HIGH), mret()])
+    put!(code; lui(X3, CONTROLLER_HIGH), mret())
 }

@@ -1,12 +1,12 @@
 //! WaitEvent: the running task goes on where one of the events is set; else it waits, and what runs below it goes on.
 ghost use Rattle.std.specs.Prelude.{◌≡◌, ◌++◌, IfOk, OnOk};
-ghost use Rattle.service_gen.specs.EventPieces.{set_events_test, controller_address_code, set_answer_code, resting_code, own_saving_code, disabling_code};
+ghost use Rattle.service_gen.specs.EventPieces.{set_events_test, controller_address_code, set_answer_code};
+ghost use Rattle.service_gen.specs.EventPieces.{resting_code, own_saving_code, disabling_code};
 ghost use Rattle.service_gen.specs.WaitEvent.{IsWaitEventCode};
 
 use crate::event_pieces::find_own;
 use block_parts::{BACK, OWN_ACTIVE, OWN_EVENTS, go_back, keep, leave, open};
-use masked_code::emit::emit;
-use masked_code::{X5, past, save};
+use masked_code::{X5, past, put, save};
 use rv32_instr::{A0, Instr, X1, X2, X3, X30, ZERO, add, addi, and, beq, lui, lw, sb, sw};
 use sloth_base::E_OK;
 use sloth_region::{CONTEXT_BYTES, CONTROLLER_HIGH};
@@ -42,41 +42,35 @@ pub fn code(alloc: Global) -> Result<Vec<Instr>, AllocError>
 fn ask_set(code: &mut Vec<Instr>) -> Result<(), AllocError>
     ensures { OnOk result (code.new.items ≡ code.old.items ++ set_events_test) }
 {
-    let asked = [
-        lw(X3, X1, OWN_EVENTS),
-        and(X3, X3, X30),
-        beq(X3, ZERO, past(2 + BACK)),
-    ];
-    emit(code, &asked)
+    put!(code; lw(X3, X1, OWN_EVENTS), and(X3, X3, X30), beq(X3, ZERO, past(2 + BACK)))
 }
 
 /// x3 := the controller's address again.
 fn hold_controller(code: &mut Vec<Instr>) -> Result<(), AllocError>
     ensures { OnOk result (code.new.items ≡ code.old.items ++ controller_address_code) }
 {
-    emit(code, &[lui(X3, CONTROLLER_HIGH)])
+    put!(code; lui(X3, CONTROLLER_HIGH))
 }
 
 /// The status E_OK.
 fn answer_set(code: &mut Vec<Instr>) -> Result<(), AllocError>
     ensures { OnOk result (code.new.items ≡ code.old.items ++ set_answer_code) }
 {
-    emit(code, &[addi(A0, ZERO, E_OK as i32)])
+    put!(code; addi(A0, ZERO, E_OK as i32))
 }
 
 /// The running task, whose words are at x1, isn't Active, and waits for the events of the mask in x30.
 fn go_to_rest(code: &mut Vec<Instr>) -> Result<(), AllocError>
     ensures { OnOk result (code.new.items ≡ code.old.items ++ resting_code) }
 {
-    let rested = [sw(ZERO, X1, OWN_ACTIVE), sw(X30, X1, OWN_WAIT)];
-    emit(code, &rested)
+    put!(code; sw(ZERO, X1, OWN_ACTIVE), sw(X30, X1, OWN_WAIT))
 }
 
 /// Saves the registers in the context directly below x2.
 fn save_own(code: &mut Vec<Instr>) -> Result<(), AllocError>
     ensures { OnOk result (code.new.items ≡ code.old.items ++ own_saving_code) }
 {
-    emit(code, &[addi(X1, X2, -CONTEXT_BYTES)])?;
+    put!(code; addi(X1, X2, -CONTEXT_BYTES))?;
     save(code, 5, 32, X1)
 }
 
@@ -84,5 +78,5 @@ fn save_own(code: &mut Vec<Instr>) -> Result<(), AllocError>
 fn disable(code: &mut Vec<Instr>) -> Result<(), AllocError>
     ensures { OnOk result (code.new.items ≡ code.old.items ++ disabling_code) }
 {
-    emit(code, &[add(X5, X5, X3), sb(ZERO, X5, OWN_ENABLED)])
+    put!(code; add(X5, X5, X3), sb(ZERO, X5, OWN_ENABLED))
 }

@@ -5,7 +5,7 @@ ghost use Rattle.shares_text.specs.Sites.{is_of_rank, down_from};
 
 use crate::sets::entry;
 use crate::sites::CallSite;
-use sloth_base::NoMemory;
+use sloth_base::Result;
 use std::alloc::Global;
 use text_pieces::push;
 
@@ -26,7 +26,7 @@ fn push_rank(
     ranks: &[u32],
     calls: &[CallSite],
     rank: u32,
-) -> Result<(), NoMemory>
+) -> Result<()>
     ensures { OnOk result (ordered.new.items ≡ ordered.old.items ++ filter (is_of_rank ranks.now rank) calls.now) }
 {
     for call in calls {
@@ -38,12 +38,7 @@ fn push_rank(
 }
 
 // The calls of callers of this rank, then those of lower ranks, down to 0.
-fn push_down(
-    ordered: &mut Vec<CallSite>,
-    ranks: &[u32],
-    calls: &[CallSite],
-    top: u32,
-) -> Result<(), NoMemory>
+fn push_down(ordered: &mut Vec<CallSite>, ranks: &[u32], calls: &[CallSite], top: u32) -> Result<()>
     ensures { OnOk result (ordered.new.items ≡ ordered.old.items ++ down_from ranks.now calls.now top) }
 {
     for step in 0..top {
@@ -53,11 +48,7 @@ fn push_down(
 }
 
 /// All calls, by the ranks of their callers, the greatest first.
-pub fn callers_first(
-    alloc: Global,
-    ranks: &[u32],
-    calls: &[CallSite],
-) -> Result<Vec<CallSite>, NoMemory>
+pub fn callers_first(alloc: Global, ranks: &[u32], calls: &[CallSite]) -> Result<Vec<CallSite>>
     ensures { IfOk result (λ ordered. ordered.items ≡ down_from ranks.now calls.now (greatest ranks.now)) }
 {
     let mut ordered = Vec::new(alloc);

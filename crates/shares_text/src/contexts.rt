@@ -5,7 +5,7 @@ ghost use Rattle.shares_text.specs.Contexts.{no_call, no_context, through, joine
 use crate::held::Held;
 use crate::sets::entry;
 use crate::sites::CallSite;
-use sloth_base::{List, NoMemory};
+use sloth_base::{List, Result};
 use std::alloc::Global;
 use text_pieces::push;
 
@@ -78,7 +78,7 @@ fn spread_all(table: &mut [Context], calls: &[CallSite])
     }
 }
 
-fn no_contexts(alloc: Global, count: usize) -> Result<Vec<Context>, NoMemory>
+fn no_contexts(alloc: Global, count: usize) -> Result<Vec<Context>>
     ensures { IfOk result (λ table. table.items ≡ replicate count no_context) }
 {
     let mut table = Vec::new(alloc);
@@ -95,7 +95,7 @@ pub fn body_contexts(
     calls: &[CallSite],
     body: usize,
     priority: u32,
-) -> Result<Contexts, NoMemory>
+) -> Result<Contexts>
     requires body { body < count }
     requires callees { (k : ℕ) → k < length calls.now → (get_or calls.now k no_call).callee < count }
     ensures { IfOk result (λ contexts. contexts.table

@@ -5,7 +5,7 @@ ghost use Rattle.shares_text.specs.Computed.{use_of, use_in, uses_by, uses_among
 use crate::contexts::{Context, Contexts, NO_CONTEXT, through};
 use crate::sets::entry;
 use crate::sites::Access;
-use sloth_base::NoMemory;
+use sloth_base::Result;
 use std::alloc::Global;
 use text_pieces::push;
 
@@ -38,12 +38,7 @@ fn access_use(access: &Access, task: usize, context: Context) -> Use
 }
 
 // One more use, if calls of the task lead there.
-fn add_use(
-    uses: &mut Vec<Use>,
-    access: &Access,
-    task: usize,
-    context: Context,
-) -> Result<(), NoMemory>
+fn add_use(uses: &mut Vec<Use>, access: &Access, task: usize, context: Context) -> Result<()>
     ensures { OnOk result (uses.new.items ≡ uses.old.items ++ use_in access.now task context) }
 {
     if context.reached {
@@ -53,7 +48,7 @@ fn add_use(
 }
 
 // The uses of an access by all tasks.
-fn add_uses(uses: &mut Vec<Use>, access: &Access, tasks: &[Contexts]) -> Result<(), NoMemory>
+fn add_uses(uses: &mut Vec<Use>, access: &Access, tasks: &[Contexts]) -> Result<()>
     ensures { OnOk result (uses.new.items ≡ uses.old.items ++ uses_by access.now 0 tasks.now) }
 {
     for (task, contexts) in tasks.iter().enumerate() {
@@ -69,7 +64,7 @@ pub fn symbol_uses(
     accesses: &[Access],
     tasks: &[Contexts],
     symbol: u32,
-) -> Result<Vec<Use>, NoMemory>
+) -> Result<Vec<Use>>
     ensures { IfOk result (λ uses. uses.items ≡ uses_among tasks.now symbol accesses.now) }
 {
     let mut uses = Vec::new(alloc);

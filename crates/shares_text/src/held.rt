@@ -6,7 +6,7 @@ ghost use Rattle.shares_text.specs.Sites.{IsHeld, AreHeld, AreAllHeld};
 ghost use Rattle.walk_sums.specs.Ceilings.{AreResourceCeilings};
 
 use crate::sets::resource_set;
-use sloth_base::{App, Config, Func, List, NoMemory};
+use sloth_base::{App, Config, Func, List, Result};
 use std::alloc::Global;
 use task_verify::{held_after, held_at_label, last_labels};
 use text_pieces::push;
@@ -42,7 +42,7 @@ fn held_rows(
     table: &[u32],
     func: &Func,
     last: &[Option<usize>],
-) -> Result<Vec<Held>, NoMemory>
+) -> Result<Vec<Held>>
     requires table { AreResourceCeilings config.now table.now }
     requires count { length last.now ≡ length func.now.items + 1 }
     requires lasts { (place : ℕ) → place ≤ length func.now.items
@@ -60,12 +60,7 @@ fn held_rows(
 }
 
 /// What each function itself holds before each of its items.
-pub fn all_held(
-    alloc: Global,
-    config: &Config,
-    table: &[u32],
-    app: &App,
-) -> Result<Vec<HeldRow>, NoMemory>
+pub fn all_held(alloc: Global, config: &Config, table: &[u32], app: &App) -> Result<Vec<HeldRow>>
     requires well_formed { WellFormed config.now app.now }
     requires table { AreResourceCeilings config.now table.now }
     ensures { IfOk result (λ rows. AreAllHeld config.now app.now rows.items) }

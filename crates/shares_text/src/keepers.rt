@@ -6,12 +6,11 @@ ghost use Rattle.shares_text.specs.Computed.{is_under, IsNextUser, is_held_at_so
 use crate::data_uses::Use;
 use crate::sets::{common, with_resource};
 use call_graph::{has, union};
-use sloth_base::{NoMemory, TaskDecl};
+use sloth_base::{Result, TaskDecl};
 use std::alloc::Global;
 use text_pieces::push;
 
-/// A user of a symbol, with what keeps those above it out: that it is not preemptable, or resources that it holds at
-/// accesses.
+/// A user of a symbol, with what keeps those above it out: not preemptable, or resources that it holds at accesses.
 #[derive(Clone, Copy)]
 pub struct Keeper {
     pub task: usize,
@@ -144,7 +143,7 @@ pub fn keepers(
     ceilings: &[u32],
     users: u32,
     uses: &[Use],
-) -> Result<Vec<Keeper>, NoMemory>
+) -> Result<Vec<Keeper>>
     requires { length tasks.now < 33 }
     ensures { IfOk result (λ list. AreKeepersBy tasks.now ceilings.now users uses.now None list.items) }
 {

@@ -1,14 +1,11 @@
 //! The lines of the commands `shares` and `unused`: which data tasks share, and what keeps their accesses apart; what
 //! nothing uses.
 //!
-//! `shares_text` gives a line for each symbol of accepted texts, in their order, or the first refusal. Texts have one
-//! list of lines (`one_text`). Lines: `specs/SharesText`; verdicts: `symbol_verdicts` (`specs/Verdicts`), with what
-//! they promise of runs (`specs/RunLaws`).
-//!
-//! `unused_text` gives a line for each resource, event, alarm, symbol and function that nothing uses, and for each task
-//! that nothing but arrivals activates, or the first refusal. Texts have one list of these lines (`one_unused_text`),
-//! and its symbols are those that `shares` calls unused (`symbols_agree`). What a use is: `specs/Uses`; lines:
-//! `specs/UnusedText`; what is computed: `specs/UsesBy`.
+//! `shares_text` gives a line for each symbol of accepted texts, or the first refusal (`one_text`; `specs/SharesText`);
+//! verdicts and what they promise of runs: `symbol_verdicts` (`specs/Verdicts`, `specs/RunLaws`). `unused_text` gives a
+//! line for each resource, event, alarm, symbol and function that nothing uses, and each task that nothing but arrivals
+//! activates (`one_unused_text`; `specs/UnusedText`); its symbols are those that `shares` calls unused
+//! (`symbols_agree`). What a use is: `specs/Uses`, `specs/UsesBy`.
 #![tactic(auto)]
 
 pub mod call_order;

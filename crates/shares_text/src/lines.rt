@@ -9,19 +9,19 @@ use crate::keepers::Keeper;
 use crate::open_pairs::OpenPair;
 use crate::verdict::Verdict;
 use call_graph::has;
-use sloth_base::{Config, NoMemory, RES_SCHEDULER};
+use sloth_base::{Config, RES_SCHEDULER, Result};
 use text_pieces::line;
 use text_pieces::pieces::Piece::{Number, Word};
 
 // A space and a name.
-fn push_word(text: &mut Vec<u8>, name: &[u8]) -> Result<(), NoMemory>
+fn push_word(text: &mut Vec<u8>, name: &[u8]) -> Result<()>
     ensures { OnOk result (text.new.items ≡ text.old.items ++ (codes " " ++ name.now)) }
 {
     line!(text; Word(b" "), Word(name))
 }
 
 // A space and a task's name.
-fn push_task(text: &mut Vec<u8>, config: &Config, task: usize) -> Result<(), NoMemory>
+fn push_task(text: &mut Vec<u8>, config: &Config, task: usize) -> Result<()>
     ensures { OnOk result (text.new.items ≡ text.old.items ++ task_word config.now task) }
 {
     push_word(text, config.task_name(task))
@@ -41,7 +41,7 @@ fn resource_name(config: &Config, resource: usize) -> &[u8]
 }
 
 // The tasks of a set, by number.
-fn push_tasks(text: &mut Vec<u8>, config: &Config, set: u32) -> Result<(), NoMemory>
+fn push_tasks(text: &mut Vec<u8>, config: &Config, set: u32) -> Result<()>
     requires { length config.now.tasks ≤ task_limit }
     ensures { OnOk result (text.new.items ≡ text.old.items ++ task_words config.now set) }
 {
@@ -54,12 +54,7 @@ fn push_tasks(text: &mut Vec<u8>, config: &Config, set: u32) -> Result<(), NoMem
 }
 
 // A space and its name, if the resource is of the set.
-fn push_member(
-    text: &mut Vec<u8>,
-    config: &Config,
-    set: u64,
-    resource: usize,
-) -> Result<(), NoMemory>
+fn push_member(text: &mut Vec<u8>, config: &Config, set: u64, resource: usize) -> Result<()>
     requires { resource < 64 }
     ensures { OnOk result (text.new.items ≡ text.old.items
         ++ cond (is_member set resource) (resource_word config.now resource) []) }
@@ -71,7 +66,7 @@ fn push_member(
 }
 
 // The resources of a set, by number.
-fn push_resources(text: &mut Vec<u8>, config: &Config, set: u64) -> Result<(), NoMemory>
+fn push_resources(text: &mut Vec<u8>, config: &Config, set: u64) -> Result<()>
     ensures { OnOk result (text.new.items ≡ text.old.items ++ resource_words config.now set) }
 {
     for resource in 0..RES_SCHEDULER as usize + 1 {
@@ -92,7 +87,7 @@ fn has_resource(set: u64) -> bool
 }
 
 // The resources behind `under`, if there are any.
-fn push_under(text: &mut Vec<u8>, config: &Config, set: u64) -> Result<(), NoMemory>
+fn push_under(text: &mut Vec<u8>, config: &Config, set: u64) -> Result<()>
     ensures { OnOk result (text.new.items ≡ text.old.items ++ under_words config.now set) }
 {
     if has_resource(set) {
@@ -103,7 +98,7 @@ fn push_under(text: &mut Vec<u8>, config: &Config, set: u64) -> Result<(), NoMem
 }
 
 // That it is not preemptable, where it is not.
-fn push_non(text: &mut Vec<u8>, non: bool) -> Result<(), NoMemory>
+fn push_non(text: &mut Vec<u8>, non: bool) -> Result<()>
     ensures { OnOk result (text.new.items ≡ text.old.items ++ cond non (codes " NON") []) }
 {
     if non {
@@ -113,7 +108,7 @@ fn push_non(text: &mut Vec<u8>, non: bool) -> Result<(), NoMemory>
 }
 
 // A user, with what keeps those above it out.
-fn push_keeper(text: &mut Vec<u8>, config: &Config, keeper: &Keeper) -> Result<(), NoMemory>
+fn push_keeper(text: &mut Vec<u8>, config: &Config, keeper: &Keeper) -> Result<()>
     ensures { OnOk result (text.new.items ≡ text.old.items ++ keeper_words config.now keeper.now) }
 {
     push_task(text, config, keeper.task)?;
@@ -123,7 +118,7 @@ fn push_keeper(text: &mut Vec<u8>, config: &Config, keeper: &Keeper) -> Result<(
 }
 
 // All but the first of these, each behind a comma.
-fn push_further(text: &mut Vec<u8>, config: &Config, list: &[Keeper]) -> Result<(), NoMemory>
+fn push_further(text: &mut Vec<u8>, config: &Config, list: &[Keeper]) -> Result<()>
     ensures { OnOk result (text.new.items ≡ text.old.items ++ further_keepers config.now (drop 1 list.now)) }
 {
     for number in 1..list.len() {
@@ -134,7 +129,7 @@ fn push_further(text: &mut Vec<u8>, config: &Config, list: &[Keeper]) -> Result<
 }
 
 // Users, with commas between.
-fn push_keepers(text: &mut Vec<u8>, config: &Config, list: &[Keeper]) -> Result<(), NoMemory>
+fn push_keepers(text: &mut Vec<u8>, config: &Config, list: &[Keeper]) -> Result<()>
     ensures { OnOk result (text.new.items ≡ text.old.items ++ keepers_words config.now list.now) }
 {
     if list.is_empty() {
@@ -145,7 +140,7 @@ fn push_keepers(text: &mut Vec<u8>, config: &Config, list: &[Keeper]) -> Result<
 }
 
 // The tasks and lines of an open pair.
-fn push_pair(text: &mut Vec<u8>, config: &Config, pair: &OpenPair) -> Result<(), NoMemory>
+fn push_pair(text: &mut Vec<u8>, config: &Config, pair: &OpenPair) -> Result<()>
     ensures { OnOk result (text.new.items ≡ text.old.items ++ pair_words config.now pair.now) }
 {
     let low = config.task_name(pair.low);
@@ -155,7 +150,7 @@ fn push_pair(text: &mut Vec<u8>, config: &Config, pair: &OpenPair) -> Result<(),
 }
 
 /// A verdict.
-pub fn push_verdict(text: &mut Vec<u8>, config: &Config, verdict: &Verdict) -> Result<(), NoMemory>
+pub fn push_verdict(text: &mut Vec<u8>, config: &Config, verdict: &Verdict) -> Result<()>
     requires { length config.now.tasks ≤ task_limit }
     ensures { OnOk result (text.new.items ≡ text.old.items ++ verdict_words config.now verdict.now) }
 {

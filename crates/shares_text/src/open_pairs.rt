@@ -5,7 +5,7 @@ ghost use Rattle.shares_text.specs.Computed.{no_firsts, least_line, firsts_with,
 
 use crate::data_uses::Use;
 use crate::sets::entry;
-use sloth_base::{NoMemory, TaskDecl};
+use sloth_base::{Result, TaskDecl};
 use std::alloc::Global;
 use text_pieces::push;
 
@@ -66,7 +66,7 @@ fn task_firsts(uses: &[Use], task: usize) -> Firsts
     firsts
 }
 
-fn all_firsts(alloc: Global, uses: &[Use], count: usize) -> Result<Vec<Firsts>, NoMemory>
+fn all_firsts(alloc: Global, uses: &[Use], count: usize) -> Result<Vec<Firsts>>
     ensures { IfOk result (λ table. AreFirsts uses.now count table.items) }
 {
     let mut table = Vec::new(alloc);
@@ -166,11 +166,7 @@ fn first_pairs(tasks: &[TaskDecl], firsts: &[Firsts], uses: &[Use]) -> Option<Op
 }
 
 /// The first open pair of a symbol's uses, if there is one.
-pub fn open_pair(
-    alloc: Global,
-    tasks: &[TaskDecl],
-    uses: &[Use],
-) -> Result<Option<OpenPair>, NoMemory>
+pub fn open_pair(alloc: Global, tasks: &[TaskDecl], uses: &[Use]) -> Result<Option<OpenPair>>
     ensures { IfOk result (IsPairBy tasks.now uses.now) }
 {
     let firsts = all_firsts(alloc, uses, tasks.len())?;

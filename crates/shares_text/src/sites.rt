@@ -5,7 +5,7 @@ ghost use Rattle.shares_text.specs.Sites.{call_at, access_at, gather_items, gath
 
 use crate::held::{Held, HeldRow};
 use crate::sets::entry;
-use sloth_base::{Func, Item, NoMemory, Op};
+use sloth_base::{Func, Item, Op, Result};
 use std::alloc::Global;
 use text_pieces::push;
 
@@ -58,7 +58,7 @@ fn add_call(
     number: usize,
     item: &Item,
     held: Held,
-) -> Result<(), NoMemory>
+) -> Result<()>
     ensures { OnOk result (calls.new.items ≡ calls.old.items ++ call_at caller number item.now held) }
 {
     match item.op {
@@ -82,7 +82,7 @@ fn add_access(
     number: usize,
     item: &Item,
     held: Held,
-) -> Result<(), NoMemory>
+) -> Result<()>
     ensures { OnOk result (accesses.new.items ≡ accesses.old.items ++ access_at func number item.now held) }
 {
     match accessed_symbol(item.op) {
@@ -102,22 +102,12 @@ fn add_access(
 }
 
 // The calls of a function.
-fn add_calls(
-    calls: &mut Vec<CallSite>,
-    caller: usize,
-    items: &[Item],
-    rows: &[Held],
-) -> Result<(), NoMemory>
+fn add_calls(calls: &mut Vec<CallSite>, caller: usize, items: &[Item], rows: &[Held]) -> Result<()>
     ensures { OnOk result (calls.new.items ≡ calls.old.items ++ gather_items call_at caller 0 items.now rows.now) }
 {
     for (number, item) in items.iter().enumerate() {
-        add_call(
-            calls,
-            caller,
-            number,
-            item,
-            entry(rows, number, NOTHING_HELD),
-        )?;
+        let held = entry(rows, number, NOTHING_HELD);
+        add_call(calls, caller, number, item, held)?;
     }
     Ok(())
 }
@@ -128,18 +118,13 @@ fn add_accesses(
     func: usize,
     items: &[Item],
     rows: &[Held],
-) -> Result<(), NoMemory>
+) -> Result<()>
     ensures { OnOk result (accesses.new.items ≡ accesses.old.items
         ++ gather_items access_at func 0 items.now rows.now) }
 {
     for (number, item) in items.iter().enumerate() {
-        add_access(
-            accesses,
-            func,
-            number,
-            item,
-            entry(rows, number, NOTHING_HELD),
-        )?;
+        let held = entry(rows, number, NOTHING_HELD);
+        add_access(accesses, func, number, item, held)?;
     }
     Ok(())
 }
@@ -152,43 +137,27 @@ fn held_row(table: &[HeldRow], func: usize) -> &[Held]
 }
 
 /// The calls of all functions.
-pub fn all_calls(
-    alloc: Global,
-    funcs: &[Func],
-    table: &[HeldRow],
-) -> Result<Vec<CallSite>, NoMemory>
+pub fn all_calls(alloc: Global, funcs: &[Func], table: &[HeldRow]) -> Result<Vec<CallSite>>
     requires { length table.now ≡ length funcs.now }
     ensures { IfOk result (λ calls. calls.items ≡ gather call_at 0 funcs.now table.now) }
 {
     let mut calls = Vec::new(alloc);
     for (number, func) in funcs.iter().enumerate() {
-        add_calls(
-            &mut calls,
-            number,
-            func.items.items(),
-            held_row(table, number),
-        )?;
+        let rows = held_row(table, number);
+        add_calls(&mut calls, number, func.items.items(), rows)?;
     }
     Ok(calls)
 }
 
 /// Their accesses.
-pub fn all_accesses(
-    alloc: Global,
-    funcs: &[Func],
-    table: &[HeldRow],
-) -> Result<Vec<Access>, NoMemory>
+pub fn all_accesses(alloc: Global, funcs: &[Func], table: &[HeldRow]) -> Result<Vec<Access>>
     requires { length table.now ≡ length funcs.now }
     ensures { IfOk result (λ accesses. accesses.items ≡ gather access_at 0 funcs.now table.now) }
 {
     let mut accesses = Vec::new(alloc);
     for (number, func) in funcs.iter().enumerate() {
-        add_accesses(
-            &mut accesses,
-            number,
-            func.items.items(),
-            held_row(table, number),
-        )?;
+        let rows = held_row(table, number);
+        add_accesses(&mut accesses, number, func.items.items(), rows)?;
     }
     Ok(accesses)
 }

@@ -7,10 +7,9 @@
 //! ones (clause `kept`, `verdict_laws`). Uses, ways of calls, what is held on them: `specs/Accesses`; verdicts:
 //! `specs/Verdicts`; runs: `specs/RunLaws`.
 //!
-//! What each function itself holds (`held`), the items that call or use a symbol (`sites`, `specs/Sites`), calls of
-//! callers first (`call_order`); what is known of each task as it enters each function (`contexts`, `specs/Contexts`);
-//! the uses of a symbol (`data_uses`), and what is read off them (`specs/Computed`, `specs/VerdictsBy`). Positions:
-//! `raised_sections` (`Sections`).
+//! What each function itself holds (`held`), items that call or use a symbol (`sites`, `specs/Sites`), callers' calls
+//! first (`call_order`); what is known as a task enters a function (`contexts`, `specs/Contexts`); a symbol's uses
+//! (`data_uses`), and what they tell (`specs/Computed`, `specs/VerdictsBy`). Positions: `raised_sections` (`Sections`).
 ghost use Rattle.std.specs.Prelude.{◌≡◌, ◌<◌, [], length, IfOk};
 ghost use Rattle.sloth_base.specs.Limits.{ceiling_count};
 ghost use Rattle.sloth_base.specs.declared.app.App.{App as AnyApp};
@@ -32,7 +31,7 @@ use crate::sites::{Access, CallSite, all_accesses, all_calls};
 use crate::verdict::{Verdict, uses_verdict};
 use call_graph::Ranks;
 use osek_scheduler::highest;
-use sloth_base::{App, Config, List, NoMemory};
+use sloth_base::{App, Config, List, Result};
 use stack_bounds::body_of;
 use std::alloc::Global;
 use task_verify::Verified;
@@ -59,7 +58,7 @@ fn all_contexts(
     config: &Config,
     app: &App,
     calls: &[CallSite],
-) -> Result<Vec<Contexts>, NoMemory>
+) -> Result<Vec<Contexts>>
     requires well_formed { WellFormed config.now app.now }
     requires calls { AreCalls config.now app.now calls.now }
     ensures { IfOk result (λ tasks. AreAllContexts config.now app.now tasks.items) }
@@ -84,7 +83,7 @@ fn verdicts(
     ceilings: &[u32],
     accesses: &[Access],
     tasks: &[Contexts],
-) -> Result<Vec<Verdict>, NoMemory>
+) -> Result<Vec<Verdict>>
     requires well_formed { WellFormed config.now app.now }
     requires many { length ceilings.now ≡ ceiling_count }
     requires ceilings { AreResourceCeilings config.now ceilings.now }
@@ -109,7 +108,7 @@ fn code_verdicts(
     ranks: &Ranks,
     ceilings: &[u32],
     table: &[HeldRow],
-) -> Result<Vec<Verdict>, NoMemory>
+) -> Result<Vec<Verdict>>
     requires well_formed { WellFormed config.now app.now }
     requires belong { RanksOf app.now ranks.now }
     requires many { length ceilings.now ≡ ceiling_count }
@@ -126,11 +125,7 @@ fn code_verdicts(
 }
 
 /// What keeps the users of each symbol apart, in the order of the symbols.
-pub fn data_verdicts(
-    alloc: Global,
-    verified: &Verified,
-    ranks: &Ranks,
-) -> Result<List<Verdict>, NoMemory>
+pub fn data_verdicts(alloc: Global, verified: &Verified, ranks: &Ranks) -> Result<List<Verdict>>
     requires { RanksOf verified.now.app ranks.now }
     ensures exact { IfOk result (AreVerdicts verified.now.config verified.now.app) }
     ensures kept { IfOk result (RunsKeepApart verified.now.config verified.now.app) }

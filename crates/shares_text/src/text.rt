@@ -10,7 +10,7 @@ use crate::lines::push_verdict;
 use crate::symbol_verdicts::data_verdicts;
 use crate::verdict::Verdict;
 use call_graph::Ranks;
-use sloth_base::{App, BuildError, Config, NoMemory, Symbol};
+use sloth_base::{App, BuildError, Config, Result, Symbol};
 use sloth_source::read_checked;
 use std::alloc::Global;
 use task_verify::Verified;
@@ -32,12 +32,7 @@ fn numbered_verdict(verdicts: &[Verdict], number: usize) -> &Verdict
 }
 
 // The line of a symbol.
-fn push_line(
-    text: &mut Vec<u8>,
-    config: &Config,
-    symbol: &Symbol,
-    verdict: &Verdict,
-) -> Result<(), NoMemory>
+fn push_line(text: &mut Vec<u8>, config: &Config, symbol: &Symbol, verdict: &Verdict) -> Result<()>
     requires { length config.now.tasks ≤ task_limit }
     ensures { OnOk result (text.new.items ≡ text.old.items
         ++ ((symbol.now.name ++ verdict_words config.now verdict.now) ++ codes "\n")) }
@@ -48,12 +43,7 @@ fn push_line(
 }
 
 // The lines of all symbols.
-fn share_lines(
-    alloc: Global,
-    config: &Config,
-    app: &App,
-    verdicts: &[Verdict],
-) -> Result<Vec<u8>, NoMemory>
+fn share_lines(alloc: Global, config: &Config, app: &App, verdicts: &[Verdict]) -> Result<Vec<u8>>
     requires few { length config.now.tasks ≤ task_limit }
     requires same { length verdicts.now ≡ length app.now.symbols }
     ensures { IfOk result (λ text. text.items ≡ share_lines config.now app.now verdicts.now (length app.now.symbols)) }

@@ -9,7 +9,7 @@ ghost use Rattle.shares_text.specs.UsesBy.{is_used_by};
 use crate::kinds::{Kind, header_line, kind_count, kind_word, object_name};
 use crate::uses::is_used;
 use call_graph::Ranks;
-use sloth_base::{App, BuildError, Config, NoMemory};
+use sloth_base::{App, BuildError, Config, Result};
 use sloth_source::read_checked;
 use std::alloc::Global;
 use task_verify::Verified;
@@ -17,7 +17,7 @@ use text_pieces::line;
 use text_pieces::pieces::Piece::{Number, Word};
 
 // What stands behind the name.
-fn push_further(text: &mut Vec<u8>, app: &App, kind: Kind, number: usize) -> Result<(), NoMemory>
+fn push_further(text: &mut Vec<u8>, app: &App, kind: Kind, number: usize) -> Result<()>
     ensures { OnOk result (text.new.items ≡ text.old.items ++ further_words app.now kind number) }
 {
     match kind {
@@ -33,7 +33,7 @@ fn push_line<'t>(
     app: &'t App,
     kind: Kind,
     number: usize,
-) -> Result<(), NoMemory>
+) -> Result<()>
     ensures { OnOk result (text.new.items ≡ text.old.items ++ unused_line config.now app.now kind number) }
 {
     line!(text; Word(kind_word(kind)), Word(b" "), Word(object_name(config, app, kind, number)))?;
@@ -49,7 +49,7 @@ fn push_unless(
     used: bool,
     kind: Kind,
     number: usize,
-) -> Result<(), NoMemory>
+) -> Result<()>
     ensures { OnOk result (text.new.items ≡ text.old.items
         ++ cond used [] (unused_line config.now app.now kind number)) }
 {
@@ -66,7 +66,7 @@ fn push_kind(
     app: &App,
     users: &[u32],
     kind: Kind,
-) -> Result<(), NoMemory>
+) -> Result<()>
     requires { length config.now.tasks ≤ task_limit }
     ensures { OnOk result (text.new.items ≡ text.old.items
         ++ lines_of config.now app.now (is_used_by config.now app.now users.now) kind) }
@@ -79,12 +79,7 @@ fn push_kind(
 }
 
 // The lines of all kinds.
-fn unused_lines(
-    alloc: Global,
-    config: &Config,
-    app: &App,
-    users: &[u32],
-) -> Result<Vec<u8>, NoMemory>
+fn unused_lines(alloc: Global, config: &Config, app: &App, users: &[u32]) -> Result<Vec<u8>>
     requires { length config.now.tasks ≤ task_limit }
     ensures { IfOk result (λ text. text.items
         ≡ unused_lines config.now app.now (is_used_by config.now app.now users.now)) }
@@ -110,9 +105,8 @@ fn answer_text(alloc: Global, verified: &Verified, ranks: &Ranks) -> Result<Vec<
     Ok(text)
 }
 
-/// The lines of the tasks that nothing but arrivals activates, and of the resources, events, alarms, symbols and
-/// functions that nothing uses, of texts of at most 4,294,967,294 bytes; or the first refusal (O1 to O15, A1 to A7, V1
-/// to V12).
+/// The lines of tasks that only arrivals activate, and of resources, events, alarms, symbols and functions that nothing
+/// uses, of texts of at most 4,294,967,294 bytes; or the first refusal (O1 to O15, A1 to A7, V1 to V12).
 pub fn unused_text(alloc: Global, oil: &[u8], src: &[u8]) -> Result<Vec<u8>, BuildError>
     requires oil { length oil.now < 4294967295 }
     requires src { length src.now < 4294967295 }

@@ -1,10 +1,10 @@
 //! Whether something uses an object, a symbol or a function.
-ghost use Rattle.std.specs.Prelude.{◌≡◌, ◌==◌, ◌≤◌, ◌||◌, ◌&&◌, not, is_some, length};
+ghost use Rattle.std.specs.Prelude.{◌≡◌, ◌==◌, ◌≤◌, ◌||◌, ◌&&◌, length};
 ghost use Rattle.std.specs.List.{list_any};
 ghost use Rattle.sloth_base.specs.Limits.{task_limit};
-ghost use Rattle.sloth_base.specs.Named.{declaration, alarm_declaration, function};
-ghost use Rattle.call_graph.specs.Rows.{is_call, is_taking};
-ghost use Rattle.shares_text.specs.Uses.{has_bits, is_activation, has_event, is_start, is_access, is_use, activates, sets, is_declared_use};
+ghost use Rattle.sloth_base.specs.Named.{declaration};
+ghost use Rattle.call_graph.specs.Rows.{is_taking};
+ghost use Rattle.shares_text.specs.Uses.{has_bits, is_activation, has_event, is_start, is_use, activates, sets, is_declared_use};
 ghost use Rattle.shares_text.specs.UsesBy.{has_task, is_function_use, is_code_use, is_used_by};
 
 use crate::kinds::{Kind, event_mask};
@@ -69,26 +69,6 @@ fn is_start(alarm: usize, op: Op) -> bool
     }
 }
 
-// It loads or stores the symbol.
-fn is_access(symbol: usize, op: Op) -> bool
-    ensures { result ≡ is_access symbol op }
-{
-    match accessed_symbol(op) {
-        Some(accessed) => accessed as usize == symbol,
-        None => false,
-    }
-}
-
-// It calls the function.
-fn is_call(number: usize, op: Op) -> bool
-    ensures { result ≡ is_call number op }
-{
-    match op {
-        Op::Invoke { func } => func.0 as usize == number,
-        _ => false,
-    }
-}
-
 fn is_use(config: &Config, kind: Kind, number: usize, op: Op) -> bool
     ensures { result ≡ is_use config.now kind number op }
 {
@@ -97,8 +77,14 @@ fn is_use(config: &Config, kind: Kind, number: usize, op: Op) -> bool
         Kind::Resource => is_taking(number, op),
         Kind::Event => has_event(event_mask(config, number), op),
         Kind::Alarm => is_start(number, op),
-        Kind::Symbol => is_access(number, op),
-        Kind::Function => is_call(number, op),
+        Kind::Symbol => match accessed_symbol(op) {
+            Some(accessed) => accessed as usize == number,
+            None => false,
+        },
+        Kind::Function => match op {
+            Op::Invoke { func } => func.0 as usize == number,
+            _ => false,
+        },
     }
 }
 
@@ -145,24 +131,6 @@ fn is_set_by_alarm(config: &Config, bits: u32) -> bool
     alarms.iter().any(|alarm| sets(bits, alarm.action))
 }
 
-fn starts_by_itself(config: &Config, alarm: usize) -> bool
-    ensures { result ≡ not ((alarm_declaration config.now alarm).time == 0) }
-{
-    match config.alarms.items().get(alarm) {
-        Some(declared) => declared.time != 0,
-        None => false,
-    }
-}
-
-fn is_body(app: &App, number: usize) -> bool
-    ensures { result ≡ is_some (function app.now number).task }
-{
-    match app.funcs.items().get(number) {
-        Some(func) => func.task.is_some(),
-        None => false,
-    }
-}
-
 fn is_declared_use(config: &Config, app: &App, kind: Kind, number: usize) -> bool
     ensures { result ≡ is_declared_use config.now app.now kind number }
 {
@@ -170,9 +138,15 @@ fn is_declared_use(config: &Config, app: &App, kind: Kind, number: usize) -> boo
         Kind::Task => is_autostarted(config, number) || is_activated_by_alarm(config, number),
         Kind::Resource => false,
         Kind::Event => is_set_by_alarm(config, event_mask(config, number)),
-        Kind::Alarm => starts_by_itself(config, number),
+        Kind::Alarm => match config.alarms.items().get(number) {
+            Some(alarm) => alarm.time != 0,
+            None => false,
+        },
         Kind::Symbol => false,
-        Kind::Function => is_body(app, number),
+        Kind::Function => match app.funcs.items().get(number) {
+            Some(func) => func.task.is_some(),
+            None => false,
+        },
     }
 }
 

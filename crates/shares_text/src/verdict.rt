@@ -7,7 +7,7 @@ use crate::data_uses::Use;
 use crate::keepers::{Keeper, keepers};
 use crate::open_pairs::{OpenPair, open_pair};
 use crate::sets::{all_resources, common, with_task};
-use sloth_base::{List, NoMemory, TaskDecl};
+use sloth_base::{List, Result, TaskDecl};
 use std::alloc::Global;
 
 /// What keeps the users of a symbol apart.
@@ -73,7 +73,7 @@ fn shared_verdict(
     tasks: &[TaskDecl],
     ceilings: &[u32],
     uses: &[Use],
-) -> Result<Verdict, NoMemory>
+) -> Result<Verdict>
     requires few { length tasks.now < 33 }
     requires two { AreOfTwo uses.now }
     ensures { IfOk result (IsVerdictBy tasks.now ceilings.now uses.now) }
@@ -98,7 +98,7 @@ pub fn uses_verdict(
     tasks: &[TaskDecl],
     ceilings: &[u32],
     uses: &[Use],
-) -> Result<Verdict, NoMemory>
+) -> Result<Verdict>
     requires { length tasks.now < 33 }
     ensures { IfOk result (IsVerdictBy tasks.now ceilings.now uses.now) }
 {

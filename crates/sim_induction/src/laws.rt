@@ -13,8 +13,8 @@ pub fn arrivals_of_files_come()
     ensures { (owners : Owners) (arrivals : List Arrival) → AreArrivals owners arrivals → AreComing owners arrivals }
 {}
 
-/// A sound image runs for ever: of arrivals without end, at moments that never fall and pass every bound, so many come before
-/// its first n instructions, for every n, are executed; these are a sound run, and what comes later changes nothing of them.
+/// A sound image runs for ever: of endless arrivals, at moments that never fall and pass every bound, so many come
+/// before its first n instructions are executed, for every n; these are a sound run, and later ones change nothing.
 pub fn sound_images_run_for_ever()
     ensures { SoundForEver }
 {}
@@ -25,8 +25,8 @@ pub fn stretches_are_traced()
     ensures { StretchesAreTraced }
 {}
 
-/// The top task, where it is Active, stays the top one whatever lines arrive, those that arrived left out; and in a stretch
-/// of its own it passes over only tasks that were admitted inside the stretch.
+/// The top task, where it is Active, stays the top one whatever lines arrive, those that arrived left out; and in a
+/// stretch of its own it passes over only tasks that were admitted inside the stretch.
 pub fn top_task_stays()
     ensures stays { StaysTop }
     ensures passes { PassesOverInner }

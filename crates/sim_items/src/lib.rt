@@ -1,10 +1,10 @@
-//! Items of task code and the idle loop as events of the abstract scheduler. The instructions of an item stand in `rv32_expand`, what it means in
-//! `osek_scheduler` (`Meaning`).
+//! Items of task code and the idle loop as events of the abstract scheduler. The instructions of an item stand in
+//! `rv32_expand`, what it means in `osek_scheduler` (`Meaning`).
 //!
-//! Each instruction of an item, and of the idle loop, is one step of the abstract scheduler or none (`straight_items_go_on`, `expansions_go_on`,
-//! `flowing_items_go_on`, `calls_go_on`, `returns_go_on`, `idle_goes_on`, ..; `specs/ItemSteps`, `specs/Outside`). Where a task stands at an item:
-//! `specs/Place`. The idle loop: `vector_gen` (`Idle`); the relation, and the measure of instructions that show no event: `sim_relation` (`Stands`,
-//! `Progress`).
+//! Each instruction of an item, and of the idle loop, is one step of the abstract scheduler or none
+//! (`straight_items_go_on`, `expansions_go_on`, `flowing_items_go_on`, `calls_go_on`, `returns_go_on`, `idle_goes_on`,
+//! ..; `specs/ItemSteps`, `specs/Outside`). Where a task stands at an item: `specs/Place`. The idle loop: `vector_gen`
+//! (`Idle`); the relation, and the measure of instructions that show no event: `sim_relation` (`Stands`, `Progress`).
 #![tactic(auto)]
 
 ghost use Rattle.sim_items.specs.ItemSteps.{StraightItemsRun};
@@ -25,8 +25,8 @@ pub fn expansions_go_on()
     ensures { ExpansionsGoOn }
 {}
 
-/// Each instruction of a jump or a branch, short or long, advances the run: the last one is the item's Run event, behind which the
-/// item at the label or the next one follows.
+/// Each instruction of a jump or a branch, short or long, advances the run: the last one is the item's Run event,
+/// behind which the item at the label or the next one follows.
 pub fn flowing_items_go_on()
     ensures { FlowingItemsGoOn }
 {}
@@ -36,8 +36,7 @@ pub fn calls_begin()
     ensures { CallsBegin }
 {}
 
-/// Each further instruction of a call advances the run; the last one is the item's Run event, behind which the function's first
-/// item follows.
+/// Each further instruction of a call advances the run; the last is its Run event, then the function's first item.
 pub fn calls_go_on()
     ensures { CallsGoOn }
 {}
@@ -47,7 +46,7 @@ pub fn returns_begin()
     ensures { ReturnsBegin }
 {}
 
-/// Each further instruction of a return advances the run; the last one is the item's Run event, behind which the caller goes on.
+/// Each further instruction of a return advances the run; the last is the item's Run event, then the caller goes on.
 pub fn returns_go_on()
     ensures { ReturnsGoOn }
 {}
@@ -57,7 +56,7 @@ pub fn service_jumps_go_on()
     ensures { ServiceJumpsGoOn }
 {}
 
-/// Each instruction of a call of a service with a mask of events makes progress, and the jump leads to the opening mark with the mask.
+/// Each instruction of a service call with an event mask makes progress; the jump leads to its opening mark with it.
 pub fn masked_jumps_go_on()
     ensures { MaskedJumpsGoOn }
 {}

@@ -1,18 +1,15 @@
-//! The laws together: every run of a kernel in place (`specs/Kernel`) is one of the abstract scheduler, and what the generators' contracts say of the
-//! code makes such a kernel (`specs/Generated`, `specs/Items`).
+//! The laws together: every run of a kernel in place (`specs/Kernel`) is one of the abstract scheduler, and what the
+//! generators' contracts say of the code makes such a kernel (`specs/Generated`, `specs/Items`), for any configuration
+//! in range and well-formed task code.
 //!
-//! A kernel is of any configuration in range, with counters and alarms, and of well-formed task code of any items and services. Every run of an image
-//! in which one stands is sound, its stretches are within their weights, its events keep the pace and no task spends more on an item than it has
-//! (`kernel_is_sound`, `kernel_is_weighed`, `kernel_is_paced`, `kernel_is_spent`, `generated_is_kernel`, `steady_stays`, `bounds_stay`, `marks_are_found`, `items_stand`); each item of such code that is no
-//! service is one of the known ones (`items_are_known`). What each step keeps of the system: `specs/Bounded`, `specs/Steady`; the relation at each count at which interrupts are open, with the Active basic tasks' parts of the shared stack one below the
-//! other in the order of entry: `specs/Standing`, `specs/Nested`.
+//! Every run of an image in which a kernel stands is sound, within its weights and its pace, and no task spends more on
+//! an item than it has (`kernel_is_sound`, `kernel_is_weighed`, `kernel_is_paced`, `kernel_is_spent`,
+//! `generated_is_kernel`; `items_are_known`). What each step keeps: `specs/Bounded`, `specs/Steady`. The relation at
+//! each count at which interrupts are open, with the parts of the shared stack in the order of entry: `specs/Standing`,
+//! `specs/Nested`. There the machine shows each task, counter and alarm of the abstract scheduler (`specs/TaskStates`).
 //!
-//! At each such count the machine shows each task, counter and alarm of the abstract scheduler (`specs/TaskStates`). The goal: `sim_induction` (`Sound`); states:
-//! `sloth_inspect` (`States`).
-//!
-//! What is linked in the zones of a map, of code by the generators' contracts, is a kernel in place, with its items; blocks that fill extents with no
-//! hole between them follow one another (`zones`: `built_is_generated`, `built_is_in_place`, `blocks_follow_closely`, ..; `specs/Zones`,
-//! `specs/LinkedImages`, `specs/Rooms`, `specs/Symbols`, `specs/GeneratedZones`). The map: `mem_map` (`Zones`).
+//! What is linked in the zones of a map is such a kernel (`zones`: `built_is_generated`, `built_is_in_place`, ..;
+//! `specs/Zones`, `specs/LinkedImages`, `specs/GeneratedZones`). The goal: `sim_induction` (`Sound`).
 #![tactic(auto)]
 
 pub mod states;
@@ -30,7 +27,7 @@ pub fn bounds_stay()
     ensures { BoundsStay }
 {}
 
-/// With well-formed task code each step keeps a system valid, and a task owes the way back only where some item calls Schedule.
+/// In well-formed task code steps keep a system valid; a task owes the way back only where some item calls Schedule.
 pub fn steady_stays()
     ensures { SteadyStays }
 {}
@@ -45,17 +42,17 @@ pub fn kernel_is_weighed()
     ensures { KernelIsWeighed }
 {}
 
-/// Each event of such a run ends soon behind the one before it, by its weight and the items of the task code (`event_weights`, `specs/Pace`).
+/// Each event of such a run ends soon behind the one before, by its weight and items (`event_weights`, `specs/Pace`).
 pub fn kernel_is_paced()
     ensures { KernelIsPaced }
 {}
 
-/// In such a run no task spends more on an item, over all its pieces between preemptions, than the item has instructions (`sim_induction`, `specs/Spent`).
+/// In such a run no task spends more on an item in all than it has instructions (`sim_induction`, `specs/Spent`).
 pub fn kernel_is_spent()
     ensures { KernelIsSpent }
 {}
 
-/// At each count of such a run that finds interrupts open the machine stands as the system says that the events before it lead to.
+/// At each count of such a run with interrupts open the machine stands as the system says after the events before it.
 pub fn kernel_stands()
     ensures { KernelStands }
 {}

@@ -1,13 +1,12 @@
-//! The relation of the simulation, between states of the machine and of the abstract scheduler (`specs/Stands`, with the lines and words of counters
-//! and alarms in `specs/ClockStands`), and who keeps it. It stands on the offsets of `sloth_region` (`Layout`) and on no generator.
+//! The relation of the simulation, between states of the machine and of the abstract scheduler (`specs/Stands`,
+//! `specs/ClockStands`), and who keeps it. It stands on the offsets of `sloth_region` and on no generator.
 //!
-//! Each kind of step and each arrival keeps it; and what the line that is taken says of the system (`steps_keep`, `entries_keep`, `leaves_keep`,
-//! `arrivals_are_admits`, `taken_is_next`, `mirror_of_stands`, ..; laws: `specs/RelationKept`). Where a task stands: `specs/Position`; the chain of
-//! contexts from the running task down to the idle loop: `specs/Context`; what is built, and where the image has everything: `specs/Build`; what each
-//! kind of step leaves: `specs/Moves`, `specs/Entry`, `specs/Changes`, `specs/Start`. What mirrors the controller: `sim_induction` (`Mirror`).
-//!
-//! The relation carries a bound on how many instructions of its next item each preempted task has passed at least (`Build`, `passed`): an entry sets it for
-//! what it preempts, a leave gives back a task that has passed so many, and all else keeps it. The measure: `specs/Progress`.
+//! Each kind of step and each arrival keeps it; and what the line that is taken says of the system (`steps_keep`,
+//! `entries_keep`, `leaves_keep`, `arrivals_are_admits`, `taken_is_next`, `mirror_of_stands`, ..;
+//! `specs/RelationKept`). Where a task stands: `specs/Position`; the chain of contexts from the running task to the
+//! idle loop: `specs/Context`; where the image has everything: `specs/Build`; what each kind of step leaves:
+//! `specs/Moves`, `specs/Entry`, `specs/Changes`, `specs/Start`. How many instructions of its next item each preempted
+//! task has passed: `passed` of `specs/Build`, `specs/Progress`.
 #![tactic(auto)]
 
 ghost use Rattle.sim_relation.specs.RelationKept.{MirrorOfStands, ArrivalsAreAdmits, TakenIsOwned, TakenIsTop, TakenIsNext, NoneTaken, StepsKeep, MovesKeep, LeavesKeep, ChangesKeep, EntriesKeep, BelowIsFound, StartsStand};
@@ -62,7 +61,7 @@ pub fn changes_keep()
     ensures { ChangesKeep }
 {}
 
-/// The relation stands behind the entry of the task whose line is taken, where what it preempts has passed what is said of it from then on.
+/// The relation stands behind the entry of a task, if what it preempts has passed what is said of it from then on.
 pub fn entries_keep()
     ensures { EntriesKeep }
 {}

@@ -8,8 +8,8 @@ pub fn enter_law()
     ensures { EnterLaw }
 {}
 
-/// Where a task's line is the one taken and a context is kept for the task, its prologue is the event Enter of the abstract
-/// scheduler, whatever ran: the task is Active, with E_OK in a0.
+/// Where a task's line is the one taken and a context is kept for the task, its prologue is the event Enter of the
+/// abstract scheduler, whatever ran: the task is Active, with E_OK in a0.
 pub fn resume_law()
     ensures { ResumeLaw }
 {}
@@ -24,13 +24,12 @@ pub fn boot_stretch()
     ensures { BootStretch }
 {}
 
-/// Where the line that is taken is that of a task that is to start anew, its prologue is a stretch, whatever lines arrive.
+/// Where the line that is taken is that of a task to start anew, its prologue is a stretch, whatever lines arrive.
 pub fn enter_stretch()
     ensures { EnterStretch }
 {}
 
-/// Where the line that is taken is that of an extended task that is to go on behind its wait, its prologue is a stretch, whatever
-/// lines arrive.
+/// Where the line taken is of an extended task to go on behind its wait, its prologue is a stretch, whatever arrives.
 pub fn resume_stretch()
     ensures { ResumeStretch }
 {}

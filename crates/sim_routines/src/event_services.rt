@@ -1,5 +1,5 @@
-//! Services on events as events of the abstract scheduler: to what all services share (`sim_routines`) each adds its own law, by
-//! the effect of its block in `service_gen`.
+//! Services on events as events of the abstract scheduler: to what all services share (`sim_routines`) each adds its
+//! own law, by the effect of its block in `service_gen`.
 ghost use Rattle.sim_routines.specs.EventServiceSteps.{ClearEventGoesOn, GetEventGoesOn, SetEventGoesOn, WaitEventAnswers};
 ghost use Rattle.sim_routines.specs.EventStretch.{ClearEventStretches, GetEventStretches, SetEventStretches, WaitEventStretches};
 

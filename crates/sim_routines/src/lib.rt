@@ -1,13 +1,12 @@
-//! The generated routines in the simulation: boot, the entries of tasks, the services and the ticks. Each is a step of the abstract scheduler, said
-//! without arrivals, and then with any, and a stretch of a run.
+//! The generated routines in the simulation: boot, the entries of tasks, the services and the ticks. Each is a step of
+//! the abstract scheduler, said without arrivals, and then with any, and a stretch of a run.
 //!
-//! **Entries** (`entries`): boot and each entry of a task, anew or behind a wait (`boots_law`, `enter_law`, ..; `specs/EntrySteps`, `specs/Boot`,
-//! `specs/Entries`, `specs/Generated`). **Services** on tasks, resources and events, and the way back from Schedule: what all share stands once
-//! (`specs/Opening`, `specs/Served`, `proofs/ServiceStretch`); a service adds its own law, by the effect of its block in `service_gen` or
-//! `service_gen` (`terminate_task_ends`, `activate_task_goes_on`, `chain_task_answers`, `schedule_gives_way`, `schedule_returns`, `set_event_goes_on`,
-//! `wait_event_answers`, ..; `specs/ServiceSteps`, `specs/EventServiceSteps`). From a block's contract and a service's own law to its stretch:
-//! `specs/Stretch`, `specs/EventStretch`. A service touches lines of tasks alone (`specs/Served`), so the early arrivals of its stretch are those of
-//! tasks. **Ticks** and the services on alarms: `ticks`. The relation: `sim_relation` (`Stands`); a change of a task's events: `Changes` there.
+//! Entries: boot and each entry of a task, anew or after a wait (`entries`; `specs/EntrySteps`, `specs/Boot`,
+//! `specs/Entries`, `specs/Generated`). Services, and the way back from Schedule: what all share stands once
+//! (`specs/Opening`, `specs/Served`, `proofs/ServiceStretch`); each adds its own law, by the effect of its block in
+//! `service_gen` (`terminate_task_ends`, `set_event_goes_on`, `wait_event_answers`, ..; `specs/ServiceSteps`,
+//! `specs/EventServiceSteps`), and so its stretch (`specs/Stretch`, `specs/EventStretch`). Ticks and the services on
+//! alarms: `ticks`. The relation: `sim_relation` (`Stands`).
 #![tactic(auto)]
 
 pub mod entries;

@@ -1,5 +1,5 @@
-//! Ticks and the services on alarms as events of the abstract scheduler (OSEK OS 2.2.3, sections 9 and 13.6), by the effects of their code in
-//! `service_gen`: the tick of a counter is its event Tick, whatever ran and whatever lines arrive, and each service on alarms is its event Call.
+//! Ticks and services on alarms as events of the abstract scheduler (OSEK OS 2.2.3, sections 9 and 13.6), by their
+//! code's effects in `service_gen`: a tick is Tick, whatever ran and whatever lines arrive, each service its Call.
 ghost use Rattle.sloth_base.specs.declared.service.Service.TheVariants.{SetRelAlarm, SetAbsAlarm, CancelAlarm, GetAlarm};
 ghost use Rattle.sim_routines.specs.TickSteps.{TickLaw, TickStretch};
 ghost use Rattle.sim_routines.specs.AlarmSteps.{SetRelAlarmGoesOn, SetAbsAlarmGoesOn, CancelAlarmGoesOn, GetAlarmGoesOn, AlarmStretches};

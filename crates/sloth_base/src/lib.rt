@@ -1,14 +1,13 @@
-//! Plain data of `sloth`: names and numbers, configurations, task code, images, states of the machine, and what is observed of a run.
+//! Plain data of `sloth`: names and numbers, configurations, task code, images, states of the machine, and what is
+//! observed of a run; with copies, lists, and look-ups by number (`Config::copy`, `App::copy`, `List`, `Name`,
+//! `Service::code`, `Config::task_name`, `App::function`, `Func::op`, ..).
 //!
-//! A copy equals what it is of, a list holds its items, a service has its number, a number names what is declared there (`Config::copy`,
-//! `App::copy`, `List`, `Name`, `is_name`, `Service::code`, `from_code`, `Config::task_name`, `App::function`, `Func::op`).
-//!
-//! What many crates speak of is defined here: what is in range (`specs/ConfigRange`, `specs/ImageRange`, `specs/Arrivals`); the machine's state, its
-//! controller and the taking of a line (`specs/Machine`, `specs/Lines`, `specs/Choose`, `specs/Take`, `specs/Arrive`); words of 32 bits
-//! (`specs/Arithmetic`); what numbers name (`specs/Named`); services, the kind of object that each takes and a number for each service with its
-//! object (`specs/ServiceCodes`, `specs/Blocks`); what an event is (`specs/Events`); where an image stands (`specs/MemoryMap`); what lines are for,
-//! tasks' or counters' (`specs/Owners`); how long code may stay masked and how many lines it may touch (`specs/Stretches`); what a configuration
-//! and task code name (`specs/DeclaredNames`). The limits of the program stand once, in `limits` and `specs/Limits`.
+//! Defined here for many crates: what is in range (`specs/ConfigRange`, `specs/ImageRange`, `specs/Arrivals`); the
+//! machine's state, its controller and the taking of a line (`specs/Machine`, `specs/Lines`, `specs/Choose`,
+//! `specs/Take`, `specs/Arrive`); words of 32 bits (`specs/Arithmetic`); what numbers name (`specs/Named`,
+//! `specs/DeclaredNames`); services and blocks (`specs/ServiceCodes`, `specs/Blocks`); events (`specs/Events`); memory
+//! (`specs/MemoryMap`); what lines are for (`specs/Owners`); how long code may stay masked (`specs/Stretches`). The
+//! limits of the program stand once, in `limits` and `specs/Limits`.
 #![tactic(auto)]
 
 pub mod app;
@@ -43,7 +42,7 @@ pub use limits::{
 };
 pub use lines::{FIRST_COUNTER_LINE, LineKind};
 pub use list::List;
-pub use memory::NoMemory;
+pub use memory::{NoMemory, Result};
 pub use memory_map::{
     BOOT_BASE, CONTROLLER_BASE, CONTROLLER_BYTES, ENABLED_OFFSET, LEVELS_OFFSET, LINE_COUNT,
     MEMORY_BASE, MEMORY_BYTES, MEMORY_END, VECTORS_BASE, WORD, WORDS_BASE,

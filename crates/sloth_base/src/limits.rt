@@ -1,6 +1,6 @@
-//! The limits of configurations, of task code, of images, of files and of runs. `specs/Limits.antt` has them under the same names.
+//! The limits of configurations, task code, images, files and runs. `specs/Limits.antt` has them under the same names.
 
-/// How many TASK objects a configuration may have. Each has the interrupt line of its number, and the counters' lines stand behind.
+/// How many TASK objects a configuration may have. Each has the interrupt line of its number; the counters' are behind.
 pub const TASK_LIMIT: usize = 30;
 
 /// How many RESOURCE objects, without RES_SCHEDULER.

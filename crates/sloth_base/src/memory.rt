@@ -13,3 +13,6 @@ impl From<AllocError> for NoMemory {
         NoMemory
     }
 }
+
+/// What may fail for want of memory alone, unless another error is named.
+pub type Result<T, E = NoMemory> = std::result::Result<T, E>;

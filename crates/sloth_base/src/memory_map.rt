@@ -1,4 +1,4 @@
-//! Addresses of the machine: memory, the interrupt controller, and where an image stands. `specs/MemoryMap.antt` has them under the same names.
+//! Addresses of memory, the interrupt controller and the image. `specs/MemoryMap.antt` has them under the same names.
 
 /// Where RAM begins: the word there names the running task.
 pub const MEMORY_BASE: u32 = 0x8000_0000;
@@ -21,7 +21,7 @@ pub const VECTORS_BASE: u32 = 0x8000_0400;
 /// Where boot stands, behind the vector words.
 pub const BOOT_BASE: u32 = 0x8000_0480;
 
-/// Where the controller's bytes begin: a pending byte for each line, then an enable byte for each, then a level byte for each.
+/// Where the controller's bytes begin: for each line a pending byte, then for each an enable byte, then a level byte.
 pub const CONTROLLER_BASE: u32 = 0x1000_0000;
 
 /// The lines of the controller.

@@ -13,8 +13,7 @@ pub enum Part {
     Load,
 }
 
-/// The rule that is broken. The letter names the stage: O the configuration, A the task code, V the verifier, T the arrivals,
-/// L the load.
+/// The rule that is broken, by the letter of its stage: O configuration, A task code, V verifier, T arrivals, L load.
 #[derive(Clone, Copy)]
 pub enum Code {
     O1,

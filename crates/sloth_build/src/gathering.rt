@@ -8,14 +8,14 @@ use crate::services::services;
 use crate::ticks::ticks;
 use mem_map::wanted_blocks;
 use rv32_instr::Block;
-use sloth_base::{App, Config, Levels, NoMemory};
+use sloth_base::{App, Config, Levels, Result};
 use sloth_region::Map;
 use std::alloc::Global;
 use text_pieces::push;
 use vector_gen::{boot, idle, vectors};
 
 // Appends blocks behind others.
-fn append(blocks: &mut Vec<Block>, mut more: Vec<Block>) -> Result<(), NoMemory>
+fn append(blocks: &mut Vec<Block>, mut more: Vec<Block>) -> Result<()>
     ensures { OnOk result (blocks.new.items ≡ blocks.old.items ++ more.items) }
 {
     blocks.append(&mut more)?;
@@ -30,7 +30,7 @@ fn append_all(
     levels: &Levels,
     map: &Map,
     blocks: &mut Vec<Block>,
-) -> Result<(), NoMemory>
+) -> Result<()>
     requires may { MayGenerate config.now app.now levels.now map.now }
     requires none { blocks.old.items ≡ [] }
     ensures gathered { OnOk result (IsGathered config.now app.now levels.now map.now blocks.new.items) }
@@ -46,15 +46,15 @@ fn append_all(
     Ok(())
 }
 
-/// All routines in the order of their addresses: the vector words, boot, the idle loop, the prologue of each task, the tick of each counter,
-/// and each service that an item calls; they may be linked by the map.
+/// All routines in the order of their addresses: the vector words, boot, the idle loop, the prologue of each task, the
+/// tick of each counter, and each service that an item calls; they may be linked by the map.
 pub fn gather(
     alloc: Global,
     config: &Config,
     app: &App,
     levels: &Levels,
     map: &Map,
-) -> Result<Vec<Block>, NoMemory>
+) -> Result<Vec<Block>>
     requires { MayGenerate config.now app.now levels.now map.now }
     ensures gathered { IfOk result (λ blocks. IsGathered config.now app.now levels.now map.now blocks.items) }
     ensures linkable { IfOk result (λ blocks. MayLink config.now app.now map.now blocks.items) }

@@ -14,14 +14,14 @@ ghost use Rattle.sloth_build.specs.ImageOf.{IsOfPlannedMap};
 use crate::gathering::gather;
 use mem_map::plan;
 use prio_levels::assign;
-use sloth_base::{App, Bounds, Config, Image, NoMemory};
+use sloth_base::{App, Bounds, Config, Image, Result};
 use sloth_link::link;
 use std::alloc::Global;
 
-/// The image of well-formed task code, with the bytes of stack that its tasks may need: every run of it is one of the abstract scheduler,
-/// no stretch of it takes more counts than its weight, each event ends soon behind the one before it by its weight and the lengths of the items,
-/// and its items are in place.
-pub fn image(alloc: Global, config: &Config, app: &App, bounds: &Bounds) -> Result<Image, NoMemory>
+/// The image of well-formed task code, with the bytes of stack that its tasks may need: every run of it is one of the
+/// abstract scheduler, no stretch of it takes more counts than its weight, each event ends soon behind the one before
+/// it by its weight and the lengths of the items, and its items are in place.
+pub fn image(alloc: Global, config: &Config, app: &App, bounds: &Bounds) -> Result<Image>
     requires { MayBuild config.now app.now bounds.now }
     ensures sound { IfOk result (λ image. Sound config.now app.now image) }
     ensures weighed { IfOk result (λ image. Weighed config.now app.now image) }

@@ -3,7 +3,7 @@ ghost use Rattle.std.specs.Prelude.{◌≡◌, ◌<◌, IfOk, length};
 ghost use Rattle.sloth_build.specs.Prologues.{MayStartTasks, IsPrologue, Each};
 
 use rv32_instr::Block;
-use sloth_base::{App, Config, Levels, NoMemory, TaskId};
+use sloth_base::{App, Config, Levels, Result, TaskId};
 use sloth_region::Map;
 use std::alloc::Global;
 use text_pieces::push;
@@ -17,7 +17,7 @@ fn one(
     app: &App,
     levels: &Levels,
     map: &Map,
-) -> Result<Block, NoMemory>
+) -> Result<Block>
     requires may_start { MayStartTasks config.now app.now levels.now map.now }
     requires exists { task < length config.now.tasks }
     ensures { IfOk result (IsPrologue config.now app.now levels.now map.now task) }
@@ -32,7 +32,7 @@ pub fn prologues(
     app: &App,
     levels: &Levels,
     map: &Map,
-) -> Result<Vec<Block>, NoMemory>
+) -> Result<Vec<Block>>
     requires may_start { MayStartTasks config.now app.now levels.now map.now }
     ensures count { IfOk result (λ blocks. length blocks.items ≡ length config.now.tasks) }
     ensures each { IfOk result (λ blocks. Each (IsPrologue config.now app.now levels.now map.now) blocks.items) }

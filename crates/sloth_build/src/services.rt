@@ -6,19 +6,13 @@ ghost use Rattle.sloth_build.specs.Services.{IsServiceNumber, AreServed, IsServi
 
 use rv32_instr::Block;
 use service_gen::block;
-use sloth_base::{BLOCK_COUNT, Config, Levels, NoMemory, block_object, block_service};
+use sloth_base::{BLOCK_COUNT, Config, Levels, Result, block_object, block_service};
 use sloth_region::Map;
 use std::alloc::Global;
 use text_pieces::push;
 
 // The code of a service by its place.
-fn one(
-    alloc: Global,
-    number: usize,
-    config: &Config,
-    levels: &Levels,
-    map: &Map,
-) -> Result<Block, NoMemory>
+fn one(alloc: Global, number: usize, config: &Config, levels: &Levels, map: &Map) -> Result<Block>
     requires served { IsServiceNumber config.now number }
     requires range { InRange config.now }
     requires below { number < block_count }
@@ -37,7 +31,7 @@ pub fn services(
     config: &Config,
     levels: &Levels,
     map: &Map,
-) -> Result<Vec<Block>, NoMemory>
+) -> Result<Vec<Block>>
     requires served { AreServed config.now wanted.now }
     requires range { InRange config.now }
     ensures { IfOk result (λ blocks. AreServices config.now levels.now map.now wanted.now blocks.items) }

@@ -6,19 +6,13 @@ ghost use Rattle.sloth_build.specs.Ticks.{IsTickBlock};
 
 use rv32_instr::Block;
 use service_gen::tick;
-use sloth_base::{Config, Levels, NoMemory};
+use sloth_base::{Config, Levels, Result};
 use sloth_region::Map;
 use std::alloc::Global;
 use text_pieces::push;
 
 // The tick of one counter.
-fn one(
-    alloc: Global,
-    counter: u32,
-    config: &Config,
-    levels: &Levels,
-    map: &Map,
-) -> Result<Block, NoMemory>
+fn one(alloc: Global, counter: u32, config: &Config, levels: &Levels, map: &Map) -> Result<Block>
     requires exists { counter < length config.now.counters }
     requires range { InRange config.now }
     ensures { IfOk result (IsTickBlock config.now map.now counter) }
@@ -27,12 +21,7 @@ fn one(
 }
 
 /// The tick of each counter, in the order of the counters.
-pub fn ticks(
-    alloc: Global,
-    config: &Config,
-    levels: &Levels,
-    map: &Map,
-) -> Result<Vec<Block>, NoMemory>
+pub fn ticks(alloc: Global, config: &Config, levels: &Levels, map: &Map) -> Result<Vec<Block>>
     requires { InRange config.now }
     ensures count { IfOk result (λ blocks. length blocks.items ≡ length config.now.counters) }
     ensures each { IfOk result (λ blocks. Each (IsTickBlock config.now map.now) blocks.items) }

@@ -1,5 +1,5 @@
-//! What the program does with its words: those of `debug` have a session, all others go to the top call, over the system's files, standard input and standard output,
-//! and the status is how it ends.
+//! What the program does with its words: those of `debug` have a session, all others go to the top call, over the
+//! system's files, standard input and standard output, and the status is how it ends.
 ghost use Rattle.std.specs.Prelude.{◌≡◌, []};
 ghost use Rattle.std.specs.Process.{exit_status};
 ghost use Rattle.sloth_io.specs.FileStore.{shown_files, untold_files};
@@ -20,7 +20,7 @@ use std::process::ExitCode;
 use std::rt::Files;
 use tool_answers::Status;
 
-/// Runs the command of these words, over files of which nothing was read, none written and nothing said, and standard output to which nothing was put.
+/// Runs the command of these words over untouched files and standard output: nothing read, written, said or put.
 pub fn run_over<R: Files, P: Print>(
     alloc: Global,
     words: &[String],

@@ -42,8 +42,8 @@ fn tool_of(words: &[String]) -> Option<ToolWords<'_>>
     }
 }
 
-// Does what the words say, and puts the last line of a failure; those of no tool are for the top call of the commands that build and run. Its clauses are proved on each of its ways out; from the first one alone those of
-// `sloth_top` follow, by a law each, but for the others of this call.
+// Does what the words say, and puts a failure's last line; words of no tool go to the top call of the commands that
+// build and run. Each way out proves the clauses; from the first one those of `sloth_top` follow, by a law each.
 fn answer<F: Store, S: Sink>(alloc: Global, words: &[String], files: &mut F, out: &mut S) -> Status
     ensures answers { IsTopAnswer IsToolAnswer (words_of words.now)
         (world (call_files (F.seen files.old) (F.seen files.new)) (S.seen out.old)) (world (F.seen files.new) (S.seen out.new)) result }

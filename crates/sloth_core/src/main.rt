@@ -1,4 +1,4 @@
-//! The program with the commands that build and run, and without tools: its words go to the top call, and its status is how it ends.
+//! The program of the commands that build and run, no tools: the top call gets its words and gives its status.
 #![tactic(auto)]
 
 use core_commands::run_program;

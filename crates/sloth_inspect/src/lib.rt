@@ -1,5 +1,7 @@
-//! The states of tasks, as the memory and the interrupt controller of the machine show them: exactly the definition (`specs/States`); and
-//! the number of each state (`specs/StateNumbers`); and what the service words say of events, counters and alarms (`specs/ServiceWords`). Service words: `sloth_region` (`Layout`); memory: `rv32_instr` (`Memory`).
+//! The states of tasks, as the memory and the interrupt controller of the machine show them: exactly the definition
+//! (`specs/States`); and the number of each state (`specs/StateNumbers`); and what the service words say of events,
+//! counters and alarms (`specs/ServiceWords`). Service words: `sloth_region` (`Layout`); memory: `rv32_instr`
+//! (`Memory`).
 #![tactic(auto)]
 
 ghost use Rattle.std.specs.Prelude.{◌≡◌, ◌≤◌, ◌<◌, ◌+◌, ◌%◌};

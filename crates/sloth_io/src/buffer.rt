@@ -1,7 +1,7 @@
 //! Bytes in a space that is reserved.
 ghost use Rattle.std.specs.Prelude.{◌≡◌, ◌≤◌, ◌+◌, ◌++◌, [], IfOk, length, vec_len, vec_capacity, nat_le, if◌then◌else◌};
 
-use sloth_base::NoMemory;
+use sloth_base::Result;
 use std::alloc::Global;
 
 /// Bytes, in a space that is reserved as the buffer is made. Calls on it take no memory.
@@ -15,7 +15,7 @@ pub struct Buffer {
 
 impl Buffer {
     /// An empty buffer with space for so many bytes.
-    pub fn new(alloc: Global, space: u32) -> Result<Buffer, NoMemory>
+    pub fn new(alloc: Global, space: u32) -> Result<Buffer>
         ensures bytes { IfOk result (λ buffer. buffer.bytes.items ≡ []) }
         ensures space { IfOk result (λ buffer. buffer.space ≡ space) }
     {

@@ -16,8 +16,8 @@ use crate::{Found, Host, Store, StoreFault, System};
 use std::alloc::Global;
 use std::rt::Files;
 
-/// Files of the system. It tells nothing of what they hold, but the bytes that its reads delivered and its writes gave, counts each refusal,
-/// and keeps how many bytes the last call took from a file or was to write to it.
+/// Files of the system. It tells nothing of what they hold, but the bytes that its reads delivered and its writes gave,
+/// counts each refusal, and keeps how many bytes the last call took from a file or was to write to it.
 #[derive(Drop)]
 pub struct SystemFiles<S> {
     system: S,
@@ -140,7 +140,7 @@ impl<S: System> Store for SystemFiles<S> {
         ensures taken { OnOk result (length into.new.items ≡ length into.old.items + taken_bytes self.new) }
         ensures taken_beyond { result ≡ Err StoreFault.TooLong → limit < taken_bytes self.new }
 
-        // What a read delivers is all that was left of an open file, if it tells that; the file of this name alone was opened.
+        // What a read delivers is all left of an open file, if it tells that; only this name's file was opened.
         ensures whole { OnOk result ((from to : S.File) × IsWholeRest (S.File.remaining from) (S.File.remaining to)
             (appended_bytes into.old.items into.new.items)
             × (S.calls self.new.system ≡ added (S.calls self.old.system) (Opened name.now (Some (S.File.remaining from)) ∷ []))) }
@@ -165,8 +165,8 @@ impl<S: System> Store for SystemFiles<S> {
         // A write is done only where the file took all bytes.
         ensures taken { OnOk result (taken_bytes self.new ≡ length bytes.now) }
 
-        // Some open file, if it tells its bytes, took all of these. It had them and no others as it was closed and took its name; where anything failed,
-        // a plain file of that name is as it was.
+        // Some open file, if it tells its bytes, took all of these. It had them and no others as it was closed and took
+        // its name; where anything failed, a plain file of that name is as it was.
         ensures given { OnOk result (IsGivenTo S.File.contents bytes.now) }
         ensures replaced { OnOk result (IsReplaced (S.calls self.old.system) (S.calls self.new.system) name.now bytes.now) }
         ensures unreplaced { OnErr result (IsUnreplaced (S.calls self.old.system) (S.calls self.new.system) name.now) }

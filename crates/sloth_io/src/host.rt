@@ -1,4 +1,4 @@
-//! The system's own files: each method makes the one call that its trait names. That it does is read by eye: no contract of the kit tells what such a call does.
+//! The system's files: each method makes the one call its trait names, which is read by eye: no contract tells of it.
 ghost use Rattle.std.specs.Prelude.{None};
 
 use crate::{Found, System};

@@ -7,7 +7,7 @@ ghost use Rattle.sloth_io.specs.Sink.{output_with, GainsPart};
 use crate::buffer::Buffer;
 use crate::history::History;
 use crate::{Sink, SinkFault};
-use sloth_base::NoMemory;
+use sloth_base::Result;
 use std::alloc::Global;
 
 /// A buffer whose space is reserved as it is made, and the calls that are to fail: each by its number, counted from 1,
@@ -35,7 +35,7 @@ fn limit_at(fails: &[(u32, u32)], call: u32) -> Option<u32>
 
 impl MemSink {
     /// An empty sink with space for so many bytes.
-    pub fn new(alloc: Global, space: u32, fails: &[(u32, u32)]) -> Result<MemSink, NoMemory>
+    pub fn new(alloc: Global, space: u32, fails: &[(u32, u32)]) -> Result<MemSink>
         ensures { IfOk result (IsFreshSink space fails.now) }
     {
         let buffer = Buffer::new(alloc, space)?;

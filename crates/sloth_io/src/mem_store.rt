@@ -14,7 +14,7 @@ pub use crate::MemFile;
 use crate::history::History;
 use crate::slots::{Slot, bytes_of, replace, slots_of};
 use crate::{Store, StoreFault};
-use sloth_base::NoMemory;
+use sloth_base::Result;
 use std::alloc::Global;
 
 /// Files in memory, and the numbers of the calls that are to fail, counted from 1 over reads and writes.
@@ -34,7 +34,7 @@ pub struct MemStore {
 
 impl MemStore {
     /// A store of these files.
-    pub fn new(alloc: Global, files: &[MemFile], fails: &[u32]) -> Result<MemStore, NoMemory>
+    pub fn new(alloc: Global, files: &[MemFile], fails: &[u32]) -> Result<MemStore>
         requires distinct { AllPairs (λ one other. one.name ≢ other.name) files.now }
         requires within { All (λ file. length file.bytes ≤ file.space) files.now }
         ensures { IfOk result (IsFreshStore files.now fails.now) }

@@ -8,8 +8,8 @@ use crate::{Sink, SinkFault};
 use std::io;
 use std::io::Write;
 
-/// Standard output, behind a buffer. It tells the bytes that were put and those that were given to the system, and counts its faults.
-/// Behind a failure each call fails.
+/// Standard output, behind a buffer. It tells the bytes that were put and those that were given to the system, and
+/// counts its faults. Behind a failure each call fails.
 #[derive(Drop)]
 pub struct OutSink<'a, P> {
     to: Buffered<Printer<'a, P>>,

@@ -9,7 +9,7 @@ ghost use Rattle.sloth_io.specs.Replaced.{filling_calls, calls_in_place, calls_b
 
 use crate::whole_files::write_whole;
 use crate::{Found, System};
-use sloth_base::NoMemory;
+use sloth_base::Result;
 use std::alloc::Global;
 
 // Something stands there that is no plain file, as a terminal or a link, or a plain file that has another name too.
@@ -73,7 +73,7 @@ fn takes_mode<S: System>(system: &mut S, file: &S::File, found: Option<Found>) -
     }
 }
 
-// Writes an open file. Where it is done, the file took all bytes, has the permissions of the one that it is to replace, and is on its disk.
+// Writes an open file. When done, the file took all bytes, has the permissions of the one replaced, and is on its disk.
 fn write_open<S: System>(
     system: &mut S,
     file: &mut S::File,
@@ -130,8 +130,8 @@ fn put_in_place<S: System>(
     true
 }
 
-// Writes a new file beside the one of a name, and gives it that name. Where anything fails, the old one stays, and the new one is removed; one that
-// stood there before is left as it is.
+// Writes a new file beside the one of a name, and gives it that name. Where anything fails, the old one stays, and the
+// new one is removed; one that stood there before is left as it is.
 fn write_beside<S: System>(
     system: &mut S,
     name: &str,
@@ -192,7 +192,7 @@ fn is_writable<S: System>(system: &mut S, name: &str, found: Option<Found>) -> b
 }
 
 // The name of a new file beside the one of this name.
-fn beside_name(alloc: Global, name: &str) -> Result<String, NoMemory>
+fn beside_name(alloc: Global, name: &str) -> Result<String>
     ensures { IfOk result (λ text. string_bytes text ≡ name.now ++ codes ".new") }
 {
     let mut text = String::from_str(alloc, name)?;
@@ -200,9 +200,9 @@ fn beside_name(alloc: Global, name: &str) -> Result<String, NoMemory>
     Ok(text)
 }
 
-/// Makes a file hold these bytes, and says whether it was done: by a new file beside it, of its name with `.new` behind it, which gets its permissions
-/// and takes its name when all is written and closed. What is no plain file, or has another name too, is written where it is; a link only where root or
-/// the user of this process made it.
+/// Makes a file hold these bytes, and says whether it was done: by a new file beside it, of its name with `.new` behind
+/// it, which gets its permissions and takes its name when all is written and closed. What is no plain file, or has
+/// another name too, is written where it is; a link only where root or the user of this process made it.
 pub fn replace_file<S: System>(system: &mut S, alloc: Global, name: &str, bytes: &[u8]) -> bool
     ensures given { result ≡ true → IsGivenTo S.File.contents bytes.now }
     ensures done { result ≡ true → IsReplaced (S.calls system.old) (S.calls system.new) name.now bytes.now }

@@ -11,7 +11,7 @@ pub enum SinkFault {
     Failed,
 }
 
-/// Where bytes go. A sink may tell what it took, tells the pieces that were put, and counts its faults. One that holds back what it took hands it on in `flush`.
+/// Where bytes go. A sink tells the pieces put, may tell what it took, counts faults; `flush` hands on what it holds.
 pub trait Sink {
     /// What the sink took and how much more it takes, where it tells that, and its count.
     ghost seen: { Self → Output };
@@ -29,8 +29,8 @@ pub trait Sink {
         ensures never_falls { (seen self.old).faults ≤ (seen self.new).faults }
         ensures pieces { pieces self.new ≡ pieces self.old ++ piece.now ∷ [] };
 
-    /// Hands on what was taken and is held back. Nothing that is taken changes. A failed call alone is counted; a sink that
-    /// tells its space has none.
+    /// Hands on what was taken and is held back. Nothing that is taken changes. A failed call alone is counted; a sink
+    /// that tells its space has none.
     fn flush(&mut self) -> Result<(), SinkFault>
         ensures ok { OnOk result (seen self.new ≡ seen self.old) }
         ensures passed { OnOk result (passed_on self.new) }

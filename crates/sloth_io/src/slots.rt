@@ -3,7 +3,7 @@ ghost use Rattle.std.specs.Prelude.{◌≡◌, ◌≤◌, ◌<◌, None, Some, l
 ghost use Rattle.sloth_io.specs.Slots.{IsFilePlace, bytes_named, file_named, file_of, files_with, has_space};
 
 use crate::buffer::Buffer;
-use sloth_base::{List, Name, NoMemory};
+use sloth_base::{List, Name, NoMemory, Result};
 use std::alloc::Global;
 
 /// A file that a store is made with: its name, its bytes, and the greatest number of bytes that it may hold.
@@ -23,7 +23,7 @@ pub struct Slot {
 
 impl Slot {
     // A slot that holds this file.
-    fn new(alloc: Global, file: &MemFile) -> Result<Slot, NoMemory>
+    fn new(alloc: Global, file: &MemFile) -> Result<Slot>
         requires { length file.now.bytes ≤ file.now.space }
         ensures { IfOk result (λ slot. file_of slot ≡ file.now) }
     {
@@ -36,7 +36,7 @@ impl Slot {
 }
 
 /// A slot for each of these files.
-pub fn slots_of(alloc: Global, files: &[MemFile]) -> Result<Vec<Slot>, NoMemory>
+pub fn slots_of(alloc: Global, files: &[MemFile]) -> Result<Vec<Slot>>
     requires { All (λ file. length file.bytes ≤ file.space) files.now }
     ensures { IfOk result (λ slots. map file_of slots.items ≡ files.now) }
 {

@@ -16,8 +16,8 @@ pub enum StoreFault {
     Memory,
 }
 
-/// Named files. A store may tell what they hold, counts its failed reads, overlong reads and failed writes, and tells what was read and
-/// written, and of which names it said that they are of one file.
+/// Named files. A store may tell what they hold, counts its failed reads, overlong reads and failed writes, and tells
+/// what was read and written, and of which names it said that they are of one file.
 pub trait Store {
     /// What the files hold, where the store tells that, its counts, and what was read and written.
     ghost seen: { Self → Files };

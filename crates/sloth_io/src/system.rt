@@ -1,5 +1,5 @@
 //! Calls of the system on files.
-ghost use Rattle.std.specs.Prelude.{◌≡◌, [], ◌∷◌, Option, List, ℕ};
+ghost use Rattle.std.specs.Prelude.{◌≡◌, [], ◌∷◌, Option, List};
 ghost use Rattle.std.specs.Option.{option_map};
 ghost use Rattle.sloth_io.specs.System.{Call, Looked, Followed, Opened, Tried, Made, Emptied, Moded, Synced, Closed, Renamed, Removed, FolderSynced, added};
 

@@ -6,13 +6,13 @@ ghost use Rattle.sloth_region.specs.Layout.{alarm_left};
 ghost use Rattle.sloth_link.specs.Symbols.{alarm_bytes, alarm_data};
 
 use crate::datum::Datum;
-use sloth_base::{AlarmDecl, Config, List, MEMORY_BASE, NoMemory};
+use sloth_base::{AlarmDecl, Config, List, MEMORY_BASE, Result};
 use sloth_region::alarm_left;
 use std::alloc::Global;
 use text_pieces::push;
 
 /// The ticks to the first expiry and the cycle of each alarm, at its words.
-pub fn alarms(alloc: Global, config: &Config) -> Result<Vec<Datum>, NoMemory>
+pub fn alarms(alloc: Global, config: &Config) -> Result<Vec<Datum>>
     requires { length config.now.alarms ≤ alarm_limit }
     ensures { IfOk result (λ alarms. alarms.items ≡ alarm_data 0 config.now.alarms) }
 {
@@ -26,7 +26,7 @@ pub fn alarms(alloc: Global, config: &Config) -> Result<Vec<Datum>, NoMemory>
 }
 
 // The two words of an alarm with this number.
-fn words(alloc: Global, number: u8, alarm: &AlarmDecl) -> Result<Datum, NoMemory>
+fn words(alloc: Global, number: u8, alarm: &AlarmDecl) -> Result<Datum>
     requires { number < 32 }
     ensures { IfOk result (λ datum. datum ≡ record { at = memory_base + alarm_left number; bytes = alarm_bytes alarm.now }) }
 {

@@ -9,7 +9,7 @@ ghost use Rattle.sloth_link.specs.Items.{item_block, items_of, item_blocks};
 use mem_map::mark;
 use rv32_expand::{expand, item_address};
 use rv32_instr::Block;
-use sloth_base::{App, Item, List, NoMemory, Places};
+use sloth_base::{App, Item, List, Places, Result};
 use std::alloc::Global;
 use text_pieces::push;
 
@@ -24,7 +24,7 @@ fn one(
     index: u32,
     app: &App,
     places: &Places,
-) -> Result<Block, NoMemory>
+) -> Result<Block>
     requires verified { IsVerified app.now }
     requires few { func < body_limit }
     requires is_item { IsAppItem app.now func index }
@@ -54,7 +54,7 @@ fn items_in(app: &App, func: u32) -> &[Item]
 }
 
 // The blocks of the items of a function.
-fn of_function(alloc: Global, func: u32, app: &App, places: &Places) -> Result<Vec<Block>, NoMemory>
+fn of_function(alloc: Global, func: u32, app: &App, places: &Places) -> Result<Vec<Block>>
     requires verified { IsVerified app.now }
     requires exists { func < length app.now.funcs }
     requires covers { HasWordAddresses app.now places.now }
@@ -73,9 +73,8 @@ fn of_function(alloc: Global, func: u32, app: &App, places: &Places) -> Result<V
     Ok(blocks)
 }
 
-/// Each item of the task code, in the order of the functions and of their items: its code at its address in the places, and
-/// its mark.
-pub fn items(alloc: Global, app: &App, places: &Places) -> Result<Vec<Block>, NoMemory>
+/// Each item of the task code, by functions and their items in order: its code at its address in the places, its mark.
+pub fn items(alloc: Global, app: &App, places: &Places) -> Result<Vec<Block>>
     requires verified { IsVerified app.now }
     requires covers { HasWordAddresses app.now places.now }
     requires agree { AgreeWithSizes app.now places.now }

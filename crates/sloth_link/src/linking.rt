@@ -161,9 +161,9 @@ fn link_memory(
     Ok(linked)
 }
 
-/// The image of well-formed task code by its map: the blocks of routines at their addresses, each item at its address with its mark, each
-/// symbol's bytes at its address, the time and the cycle of each alarm in its words, and zeros elsewhere; the marks of the blocks and items by
-/// rising addresses; and the names.
+/// The image of well-formed task code by its map: the blocks of routines at their addresses, each item at its address
+/// with its mark, each symbol's bytes at its address, the time and the cycle of each alarm in its words, and zeros
+/// elsewhere; the marks of the blocks and items by rising addresses; and the names.
 pub fn link(
     alloc: Global,
     blocks: &[Block],

@@ -3,12 +3,12 @@ ghost use Rattle.std.specs.Prelude.{◌≡◌, IfOk, length};
 ghost use Rattle.sloth_link.specs.Symbols.{data_of};
 
 use crate::datum::Datum;
-use sloth_base::{App, List, NoMemory, Places};
+use sloth_base::{App, List, Places, Result};
 use std::alloc::Global;
 use text_pieces::push;
 
 /// The bytes of each symbol, at its address in the places.
-pub fn symbols(alloc: Global, app: &App, places: &Places) -> Result<Vec<Datum>, NoMemory>
+pub fn symbols(alloc: Global, app: &App, places: &Places) -> Result<Vec<Datum>>
     requires { length places.now.symbols ≡ length app.now.symbols }
     ensures { IfOk result (λ symbols. symbols.items ≡ data_of places.now.symbols app.now.symbols) }
 {

@@ -71,7 +71,7 @@ pub fn counter_value(counter: u8) -> i32
     364 + 4 * counter as i32
 }
 
-/// The ticks that an alarm, 0 to 31, has left: 0 where it isn't in use, at most 1 more than its counter's greatest value.
+/// The ticks that an alarm, 0 to 31, has left: 0 if it isn't in use, at most 1 more than its counter's greatest value.
 pub fn alarm_left(alarm: u8) -> i32
     requires { alarm < alarm_limit }
     ensures { result ≡ pos (alarm_left alarm) }

@@ -20,7 +20,7 @@ pub struct Seen {
 }
 
 // What memory and the controller show of so many tasks, at a count.
-fn states_of(bus: &mut SlothBus, count: u32, tasks: u32) -> Seen
+fn seen_states(bus: &mut SlothBus, count: u32, tasks: u32) -> Seen
     requires { tasks ≤ task_limit }
     ensures is { result ≡ record { count = count; tasks = states_in bus.old tasks; running = running_number_in bus.old } }
     ensures same { bus.new ≡ bus.old }
@@ -41,7 +41,7 @@ pub fn look(machine: &mut Machine<SlothBus>, count: u32, tasks: u32) -> Option<S
     if !machine.enabled() {
         return None;
     }
-    Some(states_of(machine.bus_mut(), count, tasks))
+    Some(seen_states(machine.bus_mut(), count, tasks))
 }
 
 /// How many instructions a run has that ends with the one of this count.

@@ -16,7 +16,7 @@ ghost use Rattle.sloth_runner.specs.Moments.{IsHandedOut, sloth_state};
 use crate::arrivals::arrive_front;
 use observe::{Observer, passing};
 use rv32_machine::{Machine, SlothBus, Step, StepFront, Stop, blank_step};
-use sloth_base::{Arrival, Event, Image, NoMemory, Stamped};
+use sloth_base::{Arrival, Event, Image, Result, Stamped};
 use sloth_io::{Sink, SinkFault};
 use std::alloc::Global;
 use trace_text::{Form, print};
@@ -96,7 +96,7 @@ pub struct Runner<'a> {
     pub image: &'a Image,
     pub machine: Machine<SlothBus>,
     pub(crate) observer: Observer<'a>,
-    /// The arrivals of the next moment and of later ones. The observer keeps its own place among them, since it may be fed no step.
+    /// The arrivals from the next moment on. The observer keeps its own place among them, since it may be fed no step.
     pub coming: &'a [Arrival],
     // The record of the last instruction.
     pub(crate) shown: Step,
@@ -119,11 +119,7 @@ impl<'a> Runner<'a> {
     ghost use Rattle.sloth_runner.specs.Runner.{IsFresh, IsRunning, HasRun, HasArrived, HasExecuted, HasHalt, IsAdvance, IsPrintedAdvance, IsBrokenAdvance, HasRunEnd, image_of, count_of, given_arrivals, run_text, run_end};
 
     /// A runner that has run nothing, with all memory of a run.
-    pub fn new(
-        alloc: Global,
-        image: &'a Image,
-        arrivals: &'a [Arrival],
-    ) -> Result<Runner<'a>, NoMemory>
+    pub fn new(alloc: Global, image: &'a Image, arrivals: &'a [Arrival]) -> Result<Runner<'a>>
         requires format { InFormat image.now }
         requires arrivals { AreArrivals (owners_named image.now) arrivals.now }
         ensures fresh { IfOk result IsFresh }

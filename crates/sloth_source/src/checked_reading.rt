@@ -43,7 +43,7 @@ fn checked_code(
     Ok(Checked { verified, ranks })
 }
 
-/// What two texts of at most 4,294,967,294 bytes mean, where they are accepted; or the first refusal (O1 to O15, A1 to A7, V1 to V12).
+/// What two texts of at most 4,294,967,294 bytes mean, or their first refusal (O1 to O15, A1 to A7, V1 to V12).
 pub fn read_checked(alloc: Global, oil: &[u8], src: &[u8]) -> Result<Checked, BuildError>
     requires oil { length oil.now < 4294967295 }
     requires src { length src.now < 4294967295 }

@@ -20,8 +20,8 @@ fn read_tree(alloc: Global, text: &[u8]) -> Result<OilTree, BuildError>
     parse(alloc, tokens.as_slice())
 }
 
-/// Reads an OIL text of at most 4,294,967,294 bytes (OIL 2.5): its configuration, or the least fault of its tokens (O1 to O3), or
-/// else of its grammar (O4 to O6), or else of its meaning (O7 to O15).
+/// Reads an OIL text of at most 4,294,967,294 bytes (OIL 2.5): its configuration, or the least fault of its tokens (O1
+/// to O3), or else of its grammar (O4 to O6), or else of its meaning (O7 to O15).
 pub fn read_config(alloc: Global, text: &[u8]) -> Result<Config, BuildError>
     requires { length text.now < 4294967295 }
     ensures config { IfOk result (OilText text.now) }

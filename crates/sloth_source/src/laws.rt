@@ -22,8 +22,8 @@ pub fn one_verdict()
         ((config : Config) (app : App) → AreAccepted oil src config app → ⊥) → ((refusal : Refusal) → FirstRefusal oil src refusal → ⊥) → ⊥ }
 {}
 
-/// The same before the rules of task code are judged: texts have one meaning at most, and one refusal at most, and not both. What is
-/// accepted has a meaning then too, and a refusal then is the first.
+/// The same before the rules of task code are judged: texts have one meaning at most, and one refusal at most, and not
+/// both. What is accepted has a meaning then too, and a refusal then is the first.
 pub fn one_ranked()
     ensures meaning { (oil src : List ℕ) (config other : Config) (app another : App) →
         HasRanks oil src config app → HasRanks oil src other another → (config ≡ other) × (app ≡ another) }

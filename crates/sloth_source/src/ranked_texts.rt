@@ -45,9 +45,9 @@ fn read_code(alloc: Global, text: &[u8], config: &Config) -> Result<Code, BuildE
     Ok(Code { app, ranks })
 }
 
-/// Reads a configuration and its task source, each a text of at most 4,294,967,294 bytes, but does not judge the rules V2 to V12 of the
-/// task code: what they mean, or the first refusal. The configuration is judged first (O1 to O15), then the source (A1 to A7), and then the
-/// cycles of its calls (V1).
+/// Reads a configuration and its task source, each a text of at most 4,294,967,294 bytes, but does not judge the rules
+/// V2 to V12 of the task code: what they mean, or the first refusal. The configuration is judged first (O1 to O15),
+/// then the source (A1 to A7), and then the cycles of its calls (V1).
 pub fn read_ranked(alloc: Global, oil: &[u8], src: &[u8]) -> Result<Ranked, BuildError>
     requires oil { length oil.now < 4294967295 }
     requires src { length src.now < 4294967295 }

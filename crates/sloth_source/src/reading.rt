@@ -18,8 +18,8 @@ pub struct Source {
     pub bounds: Bounds,
 }
 
-/// Reads a configuration and its task source, each a text of at most 4,294,967,294 bytes: what they mean, or the first refusal. The
-/// configuration is judged first (O1 to O15), then the source (A1 to A7), and then its task code (V1, then V2 to V12).
+/// Reads a configuration and its task source, texts of at most 4,294,967,294 bytes: what they mean, or the first
+/// refusal: of the configuration (O1 to O15), then the source (A1 to A7), then its task code (V1, then V2 to V12).
 pub fn read(alloc: Global, oil: &[u8], src: &[u8]) -> Result<Source, BuildError>
     requires oil { length oil.now < 4294967295 }
     requires src { length src.now < 4294967295 }

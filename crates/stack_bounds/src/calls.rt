@@ -4,7 +4,7 @@ ghost use Rattle.sloth_base.specs.Named.{no_item};
 ghost use Rattle.call_graph.specs.Tables.{most_called, table_entry, func_of, IsTable, IsKnownCall, IsTableInLimit, AreCallable};
 
 use call_graph::bytes_called;
-use sloth_base::{Func, Item, NoMemory};
+use sloth_base::{Func, Item, NoMemory, Result};
 use std::alloc::Global;
 use text_pieces::push;
 
@@ -30,7 +30,7 @@ fn most_called(funcs: &[Func], table: &[u32], items: &[Item]) -> u32
 }
 
 /// The table of calls that are one deeper.
-fn deeper(alloc: Global, funcs: &[Func], table: &[u32]) -> Result<Vec<u32>, NoMemory>
+fn deeper(alloc: Global, funcs: &[Func], table: &[u32]) -> Result<Vec<u32>>
     requires frames { AreCallable funcs.now }
     requires small { IsTableInLimit funcs.now table.now }
     ensures count { IfOk result (λ next. length next.items ≡ length funcs.now) }
@@ -46,7 +46,7 @@ fn deeper(alloc: Global, funcs: &[Func], table: &[u32]) -> Result<Vec<u32>, NoMe
 }
 
 /// So many zeros.
-fn no_calls(alloc: Global, count: usize) -> Result<Vec<u32>, NoMemory>
+fn no_calls(alloc: Global, count: usize) -> Result<Vec<u32>>
     ensures count { IfOk result (λ table. length table.items ≡ count) }
     ensures none { IfOk result (λ table. (f : ℕ) → table_entry table.items f ≡ 0) }
 {
@@ -58,7 +58,7 @@ fn no_calls(alloc: Global, count: usize) -> Result<Vec<u32>, NoMemory>
 }
 
 /// The most bytes that each function's calls need, as deep as there are functions.
-pub fn most_calls(alloc: Global, funcs: &[Func]) -> Result<Vec<u32>, NoMemory>
+pub fn most_calls(alloc: Global, funcs: &[Func]) -> Result<Vec<u32>>
     requires { AreCallable funcs.now }
     ensures { IfOk result (λ table. IsTable funcs.now (length funcs.now) table.items) }
 {

@@ -1,9 +1,10 @@
 //! The bytes of stack that tasks may need: each for itself, and the basic tasks together on one stack.
 //!
-//! Of verified task code `bound` gives for each task exactly the greatest sum of bytes over all chains of calls from its body, with one context: no
-//! calls in progress need more; whole words, at most 8,572. The one stack of all basic tasks has exactly the greatest sum over tasks of rising
-//! priorities that may stand on it. By such bounds each of them has a part of it, below the parts of all that may stand below it (`offsets`).
-//! Definitions: `specs/Bounds`; calls, chains and Schedule: `code_rules` (`Code`); ranks and tables: `call_graph` (`Ranks`, `Tables`).
+//! Of verified task code `bound` gives for each task exactly the greatest sum of bytes over all chains of calls from
+//! its body, with one context: no calls in progress need more; whole words, at most 8,572. The one stack of all basic
+//! tasks has exactly the greatest sum over tasks of rising priorities that may stand on it. By such bounds each of them
+//! has a part of it, below the parts of all that may stand below it (`offsets`). Definitions: `specs/Bounds`; calls,
+//! chains and Schedule: `code_rules` (`Code`); ranks and tables: `call_graph` (`Ranks`, `Tables`).
 #![tactic(auto)]
 
 ghost use Rattle.std.specs.Prelude.{IfOk};
@@ -20,15 +21,14 @@ use crate::calls::most_calls;
 use crate::shared_stack::most_stacked;
 use crate::tasks::{bytes_of_tasks, yielding_tasks};
 use call_graph::Ranks;
-use sloth_base::{Bounds, List, NoMemory};
+use sloth_base::{Bounds, List, Result};
 pub use stacking::offsets;
 use std::alloc::Global;
 pub use task_bodies::body_of;
 use task_verify::Verified;
 
-/// The bytes that each task needs at most (128 to 8,572, in whole words), and those that all basic tasks need together (at most
-/// 269,824).
-pub fn bound(alloc: Global, verified: &Verified, ranks: &Ranks) -> Result<Bounds, NoMemory>
+/// The bytes each task needs at most (128 to 8,572, whole words), and all basic tasks together (at most 269,824).
+pub fn bound(alloc: Global, verified: &Verified, ranks: &Ranks) -> Result<Bounds>
     requires { RanksOf verified.now.app ranks.now }
     ensures { IfOk result (AreBounds verified.now.config verified.now.app) }
 {

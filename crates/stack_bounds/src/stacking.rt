@@ -6,11 +6,11 @@ ghost use Rattle.stack_bounds.specs.Bounds.{AreBounds, AreParts};
 
 use crate::tasks::yielding_tasks;
 use call_graph::{Ranks, offsets_of_tasks, ranks};
-use sloth_base::{App, Bounds, BuildError, Config, NoMemory};
+use sloth_base::{App, Bounds, BuildError, Config, NoMemory, Result};
 use std::alloc::Global;
 
 // What the calls of well-formed task code reach.
-fn reached(alloc: Global, config: &Config, app: &App) -> Result<Ranks, NoMemory>
+fn reached(alloc: Global, config: &Config, app: &App) -> Result<Ranks>
     requires { WellFormed config.now app.now }
     ensures { IfOk result (RanksOf app.now) }
 {
@@ -28,7 +28,7 @@ fn offsets_by(
     app: &App,
     ranks: &Ranks,
     bounds: &Bounds,
-) -> Result<Vec<u32>, NoMemory>
+) -> Result<Vec<u32>>
     requires well_formed { WellFormed config.now app.now }
     requires belong { RanksOf app.now ranks.now }
     requires bounds { AreBounds config.now app.now bounds.now }
@@ -40,13 +40,8 @@ fn offsets_by(
     offsets_of_tasks(alloc, tasks, &yielding, bounds.bytes.items())
 }
 
-/// For each basic task the bytes from the end of its part to the end of the stack that all basic tasks share, and 0 for an extended one.
-pub fn offsets(
-    alloc: Global,
-    config: &Config,
-    app: &App,
-    bounds: &Bounds,
-) -> Result<Vec<u32>, NoMemory>
+/// For a basic task the bytes from its part's end to the end of the basic tasks' stack, 0 for an extended one.
+pub fn offsets(alloc: Global, config: &Config, app: &App, bounds: &Bounds) -> Result<Vec<u32>>
     requires well_formed { WellFormed config.now app.now }
     requires bounds { AreBounds config.now app.now bounds.now }
     ensures { IfOk result (λ offsets. AreParts config.now app.now bounds.now offsets.items) }

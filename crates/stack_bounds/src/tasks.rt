@@ -4,7 +4,7 @@ ghost use Rattle.sloth_base.specs.Named.{body_of};
 ghost use Rattle.call_graph.specs.Tables.{AreCallable, HasTaskBody, IsTableInLimit, task_at, task_bytes, gives_way};
 
 use crate::body_of;
-use sloth_base::{Func, NoMemory, TaskDecl, WORD};
+use sloth_base::{Func, NoMemory, Result, TaskDecl, WORD};
 use std::alloc::Global;
 
 /// The bytes of a context, 32 words: where a task goes on, what was below it, and its registers.
@@ -16,7 +16,7 @@ pub fn bytes_of_tasks(
     funcs: &[Func],
     table: &[u32],
     count: usize,
-) -> Result<Vec<u32>, NoMemory>
+) -> Result<Vec<u32>>
     requires frames { AreCallable funcs.now }
     requires small { IsTableInLimit funcs.now table.now }
     requires bodies { (t : ℕ) → t < count → HasTaskBody funcs.now t }
@@ -46,7 +46,7 @@ pub fn yielding_tasks(
     tasks: &[TaskDecl],
     funcs: &[Func],
     pauses: &[bool],
-) -> Result<Vec<bool>, NoMemory>
+) -> Result<Vec<bool>>
     requires bodies { (t : ℕ) → t < length tasks.now → HasTaskBody funcs.now t }
     requires same { length pauses.now ≡ length funcs.now }
     ensures count { IfOk result (λ yielding. length yielding.items ≡ length tasks.now) }

@@ -16,7 +16,7 @@ use asm_parse::{
     count_item, count_items, count_label, is_beyond, is_misnamed, is_strange, is_too_great,
 };
 use asm_scopes::{Body, Scope, is_item, is_label, kind_of, label_names, name_of, written};
-use sloth_base::{BODY_LIMIT, Code, ITEM_LIMIT, NoMemory};
+use sloth_base::{BODY_LIMIT, Code, ITEM_LIMIT, Result};
 use std::alloc::Global;
 use text_pieces::{Names, push};
 
@@ -46,7 +46,7 @@ fn add_header_faults<'t>(
     count: usize,
     number: u32,
     header: &'t SourceLine,
-) -> Result<(), NoMemory>
+) -> Result<()>
     ensures { OnOk result
         (Adds Src (ToldHeader scope.now (take count scope.now.functions) count number header.now) notes.old.items
         notes.new.items) }
@@ -125,7 +125,7 @@ fn add_line_faults<'t>(
     before: Before,
     number: u32,
     line: &'t SourceLine,
-) -> Result<(), NoMemory>
+) -> Result<()>
     ensures { OnOk result
         (Adds Src (ToldBodyLine scope.now labels.now (take before.count labels.now) before.items number line.now)
         notes.old.items notes.new.items) }
@@ -146,7 +146,7 @@ fn line_faults<'t>(
     items: usize,
     number: u32,
     lines: &'t [SourceLine],
-) -> Result<(), NoMemory>
+) -> Result<()>
     requires few { number + length lines.now < 2 ^ 32 }
     requires items { items + length lines.now < 2 ^ 64 }
     requires labels { labels.now ≡ label_names lines.now }
@@ -179,7 +179,7 @@ fn body_faults<'t>(
     earlier: &[u32],
     before: Before,
     body: &Body<'t>,
-) -> Result<(), NoMemory>
+) -> Result<()>
     requires few { body.now.line + length body.now.lines < 2 ^ 32 }
     requires items { before.items + length body.now.lines < 2 ^ 64 }
     ensures { OnOk result (Adds Src (λ r.
@@ -201,7 +201,7 @@ pub fn body_notes<'t>(
     scope: &Scope,
     lacking: Option<&'t [u8]>,
     bodies: &[Body<'t>],
-) -> Result<(), NoMemory>
+) -> Result<()>
     requires few { length bodies.now < 2 ^ 32 }
     requires short { All (λ body. body.line + length body.lines < 2 ^ 32) bodies.now }
     requires functions { scope.now.functions ≡ function_names bodies.now }

@@ -1,6 +1,6 @@
 //! The lines of earlier things, by their names.
 
-use sloth_base::NoMemory;
+use sloth_base::Result;
 use text_pieces::{Names, push};
 
 /// What stands before a line or a body: so many labels or bodies, and so many items.
@@ -25,7 +25,7 @@ pub fn line_of_first(names: &Names, lines: &[u32], name: &[u8]) -> Option<u32> {
 }
 
 /// One line more, where a test says so.
-pub fn push_line(lines: &mut Vec<u32>, test: bool, line: u32) -> Result<(), NoMemory> {
+pub fn push_line(lines: &mut Vec<u32>, test: bool, line: u32) -> Result<()> {
     if test {
         return push(lines, line);
     }

@@ -9,10 +9,10 @@ use crate::Note;
 use crate::lines::add_all;
 use crate::narrow::add_narrow;
 use asm_lines::{SourceLine, read_lines};
-use sloth_base::NoMemory;
+use sloth_base::Result;
 use std::alloc::Global;
 
-fn faults<'t>(alloc: Global, text: &[u8], lines: &[SourceLine]) -> Result<Vec<Note<'t>>, NoMemory>
+fn faults<'t>(alloc: Global, text: &[u8], lines: &[SourceLine]) -> Result<Vec<Note<'t>>>
     requires few { length text.now < 4294967295 }
     requires lines { lines.now ≡ source_lines text.now }
     ensures { IfOk result (λ notes. AreAll Src (ToldForm text.now) notes.items) }
@@ -24,7 +24,7 @@ fn faults<'t>(alloc: Global, text: &[u8], lines: &[SourceLine]) -> Result<Vec<No
 }
 
 /// The faults of the lines of a text. Of those that are A1 by their place alone, as the missing `end`, the first.
-pub fn line_notes<'t>(alloc: Global, text: &[u8]) -> Result<Vec<Note<'t>>, NoMemory>
+pub fn line_notes<'t>(alloc: Global, text: &[u8]) -> Result<Vec<Note<'t>>>
     requires { length text.now < 4294967295 }
     ensures { IfOk result (λ notes. AreAll Src (ToldForm text.now) notes.items) }
 {

@@ -9,7 +9,7 @@ use crate::Note;
 use crate::notes::add_bare;
 use asm_forms::takes;
 use asm_lines::{SourceLine, after_line, is_a1, is_a2, is_a3, is_a4};
-use sloth_base::{Code, NoMemory};
+use sloth_base::{Code, Result};
 
 fn is_shaped(line: &SourceLine) -> bool
     ensures { result ≡ not (is_shapeless line.now) }
@@ -56,7 +56,7 @@ fn add_faults<'t>(
     earlier: bool,
     number: u32,
     line: &SourceLine,
-) -> Result<(), NoMemory>
+) -> Result<()>
     ensures { OnOk result (Adds Src (ToldLine inside earlier number line.now) notes.old.items notes.new.items) }
 {
     add_bare(notes, is_told_a1(inside, earlier, line), number, Code::A1)?;
@@ -78,7 +78,7 @@ fn is_open(inside: bool, earlier: bool) -> bool
 }
 
 /// The faults of these lines. Of those that are A1 by their place alone, as the missing `end`, the first.
-pub fn add_all<'t>(notes: &mut Vec<Note<'t>>, lines: &[SourceLine]) -> Result<(), NoMemory>
+pub fn add_all<'t>(notes: &mut Vec<Note<'t>>, lines: &[SourceLine]) -> Result<()>
     requires { length lines.now < 2 ^ 32 }
     ensures { OnOk result (Adds Src (ToldFault lines.now) notes.old.items notes.new.items) }
 {

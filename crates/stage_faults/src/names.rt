@@ -13,7 +13,7 @@ use crate::symbols::symbol_notes;
 use asm_lines::SourceLine;
 use asm_parse::is_body_missing;
 use asm_scopes::{Body, Scope, scope_of, task_body_names};
-use sloth_base::{Code, Config, NoMemory};
+use sloth_base::{Code, Config, Result};
 use std::alloc::Global;
 
 // The first task without a body.
@@ -21,7 +21,7 @@ fn task_without_body<'t>(
     alloc: Global,
     config: &'t Config,
     bodies: &[Body],
-) -> Result<Option<&'t [u8]>, NoMemory> {
+) -> Result<Option<&'t [u8]>> {
     let names = task_body_names(alloc, bodies)?;
     for task in config.tasks.items() {
         if !names.has(task.name.bytes()) {
@@ -38,7 +38,7 @@ fn notes_in_scope<'t>(
     lines: &'t [SourceLine],
     bodies: &[Body<'t>],
     scope: &Scope,
-) -> Result<Vec<Note<'t>>, NoMemory>
+) -> Result<Vec<Note<'t>>>
     requires few { length lines.now < 2 ^ 32 }
     requires bodies { bodies.now ≡ bodies_of lines.now }
     requires scope { scope.now ≡ scope_of config.now lines.now bodies.now }
@@ -59,7 +59,7 @@ pub fn name_notes<'t>(
     config: &'t Config,
     lines: &'t [SourceLine],
     bodies: &[Body<'t>],
-) -> Result<Vec<Note<'t>>, NoMemory>
+) -> Result<Vec<Note<'t>>>
     requires few { length lines.now < 2 ^ 32 }
     requires bodies { bodies.now ≡ bodies_of lines.now }
     ensures { IfOk result (λ notes. AreAll Src (ToldName config.now lines.now) notes.items) }

@@ -15,7 +15,7 @@ use crate::Note;
 use crate::lines::is_told_a4;
 use crate::notes::add_bare;
 use asm_lines::{SourceLine, read_lines};
-use sloth_base::{Code, NoMemory};
+use sloth_base::{Code, Result};
 use std::alloc::Global;
 use text_pieces::pieces::Piece::Word;
 use text_pieces::{after, continues_word, front, lines, same, text};
@@ -77,7 +77,7 @@ fn any_told_a4(lines: &[SourceLine]) -> bool
     lines.iter().any(|line| is_told_a4(line))
 }
 
-fn is_word_a4(alloc: Global, line: &[u8]) -> Result<bool, NoMemory>
+fn is_word_a4(alloc: Global, line: &[u8]) -> Result<bool>
     ensures { IfOk result (λ test. test ≡ is_word_a4 line.now) }
 {
     let text = text!(alloc; Word(b"lw"), Word(behind_word(line)))?;
@@ -85,7 +85,7 @@ fn is_word_a4(alloc: Global, line: &[u8]) -> Result<bool, NoMemory>
     Ok(any_told_a4(lines.items()))
 }
 
-fn is_narrow_a4(alloc: Global, line: &[u8]) -> Result<bool, NoMemory>
+fn is_narrow_a4(alloc: Global, line: &[u8]) -> Result<bool>
     ensures { IfOk result (λ test. test ≡ is_narrow_a4 line.now) }
 {
     if is_narrow(first_word(line)) {
@@ -96,7 +96,7 @@ fn is_narrow_a4(alloc: Global, line: &[u8]) -> Result<bool, NoMemory>
 
 // ---- all lines
 
-fn add_lines<'t>(alloc: Global, notes: &mut Vec<Note<'t>>, lines: &[&[u8]]) -> Result<(), NoMemory>
+fn add_lines<'t>(alloc: Global, notes: &mut Vec<Note<'t>>, lines: &[&[u8]]) -> Result<()>
     requires { length lines.now < 2 ^ 32 }
     ensures { OnOk result (Adds Src (Somewhere NarrowFault (map referent lines.now)) notes.old.items notes.new.items) }
 {
@@ -108,7 +108,7 @@ fn add_lines<'t>(alloc: Global, notes: &mut Vec<Note<'t>>, lines: &[&[u8]]) -> R
 }
 
 /// A4 of the lines of a text that load or store less than a word.
-pub fn add_narrow<'t>(alloc: Global, notes: &mut Vec<Note<'t>>, text: &[u8]) -> Result<(), NoMemory>
+pub fn add_narrow<'t>(alloc: Global, notes: &mut Vec<Note<'t>>, text: &[u8]) -> Result<()>
     requires { length text.now < 4294967295 }
     ensures { OnOk result (Adds Src (Somewhere NarrowFault (lines text.now)) notes.old.items notes.new.items) }
 {

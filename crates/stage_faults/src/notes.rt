@@ -4,7 +4,7 @@ ghost use Rattle.sloth_base.specs.declared.refusal.Part.{Part};
 ghost use Rattle.least_fault.specs.Cases.{CaseOf, fault_at};
 ghost use Rattle.stage_faults.specs.Told.{Adds};
 
-use sloth_base::{Code, NoMemory};
+use sloth_base::{Code, Result};
 use text_pieces::push;
 
 /// Where in an OIL tree a fault stands.
@@ -56,7 +56,7 @@ fn add<'t>(
     name: &'t [u8],
     first: Option<u32>,
     position: Position,
-) -> Result<(), NoMemory>
+) -> Result<()>
     ensures { OnOk result
         ((part : Part) → Adds part (λ r. r ≡ fault_at part line code) notes.old.items notes.new.items) }
 {
@@ -81,7 +81,7 @@ pub fn add_named<'t>(
     code: Code,
     name: &'t [u8],
     first: Option<u32>,
-) -> Result<(), NoMemory>
+) -> Result<()>
     ensures { OnOk result ((part : Part) → Adds part (CaseOf part test line code) notes.old.items notes.new.items) }
 {
     if test {
@@ -98,7 +98,7 @@ pub fn add_placed<'t>(
     code: Code,
     name: &'t [u8],
     position: Position,
-) -> Result<(), NoMemory>
+) -> Result<()>
     ensures { OnOk result ((part : Part) → Adds part (CaseOf part test line code) notes.old.items notes.new.items) }
 {
     if test {
@@ -114,7 +114,7 @@ pub fn add_following<'t>(
     line: u32,
     code: Code,
     name: &'t [u8],
-) -> Result<(), NoMemory>
+) -> Result<()>
     ensures { OnOk result ((part : Part) → Adds part (λ r. ⊥) notes.old.items notes.new.items) }
 {
     if test {
@@ -132,12 +132,7 @@ pub fn add_following<'t>(
 }
 
 /// One fault more where a test says so, with no name.
-pub fn add_bare<'t>(
-    notes: &mut Vec<Note<'t>>,
-    test: bool,
-    line: u32,
-    code: Code,
-) -> Result<(), NoMemory>
+pub fn add_bare<'t>(notes: &mut Vec<Note<'t>>, test: bool, line: u32, code: Code) -> Result<()>
     ensures { OnOk result ((part : Part) → Adds part (CaseOf part test line code) notes.old.items notes.new.items) }
 {
     add_named(notes, test, line, code, b"", None)

@@ -14,7 +14,7 @@ use oil_parse::{OilAttr, OilValue};
 use oil_rules::attribute_faults::is_unlisted;
 use oil_rules::{Front, is_refused, opened, place_by, refers_to_none};
 use oil_table::{Attribute, EarlierUses, Limits, Place, attribute_of, is_beyond, is_second};
-use sloth_base::{Code, NoMemory};
+use sloth_base::{Code, Result};
 use std::alloc::Global;
 
 /// The word that a value is; none where it is no word.
@@ -68,7 +68,7 @@ fn add_unlisted<'t>(
     row: Option<Attribute>,
     follows: bool,
     attr: &'t OilAttr,
-) -> Result<(), NoMemory>
+) -> Result<()>
     ensures { OnOk result
         (Adds Oil (OilCase (is_none row && not follows) attr.now.line O8) notes.old.items notes.new.items) }
 {
@@ -88,7 +88,7 @@ fn add_row_faults<'t>(
     before: &EarlierUses,
     position: Position,
     attr: &'t OilAttr,
-) -> Result<(), NoMemory>
+) -> Result<()>
     requires { before.now.depth ≡ 0 }
     ensures { OnOk result
         (Adds Oil (ToldRow tables.now.objects.now tables.now.scheduler row follows before.now.attrs attr.now)
@@ -116,7 +116,7 @@ pub fn add_attributes<'t>(
     place: Place,
     own: Position,
     attrs: &'t [OilAttr],
-) -> Result<(), NoMemory>
+) -> Result<()>
     ensures { OnOk result
         (Adds Oil (Somewhere (ToldAttribute tables.now.objects.now tables.now.scheduler limits place) attrs.now)
         notes.old.items notes.new.items) }

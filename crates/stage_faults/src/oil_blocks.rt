@@ -17,7 +17,7 @@ use oil_table::{
     CounterLimits, EarlierUses, Limits, Place, TaskEvents, attribute_of, block_place, is_beyond,
     is_of_kind, is_second,
 };
-use sloth_base::{Code, NoMemory};
+use sloth_base::{Code, Result};
 use std::alloc::Global;
 
 // ---- a block
@@ -32,7 +32,7 @@ fn add_inner_fault<'t>(
     position: Position,
     end: Position,
     attr: &'t OilAttr,
-) -> Result<(), NoMemory>
+) -> Result<()>
     requires { before.now.depth ≡ 1 }
     ensures { OnOk result
         (Adds Oil (InsideFault block.now.objects limits place block.now.inner before.now.attrs attr.now)
@@ -58,7 +58,7 @@ fn add_inner_faults<'t>(
     block: &NamedTask,
     head: Position,
     attrs: &'t [OilAttr],
-) -> Result<(), NoMemory>
+) -> Result<()>
     requires { attrs.now ≡ block.now.inner }
     ensures { OnOk result
         (Adds Oil (Somewhere (InsideFault block.now.objects limits place block.now.inner) block.now.inner)
@@ -81,7 +81,7 @@ fn add_block<'t>(
     limits: Limits,
     head: Position,
     block: &Block<'t>,
-) -> Result<(), NoMemory>
+) -> Result<()>
     ensures { OnOk result (Adds Oil (BlockFault tasks.now limits [] block.now) notes.old.items notes.new.items) }
 {
     let place = block_place(Place::Alarm, block.head());
@@ -104,7 +104,7 @@ fn add_blocks<'t>(
     limits: Limits,
     own: Position,
     blocks: &[Block<'t>],
-) -> Result<(), NoMemory>
+) -> Result<()>
     ensures { OnOk result
         (Adds Oil (Somewhere (BlockFault tasks.now limits) blocks.now) notes.old.items notes.new.items) }
 {
@@ -125,7 +125,7 @@ fn add_in_blocks<'t>(
     counters: &CounterLimits,
     own: Position,
     alarm: &'t OilObject,
-) -> Result<(), NoMemory>
+) -> Result<()>
     requires { counters.now ≡ tasks.now }
     ensures { OnOk result
         (Adds Oil (Somewhere (BlockFault tasks.now (limits_of tasks.now alarm.now.attrs)) (blocks_of alarm.now.attrs))
@@ -144,7 +144,7 @@ fn add_alarm<'t>(
     counters: &CounterLimits,
     own: Position,
     object: &'t OilObject,
-) -> Result<(), NoMemory>
+) -> Result<()>
     requires { counters.now ≡ tasks.now }
     ensures { OnOk result (Adds Oil (AlarmFault tasks.now [] object.now) notes.old.items notes.new.items) }
 {
@@ -163,7 +163,7 @@ pub fn add_alarms<'t>(
     tasks: &TaskEvents,
     counters: &CounterLimits,
     objects: &'t [OilObject],
-) -> Result<(), NoMemory>
+) -> Result<()>
     requires { counters.now ≡ tasks.now }
     ensures { OnOk result (Adds Oil (Somewhere (AlarmFault tasks.now) objects.now) notes.old.items notes.new.items) }
 {

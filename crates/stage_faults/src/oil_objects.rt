@@ -17,7 +17,7 @@ use oil_parse::{OilObject, OilTree};
 use oil_rules::{Front, is_above, is_doubled, is_strange_mode, lacks_attribute};
 use oil_table::{is_nowhere, is_of_kind, place_of};
 use sloth_base::{
-    ALARM_LIMIT, COUNTER_LIMIT, Code, EVENT_LIMIT, NoMemory, RESOURCE_LIMIT, TASK_LIMIT,
+    ALARM_LIMIT, COUNTER_LIMIT, Code, EVENT_LIMIT, NoMemory, RESOURCE_LIMIT, Result, TASK_LIMIT,
 };
 use std::alloc::Global;
 
@@ -51,7 +51,7 @@ fn add_known<'t>(
     front: &Front,
     own: Position,
     object: &'t OilObject,
-) -> Result<(), NoMemory>
+) -> Result<()>
     ensures { OnOk result (Adds Oil (ToldKnown scheduler front.now object.now) notes.old.items notes.new.items) }
 {
     let line = object.line;
@@ -71,7 +71,7 @@ fn add_known_object<'e, 't: 'e>(
     front: &Front,
     own: Position,
     object: &'t OilObject,
-) -> Result<(), NoMemory>
+) -> Result<()>
     requires { tables.now.counters.now ≡ tables.now.objects.now }
     ensures { OnOk result (Adds Oil (λ r.
         (is_known object.now ≡ true) × ToldInner tables.now.objects.now tables.now.scheduler tables.now.events.now front.now object.now r)
@@ -88,7 +88,7 @@ fn add_known_object<'e, 't: 'e>(
     add_of_task(alloc, notes, tables.events, front, object)
 }
 
-fn add_kind<'t>(notes: &mut Vec<Note<'t>>, object: &'t OilObject) -> Result<(), NoMemory>
+fn add_kind<'t>(notes: &mut Vec<Note<'t>>, object: &'t OilObject) -> Result<()>
     ensures { OnOk result (Adds Oil (KindFault object.now) notes.old.items notes.new.items) }
 {
     let kind = object.kind.bytes();
@@ -103,7 +103,7 @@ fn add_objects<'e, 't: 'e>(
     notes: &mut Vec<Note<'t>>,
     objects: &'t [OilObject],
     tables: &Tables<'e>,
-) -> Result<(), NoMemory>
+) -> Result<()>
     requires { tables.now.counters.now ≡ tables.now.objects.now }
     ensures { OnOk result
         (Adds Oil (Somewhere (ToldObject tables.now.objects.now tables.now.scheduler tables.now.events.now) objects.now)
@@ -125,7 +125,7 @@ pub fn add_tree<'e, 't: 'e>(
     notes: &mut Vec<Note<'t>>,
     tree: &'t OilTree,
     tables: &Tables<'e>,
-) -> Result<(), NoMemory>
+) -> Result<()>
     requires objects { tables.now.objects.now ≡ tree.now.objects }
     requires counters { tables.now.counters.now ≡ tables.now.objects.now }
     requires scheduler { tables.now.scheduler ≡ has_scheduler tree.now.objects }

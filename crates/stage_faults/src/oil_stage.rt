@@ -13,7 +13,7 @@ use crate::tables::Tables;
 use oil_parse::OilTree;
 use oil_rules::Front;
 use oil_table::{CounterLimits, EventTable, TaskEvents, events_of, has_scheduler, names_of};
-use sloth_base::{EventDecl, NoMemory};
+use sloth_base::{EventDecl, Result};
 use std::alloc::Global;
 use text_pieces::Names;
 
@@ -25,7 +25,7 @@ fn tabled_notes<'e, 't: 'e>(
     tasks: &TaskEvents,
     scheduler: bool,
     events: &'e EventTable<'e>,
-) -> Result<Vec<Note<'t>>, NoMemory>
+) -> Result<Vec<Note<'t>>>
     requires objects { objects.now ≡ tree.now.objects }
     requires counters { counters.now ≡ tree.now.objects }
     requires tasks { tasks.now ≡ tree.now.objects }
@@ -50,7 +50,7 @@ fn notes_with_events<'t>(
     tree: &'t OilTree,
     event_names: &Names,
     events: &[EventDecl],
-) -> Result<Vec<Note<'t>>, NoMemory>
+) -> Result<Vec<Note<'t>>>
     requires event_numbers { event_names.now ≡ names_of (codes "EVENT") tree.now.objects }
     requires events { events.now ≡ events_of tree.now.objects }
     ensures { IfOk result (λ notes. AreAll Oil (ToldModel tree.now) notes.items) }
@@ -65,7 +65,7 @@ fn notes_with_events<'t>(
 }
 
 /// The faults that are told of a tree. O11 of an object and O13 are without names.
-pub fn model_notes<'t>(alloc: Global, tree: &'t OilTree) -> Result<Vec<Note<'t>>, NoMemory>
+pub fn model_notes<'t>(alloc: Global, tree: &'t OilTree) -> Result<Vec<Note<'t>>>
     ensures { IfOk result (λ notes. AreAll Oil (ToldModel tree.now) notes.items) }
 {
     let objects = tree.objects.items();

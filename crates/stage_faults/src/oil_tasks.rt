@@ -1,5 +1,4 @@
-//! The faults of the attributes of a task that rest on other tasks and on events (O13, O15), and events without a bit
-//! (O15).
+//! The faults of a task's attributes that rest on other tasks and on events (O13, O15), and events without a bit (O15).
 ghost use Rattle.std.specs.Prelude.{◌≡◌, codes, OnOk};
 ghost use Rattle.sloth_base.specs.declared.refusal.Part.TheVariants.{Oil};
 ghost use Rattle.least_fault.specs.Search.{Somewhere};
@@ -15,7 +14,7 @@ use crate::oil_attributes::value_word;
 use oil_parse::{OilAttr, OilObject};
 use oil_rules::{Front, References, is_given_with, repeats_priority};
 use oil_table::{EventTable, is_of_kind, lacks_bit, number_masks, taken_more};
-use sloth_base::{Code, NoMemory};
+use sloth_base::{Code, Result};
 use std::alloc::Global;
 
 fn add_task_faults<'t>(
@@ -24,7 +23,7 @@ fn add_task_faults<'t>(
     given: bool,
     before: &References,
     attr: &'t OilAttr,
-) -> Result<(), NoMemory>
+) -> Result<()>
     requires { given ≡ is_used before.now.attrs (codes "PRIORITY") }
     ensures { OnOk result
         (Adds Oil (TaskFault before.now.events front.now before.now.attrs attr.now) notes.old.items notes.new.items) }
@@ -43,7 +42,7 @@ fn add_of_attributes<'e, 't: 'e>(
     events: &'e EventTable<'e>,
     front: &Front,
     attrs: &'t [OilAttr],
-) -> Result<(), NoMemory>
+) -> Result<()>
     ensures { OnOk result
         (Adds Oil (Somewhere (TaskFault events.now front.now) attrs.now) notes.old.items notes.new.items) }
 {
@@ -64,7 +63,7 @@ pub fn add_of_task<'e, 't: 'e>(
     events: &'e EventTable<'e>,
     front: &Front,
     object: &'t OilObject,
-) -> Result<(), NoMemory>
+) -> Result<()>
     ensures { OnOk result (Adds Oil (TaskFaults events.now front.now object.now) notes.old.items notes.new.items) }
 {
     if is_of_kind(object, b"TASK") {
@@ -74,7 +73,7 @@ pub fn add_of_task<'e, 't: 'e>(
 }
 
 /// O15 of the events that find no free bit.
-pub fn add_events<'t>(notes: &mut Vec<Note<'t>>, objects: &'t [OilObject]) -> Result<(), NoMemory>
+pub fn add_events<'t>(notes: &mut Vec<Note<'t>>, objects: &'t [OilObject]) -> Result<()>
     ensures { OnOk result (Adds Oil (Somewhere (BitFault objects.now) objects.now) notes.old.items notes.new.items) }
 {
     let mut taken = number_masks(objects);

@@ -12,7 +12,7 @@ use crate::notes::{add_bare, add_named};
 use asm_lines::SourceLine;
 use asm_parse::{bytes_of, count_data, is_taken, is_too_much};
 use asm_scopes::{is_data, name_of};
-use sloth_base::{Code, NoMemory, SYMBOL_LIMIT};
+use sloth_base::{Code, Result, SYMBOL_LIMIT};
 use std::alloc::Global;
 use text_pieces::Names;
 
@@ -33,7 +33,7 @@ fn add_faults<'t>(
     bytes: usize,
     number: u32,
     line: &'t SourceLine,
-) -> Result<(), NoMemory>
+) -> Result<()>
     requires { bytes < 2 ^ 63 }
     ensures { OnOk result
         (Adds Src (ToldSymbol (take count symbols.now) count bytes number line.now) notes.old.items notes.new.items) }
@@ -52,7 +52,7 @@ pub fn symbol_notes<'t>(
     notes: &mut Vec<Note<'t>>,
     symbols: &Names,
     lines: &'t [SourceLine],
-) -> Result<(), NoMemory>
+) -> Result<()>
     requires few { length lines.now < 2 ^ 32 }
     requires symbols { symbols.now ≡ symbol_names lines.now }
     ensures { OnOk result (Adds Src (Somewhere ToldData lines.now) notes.old.items notes.new.items) }

@@ -4,7 +4,7 @@ ghost use Rattle.std.specs.List.Sorted.{IsPermutation, IsNonDecreasingBy};
 ghost use Rattle.stage_faults.specs.Told.{note_order, told_from, AreInOrder, TellSame};
 
 use crate::Note;
-use sloth_base::NoMemory;
+use sloth_base::Result;
 use std::alloc::Global;
 use text_pieces::push;
 
@@ -28,7 +28,7 @@ fn is_left_out(place: u64, note: &Note) -> bool
 }
 
 /// The same faults by line, and on one line by code.
-pub fn put_in_order(notes: &mut Vec<Note>) -> Result<(), NoMemory>
+pub fn put_in_order(notes: &mut Vec<Note>) -> Result<()>
     ensures permutation { OnOk result (IsPermutation notes.old.items notes.new.items) }
     ensures sorted { OnOk result (IsNonDecreasingBy note_order notes.new.items) }
 {
@@ -37,7 +37,7 @@ pub fn put_in_order(notes: &mut Vec<Note>) -> Result<(), NoMemory>
 }
 
 // Of faults in order the first of each place.
-fn distinct<'t>(alloc: Global, notes: &[Note<'t>]) -> Result<Vec<Note<'t>>, NoMemory>
+fn distinct<'t>(alloc: Global, notes: &[Note<'t>]) -> Result<Vec<Note<'t>>>
     ensures { IfOk result (λ list. list.items ≡ told_from 0 notes.now) }
 {
     let mut list = Vec::new(alloc);
@@ -53,7 +53,7 @@ fn distinct<'t>(alloc: Global, notes: &[Note<'t>]) -> Result<Vec<Note<'t>>, NoMe
 
 /// These faults by line, and on one line by code, one for each line and code; those that follow from others are left
 /// out. Sorts the list that is given.
-pub fn told_list<'t>(alloc: Global, notes: &mut Vec<Note<'t>>) -> Result<Vec<Note<'t>>, NoMemory>
+pub fn told_list<'t>(alloc: Global, notes: &mut Vec<Note<'t>>) -> Result<Vec<Note<'t>>>
     ensures in_order { IfOk result (λ list. AreInOrder list.items) }
     ensures same { IfOk result (λ list. TellSame notes.old.items list.items) }
 {

@@ -13,7 +13,7 @@ use Rattle.mem_map.proofs.OnePlan.{AreAlike, one_plan}
 use Rattle.mem_map.specs.Planned.{IsPlanned}
 use Rattle.sloth_source.proofs.Unique.{one_meaning}
 use Rattle.symbol_image.specs.declared.line_places.Origins.{Origins}
-use Rattle.symbol_image.specs.SymbolFile.{file_of, laid_parts, parts_borders, symbol_file}
+use Rattle.symbol_image.specs.SymbolFile.{laid_file, laid_parts, parts_borders, symbol_file}
 use Rattle.sloth_build.specs.ImageOf.{HasPlannedMap}
 use Rattle.symbol_build.specs.SymbolFiles.{FitsEachImage, IsFileOfImage, OneSymbolFile, parts_of, source_origins}
 
@@ -27,7 +27,7 @@ module _ (name : List ℕ) (origins : Origins) (config : Config) (app : App) (me
   unfolding symbol_file
   file_alike m tops words =
       let p = parts_of name origins config app m memory in
-      ap (λ (rows : List Row). file_of (parts_borders p) (laid_parts p (parts_borders p) rows)) (rows_alike config m tops words)
+      ap (λ (rows : List Row). laid_file (parts_borders p) (laid_parts p (parts_borders p) rows)) (rows_alike config m tops words)
 
   pub same_file : (m n : Map) → AreAlike m n → file_by m ≡ file_by n
   same_file m n h =

@@ -5,7 +5,7 @@ use Rattle.symbol_image.specs.Layout.{Section}
 use Rattle.symbol_image.specs.Reading.{ReadsAs}
 use Rattle.symbol_image.specs.SymbolFile.{parts_borders, rows_of, symbol_file}
 use Rattle.symbol_image.specs.SymbolTable.{section_number}
-use Rattle.symbol_image.specs.Symbols.{symbols_of}
+use Rattle.symbol_image.specs.Symbols.{all_symbols}
 use Rattle.symbol_image.specs.declared.symbol.Symbol.{Symbol}
 use Rattle.symbol_build.specs.StandingSections.{HasSection}
 
@@ -23,5 +23,5 @@ pub record HasSymbol (file : List ℕ) (number section : ℕ) (symbol : Symbol) 
 -- each symbol of the parts is found so in their file, behind the one of zeros
 abbrev pub SymbolsStand : Type 0
 SymbolsStand = (parts : FileParts) (k : ℕ) (symbol : Symbol) → length (symbol_file parts) < 2 ^ 32
-    → drop k (symbols_of parts.config parts.app (rows_of parts)) ≡ symbol ∷ drop (k + 1) (symbols_of parts.config parts.app (rows_of parts))
+    → drop k (all_symbols parts.config parts.app (rows_of parts)) ≡ symbol ∷ drop (k + 1) (all_symbols parts.config parts.app (rows_of parts))
     → HasSymbol (symbol_file parts) (k + 1) (section_number (parts_borders parts) symbol.address) symbol

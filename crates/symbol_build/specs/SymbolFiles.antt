@@ -15,7 +15,7 @@ use Rattle.asm_lines.specs.Faults.{source_lines}
 use Rattle.sloth_build.specs.ImageOf.{HasPlannedMap}
 use Rattle.sloth_source.specs.Texts.{AreAccepted}
 use Rattle.symbol_image.specs.FileParts.{FileParts}
-use Rattle.symbol_image.specs.LinePlaces.{origins_of}
+use Rattle.symbol_image.specs.LinePlaces.{line_origins}
 use Rattle.symbol_image.specs.SymbolFile.{symbol_file}
 use Rattle.symbol_image.specs.declared.line_places.Origins.{Origins}
 use Rattle.text_pieces.specs.Lines.{lines}
@@ -36,7 +36,7 @@ pub record IsBuilt (config : Config) (app : App) (image : Image) : Type 0 where
 
 -- where a source declares its symbols, and where its lines come from
 abbrev pub source_origins : (src : List ℕ) → Origins
-source_origins src = origins_of (lines src) (source_lines src)
+source_origins src = line_origins (lines src) (source_lines src)
 
 -- what the file is made from, of a source with this name and these origins
 abbrev pub parts_of : (name : List ℕ) → Origins → Config → App → Map → (memory : List ℕ) → FileParts

@@ -14,16 +14,16 @@ ghost use Rattle.symbol_build.specs.SymbolFiles.{IsFileOfImage, IsSymbolFile, pa
 use asm_lines::SourceLine;
 use map_text::map_rows;
 use mem_map::plan;
-use sloth_base::{App, Bounds, BuildError, Config, List, NoMemory};
+use sloth_base::{App, Bounds, BuildError, Config, List, NoMemory, Result};
 use sloth_build::image::image;
 use sloth_region::Map;
 use sloth_source::{Source, read};
 use std::alloc::Global;
-use symbol_image::{Origins, Parts, origins_of, symbol_file};
+use symbol_image::{Origins, Parts, line_origins, symbol_file};
 use text_pieces::lines;
 
 // What the lines of a source are, in which there is no fault, so that only memory can be wanting.
-fn lines_of(alloc: Global, src: &[u8]) -> Result<List<SourceLine>, NoMemory>
+fn read_statements(alloc: Global, src: &[u8]) -> Result<List<SourceLine>>
     requires short { length src.now < 4294967295 }
     requires none { NoFault (SourceLinesFault src.now) }
     ensures { IfOk result (λ lines. lines ≡ source_lines src.now) }
@@ -35,18 +35,18 @@ fn lines_of(alloc: Global, src: &[u8]) -> Result<List<SourceLine>, NoMemory>
 }
 
 // Where it declares its symbols, and where its lines come from.
-fn source_origins(alloc: Global, src: &[u8]) -> Result<Origins, NoMemory>
+fn source_origins(alloc: Global, src: &[u8]) -> Result<Origins>
     requires short { length src.now ≤ file_limit }
     requires none { NoFault (SourceLinesFault src.now) }
     ensures { IfOk result (λ found. found ≡ source_origins src.now) }
 {
-    let statements = lines_of(alloc, src)?;
+    let statements = read_statements(alloc, src)?;
     let texts = lines(alloc, src)?;
-    origins_of(alloc, texts.as_slice(), statements.items())
+    line_origins(alloc, texts.as_slice(), statements.items())
 }
 
 // The file of these parts.
-fn file_of<'t>(
+fn parts_file<'t>(
     alloc: Global,
     name: &'t [u8],
     origins: &'t Origins,
@@ -54,10 +54,11 @@ fn file_of<'t>(
     app: &'t App,
     map: &'t Map,
     memory: &'t [u8],
-) -> Result<Vec<u8>, NoMemory>
+) -> Result<Vec<u8>>
     requires listable { IsListable config.now map.now }
     requires may { MayShow (parts_of name.now origins.now config.now app.now map.now memory.now) }
-    ensures { IfOk result (λ file. file.items ≡ symbol_file (parts_of name.now origins.now config.now app.now map.now memory.now)) }
+    ensures { IfOk result (λ file. file.items
+        ≡ symbol_file (parts_of name.now origins.now config.now app.now map.now memory.now)) }
 {
     let rows = map_rows(alloc, config, map)?;
     let parts = Parts {
@@ -79,7 +80,7 @@ fn planned_file(
     config: &Config,
     app: &App,
     bounds: &Bounds,
-) -> Result<Vec<u8>, NoMemory>
+) -> Result<Vec<u8>>
     requires short { length src.now ≤ file_limit }
     requires none { NoFault (SourceLinesFault src.now) }
     requires may { MayBuild config.now app.now bounds.now }
@@ -89,7 +90,7 @@ fn planned_file(
     let image = image(alloc, config, app, bounds)?;
     let map = plan(alloc, app, config, bounds)?;
     let origins = source_origins(alloc, src)?;
-    file_of(
+    parts_file(
         alloc,
         name,
         &origins,
@@ -100,7 +101,7 @@ fn planned_file(
     )
 }
 
-/// The file that debuggers read of an image of these texts, the second of which has this name, each of at most 4 MiB; or the first refusal.
+/// The debuggers' file of an image of these texts, the second of this name, at most 4 MiB each; or the first refusal.
 pub fn symbols_file(
     alloc: Global,
     oil: &[u8],

@@ -34,7 +34,7 @@ pub fn sections_stand()
     ensures names { NamesStand }
 {}
 
-/// On the standard's machine of lines the section of accepted texts makes exactly the rows of their items, each from the place that comments state.
+/// On the standard's machine of lines accepted texts' section makes exactly their items' rows, at their stated places.
 pub fn source_lines_are_rows()
     ensures { SourceLinesAreRows }
 {}

@@ -14,7 +14,7 @@ use Rattle.symbol_image.specs.Layout.{Laid, Section, all_laid, front, laid_with,
 use Rattle.symbol_image.specs.Loading.{IsLoad, Load, LoadedOnce, Loads, MemoryIsLoaded, NothingElseIsLoaded}
 use Rattle.symbol_image.specs.Sections.{IsSection, SectionsAgree, section_flags}
 use Rattle.symbol_image.specs.SymbolFile.{debugging_sections, laid_parts, loaded, memory_between, parts_borders, rows_of, stack_section, symbol_file, table_sections}
-use Rattle.symbol_image.specs.Symbols.{locals_of, symbols_of}
+use Rattle.symbol_image.specs.Symbols.{locals_of, all_symbols}
 use Rattle.map_text.specs.declared.borders.Borders.{Borders}
 
 -- ---- headers
@@ -309,7 +309,7 @@ module _ (parts : FileParts) (may : MayShow parts) where
   begun =
       all-begin memory b text data_behind refl may.borders.even
       (stack_section b ∷ (debugging_sections parts b.code_end (rows_of parts)
-      ++ table_sections b (symbols_of parts.config parts.app (rows_of parts)) (length (locals_of parts.config (rows_of parts)))))
+      ++ table_sections b (all_symbols parts.config parts.app (rows_of parts)) (length (locals_of parts.config (rows_of parts)))))
 
   abbrev rest : List ℕ
   rest = laid.contents ++ laid.headers
@@ -461,7 +461,7 @@ module _ (parts : FileParts) (may : MayShow parts) where
   heads-begun =
       all-heads memory b
       (stack_section b ∷ (debugging_sections parts b.code_end (rows_of parts)
-      ++ table_sections b (symbols_of parts.config parts.app (rows_of parts)) (length (locals_of parts.config (rows_of parts)))))
+      ++ table_sections b (all_symbols parts.config parts.app (rows_of parts)) (length (locals_of parts.config (rows_of parts)))))
 
   -- a header among the first three
   among : (at flags address place bytes : ℕ) → HasHeader ((data_laid memory b).headers ++ heads-begun.0) at flags address place bytes

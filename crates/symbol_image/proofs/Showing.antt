@@ -14,7 +14,7 @@ use Rattle.symbol_image.specs.declared.types.Shape.{Shape}
 use Rattle.symbol_image.specs.declared.types.Shape.TheVariants as shape
 use Rattle.symbol_image.specs.declared.types.Types.{Types}
 use Rattle.symbol_image.specs.Abbreviations.{abbreviations, array_kind, index_kind}
-use Rattle.symbol_image.specs.Entries.{all_body_bytes, all_symbol_bytes, array_entries, base_type, body_entries, body_entry, byte_name, end_entries, frame_entries, frame_type_entries, frame_variable_entry, front_bytes, has_below, info_section, inner_labels, label_entry, place_behind, shape_of, symbol_entries, symbols_behind, type_entries, type_place, types_of, unit_bytes, unit_entry, unit_header, variable_entry, word_name}
+use Rattle.symbol_image.specs.Entries.{all_body_bytes, all_symbol_bytes, array_entries, base_type, body_entries, body_entry, byte_name, end_entries, frame_entries, frame_type_entries, frame_variable_entry, front_bytes, has_below, info_section, inner_labels, label_entry, place_behind, data_shape, symbol_entries, symbols_behind, type_entries, type_place, types_of, unit_bytes, unit_entry, unit_header, variable_entry, word_name}
 use Rattle.symbol_image.specs.EntryBytes.{End, DwarfEntry, HasForms, Of, Reference, Word, entries_bytes, entry_bytes}
 use Rattle.symbol_image.specs.EntryTree.{HasBodyEntry, HasCodeEntries, HasKindIn, HasSymbolEntry, IsByteType, IsTypeOf, IsWordType}
 use Rattle.symbol_image.specs.Fields.{sized}
@@ -73,7 +73,7 @@ right-type types (shape.Bytes count) = right-array types types.byte count
 
 right-symbol : (types : Types) (at : ℕ) (symbol : Symbol) (line address : ℕ) → All IsRight (symbol_entries types at symbol line address)
 right-symbol types at symbol line address =
-    let s : Shape = shape_of (length symbol.bytes) in
+    let s : Shape = data_shape (length symbol.bytes) in
     All-append IsRight (type_entries types s) (variable_entry symbol line (type_place types s at) address ∷ []) (right-type types s)
     (All-cons IsRight (variable_entry symbol line (type_place types s at) address) [] ((4, omega arith, refl), refl) (All-nil IsRight))
 
@@ -175,7 +175,7 @@ symbol-stands : (entries : List DwarfEntry) (types : Types) (at : ℕ) (symbol :
     → at ≡ 11 + length (entries_bytes before) → entries ≡ before ++ (symbol_entries types at symbol line address ++ behind)
     → IsWordType entries types.word → IsByteType entries types.byte → HasSymbolEntry entries symbol line address
 symbol-stands entries types at symbol line address before behind p e w b =
-    let s : Shape = shape_of (length symbol.bytes) in
+    let s : Shape = data_shape (length symbol.bytes) in
     let variable : DwarfEntry = variable_entry symbol line (type_place types s at) address in
     record {
       place = 11 + length (entries_bytes (before ++ type_entries types s));

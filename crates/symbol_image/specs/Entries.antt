@@ -64,8 +64,8 @@ types_behind bytes = record {
 -- ---- data
 
 -- what so many bytes of data are
-abbrev pub shape_of : ℕ → Shape
-shape_of size =
+abbrev pub data_shape : ℕ → Shape
+data_shape size =
     if size == 4 then shape.OneWord else if size == 1 then shape.OneByte else if size % 4 == 0 then shape.Words (size / 4) else shape.Bytes size
 
 -- the type of arrays of so many of a type
@@ -99,8 +99,8 @@ variable_entry symbol line kind address =
 -- and with the entries of its type, which stand at a place
 abbrev pub symbol_entries : Types → (at : ℕ) → Symbol → (line address : ℕ) → List DwarfEntry
 symbol_entries types at symbol line address =
-    type_entries types (shape_of (length symbol.bytes))
-    ++ variable_entry symbol line (type_place types (shape_of (length symbol.bytes)) at) address ∷ []
+    type_entries types (data_shape (length symbol.bytes))
+    ++ variable_entry symbol line (type_place types (data_shape (length symbol.bytes)) at) address ∷ []
 
 -- those of symbols one after the other, the first of which has this number; its line and its address stand at its place in their lists
 abbrev pub all_symbol_bytes : Types → (lines addresses : List ℕ) → (at number : ℕ) → List Symbol → List ℕ

@@ -6,7 +6,7 @@ use Rattle.sloth_base.specs.declared.app.Func.{Func}
 use Rattle.sloth_base.specs.declared.app.Symbol.{Symbol}
 use Rattle.sloth_base.specs.declared.places.Places.{Places}
 use Rattle.symbol_image.specs.Abbreviations.{Abbreviation, abbreviations, array_kind, index_kind}
-use Rattle.symbol_image.specs.Entries.{base_type, body_entry, byte_name, info_section, shape_of, unit_header, variable_entry, word_name}
+use Rattle.symbol_image.specs.Entries.{base_type, body_entry, byte_name, info_section, data_shape, unit_header, variable_entry, word_name}
 use Rattle.symbol_image.specs.EntryBytes.{End, DwarfEntry, HasForms, Of, Reference, Word, entries_bytes}
 use Rattle.symbol_image.specs.Fields.{sized}
 use Rattle.map_text.specs.LineRows.{item_address, item_count}
@@ -64,7 +64,7 @@ IsTypeOf entries place (shape.Bytes count) = IsArrayType entries (IsByteType ent
 pub record HasSymbolEntry (entries : List DwarfEntry) (symbol : Symbol) (line address : ℕ) : Type 0 where
   pub place : ℕ
   pub kind : ℕ
-  pub is_type : IsTypeOf entries kind (shape_of (length symbol.bytes))
+  pub is_type : IsTypeOf entries kind (data_shape (length symbol.bytes))
   pub stands : IsEntryAt entries place (variable_entry symbol line kind address)
 
 -- a body is among the entries, with the addresses of its items and the line of its header

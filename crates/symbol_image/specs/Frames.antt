@@ -38,8 +38,8 @@ taken_at = 36
 -- ---- instructions that lose it (RISC-V unprivileged manual, "Base Instruction Formats")
 
 -- the number of four bytes, low byte first
-abbrev pub word_at : (memory : List ℕ) → (at : ℕ) → ℕ
-word_at memory at =
+abbrev pub memory_word : (memory : List ℕ) → (at : ℕ) → ℕ
+memory_word memory at =
     get_or memory at 0 + 256 * get_or memory (at + 1) 0 + 65536 * get_or memory (at + 2) 0 + 16777216 * get_or memory (at + 3) 0
 
 -- it has a register of its result: it is no store, no branch and no fence
@@ -63,7 +63,7 @@ loses lost.ByPrologue word = writes 1 word || writes_csr 833 word
 abbrev pub first_loss : Lost → (memory : List ℕ) → (base from left : ℕ) → Option ℕ
 first_loss what memory base from zero = None
 first_loss what memory base from (suc left) =
-    cond (loses what (word_at memory (base + 4 * from))) (Some from) (first_loss what memory base (from + 1) left)
+    cond (loses what (memory_word memory (base + 4 * from))) (Some from) (first_loss what memory base (from + 1) left)
 
 -- the rule that a column is unknown behind an instruction, where the rules were told last at another: unless the piece of so many instructions ends there
 abbrev pub loss_rule : (column told count : ℕ) → Option ℕ → List ℕ

@@ -58,11 +58,11 @@ abbrev pub all_laid : Laid → List Section → Laid
 all_laid laid [] = laid
 all_laid laid (s ∷ sections) = all_laid (laid_with laid s) sections
 
--- a section that debuggers read and no one loads (SHT_PROGBITS)
-abbrev pub plain : (name contents : List ℕ) → Section
-plain name contents = record {
+-- a section of a kind that no one loads
+abbrev pub unloaded : (kind : ℕ) → (name contents : List ℕ) → Section
+unloaded kind name contents = record {
   name = name;
-  kind = 1;
+  kind = kind;
   flags = 0;
   address = 0;
   contents = contents;
@@ -73,20 +73,13 @@ plain name contents = record {
   entry = 0;
 }
 
+-- one that debuggers read (SHT_PROGBITS)
+abbrev pub plain : (name contents : List ℕ) → Section
+plain name contents = unloaded 1 name contents
+
 -- a table of names (SHT_STRTAB)
 abbrev pub strings : (name contents : List ℕ) → Section
-strings name contents = record {
-  name = name;
-  kind = 3;
-  flags = 0;
-  address = 0;
-  contents = contents;
-  size = length contents;
-  link = 0;
-  info = 0;
-  align = 1;
-  entry = 0;
-}
+strings name contents = unloaded 3 name contents
 
 -- the names of the sections, with the name of this section itself
 abbrev pub with_names : Laid → Laid

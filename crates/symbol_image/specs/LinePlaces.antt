@@ -105,6 +105,6 @@ line_places names left (line ∷ lines) (statement ∷ statements) =
 line_places names left _ _ = []
 
 -- what these lines say, which are these statements
-abbrev pub origins_of : List (List ℕ) → List SourceLine → Origins
-origins_of lines statements =
+abbrev pub line_origins : List (List ℕ) → List SourceLine → Origins
+line_origins lines statements =
     record { lines = data_lines 1 statements; files = further_files [] lines; places = line_places [] no_place lines statements }

@@ -14,7 +14,7 @@ use Rattle.symbol_image.specs.Frames.{frame_section}
 use Rattle.symbol_image.specs.Headers.{elf_header, segment_headers}
 use Rattle.symbol_image.specs.Layout.{Laid, Section, all_laid, front, none_laid, padded, plain, strings, with_names}
 use Rattle.symbol_image.specs.SymbolTable.{name_table, symbol_table}
-use Rattle.symbol_image.specs.Symbols.{locals_of, symbols_of}
+use Rattle.symbol_image.specs.Symbols.{locals_of, all_symbols}
 use Rattle.map_text.specs.declared.borders.Borders.{Borders}
 use Rattle.symbol_image.specs.declared.symbol.Symbol.{Symbol}
 
@@ -113,7 +113,7 @@ table_sections b symbols locals = symbol_section (symbol_table b symbols) locals
 abbrev pub part_sections : FileParts → Borders → List Row → List Section
 part_sections p b rows =
     code_sections p.memory b ++ (data_sections p.memory b ++ (debugging_sections p b.code_end rows
-    ++ table_sections b (symbols_of p.config p.app rows) (length (locals_of p.config rows))))
+    ++ table_sections b (all_symbols p.config p.app rows) (length (locals_of p.config rows))))
 
 -- all sections, the names of the sections behind them, and zeros up to a multiple of 4
 abbrev pub laid_parts : FileParts → Borders → List Row → Laid
@@ -122,9 +122,9 @@ laid_parts p b rows = padded (with_names (all_laid none_laid (part_sections p b 
 -- ---- the file
 
 -- headers, the bytes of the sections, section headers
-abbrev pub file_of : Borders → Laid → List ℕ
-file_of b laid = elf_header (front + length laid.contents) ++ (segment_headers b ++ (laid.contents ++ laid.headers))
+abbrev pub laid_file : Borders → Laid → List ℕ
+laid_file b laid = elf_header (front + length laid.contents) ++ (segment_headers b ++ (laid.contents ++ laid.headers))
 
 -- the file
 unfoldable pub symbol_file : FileParts → List ℕ
-symbol_file parts = file_of (parts_borders parts) (laid_parts parts (parts_borders parts) (rows_of parts))
+symbol_file parts = laid_file (parts_borders parts) (laid_parts parts (parts_borders parts) (rows_of parts))

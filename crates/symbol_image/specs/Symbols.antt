@@ -23,13 +23,13 @@ use Rattle.symbol_image.specs.declared.symbol.SymbolKind.TheVariants as symbol
 -- ---- the kernel's words
 
 -- a local object of so many bytes at an offset
-abbrev pub object_at : (name : List ℕ) → (offset size : ℕ) → Symbol
-object_at name offset size =
+abbrev pub kernel_object : (name : List ℕ) → (offset size : ℕ) → Symbol
+kernel_object name offset size =
     record { name = name; address = memory_base + offset; size = size; kind = symbol.Object; binding = binding.Local }
 
 -- a word
 abbrev pub word_symbol : (name : List ℕ) → (offset : ℕ) → Symbol
-word_symbol name offset = object_at name offset 4
+word_symbol name offset = kernel_object name offset 4
 
 -- the state of tasks, the first of which has this number
 abbrev pub state_words : (task : ℕ) → List TaskDecl → List Symbol
@@ -68,7 +68,7 @@ scheduler_words exists = cond exists (scheduler_word ∷ []) []
 
 -- the context of the idle loop
 abbrev pub context_symbol : Symbol
-context_symbol = object_at (codes "kernel$idle_context") idle_context context_bytes
+context_symbol = kernel_object (codes "kernel$idle_context") idle_context context_bytes
 
 -- the words that say what runs, those of the states of tasks, and those of the clock
 abbrev pub state_and_clock_symbols : Config → List Symbol
@@ -143,5 +143,5 @@ abbrev pub locals_of : Config → List Row → List Symbol
 locals_of config rows = word_symbols config ++ flat_map (local_symbols config) rows
 
 -- and behind them what the task code declares, in the order of the addresses
-abbrev pub symbols_of : Config → App → List Row → List Symbol
-symbols_of config app rows = locals_of config rows ++ flat_map (global_symbols app) rows
+abbrev pub all_symbols : Config → App → List Row → List Symbol
+all_symbols config app rows = locals_of config rows ++ flat_map (global_symbols app) rows

@@ -2,7 +2,7 @@
 ghost use Rattle.std.specs.Prelude.{◌≡◌, IfOk};
 ghost use Rattle.symbol_image.specs.Abbreviations.{abbreviation_section};
 
-use sloth_base::NoMemory;
+use sloth_base::Result;
 use std::alloc::Global;
 
 // The bytes of all kinds, a row for each: code, tag, whether it has children, attributes with their forms, two zeros.
@@ -21,7 +21,7 @@ const KINDS: [u8; 122] = [
 
 /// The section of the kinds of entries.
 #[tactic(auto, unfolding(crate::specs::Abbreviations::abbreviation_section))]
-pub fn abbreviation_section(alloc: Global) -> Result<Vec<u8>, NoMemory>
+pub fn abbreviation_section(alloc: Global) -> Result<Vec<u8>>
     ensures { IfOk result (λ section. section.items ≡ abbreviation_section) }
 {
     let section = Vec::from_slice(alloc, &KINDS)?;

@@ -2,7 +2,9 @@
 ghost use Rattle.std.specs.Prelude.{◌≡◌, ◌≤◌, ◌+◌, ◌++◌, OnOk, length, map};
 ghost use Rattle.std.specs.List.{list_any};
 ghost use Rattle.sloth_base.specs.Limits.{item_limit};
-ghost use Rattle.symbol_image.specs.Entries.{all_body_bytes, body_entries, body_entry, end_entries, frame_entries, frame_type_entries, frame_variable_entry, has_below, inner_labels, label_entry, stands_before};
+ghost use Rattle.symbol_image.specs.Entries.{all_body_bytes, body_entries, body_entry, end_entries, frame_entries};
+ghost use Rattle.symbol_image.specs.Entries.{frame_type_entries, has_below, inner_labels};
+ghost use Rattle.symbol_image.specs.Entries.{label_entry, stands_before};
 ghost use Rattle.symbol_image.specs.EntryBytes.{entries_bytes, entry_bytes};
 ghost use Rattle.map_text.specs.LineRows.{item_count};
 
@@ -11,23 +13,20 @@ use crate::fields::{put_bytes, put_length, put_text};
 use crate::types::Types;
 use image_file::put_u32;
 use map_text::{body_end, item_address};
-use sloth_base::{Func, Label, NoMemory, Places};
+use sloth_base::{Func, Label, Places, Result};
 
-// Whether a label stands before one of so many items.
 fn stands_before(items: usize, label: &Label) -> bool
     ensures { result ≡ stands_before items label.now }
 {
     (label.item as usize) < items
 }
 
-// Whether a label does.
 fn any_stands_before(items: usize, labels: &[Label]) -> bool
     ensures { result ≡ list_any (stands_before items) labels.now }
 {
     labels.iter().any(|label| stands_before(items, label))
 }
 
-// Whether something stands below a body.
 fn has_below(func: &Func) -> bool
     ensures { result ≡ has_below func.now }
 {
@@ -38,7 +37,7 @@ fn has_below(func: &Func) -> bool
 }
 
 // Appends the type of the words of a frame, if it has any.
-fn put_frame_type(info: &mut Vec<u8>, types: Types, words: u32) -> Result<(), NoMemory>
+fn put_frame_type(info: &mut Vec<u8>, types: Types, words: u32) -> Result<()>
     ensures { OnOk result (info.new.items ≡ info.old.items ++ entries_bytes (frame_type_entries types words)) }
 {
     if words == 0 {
@@ -47,25 +46,18 @@ fn put_frame_type(info: &mut Vec<u8>, types: Types, words: u32) -> Result<(), No
     put_array(info, types, types.word, words as usize)
 }
 
-// Appends a frame whose type stands at a place.
+// Appends a frame whose type stands at a place, if it has words.
 #[tactic(auto, unfolding(crate::specs::Fields::unsigned_leb))]
-fn put_frame_variable(info: &mut Vec<u8>, at: usize) -> Result<(), NoMemory>
-    ensures { OnOk result (info.new.items ≡ info.old.items ++ entry_bytes (frame_variable_entry at)) }
-{
-    put_bytes(info, &[7])?;
-    put_text(info, b"frame")?;
-    put_length(info, at)?;
-    put_bytes(info, &[2, 114, 0])
-}
-
-// Appends it, if it has words.
-fn put_frame(info: &mut Vec<u8>, at: usize, words: u32) -> Result<(), NoMemory>
+fn put_frame(info: &mut Vec<u8>, at: usize, words: u32) -> Result<()>
     ensures { OnOk result (info.new.items ≡ info.old.items ++ entries_bytes (frame_entries at words)) }
 {
     if words == 0 {
         return Ok(());
     }
-    put_frame_variable(info, at)
+    put_bytes(info, &[7])?;
+    put_text(info, b"frame")?;
+    put_length(info, at)?;
+    put_bytes(info, &[2, 114, 0])
 }
 
 // Appends a label of a body, the first item of which has this place.
@@ -75,9 +67,10 @@ fn put_label(
     end: u32,
     number: usize,
     label: &Label,
-) -> Result<(), NoMemory>
+) -> Result<()>
     requires { number + label.now.item ≤ item_limit }
-    ensures { OnOk result (info.new.items ≡ info.old.items ++ entry_bytes (label_entry places.now end number label.now)) }
+    ensures { OnOk result (info.new.items
+        ≡ info.old.items ++ entry_bytes (label_entry places.now end number label.now)) }
 {
     put_bytes(info, &[8])?;
     put_text(info, label.name.bytes())?;
@@ -89,16 +82,16 @@ fn put_label(
     )
 }
 
-// Appends the labels of a body that stand before an item.
 fn put_labels(
     info: &mut Vec<u8>,
     places: &Places,
     end: u32,
     number: usize,
     func: &Func,
-) -> Result<(), NoMemory>
+) -> Result<()>
     requires { number + length func.now.items ≤ item_limit }
-    ensures { OnOk result (info.new.items ≡ info.old.items ++ entries_bytes (map (label_entry places.now end number) (inner_labels func.now))) }
+    ensures { OnOk result (info.new.items
+        ≡ info.old.items ++ entries_bytes (map (label_entry places.now end number) (inner_labels func.now))) }
 {
     let items = func.items.items().len();
     for label in func.labels.items() {
@@ -110,7 +103,7 @@ fn put_labels(
 }
 
 // Appends the entry of a body alone, from an address to another.
-fn put_body_alone(info: &mut Vec<u8>, func: &Func, low: u32, high: u32) -> Result<(), NoMemory>
+fn put_body_alone(info: &mut Vec<u8>, func: &Func, low: u32, high: u32) -> Result<()>
     ensures { OnOk result (info.new.items ≡ info.old.items ++ entry_bytes (body_entry func.now low high)) }
 {
     let kind = if has_below(func) { 6 } else { 9 };
@@ -123,7 +116,7 @@ fn put_body_alone(info: &mut Vec<u8>, func: &Func, low: u32, high: u32) -> Resul
 }
 
 // Appends the end of what stands below a body, if something does.
-fn put_end(info: &mut Vec<u8>, below: bool) -> Result<(), NoMemory>
+fn put_end(info: &mut Vec<u8>, below: bool) -> Result<()>
     ensures { OnOk result (info.new.items ≡ info.old.items ++ entries_bytes (end_entries below)) }
 {
     if below {
@@ -140,7 +133,7 @@ fn put_body(
     end: u32,
     number: usize,
     func: &Func,
-) -> Result<(), NoMemory>
+) -> Result<()>
     requires { number + length func.now.items ≤ item_limit }
     ensures { OnOk result (info.new.items
         ≡ info.old.items ++ entries_bytes (body_entries types places.now end (length info.old.items) number func.now)) }
@@ -162,9 +155,10 @@ pub fn put_bodies(
     places: &Places,
     end: u32,
     funcs: &[Func],
-) -> Result<(), NoMemory>
+) -> Result<()>
     requires { item_count funcs.now ≤ item_limit }
-    ensures { OnOk result (info.new.items ≡ info.old.items ++ all_body_bytes types places.now end (length info.old.items) 0 funcs.now) }
+    ensures { OnOk result (info.new.items
+        ≡ info.old.items ++ all_body_bytes types places.now end (length info.old.items) 0 funcs.now) }
 {
     let mut number = 0;
     for func in funcs {

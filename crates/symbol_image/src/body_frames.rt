@@ -3,11 +3,12 @@ ghost use Rattle.std.specs.Prelude.{ℕ, ◌≡◌, ◌≤◌, ◌<◌, ◌+◌,
 ghost use Rattle.sloth_base.specs.Limits.{frame_limit, item_limit};
 ghost use Rattle.sloth_base.specs.Named.{function};
 ghost use Rattle.map_text.specs.LineRows.{item_address};
-ghost use Rattle.symbol_image.specs.BodyFrames.{advance_by, back_rule, body_rules, frame_at, inside, item_rules, items_rules, on_to, own_words, told_at};
+ghost use Rattle.symbol_image.specs.BodyFrames.{back_rule, body_rules, frame_at, inside, item_rules};
+ghost use Rattle.symbol_image.specs.BodyFrames.{items_rules, on_to, own_words, told_at};
 
 use crate::fields::{put_bytes, put_half, put_unsigned};
 use map_text::item_address;
-use sloth_base::{App, Func, NoMemory, Op, Places, WORD};
+use sloth_base::{App, Func, Op, Places, Result, WORD};
 use std::alloc::Global;
 
 /// A function goes on so many bytes behind what it finds.
@@ -20,10 +21,14 @@ struct Span {
     next: u32,
 }
 
-// Appends that rules go on behind so many instructions.
-fn put_advance(rules: &mut Vec<u8>, instructions: u32) -> Result<(), NoMemory>
-    ensures { OnOk result (rules.new.items ≡ rules.old.items ++ advance_by instructions) }
+// Appends that rules go on at an address, where the last ones were told at another.
+fn put_next_address(rules: &mut Vec<u8>, at: u32, to: u32) -> Result<()>
+    ensures { OnOk result (rules.new.items ≡ rules.old.items ++ on_to at to) }
 {
+    if at >= to {
+        return Ok(());
+    }
+    let instructions = (to - at) / WORD;
     if instructions < 256 {
         return put_bytes(rules, &[2, instructions as u8]);
     }
@@ -31,18 +36,8 @@ fn put_advance(rules: &mut Vec<u8>, instructions: u32) -> Result<(), NoMemory>
     put_half(rules, instructions)
 }
 
-// Appends that rules go on at an address, where the last ones were told at another.
-fn put_on_to(rules: &mut Vec<u8>, at: u32, to: u32) -> Result<(), NoMemory>
-    ensures { OnOk result (rules.new.items ≡ rules.old.items ++ on_to at to) }
-{
-    if at >= to {
-        return Ok(());
-    }
-    put_advance(rules, (to - at) / WORD)
-}
-
 // Appends how many bytes above x2 the caller's frame begins.
-fn put_frame_at(rules: &mut Vec<u8>, bytes: u32) -> Result<(), NoMemory>
+fn put_frame_offset(rules: &mut Vec<u8>, bytes: u32) -> Result<()>
     ensures { OnOk result (rules.new.items ≡ rules.old.items ++ frame_at bytes) }
 {
     put_bytes(rules, &[14])?;
@@ -61,7 +56,7 @@ fn own_words(func: &Func) -> u32
 }
 
 // Appends where a function goes on; a task has no caller.
-fn put_back(rules: &mut Vec<u8>, func: &Func) -> Result<(), NoMemory>
+fn put_back(rules: &mut Vec<u8>, func: &Func) -> Result<()>
     ensures { OnOk result (rules.new.items ≡ rules.old.items ++ back_rule func.now.task) }
 {
     match func.task {
@@ -70,8 +65,7 @@ fn put_back(rules: &mut Vec<u8>, func: &Func) -> Result<(), NoMemory>
     }
 }
 
-// The words of the frame of a body, by its number.
-fn words_of(app: &App, number: usize) -> u32
+fn called_words(app: &App, number: usize) -> u32
     ensures { result ≡ (function app.now number).frame_words }
 {
     match app.funcs.items().get(number) {
@@ -81,32 +75,33 @@ fn words_of(app: &App, number: usize) -> u32
 }
 
 // Within a call: the called body's frame lies below that of so many words.
-fn put_call(rules: &mut Vec<u8>, own: u32, called: u32) -> Result<(), NoMemory>
+fn put_call(rules: &mut Vec<u8>, own: u32, called: u32) -> Result<()>
     requires { (own ≤ frame_limit + 1) × (called ≤ frame_limit) }
     ensures { OnOk result (rules.new.items ≡ rules.old.items ++ 10 ∷ frame_at (4 * own + 4 + 4 * called)) }
 {
     put_bytes(rules, &[10])?;
-    put_frame_at(rules, WORD * own + WORD + WORD * called)
+    put_frame_offset(rules, WORD * own + WORD + WORD * called)
 }
 
 // Within a return: the frame is gone, and x31 has where it goes back to.
-fn put_return(rules: &mut Vec<u8>) -> Result<(), NoMemory>
+fn put_return(rules: &mut Vec<u8>) -> Result<()>
     ensures { OnOk result (rules.new.items ≡ rules.old.items ++ 10 ∷ (frame_at 0 ++ 22 ∷ 1 ∷ 2 ∷ 143 ∷ 12 ∷ [])) }
 {
     put_bytes(rules, &[10])?;
-    put_frame_at(rules, 0)?;
+    put_frame_offset(rules, 0)?;
     put_bytes(rules, &[22, 1, 2, 143, BACK])
 }
 
 // Appends that behind an item the rules before hold again, unless the body ends there; and where rules were told last.
-fn put_again(rules: &mut Vec<u8>, at: u32, next: u32, end: u32) -> Result<u32, NoMemory>
-    ensures put { IfOk result (λ told. rules.new.items ≡ rules.old.items ++ cond (ltb next end) (on_to at next ++ 11 ∷ []) []) }
+fn put_again(rules: &mut Vec<u8>, at: u32, next: u32, end: u32) -> Result<u32>
+    ensures put { IfOk result (λ told. rules.new.items
+        ≡ rules.old.items ++ cond (ltb next end) (on_to at next ++ 11 ∷ []) []) }
     ensures told { IfOk result (λ told. told ≡ cond (ltb next end) next at) }
 {
     if next >= end {
         return Ok(at);
     }
-    put_on_to(rules, at, next)?;
+    put_next_address(rules, at, next)?;
     put_bytes(rules, &[11])?;
     Ok(next)
 }
@@ -120,22 +115,23 @@ fn put_item(
     span: Span,
     end: u32,
     op: &Op,
-) -> Result<u32, NoMemory>
+) -> Result<u32>
     requires frames { (own ≤ frame_limit + 1) × All (λ f. f.frame_words ≤ frame_limit) app.now.funcs }
     requires room { span.first + 8 < 4294967296 }
-    ensures put { IfOk result (λ told. rules.new.items ≡ rules.old.items ++ item_rules at span.first span.next end (inside app.now own op.now)) }
+    ensures put { IfOk result (λ told. rules.new.items
+        ≡ rules.old.items ++ item_rules at span.first span.next end (inside app.now own op.now)) }
     ensures told { IfOk result (λ told. told ≡ told_at at span.first span.next end (inside app.now own op.now)) }
 {
     match op {
         Op::Invoke { func } => {
             let inside = span.first + WORD;
-            put_on_to(rules, at, inside)?;
-            put_call(rules, own, words_of(app, func.0 as usize))?;
+            put_next_address(rules, at, inside)?;
+            put_call(rules, own, called_words(app, func.0 as usize))?;
             put_again(rules, inside, span.next, end)
         }
         Op::Return => {
             let inside = span.first + 2 * WORD;
-            put_on_to(rules, at, inside)?;
+            put_next_address(rules, at, inside)?;
             put_return(rules)?;
             put_again(rules, inside, span.next, end)
         }
@@ -151,12 +147,13 @@ fn put_items(
     code_end: u32,
     number: usize,
     func: &Func,
-) -> Result<(), NoMemory>
+) -> Result<()>
     requires number { number + length func.now.items ≤ item_limit }
     requires frames { (func.now.frame_words ≤ frame_limit) × All (λ f. f.frame_words ≤ frame_limit) app.now.funcs }
     requires room { (k : ℕ) → item_address places.now code_end k + 8 < 4294967296 }
     ensures { OnOk result (rules.new.items ≡ rules.old.items
-        ++ items_rules app.now places.now code_end (own_words func.now) (item_address places.now code_end (number + length func.now.items))
+        ++ items_rules app.now places.now code_end (own_words func.now)
+        (item_address places.now code_end (number + length func.now.items))
         (item_address places.now code_end number) number func.now.items) }
 {
     let items = func.items.items();
@@ -182,14 +179,14 @@ pub fn body_rules(
     code_end: u32,
     number: usize,
     func: &Func,
-) -> Result<Vec<u8>, NoMemory>
+) -> Result<Vec<u8>>
     requires number { number + length func.now.items ≤ item_limit }
     requires frames { (func.now.frame_words ≤ frame_limit) × All (λ f. f.frame_words ≤ frame_limit) app.now.funcs }
     requires room { (k : ℕ) → item_address places.now code_end k + 8 < 4294967296 }
     ensures { IfOk result (λ rules. rules.items ≡ body_rules app.now places.now code_end number func.now) }
 {
     let mut rules = Vec::new(alloc);
-    put_frame_at(&mut rules, WORD * own_words(func))?;
+    put_frame_offset(&mut rules, WORD * own_words(func))?;
     put_back(&mut rules, func)?;
     put_items(&mut rules, app, places, code_end, number, func)?;
     Ok(rules)

@@ -1,15 +1,16 @@
 //! The entries of data.
 ghost use Rattle.std.specs.Prelude.{◌≡◌, ◌++◌, OnOk, get_or, length};
-ghost use Rattle.symbol_image.specs.Entries.{all_symbol_bytes, array_entries, at_address, base_type, symbol_entries, type_entries, type_place, variable_entry};
+ghost use Rattle.symbol_image.specs.Entries.{all_symbol_bytes, array_entries, at_address, base_type, symbol_entries};
+ghost use Rattle.symbol_image.specs.Entries.{type_entries, type_place, variable_entry};
 ghost use Rattle.symbol_image.specs.EntryBytes.{Location, entries_bytes, entry_bytes, value_bytes};
 
 use crate::fields::{put_bytes, put_length, put_text};
-use crate::types::{Shape, Types, shape_of};
+use crate::types::{Shape, Types, data_shape};
 use image_file::put_u32;
-use sloth_base::{NoMemory, Symbol};
+use sloth_base::{Result, Symbol};
 
 /// Appends an unsigned base type.
-pub fn put_base_type(info: &mut Vec<u8>, name: &[u8], bytes: u8) -> Result<(), NoMemory>
+pub fn put_base_type(info: &mut Vec<u8>, name: &[u8], bytes: u8) -> Result<()>
     ensures { OnOk result (info.new.items ≡ info.old.items ++ entry_bytes (base_type name.now bytes)) }
 {
     put_bytes(info, &[2])?;
@@ -18,12 +19,7 @@ pub fn put_base_type(info: &mut Vec<u8>, name: &[u8], bytes: u8) -> Result<(), N
 }
 
 /// Appends the type of arrays of so many of a type.
-pub fn put_array(
-    info: &mut Vec<u8>,
-    types: Types,
-    element: usize,
-    count: usize,
-) -> Result<(), NoMemory>
+pub fn put_array(info: &mut Vec<u8>, types: Types, element: usize, count: usize) -> Result<()>
     ensures { OnOk result (info.new.items ≡ info.old.items ++ entries_bytes (array_entries types element count)) }
 {
     put_bytes(info, &[3])?;
@@ -35,12 +31,11 @@ pub fn put_array(
 }
 
 // Appends the type of a shape, where it is not one of the two.
-fn put_type(info: &mut Vec<u8>, types: Types, shape: Shape) -> Result<(), NoMemory>
+fn put_type(info: &mut Vec<u8>, types: Types, shape: Shape) -> Result<()>
     ensures { OnOk result (info.new.items ≡ info.old.items ++ entries_bytes (type_entries types shape)) }
 {
     match shape {
-        Shape::OneWord => Ok(()),
-        Shape::OneByte => Ok(()),
+        Shape::OneWord | Shape::OneByte => Ok(()),
         Shape::Words(count) => put_array(info, types, types.word, count),
         Shape::Bytes(count) => put_array(info, types, types.byte, count),
     }
@@ -53,13 +48,11 @@ fn type_place(types: Types, shape: Shape, at: usize) -> usize
     match shape {
         Shape::OneWord => types.word,
         Shape::OneByte => types.byte,
-        Shape::Words(_) => at,
-        Shape::Bytes(_) => at,
+        Shape::Words(_) | Shape::Bytes(_) => at,
     }
 }
 
-// Appends where a symbol stands.
-fn put_location(info: &mut Vec<u8>, address: u32) -> Result<(), NoMemory>
+fn put_location(info: &mut Vec<u8>, address: u32) -> Result<()>
     ensures { OnOk result (info.new.items ≡ info.old.items ++ value_bytes (Location (at_address address))) }
 {
     put_bytes(info, &[5, 3])?;
@@ -73,8 +66,9 @@ fn put_variable(
     symbol: &Symbol,
     line: u32,
     address: u32,
-) -> Result<(), NoMemory>
-    ensures { OnOk result (info.new.items ≡ info.old.items ++ entry_bytes (variable_entry symbol.now line kind address)) }
+) -> Result<()>
+    ensures { OnOk result (info.new.items
+        ≡ info.old.items ++ entry_bytes (variable_entry symbol.now line kind address)) }
 {
     put_bytes(info, &[5])?;
     put_text(info, symbol.name.bytes())?;
@@ -84,24 +78,23 @@ fn put_variable(
     put_location(info, address)
 }
 
-// Appends the entries of a symbol with its line and its address.
 fn put_symbol(
     info: &mut Vec<u8>,
     types: Types,
     symbol: &Symbol,
     line: u32,
     address: u32,
-) -> Result<(), NoMemory>
-    ensures { OnOk result (info.new.items ≡ info.old.items ++ entries_bytes (symbol_entries types (length info.old.items) symbol.now line address)) }
+) -> Result<()>
+    ensures { OnOk result (info.new.items
+        ≡ info.old.items ++ entries_bytes (symbol_entries types (length info.old.items) symbol.now line address)) }
 {
     let at = info.len();
-    let shape = shape_of(symbol.bytes.items().len());
+    let shape = data_shape(symbol.bytes.items().len());
     put_type(info, types, shape)?;
     put_variable(info, type_place(types, shape, at), symbol, line, address)
 }
 
-// A number of a list, or 0 where it has no such place.
-fn number_at(numbers: &[u32], place: usize) -> u32
+fn number_or_zero(numbers: &[u32], place: usize) -> u32
     ensures { result ≡ get_or numbers.now place 0 }
 {
     match numbers.get(place) {
@@ -117,7 +110,7 @@ pub fn put_symbols(
     lines: &[u32],
     addresses: &[u32],
     symbols: &[Symbol],
-) -> Result<(), NoMemory>
+) -> Result<()>
     ensures { OnOk result (info.new.items
         ≡ info.old.items ++ all_symbol_bytes types lines.now addresses.now (length info.old.items) 0 symbols.now) }
 {
@@ -126,8 +119,8 @@ pub fn put_symbols(
             info,
             types,
             &symbols[number],
-            number_at(lines, number),
-            number_at(addresses, number),
+            number_or_zero(lines, number),
+            number_or_zero(addresses, number),
         )?;
     }
     Ok(())

@@ -4,7 +4,7 @@ ghost use Rattle.image_file.specs.Fields.{four_bytes, two_bytes};
 ghost use Rattle.symbol_image.specs.Fields.{groups, negative_leb, signed_leb, sized, text_bytes, unsigned_leb};
 
 use image_file::{put_u16, put_u32};
-use sloth_base::NoMemory;
+use sloth_base::Result;
 use std::alloc::Global;
 
 /// How many numbers four bytes hold.
@@ -17,7 +17,7 @@ const TWO_BYTES: u32 = 65536;
 const FIVE_GROUPS: u64 = 34359738368;
 
 /// Appends bytes.
-pub fn put_bytes(section: &mut Vec<u8>, bytes: &[u8]) -> Result<(), NoMemory>
+pub fn put_bytes(section: &mut Vec<u8>, bytes: &[u8]) -> Result<()>
     ensures { OnOk result (section.new.items ≡ section.old.items ++ bytes.now) }
 {
     section.extend_from_slice(bytes)?;
@@ -25,7 +25,7 @@ pub fn put_bytes(section: &mut Vec<u8>, bytes: &[u8]) -> Result<(), NoMemory>
 }
 
 /// Appends a text, and a zero behind it.
-pub fn put_text(section: &mut Vec<u8>, text: &[u8]) -> Result<(), NoMemory>
+pub fn put_text(section: &mut Vec<u8>, text: &[u8]) -> Result<()>
     ensures { OnOk result (section.new.items ≡ section.old.items ++ text_bytes text.now) }
 {
     section.extend_from_slice(text)?;
@@ -34,21 +34,21 @@ pub fn put_text(section: &mut Vec<u8>, text: &[u8]) -> Result<(), NoMemory>
 }
 
 /// Appends a length, or a place in a section, in four bytes.
-pub fn put_length(section: &mut Vec<u8>, length: usize) -> Result<(), NoMemory>
+pub fn put_length(section: &mut Vec<u8>, length: usize) -> Result<()>
     ensures { OnOk result (section.new.items ≡ section.old.items ++ four_bytes length) }
 {
     put_u32(section, (length % FOUR_BYTES) as u32)
 }
 
 /// Appends a number in two bytes, of which only the lowest 16 bits are written.
-pub fn put_half(section: &mut Vec<u8>, number: u32) -> Result<(), NoMemory>
+pub fn put_half(section: &mut Vec<u8>, number: u32) -> Result<()>
     ensures { OnOk result (section.new.items ≡ section.old.items ++ two_bytes number) }
 {
     put_u16(section, (number % TWO_BYTES) as u16)
 }
 
 // Appends a number in groups of seven bits, the last of which is below a limit.
-fn put_groups(section: &mut Vec<u8>, limit: u32, number: u32) -> Result<(), NoMemory>
+fn put_groups(section: &mut Vec<u8>, limit: u32, number: u32) -> Result<()>
     requires { (16 ≤ limit) × (limit ≤ 128) }
     ensures { OnOk result (section.new.items ≡ section.old.items ++ groups limit 4 number) }
 {
@@ -63,7 +63,7 @@ fn put_groups(section: &mut Vec<u8>, limit: u32, number: u32) -> Result<(), NoMe
 
 /// Appends a number as an unsigned LEB128.
 #[tactic(auto, unfolding(crate::specs::Fields::unsigned_leb))]
-pub fn put_unsigned(section: &mut Vec<u8>, number: u32) -> Result<(), NoMemory>
+pub fn put_unsigned(section: &mut Vec<u8>, number: u32) -> Result<()>
     ensures { OnOk result (section.new.items ≡ section.old.items ++ unsigned_leb number) }
 {
     put_groups(section, 128, number)
@@ -71,7 +71,7 @@ pub fn put_unsigned(section: &mut Vec<u8>, number: u32) -> Result<(), NoMemory>
 
 /// Appends a number as a signed LEB128.
 #[tactic(auto, unfolding(crate::specs::Fields::signed_leb))]
-pub fn put_signed(section: &mut Vec<u8>, number: u32) -> Result<(), NoMemory>
+pub fn put_signed(section: &mut Vec<u8>, number: u32) -> Result<()>
     ensures { OnOk result (section.new.items ≡ section.old.items ++ signed_leb number) }
 {
     put_groups(section, 64, number)
@@ -79,7 +79,7 @@ pub fn put_signed(section: &mut Vec<u8>, number: u32) -> Result<(), NoMemory>
 
 /// Appends a number that is so much below zero as a signed LEB128 of five groups.
 #[tactic(auto, unfolding(crate::specs::Fields::negative_leb))]
-pub fn put_negative(section: &mut Vec<u8>, less: u32) -> Result<(), NoMemory>
+pub fn put_negative(section: &mut Vec<u8>, less: u32) -> Result<()>
     ensures { OnOk result (section.new.items ≡ section.old.items ++ negative_leb less) }
 {
     let number = FIVE_GROUPS - u64::from(less);
@@ -96,7 +96,7 @@ pub fn put_negative(section: &mut Vec<u8>, less: u32) -> Result<(), NoMemory>
 }
 
 /// Bytes behind their length.
-pub fn sized(alloc: Global, bytes: &[u8]) -> Result<Vec<u8>, NoMemory>
+pub fn sized(alloc: Global, bytes: &[u8]) -> Result<Vec<u8>>
     ensures { IfOk result (λ section. section.items ≡ sized bytes.now) }
 {
     let mut section = Vec::new(alloc);

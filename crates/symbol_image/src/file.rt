@@ -8,8 +8,11 @@ ghost use Rattle.symbol_image.specs.FrameRows.{HasFrames};
 ghost use Rattle.symbol_image.specs.HeaderViews.{AreOrdered, IsMemoryWithin};
 ghost use Rattle.symbol_image.specs.Layout.{all_laid, laid_with, padded, strings, with_names};
 ghost use Rattle.symbol_image.specs.LayoutViews.{laid_of};
-ghost use Rattle.symbol_image.specs.SymbolFile.{code_sections, data_sections, debugging_sections, entries_section, file_of, frames_section, kinds_section, laid_parts, lines_section, loaded, memory_between, part_sections, rows_of, stack_section, symbol_file, symbol_section, table_sections};
-ghost use Rattle.symbol_image.specs.Symbols.{locals_of, symbols_of};
+ghost use Rattle.symbol_image.specs.SymbolFile.{code_sections, data_sections, debugging_sections, entries_section};
+ghost use Rattle.symbol_image.specs.SymbolFile.{laid_file, frames_section, lines_section, loaded};
+ghost use Rattle.symbol_image.specs.SymbolFile.{part_sections, rows_of, symbol_file};
+ghost use Rattle.symbol_image.specs.SymbolFile.{symbol_section, table_sections};
+ghost use Rattle.symbol_image.specs.Symbols.{locals_of, all_symbols};
 ghost use Rattle.symbol_image.specs.WordSymbols.{HasWords};
 
 use crate::Parts;
@@ -19,15 +22,15 @@ use crate::frames::frame_section;
 use crate::headers::{put_elf_header, put_segments};
 use crate::info::info_section;
 use crate::layout::{
-    FRONT, Laid, SectionFields, lay, lay_end, lay_names, lay_plain, lay_strings, none_laid,
+    CONTENTS, FRONT, Laid, STRINGS, SectionFields, lay, lay_end, lay_names, lay_unloaded, none_laid,
 };
 use crate::line_section::line_section;
 use crate::piece_symbols::{push_globals, push_locals};
 use crate::symbol::Symbol;
-use crate::symbol_table::{Tables, tables_of};
+use crate::symbol_table::{Tables, symbol_tables};
 use crate::word_symbols::push_words;
 use map_text::{Borders, Range, Row, code_range, image_borders};
-use sloth_base::{MEMORY_BASE, NoMemory, VECTORS_BASE};
+use sloth_base::{MEMORY_BASE, Result, VECTORS_BASE};
 use std::alloc::Global;
 
 /// A section is loaded and written, or loaded and executed.
@@ -35,26 +38,12 @@ const SECTION_WRITTEN: u32 = 3;
 
 const SECTION_EXECUTED: u32 = 6;
 
-// The bytes of memory from an address to another.
-fn memory_between(memory: &[u8], range: Range) -> &[u8]
+fn lay_loaded(laid: &mut Laid, name: &[u8], flags: u32, memory: &[u8], range: Range) -> Result<()>
     requires { (memory_base ≤ range.from) × (range.from ≤ range.to) × (range.to ≤ memory_base + length memory.now) }
-    ensures { result.now ≡ memory_between memory.now range.from range.to }
+    ensures { OnOk result (laid_of laid.new
+        ≡ laid_with (laid_of laid.old) (loaded name.now flags memory.now range.from range.to)) }
 {
-    &memory[(range.from - MEMORY_BASE) as usize..(range.to - MEMORY_BASE) as usize]
-}
-
-// Lays out a part of the memory.
-fn lay_loaded(
-    laid: &mut Laid,
-    name: &[u8],
-    flags: u32,
-    memory: &[u8],
-    range: Range,
-) -> Result<(), NoMemory>
-    requires { (memory_base ≤ range.from) × (range.from ≤ range.to) × (range.to ≤ memory_base + length memory.now) }
-    ensures { OnOk result (laid_of laid.new ≡ laid_with (laid_of laid.old) (loaded name.now flags memory.now range.from range.to)) }
-{
-    let contents = memory_between(memory, range);
+    let contents = &memory[(range.from - MEMORY_BASE) as usize..(range.to - MEMORY_BASE) as usize];
     let fields = SectionFields {
         kind: 1,
         flags,
@@ -68,25 +57,7 @@ fn lay_loaded(
     lay(laid, name, fields, contents)
 }
 
-// Lays out the stacks.
-fn lay_stacks(laid: &mut Laid, borders: &Borders) -> Result<(), NoMemory>
-    ensures { OnOk result (laid_of laid.new ≡ laid_with (laid_of laid.old) (stack_section borders.now)) }
-{
-    let fields = SectionFields {
-        kind: 8,
-        flags: SECTION_WRITTEN,
-        address: borders.stacks,
-        size: borders.top.saturating_sub(borders.stacks) as usize,
-        link: 0,
-        info: 0,
-        align: 16,
-        entry: 0,
-    };
-    lay(laid, b".stack", fields, b"")
-}
-
-// Lays out the words and the code.
-fn lay_code(laid: &mut Laid, memory: &[u8], borders: &Borders) -> Result<(), NoMemory>
+fn lay_code(laid: &mut Laid, memory: &[u8], borders: &Borders) -> Result<()>
     requires { IsMemoryWithin (length memory.now) borders.now }
     ensures { OnOk result (laid_of laid.new ≡ all_laid (laid_of laid.old) (code_sections memory.now borders.now)) }
 {
@@ -99,8 +70,7 @@ fn lay_code(laid: &mut Laid, memory: &[u8], borders: &Borders) -> Result<(), NoM
     lay_loaded(laid, b".text", SECTION_EXECUTED, memory, code)
 }
 
-// Lays out the data and the stacks.
-fn lay_data(laid: &mut Laid, memory: &[u8], borders: &Borders) -> Result<(), NoMemory>
+fn lay_data(laid: &mut Laid, memory: &[u8], borders: &Borders) -> Result<()>
     requires { IsMemoryWithin (length memory.now) borders.now }
     ensures { OnOk result (laid_of laid.new ≡ all_laid (laid_of laid.old) (data_sections memory.now borders.now)) }
 {
@@ -109,19 +79,20 @@ fn lay_data(laid: &mut Laid, memory: &[u8], borders: &Borders) -> Result<(), NoM
         to: borders.end,
     };
     lay_loaded(laid, b".data", SECTION_WRITTEN, memory, data)?;
-    lay_stacks(laid, borders)
+    let stacks = SectionFields {
+        kind: 8,
+        flags: SECTION_WRITTEN,
+        address: borders.stacks,
+        size: borders.top.saturating_sub(borders.stacks) as usize,
+        link: 0,
+        info: 0,
+        align: 16,
+        entry: 0,
+    };
+    lay(laid, b".stack", stacks, b"")
 }
 
-// Lays out the kinds of entries.
-fn lay_kinds(alloc: Global, laid: &mut Laid) -> Result<(), NoMemory>
-    ensures { OnOk result (laid_of laid.new ≡ laid_with (laid_of laid.old) kinds_section) }
-{
-    let kinds = abbreviation_section(alloc)?;
-    lay_plain(laid, b".debug_abbrev", kinds.as_slice())
-}
-
-// Lays out the entries.
-fn lay_entries(alloc: Global, laid: &mut Laid, parts: &Parts, code_end: u32) -> Result<(), NoMemory>
+fn lay_entries(alloc: Global, laid: &mut Laid, parts: &Parts, code_end: u32) -> Result<()>
     requires { item_count parts.now.app.funcs ≤ item_limit }
     ensures { OnOk result (laid_of laid.new ≡ laid_with (laid_of laid.old) (entries_section parts.now code_end)) }
 {
@@ -133,11 +104,10 @@ fn lay_entries(alloc: Global, laid: &mut Laid, parts: &Parts, code_end: u32) -> 
         code_end,
         parts.origins.lines.items(),
     )?;
-    lay_plain(laid, b".debug_info", entries.as_slice())
+    lay_unloaded(laid, CONTENTS, b".debug_info", entries.as_slice())
 }
 
-// Lays out the lines.
-fn lay_lines(alloc: Global, laid: &mut Laid, parts: &Parts, code_end: u32) -> Result<(), NoMemory>
+fn lay_lines(alloc: Global, laid: &mut Laid, parts: &Parts, code_end: u32) -> Result<()>
     requires { item_count parts.now.app.funcs ≤ item_limit }
     ensures { OnOk result (laid_of laid.new ≡ laid_with (laid_of laid.old) (lines_section parts.now code_end)) }
 {
@@ -149,19 +119,19 @@ fn lay_lines(alloc: Global, laid: &mut Laid, parts: &Parts, code_end: u32) -> Re
         parts.origins,
         code_end,
     )?;
-    lay_plain(laid, b".debug_line", lines.as_slice())
+    lay_unloaded(laid, CONTENTS, b".debug_line", lines.as_slice())
 }
 
-// Lays out the frames.
 fn lay_frames(
     alloc: Global,
     laid: &mut Laid,
     parts: &Parts,
     code_end: u32,
     rows: &[Row],
-) -> Result<(), NoMemory>
+) -> Result<()>
     requires { HasFrames parts.now.app parts.now.map.places code_end }
-    ensures { OnOk result (laid_of laid.new ≡ laid_with (laid_of laid.old) (frames_section parts.now code_end rows.now)) }
+    ensures { OnOk result (laid_of laid.new
+        ≡ laid_with (laid_of laid.old) (frames_section parts.now code_end rows.now)) }
 {
     let frames = frame_section(
         alloc,
@@ -171,43 +141,32 @@ fn lay_frames(
         parts.memory,
         rows,
     )?;
-    lay_plain(laid, b".debug_frame", frames.as_slice())
+    lay_unloaded(laid, CONTENTS, b".debug_frame", frames.as_slice())
 }
 
-// Lays out what debuggers read.
 fn lay_debugging(
     alloc: Global,
     laid: &mut Laid,
     parts: &Parts,
     code_end: u32,
     rows: &[Row],
-) -> Result<(), NoMemory>
+) -> Result<()>
     requires { HasFrames parts.now.app parts.now.map.places code_end }
-    ensures { OnOk result (laid_of laid.new ≡ all_laid (laid_of laid.old) (debugging_sections parts.now code_end rows.now)) }
+    ensures { OnOk result (laid_of laid.new
+        ≡ all_laid (laid_of laid.old) (debugging_sections parts.now code_end rows.now)) }
 {
-    lay_kinds(alloc, laid)?;
+    let kinds = abbreviation_section(alloc)?;
+    lay_unloaded(laid, CONTENTS, b".debug_abbrev", kinds.as_slice())?;
     lay_entries(alloc, laid, parts, code_end)?;
     lay_lines(alloc, laid, parts, code_end)?;
     lay_frames(alloc, laid, parts, code_end, rows)
 }
 
-/// Symbols, and how many of them are local.
-#[derive(Drop)]
-struct Symbols {
-    all: Vec<Symbol>,
-    locals: usize,
-}
-
 // Appends all symbols, and says how many of them are local.
-fn push_symbols(
-    alloc: Global,
-    all: &mut Vec<Symbol>,
-    parts: &Parts,
-    rows: &[Row],
-) -> Result<usize, NoMemory>
+fn push_symbols(alloc: Global, all: &mut Vec<Symbol>, parts: &Parts, rows: &[Row]) -> Result<usize>
     requires words { HasWords parts.now.config }
     requires none { all.now.items ≡ [] }
-    ensures all { IfOk result (λ locals. all.new.items ≡ symbols_of parts.now.config parts.now.app rows.now) }
+    ensures all { IfOk result (λ locals. all.new.items ≡ all_symbols parts.now.config parts.now.app rows.now) }
     ensures locals { IfOk result (λ locals. locals ≡ length (locals_of parts.now.config rows.now)) }
     ensures few { IfOk result (λ locals. locals < 2 ^ 63) }
 {
@@ -218,23 +177,12 @@ fn push_symbols(
     Ok(locals)
 }
 
-// All symbols.
-fn symbols_of(alloc: Global, parts: &Parts, rows: &[Row]) -> Result<Symbols, NoMemory>
-    requires words { HasWords parts.now.config }
-    ensures all { IfOk result (λ symbols. symbols.all.items ≡ symbols_of parts.now.config parts.now.app rows.now) }
-    ensures locals { IfOk result (λ symbols. symbols.locals ≡ length (locals_of parts.now.config rows.now)) }
-    ensures few { IfOk result (λ symbols. symbols.locals < 2 ^ 63) }
-{
-    let mut all = Vec::new(alloc);
-    let locals = push_symbols(alloc, &mut all, parts, rows)?;
-    Ok(Symbols { all, locals })
-}
-
 // Lays out the table of symbols, so many of which are local, and that of their names.
-fn lay_both(laid: &mut Laid, tables: &Tables, locals: usize) -> Result<(), NoMemory>
+fn lay_both(laid: &mut Laid, tables: &Tables, locals: usize) -> Result<()>
     requires { locals < 2 ^ 63 }
     ensures { OnOk result (laid_of laid.new
-        ≡ all_laid (laid_of laid.old) (symbol_section tables.now.symbols.items locals ∷ strings (codes ".strtab") tables.now.names.items ∷ [])) }
+        ≡ all_laid (laid_of laid.old) (symbol_section tables.now.symbols.items locals
+        ∷ strings (codes ".strtab") tables.now.names.items ∷ [])) }
 {
     let fields = SectionFields {
         kind: 2,
@@ -247,53 +195,39 @@ fn lay_both(laid: &mut Laid, tables: &Tables, locals: usize) -> Result<(), NoMem
         entry: 16,
     };
     lay(laid, b".symtab", fields, tables.symbols.as_slice())?;
-    lay_strings(laid, b".strtab", tables.names.as_slice())
+    lay_unloaded(laid, STRINGS, b".strtab", tables.names.as_slice())
 }
 
-// Lays out symbols and their names.
-fn lay_tables(
-    alloc: Global,
-    laid: &mut Laid,
-    borders: &Borders,
-    symbols: &Symbols,
-) -> Result<(), NoMemory>
-    requires { symbols.now.locals < 2 ^ 63 }
-    ensures { OnOk result (laid_of laid.new
-        ≡ all_laid (laid_of laid.old) (table_sections borders.now symbols.now.all.items symbols.now.locals)) }
-{
-    let tables = tables_of(alloc, borders, symbols.all.as_slice())?;
-    lay_both(laid, &tables, symbols.locals)
-}
-
-// Lays out all symbols.
 fn lay_symbols(
     alloc: Global,
     laid: &mut Laid,
     parts: &Parts,
     borders: &Borders,
     rows: &[Row],
-) -> Result<(), NoMemory>
+) -> Result<()>
     requires words { HasWords parts.now.config }
     ensures { OnOk result (laid_of laid.new
-        ≡ all_laid (laid_of laid.old) (table_sections borders.now (symbols_of parts.now.config parts.now.app rows.now)
+        ≡ all_laid (laid_of laid.old) (table_sections borders.now (all_symbols parts.now.config parts.now.app rows.now)
         (length (locals_of parts.now.config rows.now)))) }
 {
-    let symbols = symbols_of(alloc, parts, rows)?;
-    lay_tables(alloc, laid, borders, &symbols)
+    let mut all = Vec::new(alloc);
+    let locals = push_symbols(alloc, &mut all, parts, rows)?;
+    let tables = symbol_tables(alloc, borders, all.as_slice())?;
+    lay_both(laid, &tables, locals)
 }
 
-// Lays out all sections.
 fn lay_parts(
     alloc: Global,
     laid: &mut Laid,
     parts: &Parts,
     borders: &Borders,
     rows: &[Row],
-) -> Result<(), NoMemory>
+) -> Result<()>
     requires words { HasWords parts.now.config }
     requires within { IsMemoryWithin (length parts.now.memory) borders.now }
     requires frames { HasFrames parts.now.app parts.now.map.places borders.now.code_end }
-    ensures { OnOk result (laid_of laid.new ≡ padded (with_names (all_laid (laid_of laid.old) (part_sections parts.now borders.now rows.now)))) }
+    ensures { OnOk result (laid_of laid.new
+        ≡ padded (with_names (all_laid (laid_of laid.old) (part_sections parts.now borders.now rows.now)))) }
 {
     lay_code(laid, parts.memory, borders)?;
     lay_data(laid, parts.memory, borders)?;
@@ -303,27 +237,10 @@ fn lay_parts(
     lay_end(laid)
 }
 
-// All sections, laid out.
-fn laid_parts(
-    alloc: Global,
-    parts: &Parts,
-    borders: &Borders,
-    rows: &[Row],
-) -> Result<Laid, NoMemory>
-    requires words { HasWords parts.now.config }
-    requires within { IsMemoryWithin (length parts.now.memory) borders.now }
-    requires frames { HasFrames parts.now.app parts.now.map.places borders.now.code_end }
-    ensures { IfOk result (λ laid. laid_of laid ≡ laid_parts parts.now borders.now rows.now) }
-{
-    let mut laid = none_laid(alloc)?;
-    lay_parts(alloc, &mut laid, parts, borders, rows)?;
-    Ok(laid)
-}
-
 // The file of sections that are laid out.
-fn file_of(alloc: Global, borders: &Borders, laid: &Laid) -> Result<Vec<u8>, NoMemory>
+fn laid_file(alloc: Global, borders: &Borders, laid: &Laid) -> Result<Vec<u8>>
     requires { AreOrdered borders.now }
-    ensures { IfOk result (λ file. file.items ≡ file_of borders.now (laid_of laid.now)) }
+    ensures { IfOk result (λ file. file.items ≡ laid_file borders.now (laid_of laid.now)) }
 {
     let mut file = Vec::new(alloc);
     put_elf_header(&mut file, FRONT + laid.contents.len())?;
@@ -333,14 +250,15 @@ fn file_of(alloc: Global, borders: &Borders, laid: &Laid) -> Result<Vec<u8>, NoM
     Ok(file)
 }
 
-/// The file of an image that debuggers read: its memory in three segments, and what stands where, by the rows of its map.
+/// The file of an image that debuggers read: its memory in three segments, and what stands where, by its map's rows.
 #[tactic(auto, unfolding(crate::specs::SymbolFile::symbol_file))]
-pub fn symbol_file(alloc: Global, parts: &Parts, rows: &[Row]) -> Result<Vec<u8>, NoMemory>
+pub fn symbol_file(alloc: Global, parts: &Parts, rows: &[Row]) -> Result<Vec<u8>>
     requires may { MayShow parts.now }
     requires rows { rows.now ≡ rows_of parts.now }
     ensures { IfOk result (λ file. file.items ≡ symbol_file parts.now) }
 {
     let borders = image_borders(parts.map, parts.memory.len());
-    let laid = laid_parts(alloc, parts, &borders, rows)?;
-    file_of(alloc, &borders, &laid)
+    let mut laid = none_laid(alloc)?;
+    lay_parts(alloc, &mut laid, parts, &borders, rows)?;
+    laid_file(alloc, &borders, &laid)
 }

@@ -1,7 +1,6 @@
 //! Which line of which file an address of task code comes from.
-ghost use Rattle.std.specs.Prelude.{◌≡◌, ◌-◌, get_or};
+ghost use Rattle.std.specs.Prelude.{◌≡◌};
 ghost use Rattle.symbol_image.specs.FileRows.{file_row};
-ghost use Rattle.symbol_image.specs.LinePlaces.{no_place};
 
 use crate::line_places::{NO_PLACE, Place};
 use map_text::LineRow;
@@ -14,21 +13,14 @@ pub struct FileRow {
     pub line: u32,
 }
 
-// The place of a line of the source.
-fn place_at(places: &[Place], line: u32) -> Place
-    ensures { result ≡ get_or places.now (line - 1) no_place }
-{
-    match places.get(line.saturating_sub(1) as usize) {
-        Some(place) => *place,
-        None => NO_PLACE,
-    }
-}
-
 /// The row of an address that comes from a line of the source, whose lines have these places.
 pub fn file_row(places: &[Place], row: LineRow) -> FileRow
     ensures { result ≡ file_row places.now row }
 {
-    let place = place_at(places, row.line);
+    let place = match places.get(row.line.saturating_sub(1) as usize) {
+        Some(place) => *place,
+        None => NO_PLACE,
+    };
     let address = row.address;
     if place.file == 0 {
         let line = row.line;

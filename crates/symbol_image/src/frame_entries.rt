@@ -1,18 +1,18 @@
 //! The entries of frames.
-ghost use Rattle.std.specs.Prelude.{◌≡◌, ◌++◌, [], IfOk, OnOk, cond};
+ghost use Rattle.std.specs.Prelude.{◌≡◌, ◌++◌, IfOk, OnOk};
 ghost use Rattle.symbol_image.specs.FrameEntries.{common_bytes, common_entry, frame_entry, is_unknown, padded};
 ghost use Rattle.symbol_image.specs.Fields.{sized};
 
 use crate::fields::{put_bytes, put_length, put_unsigned};
 use image_file::put_u32;
-use sloth_base::NoMemory;
+use sloth_base::Result;
 use std::alloc::Global;
 
 /// What stands in a common entry in the place of one.
 const COMMON: u32 = 4_294_967_295;
 
 /// Appends that a register's value is unknown.
-pub fn put_unknown(rules: &mut Vec<u8>, column: u32) -> Result<(), NoMemory>
+pub fn put_unknown(rules: &mut Vec<u8>, column: u32) -> Result<()>
     ensures { OnOk result (rules.new.items ≡ rules.old.items ++ is_unknown column) }
 {
     put_bytes(rules, &[7])?;
@@ -20,7 +20,7 @@ pub fn put_unknown(rules: &mut Vec<u8>, column: u32) -> Result<(), NoMemory>
 }
 
 // Appends an entry of these bytes: their length with zeros up to a multiple of 4, they, and the zeros.
-fn put_entry(section: &mut Vec<u8>, mut bytes: Vec<u8>) -> Result<(), NoMemory>
+fn put_entry(section: &mut Vec<u8>, mut bytes: Vec<u8>) -> Result<()>
     ensures { OnOk result (section.new.items ≡ section.old.items ++ sized (padded bytes.items)) }
 {
     let zeros = (4 - bytes.len() % 4) % 4;
@@ -29,18 +29,8 @@ fn put_entry(section: &mut Vec<u8>, mut bytes: Vec<u8>) -> Result<(), NoMemory>
     put_bytes(section, bytes.as_slice())
 }
 
-// Appends that a column is unknown, if it is.
-fn put_if_unknown(rules: &mut Vec<u8>, column: u32, unknown: bool) -> Result<(), NoMemory>
-    ensures { OnOk result (rules.new.items ≡ rules.old.items ++ cond unknown (is_unknown column) []) }
-{
-    if unknown {
-        return put_unknown(rules, column);
-    }
-    Ok(())
-}
-
 // What entries have in common.
-fn common_bytes(alloc: Global, column: u32, unknown: bool) -> Result<Vec<u8>, NoMemory>
+fn common_bytes(alloc: Global, column: u32, unknown: bool) -> Result<Vec<u8>>
     ensures { IfOk result (λ bytes. bytes.items ≡ common_bytes column unknown) }
 {
     let mut bytes = Vec::new(alloc);
@@ -48,7 +38,9 @@ fn common_bytes(alloc: Global, column: u32, unknown: bool) -> Result<Vec<u8>, No
     put_bytes(&mut bytes, &[3, 0, 4, 124])?;
     put_unsigned(&mut bytes, column)?;
     put_bytes(&mut bytes, &[12, 2, 0])?;
-    put_if_unknown(&mut bytes, column, unknown)?;
+    if unknown {
+        put_unknown(&mut bytes, column)?;
+    }
     Ok(bytes)
 }
 
@@ -58,7 +50,7 @@ pub fn put_common_entry(
     section: &mut Vec<u8>,
     column: u32,
     unknown: bool,
-) -> Result<(), NoMemory>
+) -> Result<()>
     ensures { OnOk result (section.new.items ≡ section.old.items ++ common_entry column unknown) }
 {
     let bytes = common_bytes(alloc, column, unknown)?;
@@ -73,7 +65,7 @@ pub fn put_frame_entry(
     address: u32,
     bytes: u32,
     rules: &[u8],
-) -> Result<(), NoMemory>
+) -> Result<()>
     ensures { OnOk result (section.new.items ≡ section.old.items ++ frame_entry common address bytes rules.now) }
 {
     let mut entry = Vec::new(alloc);

@@ -1,16 +1,18 @@
 //! The section of frames.
-ghost use Rattle.std.specs.Prelude.{◌≡◌, ◌≤◌, ◌<◌, ◌+◌, ◌++◌, [], IfOk, OnOk, cond, get_or, length, ltb, take};
+ghost use Rattle.std.specs.Prelude.{◌≡◌, ◌≤◌, ◌<◌, ◌+◌, ◌++◌, IfOk, OnOk, get_or, length, take};
 ghost use Rattle.std.specs.List.{flat_map};
 ghost use Rattle.sloth_base.specs.Limits.{item_limit};
 ghost use Rattle.map_text.specs.LineRows.{item_count};
 ghost use Rattle.symbol_image.specs.FrameRows.{HasFrames};
-ghost use Rattle.symbol_image.specs.Frames.{body_entry, entry_of, first_loss, frame_section, has_result, loses, loss_rule, prologue_rules, row_entry, service_rules, word_at, writes, writes_csr};
+ghost use Rattle.symbol_image.specs.Frames.{body_entry, entry_of, first_loss, frame_section, loses};
+ghost use Rattle.symbol_image.specs.Frames.{loss_rule, prologue_rules, row_entry, service_rules, memory_word, writes};
+ghost use Rattle.symbol_image.specs.Frames.{writes_csr};
 
 use crate::body_frames::body_rules;
 use crate::fields::{put_bytes, put_unsigned};
 use crate::frame_entries::{put_common_entry, put_frame_entry, put_unknown};
 use map_text::{Kind, Row};
-use sloth_base::{App, Func, MEMORY_BASE, NoMemory, Places, WORD};
+use sloth_base::{App, Func, MEMORY_BASE, Places, Result, WORD};
 use std::alloc::Global;
 
 /// The columns by which code goes back: items by x1, services by x31, what interrupts by mepc.
@@ -37,8 +39,7 @@ pub enum Lost {
     ByPrologue,
 }
 
-// A byte of memory, or zero behind it.
-fn byte_at(memory: &[u8], at: usize) -> u32
+fn byte_or_zero(memory: &[u8], at: usize) -> u32
     ensures is { result ≡ get_or memory.now at 0 }
     ensures small { result ≤ 255 }
 {
@@ -49,29 +50,22 @@ fn byte_at(memory: &[u8], at: usize) -> u32
 }
 
 // The number of four bytes.
-fn word_at(memory: &[u8], at: usize) -> u32
+fn memory_word(memory: &[u8], at: usize) -> u32
     requires { at ≤ 8589934592 }
-    ensures { result ≡ word_at memory.now at }
+    ensures { result ≡ memory_word memory.now at }
 {
-    byte_at(memory, at)
-        + 256 * byte_at(memory, at + 1)
-        + 65_536 * byte_at(memory, at + 2)
-        + 16_777_216 * byte_at(memory, at + 3)
+    byte_or_zero(memory, at)
+        + 256 * byte_or_zero(memory, at + 1)
+        + 65_536 * byte_or_zero(memory, at + 2)
+        + 16_777_216 * byte_or_zero(memory, at + 3)
 }
 
-// Whether an instruction has a register of its result: it is no store, no branch and no fence.
-fn has_result(word: u32) -> bool
-    ensures { result ≡ has_result word }
-{
-    let opcode = word % 128;
-    !(opcode == 35 || opcode == 99 || opcode == 15)
-}
-
-// Whether that register is this one.
+// Whether an instruction, no store, no branch and no fence, has this register for its result.
 fn writes(register: u32, word: u32) -> bool
     ensures { result ≡ writes register word }
 {
-    has_result(word) && word / 128 % 32 == register
+    let opcode = word % 128;
+    !(opcode == 35 || opcode == 99 || opcode == 15) && word / 128 % 32 == register
 }
 
 // Whether an instruction is a csrrw of this CSR.
@@ -97,7 +91,7 @@ fn first_loss(what: Lost, memory: &[u8], base: usize, from: usize, left: usize) 
     ensures { result ≡ first_loss what memory.now base from left }
 {
     for k in 0..left {
-        if loses(what, word_at(memory, base + 4 * (from + k))) {
+        if loses(what, memory_word(memory, base + 4 * (from + k))) {
             return Some(from + k);
         }
     }
@@ -111,7 +105,7 @@ fn put_loss(
     told: usize,
     count: usize,
     loss: Option<usize>,
-) -> Result<(), NoMemory>
+) -> Result<()>
     ensures { OnOk result (rules.new.items ≡ rules.old.items ++ loss_rule column told count loss) }
 {
     let Some(at) = loss else {
@@ -124,8 +118,7 @@ fn put_loss(
     put_unknown(rules, column)
 }
 
-// The rules of a service.
-fn service_rules(alloc: Global, memory: &[u8], base: u32, len: u32) -> Result<Vec<u8>, NoMemory>
+fn service_rules(alloc: Global, memory: &[u8], base: u32, len: u32) -> Result<Vec<u8>>
     ensures { IfOk result (λ rules. rules.items ≡ service_rules memory.now base len) }
 {
     let base = base.saturating_sub(MEMORY_BASE) as usize;
@@ -136,8 +129,7 @@ fn service_rules(alloc: Global, memory: &[u8], base: u32, len: u32) -> Result<Ve
     Ok(rules)
 }
 
-// The rules of a prologue.
-fn prologue_rules(alloc: Global, memory: &[u8], base: u32, len: u32) -> Result<Vec<u8>, NoMemory>
+fn prologue_rules(alloc: Global, memory: &[u8], base: u32, len: u32) -> Result<Vec<u8>>
     ensures { IfOk result (λ rules. rules.items ≡ prologue_rules memory.now base len) }
 {
     let base = base.saturating_sub(MEMORY_BASE) as usize;
@@ -149,14 +141,13 @@ fn prologue_rules(alloc: Global, memory: &[u8], base: u32, len: u32) -> Result<V
     Ok(rules)
 }
 
-// Appends the entry of a row's bytes.
 fn put_entry(
     alloc: Global,
     section: &mut Vec<u8>,
     common: u32,
     rules: &[u8],
     row: &Row,
-) -> Result<(), NoMemory>
+) -> Result<()>
     ensures { OnOk result (section.new.items ≡ section.old.items ++ entry_of common rules.now row.now) }
 {
     put_frame_entry(alloc, section, common, row.base, row.len, rules)
@@ -175,7 +166,6 @@ fn items_before(funcs: &[Func], number: usize) -> usize
     count
 }
 
-// Appends the entry of a body.
 fn put_body(
     alloc: Global,
     section: &mut Vec<u8>,
@@ -183,7 +173,7 @@ fn put_body(
     places: &Places,
     code_end: u32,
     row: &Row,
-) -> Result<(), NoMemory>
+) -> Result<()>
     requires frames { HasFrames app.now places.now code_end }
     requires there { row.now.number < length app.now.funcs }
     ensures { OnOk result (section.new.items ≡ section.old.items ++ body_entry app.now places.now code_end row.now) }
@@ -192,25 +182,6 @@ fn put_body(
     let first = items_before(funcs, row.number);
     let rules = body_rules(alloc, app, places, code_end, first, &funcs[row.number])?;
     put_entry(alloc, section, ITEMS_AT, rules.as_slice(), row)
-}
-
-// Appends the entry of a body, if there is one of the row's number.
-fn put_code(
-    alloc: Global,
-    section: &mut Vec<u8>,
-    app: &App,
-    places: &Places,
-    code_end: u32,
-    row: &Row,
-) -> Result<(), NoMemory>
-    requires { HasFrames app.now places.now code_end }
-    ensures { OnOk result (section.new.items
-        ≡ section.old.items ++ cond (ltb row.now.number (length app.now.funcs)) (body_entry app.now places.now code_end row.now) []) }
-{
-    if row.number < app.funcs.items().len() {
-        return put_body(alloc, section, app, places, code_end, row);
-    }
-    Ok(())
 }
 
 // Appends the entry of a row, if it is code.
@@ -222,9 +193,10 @@ fn put_row(
     code_end: u32,
     memory: &[u8],
     row: &Row,
-) -> Result<(), NoMemory>
+) -> Result<()>
     requires { HasFrames app.now places.now code_end }
-    ensures { OnOk result (section.new.items ≡ section.old.items ++ row_entry app.now places.now code_end memory.now row.now) }
+    ensures { OnOk result (section.new.items
+        ≡ section.old.items ++ row_entry app.now places.now code_end memory.now row.now) }
 {
     match row.kind {
         Kind::Boot | Kind::Idle => put_entry(alloc, section, ITEMS_AT, &[], row),
@@ -237,12 +209,16 @@ fn put_row(
             let rules = service_rules(alloc, memory, row.base, row.len)?;
             put_entry(alloc, section, SERVICES_AT, rules.as_slice(), row)
         }
-        Kind::Code => put_code(alloc, section, app, places, code_end, row),
+        Kind::Code => {
+            if row.number < app.funcs.items().len() {
+                return put_body(alloc, section, app, places, code_end, row);
+            }
+            Ok(())
+        }
         Kind::Words | Kind::Data | Kind::End | Kind::Shared | Kind::Stack | Kind::Between => Ok(()),
     }
 }
 
-// Appends the entries of rows.
 fn put_rows(
     alloc: Global,
     section: &mut Vec<u8>,
@@ -251,9 +227,10 @@ fn put_rows(
     code_end: u32,
     memory: &[u8],
     rows: &[Row],
-) -> Result<(), NoMemory>
+) -> Result<()>
     requires { HasFrames app.now places.now code_end }
-    ensures { OnOk result (section.new.items ≡ section.old.items ++ flat_map (row_entry app.now places.now code_end memory.now) rows.now) }
+    ensures { OnOk result (section.new.items
+        ≡ section.old.items ++ flat_map (row_entry app.now places.now code_end memory.now) rows.now) }
 {
     for row in rows {
         put_row(alloc, section, app, places, code_end, memory, row)?;
@@ -270,7 +247,7 @@ pub fn frame_section(
     code_end: u32,
     memory: &[u8],
     rows: &[Row],
-) -> Result<Vec<u8>, NoMemory>
+) -> Result<Vec<u8>>
     requires { HasFrames app.now places.now code_end }
     ensures { IfOk result (λ section. section.items ≡ frame_section app.now places.now code_end memory.now rows.now) }
 {

@@ -11,10 +11,9 @@ use crate::layout::FRONT;
 use elf_image::put_words;
 use image_file::put_u16;
 use map_text::{Borders, Segment, code_segment, data_segment, words_segment};
-use sloth_base::{BOOT_BASE, MEMORY_BASE, NoMemory};
+use sloth_base::{BOOT_BASE, MEMORY_BASE, Result};
 
-// Appends numbers, each in two bytes.
-fn put_halves(file: &mut Vec<u8>, halves: &[u16]) -> Result<(), NoMemory>
+fn put_halves(file: &mut Vec<u8>, halves: &[u16]) -> Result<()>
     ensures { OnOk result (file.new.items ≡ file.old.items ++ flat_map two_bytes halves.now) }
 {
     for half in halves {
@@ -24,7 +23,7 @@ fn put_halves(file: &mut Vec<u8>, halves: &[u16]) -> Result<(), NoMemory>
 }
 
 // Appends what kind of ELF file it is: an executable of 32 bits, low byte first, for RISC-V.
-fn put_kind(file: &mut Vec<u8>) -> Result<(), NoMemory>
+fn put_kind(file: &mut Vec<u8>) -> Result<()>
     ensures { OnOk result (file.new.items ≡ file.old.items ++ elf_kind) }
 {
     put_bytes(file, b"\x7fELF")?;
@@ -33,7 +32,7 @@ fn put_kind(file: &mut Vec<u8>) -> Result<(), NoMemory>
 }
 
 // Appends where the file begins, and where its headers stand.
-fn put_places(file: &mut Vec<u8>, sections_at: usize) -> Result<(), NoMemory>
+fn put_places(file: &mut Vec<u8>, sections_at: usize) -> Result<()>
     ensures { OnOk result (file.new.items ≡ file.old.items ++ elf_places sections_at) }
 {
     put_words(file, &[1, BOOT_BASE, 52])?;
@@ -42,7 +41,7 @@ fn put_places(file: &mut Vec<u8>, sections_at: usize) -> Result<(), NoMemory>
 }
 
 /// Appends the ELF header; the section headers stand at a place.
-pub fn put_elf_header(file: &mut Vec<u8>, sections_at: usize) -> Result<(), NoMemory>
+pub fn put_elf_header(file: &mut Vec<u8>, sections_at: usize) -> Result<()>
     ensures { OnOk result (file.new.items ≡ file.old.items ++ elf_header sections_at) }
 {
     put_kind(file)?;
@@ -50,8 +49,7 @@ pub fn put_elf_header(file: &mut Vec<u8>, sections_at: usize) -> Result<(), NoMe
     put_halves(file, &[52, 32, 3, 40, 12, 11])
 }
 
-// Appends the header of a segment.
-fn put_segment(file: &mut Vec<u8>, segment: Segment) -> Result<(), NoMemory>
+fn put_segment(file: &mut Vec<u8>, segment: Segment) -> Result<()>
     requires { (memory_base ≤ segment.from) × (segment.from ≤ segment.to) × (segment.from ≤ segment.end) }
     ensures { OnOk result (file.new.items ≡ file.old.items ++ segment_header (segment_of segment)) }
 {
@@ -71,7 +69,7 @@ fn put_segment(file: &mut Vec<u8>, segment: Segment) -> Result<(), NoMemory>
 }
 
 /// Appends the headers of the three segments.
-pub fn put_segments(file: &mut Vec<u8>, borders: &Borders) -> Result<(), NoMemory>
+pub fn put_segments(file: &mut Vec<u8>, borders: &Borders) -> Result<()>
     requires { AreOrdered borders.now }
     ensures { OnOk result (file.new.items ≡ file.old.items ++ segment_headers borders.now) }
 {

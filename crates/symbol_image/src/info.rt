@@ -2,7 +2,8 @@
 ghost use Rattle.std.specs.Prelude.{◌≡◌, ◌≤◌, ◌+◌, ◌++◌, ◌∷◌, [], IfOk, OnOk, drop, length};
 ghost use Rattle.std.specs.List.{flat_map};
 ghost use Rattle.sloth_base.specs.Limits.{item_limit};
-ghost use Rattle.symbol_image.specs.Entries.{base_type, byte_name, info_section, unit_bytes, unit_names, unit_places, word_name};
+ghost use Rattle.symbol_image.specs.Entries.{base_type, byte_name, info_section, unit_bytes, unit_names, unit_places};
+ghost use Rattle.symbol_image.specs.Entries.{word_name};
 ghost use Rattle.symbol_image.specs.EntryBytes.{entries_bytes, entry_bytes, value_bytes};
 ghost use Rattle.map_text.specs.LineRows.{item_count};
 
@@ -12,14 +13,14 @@ use crate::fields::{put_bytes, put_text, sized};
 use crate::types::Types;
 use image_file::put_u32;
 use map_text::item_address;
-use sloth_base::{App, NoMemory, Places};
+use sloth_base::{App, Places, Result};
 use std::alloc::Global;
 
 /// The bytes of a unit's length.
 const LENGTH: usize = 4;
 
 // Appends what a unit is: its kind, who made it, its language, its source and its directory.
-fn put_unit_names(info: &mut Vec<u8>, source: &[u8]) -> Result<(), NoMemory>
+fn put_unit_names(info: &mut Vec<u8>, source: &[u8]) -> Result<()>
     ensures { OnOk result (info.new.items ≡ info.old.items ++ 1 ∷ flat_map value_bytes (unit_names source.now)) }
 {
     put_bytes(info, &[1])?;
@@ -30,7 +31,7 @@ fn put_unit_names(info: &mut Vec<u8>, source: &[u8]) -> Result<(), NoMemory>
 }
 
 // Appends from where to where a unit goes, and where its lines stand.
-fn put_unit_places(info: &mut Vec<u8>, low: u32, high: u32) -> Result<(), NoMemory>
+fn put_unit_places(info: &mut Vec<u8>, low: u32, high: u32) -> Result<()>
     ensures { OnOk result (info.new.items ≡ info.old.items ++ flat_map value_bytes (unit_places low high)) }
 {
     put_u32(info, low)?;
@@ -39,7 +40,7 @@ fn put_unit_places(info: &mut Vec<u8>, low: u32, high: u32) -> Result<(), NoMemo
 }
 
 // A unit behind room for its length: its header, and its entry, from an address to another.
-fn unit(alloc: Global, source: &[u8], low: u32, high: u32) -> Result<Vec<u8>, NoMemory>
+fn unit(alloc: Global, source: &[u8], low: u32, high: u32) -> Result<Vec<u8>>
     ensures { IfOk result (λ info. info.items ≡ 0 ∷ 0 ∷ 0 ∷ 0 ∷ unit_bytes source.now low high) }
 {
     let mut info = Vec::from_slice(alloc, &[0, 0, 0, 0, 4, 0, 0, 0, 0, 0, 4])?;
@@ -57,9 +58,10 @@ fn behind_length(info: &[u8]) -> &[u8]
 }
 
 // Appends the two base types, and says where they stand.
-fn put_types(info: &mut Vec<u8>) -> Result<Types, NoMemory>
+fn put_types(info: &mut Vec<u8>) -> Result<Types>
     ensures word { IfOk result (λ types. types.word ≡ length info.old.items) }
-    ensures byte { IfOk result (λ types. types.byte ≡ length info.old.items + length (entry_bytes (base_type word_name 4))) }
+    ensures byte { IfOk result (λ types. types.byte
+        ≡ length info.old.items + length (entry_bytes (base_type word_name 4))) }
     ensures put { IfOk result (λ types. info.new.items
         ≡ info.old.items ++ entries_bytes (base_type word_name 4 ∷ base_type byte_name 1 ∷ [])) }
 {
@@ -70,8 +72,8 @@ fn put_types(info: &mut Vec<u8>) -> Result<Types, NoMemory>
     Ok(Types { word, byte })
 }
 
-/// The section of the entries of task code whose items and symbols have these places, up to the address behind its items; `source` is the name
-/// of its source, and `lines` are those in which its symbols are declared.
+/// The section of the entries of task code whose items and symbols have these places, up to the address behind its
+/// items; `source` is the name of its source, and `lines` are those in which its symbols are declared.
 pub fn info_section(
     alloc: Global,
     source: &[u8],
@@ -79,7 +81,7 @@ pub fn info_section(
     places: &Places,
     end: u32,
     lines: &[u32],
-) -> Result<Vec<u8>, NoMemory>
+) -> Result<Vec<u8>>
     requires { item_count app.now.funcs ≤ item_limit }
     ensures { IfOk result (λ section. section.items ≡ info_section source.now app.now places.now end lines.now) }
 {

@@ -6,14 +6,14 @@ ghost use Rattle.symbol_image.specs.Reading.{SymbolsReadBack};
 ghost use Rattle.symbol_image.specs.Sections.{SectionsAgree};
 ghost use Rattle.symbol_image.specs.StatedPlaces.{FilesAreNames, OthersHaveNone, PlacesAreStated};
 
-/// Each byte of an image's memory is loaded to its address, by one segment alone, and no other byte of the file is loaded.
+/// Each byte of an image's memory is loaded to its address by one segment alone, and no other byte of the file is.
 pub fn memory_is_loaded_once()
     ensures loaded { MemoryIsLoaded }
     ensures once { LoadedOnce }
     ensures no_more { NothingElseIsLoaded }
 {}
 
-/// Each symbol reads back from its tables with its name, its address, its size and its kind, in the section that has its address.
+/// Each symbol reads back from its tables with its name, address, size and kind, in the section that has its address.
 pub fn symbols_read_back()
     ensures { SymbolsReadBack }
 {}
@@ -23,20 +23,20 @@ pub fn sections_and_segments_agree()
     ensures { SectionsAgree }
 {}
 
-/// The program of rows whose addresses do not fall makes exactly them on the standard's machine, and one end; bytes make one matrix at most.
+/// On the standard's machine a program of rows that never fall makes just them and one end, bytes one matrix at most.
 pub fn lines_are_rows()
     ensures makes { ProgramHasRows }
     ensures one { OneMatrix }
 {}
 
-/// The line of a source comes from the place that the last comment above it in its body states, and has none without one; the table of files has the names.
+/// A source line comes from the place that the last comment above it in its body states, if any; the files have names.
 pub fn places_are_stated()
     ensures stated { PlacesAreStated }
     ensures none { OthersHaveNone }
     ensures files { FilesAreNames }
 {}
 
-/// The section of entries reads by the table of kinds; each symbol and each body is among them, and each symbol's type is that of its bytes.
+/// Entries read by the table of kinds; each symbol, with the type of its bytes, and each body is among them.
 pub fn entries_show_code()
     ensures { InfoHasCode }
 {}

@@ -2,16 +2,22 @@
 ghost use Rattle.std.specs.Prelude.{◌≡◌, ◌++◌, ◌∷◌, [], IfOk, OnOk};
 ghost use Rattle.std.specs.List.{flat_map};
 ghost use Rattle.image_file.specs.Fields.{four_bytes};
-ghost use Rattle.symbol_image.specs.Layout.{laid_with, none_laid, padded, plain, section_header, strings, whole, with_names};
+ghost use Rattle.symbol_image.specs.Layout.{laid_with, none_laid, padded, section_header, unloaded};
+ghost use Rattle.symbol_image.specs.Layout.{whole, with_names};
 ghost use Rattle.symbol_image.specs.LayoutViews.{laid_of, section_of};
 
 use crate::fields::{put_bytes, put_length, put_text};
 use elf_image::put_words;
-use sloth_base::NoMemory;
+use sloth_base::Result;
 use std::alloc::Global;
 
 /// The bytes of the headers in front of all sections.
 pub const FRONT: usize = 148;
+
+/// A section that debuggers read has contents of its own; a table of names has strings.
+pub const CONTENTS: u32 = 1;
+
+pub const STRINGS: u32 = 3;
 
 /// The name of the section of the names.
 const NAMES: &[u8] = b".shstrtab";
@@ -30,12 +36,7 @@ pub struct SectionFields {
 }
 
 // Appends where the name of a section stands, what it is, and where its bytes stand.
-fn put_place(
-    headers: &mut Vec<u8>,
-    name: usize,
-    at: usize,
-    fields: SectionFields,
-) -> Result<(), NoMemory>
+fn put_place(headers: &mut Vec<u8>, name: usize, at: usize, fields: SectionFields) -> Result<()>
     ensures { OnOk result (headers.new.items
         ≡ headers.old.items ++ flat_map four_bytes (name ∷ fields.kind ∷ fields.flags ∷ fields.address ∷ at ∷ [])) }
 {
@@ -44,10 +45,10 @@ fn put_place(
     put_length(headers, at)
 }
 
-// Appends the rest of its header.
-fn put_fields(headers: &mut Vec<u8>, fields: SectionFields) -> Result<(), NoMemory>
+fn put_fields(headers: &mut Vec<u8>, fields: SectionFields) -> Result<()>
     ensures { OnOk result (headers.new.items
-        ≡ headers.old.items ++ flat_map four_bytes (fields.size ∷ fields.link ∷ fields.info ∷ fields.align ∷ fields.entry ∷ [])) }
+        ≡ headers.old.items ++ flat_map four_bytes (fields.size ∷ fields.link ∷ fields.info ∷ fields.align
+        ∷ fields.entry ∷ [])) }
 {
     put_length(headers, fields.size)?;
     put_words(headers, &[fields.link])?;
@@ -56,20 +57,14 @@ fn put_fields(headers: &mut Vec<u8>, fields: SectionFields) -> Result<(), NoMemo
 }
 
 // Appends the header of a section whose name and whose bytes stand at these places.
-fn put_header(
-    headers: &mut Vec<u8>,
-    name: usize,
-    at: usize,
-    fields: SectionFields,
-) -> Result<(), NoMemory>
+fn put_header(headers: &mut Vec<u8>, name: usize, at: usize, fields: SectionFields) -> Result<()>
     ensures { OnOk result (headers.new.items ≡ headers.old.items ++ section_header name at (section_of [] fields [])) }
 {
     put_place(headers, name, at, fields)?;
     put_fields(headers, fields)
 }
 
-// Appends zeros up to a multiple of 4.
-fn put_zeros(contents: &mut Vec<u8>) -> Result<(), NoMemory>
+fn put_zeros(contents: &mut Vec<u8>) -> Result<()>
     ensures { OnOk result (contents.new.items ≡ whole contents.old.items) }
 {
     let zeros = (4 - contents.len() % 4) % 4;
@@ -86,7 +81,7 @@ pub struct Laid {
 
 /// None but that of zeros.
 #[tactic(auto, unfolding(image_file::specs::Fields::four_bytes))]
-pub fn none_laid(alloc: Global) -> Result<Laid, NoMemory>
+pub fn none_laid(alloc: Global) -> Result<Laid>
     ensures { IfOk result (λ laid. laid_of laid ≡ none_laid) }
 {
     let headers = Vec::from_slice(alloc, &[0; 40])?;
@@ -100,12 +95,7 @@ pub fn none_laid(alloc: Global) -> Result<Laid, NoMemory>
 
 /// One more section, at the next multiple of 4.
 #[tactic(auto, unfolding(crate::specs::Layout::laid_with))]
-pub fn lay(
-    laid: &mut Laid,
-    name: &[u8],
-    fields: SectionFields,
-    contents: &[u8],
-) -> Result<(), NoMemory>
+pub fn lay(laid: &mut Laid, name: &[u8], fields: SectionFields, contents: &[u8]) -> Result<()>
     ensures { OnOk result (laid_of laid.new ≡ laid_with (laid_of laid.old) (section_of name.now fields contents.now)) }
 {
     put_zeros(&mut laid.contents)?;
@@ -116,35 +106,18 @@ pub fn lay(
 }
 
 /// Zeros up to a multiple of 4, behind all sections.
-pub fn lay_end(laid: &mut Laid) -> Result<(), NoMemory>
+pub fn lay_end(laid: &mut Laid) -> Result<()>
     ensures { OnOk result (laid_of laid.new ≡ padded (laid_of laid.old)) }
 {
     put_zeros(&mut laid.contents)
 }
 
-/// A section that debuggers read and no one loads.
-pub fn lay_plain(laid: &mut Laid, name: &[u8], contents: &[u8]) -> Result<(), NoMemory>
-    ensures { OnOk result (laid_of laid.new ≡ laid_with (laid_of laid.old) (plain name.now contents.now)) }
+/// A section of a kind that no one loads.
+pub fn lay_unloaded(laid: &mut Laid, kind: u32, name: &[u8], contents: &[u8]) -> Result<()>
+    ensures { OnOk result (laid_of laid.new ≡ laid_with (laid_of laid.old) (unloaded kind name.now contents.now)) }
 {
     let fields = SectionFields {
-        kind: 1,
-        flags: 0,
-        address: 0,
-        size: contents.len(),
-        link: 0,
-        info: 0,
-        align: 1,
-        entry: 0,
-    };
-    lay(laid, name, fields, contents)
-}
-
-/// A table of names.
-pub fn lay_strings(laid: &mut Laid, name: &[u8], contents: &[u8]) -> Result<(), NoMemory>
-    ensures { OnOk result (laid_of laid.new ≡ laid_with (laid_of laid.old) (strings name.now contents.now)) }
-{
-    let fields = SectionFields {
-        kind: 3,
+        kind,
         flags: 0,
         address: 0,
         size: contents.len(),
@@ -157,10 +130,10 @@ pub fn lay_strings(laid: &mut Laid, name: &[u8], contents: &[u8]) -> Result<(), 
 }
 
 /// The section of the names, which has its own name too.
-pub fn lay_names(alloc: Global, laid: &mut Laid) -> Result<(), NoMemory>
+pub fn lay_names(alloc: Global, laid: &mut Laid) -> Result<()>
     ensures { OnOk result (laid_of laid.new ≡ with_names (laid_of laid.old)) }
 {
     let mut names = Vec::from_slice(alloc, laid.names.as_slice())?;
     put_text(&mut names, NAMES)?;
-    lay_strings(laid, NAMES, names.as_slice())
+    lay_unloaded(laid, STRINGS, NAMES, names.as_slice())
 }

@@ -3,13 +3,15 @@ ghost use Rattle.std.specs.Prelude.{◌≡◌, ◌<◌, ◌++◌, IfOk, OnOk, le
 ghost use Rattle.std.specs.Char.{is_ascii_digit};
 ghost use Rattle.std.specs.List.{list_all};
 ghost use Rattle.text_pieces.specs.Names.{referent};
-ghost use Rattle.symbol_image.specs.LinePlaces.{are_shown, begins_quoted, file_behind, file_number, is_new, is_stated, names_behind, origins_of, place_behind, place_here, quoted, stated_line, stated_name};
+ghost use Rattle.symbol_image.specs.LinePlaces.{are_shown, file_behind, is_new, is_stated};
+ghost use Rattle.symbol_image.specs.LinePlaces.{names_behind, line_origins, place_behind, place_here, quoted};
+ghost use Rattle.symbol_image.specs.LinePlaces.{stated_line, stated_name};
 
 use crate::declared_lines::data_lines;
 use crate::fields::{put_bytes, put_text};
 use asm_lines::SourceLine;
 use asm_scopes::closes_body;
-use sloth_base::{List, NoMemory};
+use sloth_base::{List, Result};
 use std::alloc::Global;
 use text_pieces::{Names, after, before, behind, front, has, push, same, value};
 
@@ -23,8 +25,8 @@ pub struct Place {
 /// Nowhere else.
 pub const NO_PLACE: Place = Place { file: 0, line: 0 };
 
-/// Where a source declares its symbols, and where its lines come from: the numbers of the lines that declare symbols, the further files in the table of
-/// files, and the places of the lines.
+/// Where a source declares its symbols, and where its lines come from: the numbers of the lines that declare symbols,
+/// the further files in the table of files, and the places of the lines.
 #[derive(Drop)]
 pub struct Origins {
     pub lines: List<u32>,
@@ -39,7 +41,6 @@ fn quoted(line: &[u8]) -> &[u8]
     behind(after(line, 6), b' ')
 }
 
-// The name that a comment states.
 fn stated_name(line: &[u8]) -> &[u8]
     ensures { result.now ≡ stated_name line.now }
 {
@@ -77,21 +78,16 @@ fn are_shown(name: &[u8]) -> bool
     !name.is_empty() && all_shown(name)
 }
 
-// Whether a text begins with a name between quotes.
-fn begins_quoted(text: &[u8]) -> bool
-    ensures { result ≡ begins_quoted text.now }
-{
-    same(front(text, 1), b"\"") && has(after(text, 1), b'"')
-}
-
 // Whether a line is a comment that states a place.
 #[tactic(auto, unfolding(crate::specs::LinePlaces::is_stated))]
 fn is_stated(line: &[u8]) -> bool
     ensures { result ≡ is_stated line.now }
 {
+    let name = quoted(line);
     same(front(line, 6), b"#line ")
         && stated_line(line) != 0
-        && begins_quoted(quoted(line))
+        && same(front(name, 1), b"\"")
+        && has(after(name, 1), b'"')
         && are_shown(stated_name(line))
 }
 
@@ -102,9 +98,8 @@ fn is_new(names: &Names, line: &[u8]) -> bool
     is_stated(line) && !names.has(stated_name(line))
 }
 
-// The names behind a line.
 #[tactic(auto, unfolding(crate::specs::LinePlaces::names_behind))]
-fn names_behind<'t>(names: Names<'t>, line: &'t [u8]) -> Result<Names<'t>, NoMemory>
+fn names_behind<'t>(names: Names<'t>, line: &'t [u8]) -> Result<Names<'t>>
     ensures { IfOk result (λ found. found ≡ names_behind names.entry line.now) }
 {
     if is_new(&names, line) {
@@ -115,7 +110,7 @@ fn names_behind<'t>(names: Names<'t>, line: &'t [u8]) -> Result<Names<'t>, NoMem
 
 // Appends the file of a line, if it is new, to the table of files.
 #[tactic(auto, unfolding(crate::specs::LinePlaces::file_behind))]
-fn put_file(files: &mut Vec<u8>, names: &Names, line: &[u8]) -> Result<(), NoMemory>
+fn put_file(files: &mut Vec<u8>, names: &Names, line: &[u8]) -> Result<()>
     ensures { OnOk result (files.new.items ≡ files.old.items ++ file_behind names.now line.now) }
 {
     if !is_new(names, line) {
@@ -125,26 +120,18 @@ fn put_file(files: &mut Vec<u8>, names: &Names, line: &[u8]) -> Result<(), NoMem
     put_bytes(files, &[0, 0, 0])
 }
 
-// The number of a file in the table of files.
-fn file_number(names: &Names, name: &[u8]) -> u32
-    ensures { result ≡ file_number names.now name.now }
-{
-    match names.number(name) {
-        Some(place) => (place % 4294967290) as u32 + 2,
-        None => 1,
-    }
-}
-
 // Where a line comes from, where the lines before it leave this place.
 #[tactic(auto, unfolding(crate::specs::LinePlaces::place_here))]
 fn place_here(names: &Names, left: Place, line: &[u8]) -> Place
     ensures { result ≡ place_here names.now left line.now }
 {
     if is_stated(line) {
-        return Place {
-            file: file_number(names, stated_name(line)),
-            line: stated_line(line),
+        let file = match names.number(stated_name(line)) {
+            Some(place) => (place % 4294967290) as u32 + 2,
+            None => 1,
         };
+        let line = stated_line(line);
+        return Place { file, line };
     }
     left
 }
@@ -160,14 +147,10 @@ fn place_behind(here: Place, statement: &SourceLine) -> Place
 }
 
 /// Where these lines come from, which are these statements.
-pub fn origins_of(
-    alloc: Global,
-    lines: &[&[u8]],
-    statements: &[SourceLine],
-) -> Result<Origins, NoMemory>
+pub fn line_origins(alloc: Global, lines: &[&[u8]], statements: &[SourceLine]) -> Result<Origins>
     requires few { length lines.now < 4294967295 }
     requires same { length statements.now ≡ length lines.now }
-    ensures { IfOk result (λ found. found ≡ origins_of (map referent lines.now) statements.now) }
+    ensures { IfOk result (λ found. found ≡ line_origins (map referent lines.now) statements.now) }
 {
     let declared = data_lines(alloc, statements)?;
     let mut names = Names::new(alloc);

@@ -2,7 +2,9 @@
 ghost use Rattle.std.specs.Prelude.{◌≡◌, ◌≤◌, ◌++◌, IfOk, OnOk};
 ghost use Rattle.sloth_base.specs.Limits.{item_limit};
 ghost use Rattle.map_text.specs.LineRows.{item_count, line_rows};
-ghost use Rattle.symbol_image.specs.LineSection.{address_from, end_behind, file_from, first_row, further_rows, line_from, line_header, line_program, line_section, line_unit, place_from, row_behind};
+ghost use Rattle.symbol_image.specs.LineSection.{address_from, end_behind, file_from, further_rows};
+ghost use Rattle.symbol_image.specs.LineSection.{line_from, line_header, line_program, line_section, line_unit};
+ghost use Rattle.symbol_image.specs.LineSection.{place_from, row_behind};
 ghost use Rattle.symbol_image.specs.Fields.{sized};
 ghost use Rattle.symbol_image.specs.FileRows.{file_rows};
 
@@ -15,7 +17,7 @@ use crate::line_places::Place;
 use image_file::{put_u16, put_u32};
 use map_text::LineRow;
 use map_text::line_rows::line_rows;
-use sloth_base::{App, NoMemory, Places};
+use sloth_base::{App, Places, Result};
 use std::alloc::Global;
 
 /// Where rows begin: in line 1 of the source.
@@ -26,7 +28,7 @@ const BEGINNING: FileRow = FileRow {
 };
 
 // The header behind its length.
-fn line_header(alloc: Global, source: &[u8], files: &[u8]) -> Result<Vec<u8>, NoMemory>
+fn line_header(alloc: Global, source: &[u8], files: &[u8]) -> Result<Vec<u8>>
     ensures { IfOk result (λ header. header.items ≡ line_header source.now files.now) }
 {
     let mut header = Vec::from_slice(alloc, &[1, 1, 1, 253, 12, 13])?;
@@ -39,7 +41,7 @@ fn line_header(alloc: Global, source: &[u8], files: &[u8]) -> Result<Vec<u8>, No
 }
 
 // Appends that a file is reached from another.
-fn put_file(section: &mut Vec<u8>, file: u32, to: u32) -> Result<(), NoMemory>
+fn put_file(section: &mut Vec<u8>, file: u32, to: u32) -> Result<()>
     ensures { OnOk result (section.new.items ≡ section.old.items ++ file_from file to) }
 {
     if file == to {
@@ -50,7 +52,7 @@ fn put_file(section: &mut Vec<u8>, file: u32, to: u32) -> Result<(), NoMemory>
 }
 
 // Appends that a line is reached from another.
-fn put_line(section: &mut Vec<u8>, line: u32, to: u32) -> Result<(), NoMemory>
+fn put_line(section: &mut Vec<u8>, line: u32, to: u32) -> Result<()>
     ensures { OnOk result (section.new.items ≡ section.old.items ++ line_from line to) }
 {
     put_bytes(section, &[3])?;
@@ -61,7 +63,7 @@ fn put_line(section: &mut Vec<u8>, line: u32, to: u32) -> Result<(), NoMemory>
 }
 
 // Appends that a row's file and line are reached from those of another, and the row.
-fn put_place(section: &mut Vec<u8>, from: FileRow, row: FileRow) -> Result<(), NoMemory>
+fn put_place(section: &mut Vec<u8>, from: FileRow, row: FileRow) -> Result<()>
     ensures { OnOk result (section.new.items ≡ section.old.items ++ place_from from row) }
 {
     put_file(section, from.file, row.file)?;
@@ -70,24 +72,14 @@ fn put_place(section: &mut Vec<u8>, from: FileRow, row: FileRow) -> Result<(), N
 }
 
 // Appends that an address is reached from another.
-fn put_address(section: &mut Vec<u8>, address: u32, to: u32) -> Result<(), NoMemory>
+fn put_address(section: &mut Vec<u8>, address: u32, to: u32) -> Result<()>
     ensures { OnOk result (section.new.items ≡ section.old.items ++ address_from address to) }
 {
     put_bytes(section, &[2])?;
     put_unsigned(section, to.saturating_sub(address))
 }
 
-// Appends the first row.
-fn put_first(section: &mut Vec<u8>, row: FileRow) -> Result<(), NoMemory>
-    ensures { OnOk result (section.new.items ≡ section.old.items ++ first_row row) }
-{
-    put_bytes(section, &[0, 5, 2])?;
-    put_u32(section, row.address)?;
-    put_place(section, BEGINNING, row)
-}
-
-// Appends a row behind another.
-fn put_row(section: &mut Vec<u8>, from: FileRow, row: FileRow) -> Result<(), NoMemory>
+fn put_row(section: &mut Vec<u8>, from: FileRow, row: FileRow) -> Result<()>
     ensures { OnOk result (section.new.items ≡ section.old.items ++ row_behind from row) }
 {
     put_address(section, from.address, row.address)?;
@@ -95,7 +87,7 @@ fn put_row(section: &mut Vec<u8>, from: FileRow, row: FileRow) -> Result<(), NoM
 }
 
 // Appends the end of all rows behind one of this address.
-fn put_end(section: &mut Vec<u8>, address: u32, end: u32) -> Result<(), NoMemory>
+fn put_end(section: &mut Vec<u8>, address: u32, end: u32) -> Result<()>
     ensures { OnOk result (section.new.items ≡ section.old.items ++ end_behind address end) }
 {
     put_address(section, address, end)?;
@@ -109,8 +101,9 @@ fn put_further(
     places: &[Place],
     rows: &[LineRow],
     end: u32,
-) -> Result<(), NoMemory>
-    ensures { OnOk result (section.new.items ≡ section.old.items ++ further_rows first (file_rows places.now rows.now) end) }
+) -> Result<()>
+    ensures { OnOk result (section.new.items
+        ≡ section.old.items ++ further_rows first (file_rows places.now rows.now) end) }
 {
     let mut last = first;
     for row in rows {
@@ -121,31 +114,21 @@ fn put_further(
     put_end(section, last.address, end)
 }
 
-// Appends the program of rows.
 #[tactic(auto, unfolding(crate::specs::LineSection::line_program))]
-fn put_program(
-    section: &mut Vec<u8>,
-    places: &[Place],
-    rows: &[LineRow],
-    end: u32,
-) -> Result<(), NoMemory>
+fn put_program(section: &mut Vec<u8>, places: &[Place], rows: &[LineRow], end: u32) -> Result<()>
     ensures { OnOk result (section.new.items ≡ section.old.items ++ line_program (file_rows places.now rows.now) end) }
 {
     let Some((first, rest)) = rows.split_first() else {
         return Ok(());
     };
     let first = file_row(places, *first);
-    put_first(section, first)?;
+    put_bytes(section, &[0, 5, 2])?;
+    put_u32(section, first.address)?;
+    put_place(section, BEGINNING, first)?;
     put_further(section, first, places, rest, end)
 }
 
-// Appends the header behind its length.
-fn put_header(
-    alloc: Global,
-    unit: &mut Vec<u8>,
-    source: &[u8],
-    files: &[u8],
-) -> Result<(), NoMemory>
+fn put_header(alloc: Global, unit: &mut Vec<u8>, source: &[u8], files: &[u8]) -> Result<()>
     ensures { OnOk result (unit.new.items ≡ unit.old.items ++ sized (line_header source.now files.now)) }
 {
     let header = line_header(alloc, source, files)?;
@@ -160,8 +143,9 @@ fn line_unit(
     origins: &Origins,
     rows: &[LineRow],
     end: u32,
-) -> Result<Vec<u8>, NoMemory>
-    ensures { IfOk result (λ unit. unit.items ≡ line_unit source.now origins.now.files (file_rows origins.now.places rows.now) end) }
+) -> Result<Vec<u8>>
+    ensures { IfOk result (λ unit. unit.items
+        ≡ line_unit source.now origins.now.files (file_rows origins.now.places rows.now) end) }
 {
     let mut unit = Vec::new(alloc);
     put_u16(&mut unit, 4)?;
@@ -170,22 +154,8 @@ fn line_unit(
     Ok(unit)
 }
 
-// The section of rows.
-fn section_of(
-    alloc: Global,
-    source: &[u8],
-    origins: &Origins,
-    rows: &[LineRow],
-    end: u32,
-) -> Result<Vec<u8>, NoMemory>
-    ensures { IfOk result (λ section. section.items ≡ line_section source.now origins.now.files (file_rows origins.now.places rows.now) end) }
-{
-    let unit = line_unit(alloc, source, origins, rows, end)?;
-    sized(alloc, unit.as_slice())
-}
-
-/// The section of the lines of task code whose items have these places, up to the address behind them; `source` is the name of its source, whose lines come
-/// from these origins.
+/// The section of the lines of task code whose items have these places, up to the address behind them; `source` is the
+/// name of its source, whose lines come from these origins.
 pub fn line_section(
     alloc: Global,
     source: &[u8],
@@ -193,11 +163,12 @@ pub fn line_section(
     places: &Places,
     origins: &Origins,
     end: u32,
-) -> Result<Vec<u8>, NoMemory>
+) -> Result<Vec<u8>>
     requires { item_count app.now.funcs ≤ item_limit }
     ensures { IfOk result (λ section. section.items ≡ line_section source.now origins.now.files
         (file_rows origins.now.places (line_rows places.now end 0 app.now.funcs)) end) }
 {
     let rows = line_rows(alloc, places, end, app.funcs.items())?;
-    section_of(alloc, source, origins, rows.as_slice(), end)
+    let unit = line_unit(alloc, source, origins, rows.as_slice(), end)?;
+    sized(alloc, unit.as_slice())
 }

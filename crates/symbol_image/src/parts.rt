@@ -5,8 +5,8 @@ use sloth_base::{App, Config};
 use sloth_region::Map;
 use std::marker::Model;
 
-/// The name of the source; what it means with its configuration; the map that is planned for it; where it declares its symbols and its lines come from;
-/// and the image's memory.
+/// The name of the source; what it means with its configuration; the map that is planned for it; where it declares its
+/// symbols and its lines come from; and the image's memory.
 #[derive(Drop)]
 pub struct Parts<'t> {
     pub source: &'t [u8],

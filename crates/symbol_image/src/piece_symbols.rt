@@ -1,25 +1,17 @@
 //! The symbols of the pieces of an image.
-ghost use Rattle.std.specs.Prelude.{◌≡◌, ◌++◌, OnOk, get_or, length};
+ghost use Rattle.std.specs.Prelude.{◌≡◌, ◌++◌, OnOk};
 ghost use Rattle.std.specs.List.{flat_map};
-ghost use Rattle.sloth_base.specs.Blocks.{block_object, block_service};
-ghost use Rattle.sloth_base.specs.Named.{no_symbol};
 ghost use Rattle.map_text.specs.PieceNames.{block_symbol, joined};
 ghost use Rattle.symbol_image.specs.Symbols.{global_at, global_symbols, local_at, local_symbols};
-ghost use Rattle.symbol_image.specs.declared.symbol.SymbolKind.TheVariants as function;
 
 use crate::symbol::{Binding, Symbol, SymbolKind};
 use map_text::{Kind, Row, block_symbol, copied, counter_name, function_name, joined, symbol_name};
-use sloth_base::{App, Config, List, NoMemory};
+use sloth_base::{App, Config, List, Result};
 use std::alloc::Global;
 use text_pieces::push;
 
 // Appends the local symbol of a row's bytes.
-fn push_local(
-    symbols: &mut Vec<Symbol>,
-    name: List<u8>,
-    kind: SymbolKind,
-    row: &Row,
-) -> Result<(), NoMemory>
+fn push_local(symbols: &mut Vec<Symbol>, name: List<u8>, kind: SymbolKind, row: &Row) -> Result<()>
     ensures { OnOk result (symbols.new.items ≡ symbols.old.items ++ local_at name kind row.now) }
 {
     push(
@@ -41,7 +33,7 @@ fn push_single(
     name: &[u8],
     kind: SymbolKind,
     row: &Row,
-) -> Result<(), NoMemory>
+) -> Result<()>
     ensures { OnOk result (symbols.new.items ≡ symbols.old.items ++ local_at name.now kind row.now) }
 {
     let name = copied(alloc, name)?;
@@ -56,34 +48,20 @@ fn push_joined(
     other: &[u8],
     kind: SymbolKind,
     row: &Row,
-) -> Result<(), NoMemory>
+) -> Result<()>
     ensures { OnOk result (symbols.new.items ≡ symbols.old.items ++ local_at (joined one.now other.now) kind row.now) }
 {
     let name = joined(alloc, one, other)?;
     push_local(symbols, name, kind, row)
 }
 
-// Appends the symbol of the code of a service.
-fn push_service(
-    alloc: Global,
-    symbols: &mut Vec<Symbol>,
-    config: &Config,
-    row: &Row,
-) -> Result<(), NoMemory>
-    ensures { OnOk result (symbols.new.items
-        ≡ symbols.old.items ++ local_at (block_symbol config.now (block_service row.now.number) (block_object row.now.number)) function.Function row.now) }
-{
-    let name = block_symbol(alloc, config, row.number)?;
-    push_local(symbols, name, SymbolKind::Function, row)
-}
-
 // Appends the symbol of a row, if it is a piece of the kernel.
-fn push_local_of(
+fn push_row_local(
     alloc: Global,
     symbols: &mut Vec<Symbol>,
     config: &Config,
     row: &Row,
-) -> Result<(), NoMemory>
+) -> Result<()>
     ensures { OnOk result (symbols.new.items ≡ symbols.old.items ++ local_symbols config.now row.now) }
 {
     let code = SymbolKind::Function;
@@ -102,22 +80,15 @@ fn push_local_of(
             let counter = counter_name(config, number);
             push_joined(alloc, symbols, b"tick", counter, code, row)
         }
-        Kind::Service => push_service(alloc, symbols, config, row),
+        Kind::Service => {
+            let name = block_symbol(alloc, config, number)?;
+            push_local(symbols, name, code, row)
+        }
         Kind::Shared => push_single(alloc, symbols, b"kernel$stack", data, row),
         Kind::Stack => {
             let task = config.task_name(number);
             push_joined(alloc, symbols, b"stack", task, data, row)
         }
-    }
-}
-
-// The bytes that a symbol of the task code is declared with.
-fn declared_size(app: &App, number: usize) -> usize
-    ensures { result ≡ length (get_or app.now.symbols number no_symbol).bytes }
-{
-    match app.symbols.items().get(number) {
-        Some(symbol) => symbol.bytes.items().len(),
-        None => 0,
     }
 }
 
@@ -129,7 +100,7 @@ fn push_global(
     kind: SymbolKind,
     size: usize,
     row: &Row,
-) -> Result<(), NoMemory>
+) -> Result<()>
     ensures { OnOk result (symbols.new.items ≡ symbols.old.items ++ global_at name.now kind size row.now) }
 {
     let name = copied(alloc, name)?;
@@ -146,12 +117,7 @@ fn push_global(
 }
 
 // Appends the symbol of a row, if it is a body or data.
-fn push_global_of(
-    alloc: Global,
-    symbols: &mut Vec<Symbol>,
-    app: &App,
-    row: &Row,
-) -> Result<(), NoMemory>
+fn push_row_global(alloc: Global, symbols: &mut Vec<Symbol>, app: &App, row: &Row) -> Result<()>
     ensures { OnOk result (symbols.new.items ≡ symbols.old.items ++ global_symbols app.now row.now) }
 {
     match row.kind {
@@ -168,7 +134,10 @@ fn push_global_of(
         }
         Kind::Data => {
             let name = symbol_name(app, row.number);
-            let size = declared_size(app, row.number);
+            let size = match app.symbols.items().get(row.number) {
+                Some(symbol) => symbol.bytes.items().len(),
+                None => 0,
+            };
             push_global(alloc, symbols, name, SymbolKind::Object, size, row)
         }
         Kind::Words | Kind::Vectors | Kind::Boot | Kind::Idle | Kind::Prologue => Ok(()),
@@ -183,26 +152,21 @@ pub fn push_locals(
     symbols: &mut Vec<Symbol>,
     config: &Config,
     rows: &[Row],
-) -> Result<(), NoMemory>
+) -> Result<()>
     ensures { OnOk result (symbols.new.items ≡ symbols.old.items ++ flat_map (local_symbols config.now) rows.now) }
 {
     for row in rows {
-        push_local_of(alloc, symbols, config, row)?;
+        push_row_local(alloc, symbols, config, row)?;
     }
     Ok(())
 }
 
 /// Appends the symbols of bodies and data, in the order of the rows.
-pub fn push_globals(
-    alloc: Global,
-    symbols: &mut Vec<Symbol>,
-    app: &App,
-    rows: &[Row],
-) -> Result<(), NoMemory>
+pub fn push_globals(alloc: Global, symbols: &mut Vec<Symbol>, app: &App, rows: &[Row]) -> Result<()>
     ensures { OnOk result (symbols.new.items ≡ symbols.old.items ++ flat_map (global_symbols app.now) rows.now) }
 {
     for row in rows {
-        push_global_of(alloc, symbols, app, row)?;
+        push_row_global(alloc, symbols, app, row)?;
     }
     Ok(())
 }

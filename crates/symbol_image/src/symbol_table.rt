@@ -2,13 +2,14 @@
 ghost use Rattle.std.specs.Prelude.{◌≡◌, ◌++◌, IfOk, OnOk, length};
 ghost use Rattle.std.specs.List.{flat_map};
 ghost use Rattle.symbol_image.specs.Fields.{text_bytes};
-ghost use Rattle.symbol_image.specs.SymbolTable.{name_table, section_number, symbol_bytes, symbol_info, symbol_table, table_from};
+ghost use Rattle.symbol_image.specs.SymbolTable.{name_table, section_number, symbol_bytes, symbol_info, symbol_table};
+ghost use Rattle.symbol_image.specs.SymbolTable.{table_from};
 
 use crate::fields::{put_bytes, put_length, put_text};
 use crate::symbol::{Binding, Symbol, SymbolKind};
 use image_file::{put_u16, put_u32};
 use map_text::Borders;
-use sloth_base::{NoMemory, VECTORS_BASE};
+use sloth_base::{Result, VECTORS_BASE};
 use std::alloc::Global;
 
 // The number of the section in which an address lies: words, code, data or stacks.
@@ -42,12 +43,7 @@ fn symbol_info(symbol: &Symbol) -> u8
 }
 
 // Appends a symbol whose name stands at a place of the names.
-fn put_symbol(
-    table: &mut Vec<u8>,
-    borders: &Borders,
-    name: usize,
-    symbol: &Symbol,
-) -> Result<(), NoMemory>
+fn put_symbol(table: &mut Vec<u8>, borders: &Borders, name: usize, symbol: &Symbol) -> Result<()>
     ensures { OnOk result (table.new.items ≡ table.old.items ++ symbol_bytes borders.now name symbol.now) }
 {
     put_length(table, name)?;
@@ -57,15 +53,16 @@ fn put_symbol(
     put_u16(table, section_number(borders, symbol.address))
 }
 
-// Appends symbols and their names.
 fn put_each(
     table: &mut Vec<u8>,
     names: &mut Vec<u8>,
     borders: &Borders,
     symbols: &[Symbol],
-) -> Result<(), NoMemory>
-    ensures symbols { OnOk result (table.new.items ≡ table.old.items ++ table_from borders.now (length names.old.items) symbols.now) }
-    ensures names { OnOk result (names.new.items ≡ names.old.items ++ flat_map (λ symbol. text_bytes symbol.name) symbols.now) }
+) -> Result<()>
+    ensures symbols { OnOk result (table.new.items
+        ≡ table.old.items ++ table_from borders.now (length names.old.items) symbols.now) }
+    ensures names { OnOk result (names.new.items
+        ≡ names.old.items ++ flat_map (λ symbol. text_bytes symbol.name) symbols.now) }
 {
     for symbol in symbols {
         put_symbol(table, borders, names.len(), symbol)?;
@@ -83,7 +80,7 @@ pub struct Tables {
 
 /// The tables of symbols.
 #[tactic(auto, unfolding(crate::specs::SymbolTable::symbol_table, crate::specs::SymbolTable::name_table))]
-pub fn tables_of(alloc: Global, borders: &Borders, symbols: &[Symbol]) -> Result<Tables, NoMemory>
+pub fn symbol_tables(alloc: Global, borders: &Borders, symbols: &[Symbol]) -> Result<Tables>
     ensures symbols { IfOk result (λ tables. tables.symbols.items ≡ symbol_table borders.now symbols.now) }
     ensures names { IfOk result (λ tables. tables.names.items ≡ name_table symbols.now) }
 {

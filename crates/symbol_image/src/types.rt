@@ -1,6 +1,6 @@
 //! The types of data.
 ghost use Rattle.std.specs.Prelude.{◌≡◌};
-ghost use Rattle.symbol_image.specs.Entries.{shape_of};
+ghost use Rattle.symbol_image.specs.Entries.{data_shape};
 
 /// Where the two base types stand: a word, and a byte.
 #[derive(Clone, Copy)]
@@ -19,8 +19,8 @@ pub enum Shape {
 }
 
 /// What so many bytes of data are.
-pub fn shape_of(size: usize) -> Shape
-    ensures { result ≡ shape_of size }
+pub fn data_shape(size: usize) -> Shape
+    ensures { result ≡ data_shape size }
 {
     if size == 4 {
         Shape::OneWord

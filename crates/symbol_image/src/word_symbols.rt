@@ -4,13 +4,16 @@ ghost use Rattle.sloth_base.specs.Limits.{alarm_limit, counter_limit, resource_l
 ghost use Rattle.sloth_base.specs.ConfigRange.{scheduler_number};
 ghost use Rattle.sloth_region.specs.Layout.{saved_level};
 ghost use Rattle.map_text.specs.PieceNames.{joined};
-ghost use Rattle.symbol_image.specs.Symbols.{alarm_words, context_symbol, counter_words, state_and_clock_symbols, context_and_level_symbols, object_at, resume_words, saved_words, scheduler_word, scheduler_words, state_words, word_symbol, word_symbols};
+ghost use Rattle.symbol_image.specs.Symbols.{alarm_words, counter_words, state_and_clock_symbols};
+ghost use Rattle.symbol_image.specs.Symbols.{context_and_level_symbols, kernel_object, resume_words, saved_words};
+ghost use Rattle.symbol_image.specs.Symbols.{scheduler_words, state_words, word_symbol, word_symbols};
 ghost use Rattle.symbol_image.specs.WordSymbols.{HasWords};
 
 use crate::symbol::{Binding, Symbol, SymbolKind};
 use map_text::{copied, joined};
 use sloth_base::{
-    AlarmDecl, Config, CounterDecl, List, MEMORY_BASE, Name, NoMemory, RES_SCHEDULER, TaskDecl,
+    AlarmDecl, Config, CounterDecl, List, MEMORY_BASE, Name, NoMemory, RES_SCHEDULER, Result,
+    TaskDecl,
 };
 use sloth_region::{
     BELOW_WORD, CONTEXT_BYTES, CUR, IDLE_CONTEXT, active, alarm_cycle, alarm_left, counter_value,
@@ -23,9 +26,9 @@ use text_pieces::push;
 const BYTES: usize = 4;
 
 // A local object of so many bytes at an offset.
-fn object_at(name: List<u8>, offset: u32, size: usize) -> Symbol
+fn kernel_object(name: List<u8>, offset: u32, size: usize) -> Symbol
     requires { offset ≤ 1023 }
-    ensures { result ≡ object_at name offset size }
+    ensures { result ≡ kernel_object name offset size }
 {
     Symbol {
         name,
@@ -43,12 +46,13 @@ fn push_word(
     one: &[u8],
     other: &[u8],
     offset: u32,
-) -> Result<(), NoMemory>
+) -> Result<()>
     requires { offset ≤ 1023 }
-    ensures { OnOk result (symbols.new.items ≡ symbols.old.items ++ word_symbol (joined one.now other.now) offset ∷ []) }
+    ensures { OnOk result (symbols.new.items ≡ symbols.old.items ++ word_symbol (joined one.now other.now) offset
+        ∷ []) }
 {
     let name = joined(alloc, one, other)?;
-    push(symbols, object_at(name, offset, BYTES))
+    push(symbols, kernel_object(name, offset, BYTES))
 }
 
 // Appends an object of the kernel alone.
@@ -58,16 +62,15 @@ fn push_object(
     name: &[u8],
     offset: u32,
     size: usize,
-) -> Result<(), NoMemory>
+) -> Result<()>
     requires { offset ≤ 1023 }
-    ensures { OnOk result (symbols.new.items ≡ symbols.old.items ++ object_at name.now offset size ∷ []) }
+    ensures { OnOk result (symbols.new.items ≡ symbols.old.items ++ kernel_object name.now offset size ∷ []) }
 {
     let name = copied(alloc, name)?;
-    push(symbols, object_at(name, offset, size))
+    push(symbols, kernel_object(name, offset, size))
 }
 
-// Appends the states of tasks.
-fn push_states(alloc: Global, symbols: &mut Vec<Symbol>, tasks: &[TaskDecl]) -> Result<(), NoMemory>
+fn push_states(alloc: Global, symbols: &mut Vec<Symbol>, tasks: &[TaskDecl]) -> Result<()>
     requires { length tasks.now ≤ task_limit }
     ensures { OnOk result (symbols.new.items ≡ symbols.old.items ++ state_words 0 tasks.now) }
 {
@@ -81,12 +84,7 @@ fn push_states(alloc: Global, symbols: &mut Vec<Symbol>, tasks: &[TaskDecl]) -> 
     Ok(())
 }
 
-// Appends the values of counters.
-fn push_counters(
-    alloc: Global,
-    symbols: &mut Vec<Symbol>,
-    counters: &[CounterDecl],
-) -> Result<(), NoMemory>
+fn push_counters(alloc: Global, symbols: &mut Vec<Symbol>, counters: &[CounterDecl]) -> Result<()>
     requires { length counters.now ≤ counter_limit }
     ensures { OnOk result (symbols.new.items ≡ symbols.old.items ++ counter_words 0 counters.now) }
 {
@@ -103,12 +101,7 @@ fn push_counters(
     Ok(())
 }
 
-// Appends what alarms have left, and their cycles.
-fn push_alarms(
-    alloc: Global,
-    symbols: &mut Vec<Symbol>,
-    alarms: &[AlarmDecl],
-) -> Result<(), NoMemory>
+fn push_alarms(alloc: Global, symbols: &mut Vec<Symbol>, alarms: &[AlarmDecl]) -> Result<()>
     requires { length alarms.now ≤ alarm_limit }
     ensures { OnOk result (symbols.new.items ≡ symbols.old.items ++ alarm_words 0 alarms.now) }
 {
@@ -121,12 +114,7 @@ fn push_alarms(
     Ok(())
 }
 
-// Appends where the tasks' own contexts stand.
-fn push_resumes(
-    alloc: Global,
-    symbols: &mut Vec<Symbol>,
-    tasks: &[TaskDecl],
-) -> Result<(), NoMemory>
+fn push_resumes(alloc: Global, symbols: &mut Vec<Symbol>, tasks: &[TaskDecl]) -> Result<()>
     requires { length tasks.now ≤ task_limit }
     ensures { OnOk result (symbols.new.items ≡ symbols.old.items ++ resume_words 0 tasks.now) }
 {
@@ -143,8 +131,7 @@ fn push_resumes(
     Ok(())
 }
 
-// Appends the levels at which resources were taken.
-fn push_levels(alloc: Global, symbols: &mut Vec<Symbol>, resources: &[Name]) -> Result<(), NoMemory>
+fn push_levels(alloc: Global, symbols: &mut Vec<Symbol>, resources: &[Name]) -> Result<()>
     requires { length resources.now ≤ resource_limit }
     ensures { OnOk result (symbols.new.items ≡ symbols.old.items ++ saved_words 0 resources.now) }
 {
@@ -162,26 +149,19 @@ fn scheduler_level() -> u32
     saved(RES_SCHEDULER as u8) as u32
 }
 
-// Appends the level at which RES_SCHEDULER was taken.
-fn push_scheduler_level(alloc: Global, symbols: &mut Vec<Symbol>) -> Result<(), NoMemory>
-    ensures { OnOk result (symbols.new.items ≡ symbols.old.items ++ scheduler_word ∷ []) }
-{
-    let level = scheduler_level();
-    push_word(alloc, symbols, b"saved", b"RES_SCHEDULER", level)
-}
-
-// The same, if RES_SCHEDULER exists.
-fn push_scheduler(alloc: Global, symbols: &mut Vec<Symbol>, exists: bool) -> Result<(), NoMemory>
+// Appends the level at which RES_SCHEDULER was taken, if it exists.
+fn push_scheduler(alloc: Global, symbols: &mut Vec<Symbol>, exists: bool) -> Result<()>
     ensures { OnOk result (symbols.new.items ≡ symbols.old.items ++ scheduler_words exists) }
 {
     if exists {
-        return push_scheduler_level(alloc, symbols);
+        let level = scheduler_level();
+        return push_word(alloc, symbols, b"saved", b"RES_SCHEDULER", level);
     }
     Ok(())
 }
 
 // Appends those of the words that say what runs, of the states of tasks, and of the clock.
-fn push_first(alloc: Global, symbols: &mut Vec<Symbol>, config: &Config) -> Result<(), NoMemory>
+fn push_first(alloc: Global, symbols: &mut Vec<Symbol>, config: &Config) -> Result<()>
     requires { HasWords config.now }
     ensures { OnOk result (symbols.new.items ≡ symbols.old.items ++ state_and_clock_symbols config.now) }
 {
@@ -191,10 +171,15 @@ fn push_first(alloc: Global, symbols: &mut Vec<Symbol>, config: &Config) -> Resu
     push_alarms(alloc, symbols, config.alarms.items())
 }
 
-// Appends that of the context of the idle loop.
-fn push_context(alloc: Global, symbols: &mut Vec<Symbol>) -> Result<(), NoMemory>
-    ensures { OnOk result (symbols.new.items ≡ symbols.old.items ++ context_symbol ∷ []) }
+// Appends those of the words behind them.
+fn push_last(alloc: Global, symbols: &mut Vec<Symbol>, config: &Config) -> Result<()>
+    requires { HasWords config.now }
+    ensures { OnOk result (symbols.new.items ≡ symbols.old.items ++ context_and_level_symbols config.now) }
 {
+    push_object(alloc, symbols, b"kernel$below", BELOW_WORD as u32, BYTES)?;
+    push_resumes(alloc, symbols, config.tasks.items())?;
+    push_levels(alloc, symbols, config.resources.items())?;
+    push_scheduler(alloc, symbols, config.res_scheduler)?;
     push_object(
         alloc,
         symbols,
@@ -204,21 +189,9 @@ fn push_context(alloc: Global, symbols: &mut Vec<Symbol>) -> Result<(), NoMemory
     )
 }
 
-// Appends those of the words behind them.
-fn push_last(alloc: Global, symbols: &mut Vec<Symbol>, config: &Config) -> Result<(), NoMemory>
-    requires { HasWords config.now }
-    ensures { OnOk result (symbols.new.items ≡ symbols.old.items ++ context_and_level_symbols config.now) }
-{
-    push_object(alloc, symbols, b"kernel$below", BELOW_WORD as u32, BYTES)?;
-    push_resumes(alloc, symbols, config.tasks.items())?;
-    push_levels(alloc, symbols, config.resources.items())?;
-    push_scheduler(alloc, symbols, config.res_scheduler)?;
-    push_context(alloc, symbols)
-}
-
 /// Appends the symbols of all service words, and that of the context of the idle loop.
 #[tactic(auto, unfolding(crate::specs::Symbols::word_symbols))]
-pub fn push_words(alloc: Global, symbols: &mut Vec<Symbol>, config: &Config) -> Result<(), NoMemory>
+pub fn push_words(alloc: Global, symbols: &mut Vec<Symbol>, config: &Config) -> Result<()>
     requires { HasWords config.now }
     ensures { OnOk result (symbols.new.items ≡ symbols.old.items ++ word_symbols config.now) }
 {

@@ -4,16 +4,16 @@ ghost use Rattle.std.specs.List.{list_any};
 ghost use Rattle.code_rules.specs.Code.{is_in, is_last, held_behind, held_after};
 ghost use Rattle.code_rules.specs.WellFormed.{IsOtherListJump};
 ghost use Rattle.call_graph.specs.Bits.{is_member};
-ghost use Rattle.call_graph.specs.Rows.{is_get, is_pausing};
+ghost use Rattle.call_graph.specs.Rows.{is_pausing};
 ghost use Rattle.task_verify.specs.Labels.{list_of};
-ghost use Rattle.task_verify.specs.Tests.{is_ending, is_release, is_any_held, is_wrong_release, is_second_take, is_leave_with_resource};
+ghost use Rattle.task_verify.specs.Tests.{is_ending, is_wrong_release, is_second_take, is_leave_with_resource};
 ghost use Rattle.task_verify.specs.Ways.{HasBodyLabel};
 
-use crate::endings::is_ending;
 use crate::tasks::contains;
 use crate::way;
+use crate::ways::is_ending;
 use call_graph::Ranks;
-use sloth_base::{Call, Func, FuncId, NoMemory, Op, ResId, Service};
+use sloth_base::{Call, Func, FuncId, NoMemory, Op, ResId, Result, Service};
 use std::alloc::Global;
 
 /// Whether a label's list is the held one.
@@ -56,42 +56,26 @@ pub fn is_wrong_release(held: &[u32], op: Op) -> bool
     ensures { result ≡ is_wrong_release held.now op }
 {
     match op {
-        Op::Serve(call) => is_release(call.service) && !is_last(held, call.object),
+        Op::Serve(call) => matches!(call.service, Service::ReleaseResource)
+            && !is_last(held, call.object),
         _ => false,
     }
 }
 
-fn is_release(service: Service) -> bool
-    ensures { result ≡ is_release service }
-{
-    matches!(service, Service::ReleaseResource)
-}
-
-fn is_get(service: Service) -> bool
-    ensures { result ≡ is_get service }
-{
-    matches!(service, Service::GetResource)
-}
-
-fn is_pausing(service: Service) -> bool
-    ensures { result ≡ is_pausing service }
-{
-    matches!(service, Service::WaitEvent | Service::Schedule)
-}
-
-fn is_one_of(held: &[u32], resource: u32) -> bool
+fn equals_one(held: &[u32], resource: u32) -> bool
     ensures { result ≡ list_any (λ taken. taken == resource) held.now }
 {
     held.iter().any(|taken| *taken == resource)
 }
 
-fn is_in(held: &[u32], resource: u32) -> bool
+/// Whether the resource is held.
+pub fn is_taken(held: &[u32], resource: u32) -> bool
     ensures { result ≡ is_in resource held.now }
 {
-    is_one_of(held, resource)
+    equals_one(held, resource)
 }
 
-fn taken_by(ranks: &Ranks, func: FuncId) -> u64
+fn taken_resources(ranks: &Ranks, func: FuncId) -> u64
     ensures { result ≡ get_or ranks.now.resources func 0 }
 {
     match ranks.resources.items().get(func.0 as usize) {
@@ -112,8 +96,9 @@ pub fn is_second_take(ranks: &Ranks, held: &[u32], op: Op) -> bool
     ensures { result ≡ is_second_take ranks.now held.now op }
 {
     match op {
-        Op::Serve(call) => is_get(call.service) && is_in(held, call.object),
-        Op::Invoke { func } => takes_one(taken_by(ranks, func), held),
+        Op::Serve(call) => matches!(call.service, Service::GetResource)
+            && is_taken(held, call.object),
+        Op::Invoke { func } => takes_one(taken_resources(ranks, func), held),
         _ => false,
     }
 }
@@ -127,31 +112,25 @@ fn pauses(ranks: &Ranks, func: FuncId) -> bool
     }
 }
 
-fn is_any_held(held: &[u32]) -> bool
-    ensures { result ≡ is_any_held held.now }
-{
-    !held.is_empty()
-}
-
 fn leaves(service: Service) -> bool
     ensures { result ≡ (is_ending service || is_pausing service) }
 {
-    is_ending(service) || is_pausing(service)
+    is_ending(service) || matches!(service, Service::WaitEvent | Service::Schedule)
 }
 
-/// V10: an end of the task, a wait, a Schedule or a `ret` while something is held, or a call of what reaches a wait or a Schedule.
+/// V10: an end, a wait, a Schedule or a `ret` while something is held, or a call of what reaches a wait or a Schedule.
 pub fn is_leave_with_resource(ranks: &Ranks, held: &[u32], op: Op) -> bool
     ensures { result ≡ is_leave_with_resource ranks.now held.now op }
 {
     match op {
-        Op::Serve(call) => leaves(call.service) && is_any_held(held),
-        Op::Return => is_any_held(held),
-        Op::Invoke { func } => pauses(ranks, func) && is_any_held(held),
+        Op::Serve(call) => leaves(call.service) && !held.is_empty(),
+        Op::Return => !held.is_empty(),
+        Op::Invoke { func } => pauses(ranks, func) && !held.is_empty(),
         _ => false,
     }
 }
 
-fn held_behind(held: Vec<u32>, call: Call) -> Result<Vec<u32>, NoMemory>
+fn held_behind(held: Vec<u32>, call: Call) -> Result<Vec<u32>>
     ensures { IfOk result (λ next. next.items ≡ held_behind call.service call.object held.items) }
 {
     let mut held = held;
@@ -169,7 +148,7 @@ fn held_behind(held: Vec<u32>, call: Call) -> Result<Vec<u32>, NoMemory>
 }
 
 /// What is held behind the operation.
-pub fn held_after(held: Vec<u32>, op: Op) -> Result<Vec<u32>, NoMemory>
+pub fn held_after(held: Vec<u32>, op: Op) -> Result<Vec<u32>>
     ensures { IfOk result (λ next. next.items ≡ held_after op held.items) }
 {
     match op {
@@ -179,7 +158,7 @@ pub fn held_after(held: Vec<u32>, op: Op) -> Result<Vec<u32>, NoMemory>
 }
 
 /// The list of a label as the held one.
-pub fn held_by(alloc: Global, holds: &[ResId]) -> Result<Vec<u32>, NoMemory>
+pub fn held_by(alloc: Global, holds: &[ResId]) -> Result<Vec<u32>>
     ensures { IfOk result (λ held. held.items ≡ holds.now) }
 {
     let mut held = Vec::new(alloc);
@@ -195,7 +174,7 @@ pub fn held_at_label(
     func: &Func,
     last: Option<usize>,
     held: Vec<u32>,
-) -> Result<Vec<u32>, NoMemory>
+) -> Result<Vec<u32>>
     requires { (k : ℕ) → last ≡ Some k → k < length func.now.labels }
     ensures { IfOk result (λ next. next.items ≡ list_of func.now.labels last held.items) }
 {

@@ -10,7 +10,7 @@ use crate::{
     is_access_past, is_mask_past, is_run_out, is_undeclared_use, is_uneven, is_wrong_leave, reached,
 };
 use least_fault::{fault_if, merge};
-use sloth_base::{App, Code, Config, Func, NoMemory, Part, Refusal};
+use sloth_base::{App, Code, Config, Func, Part, Refusal, Result};
 use std::alloc::Global;
 
 fn access_fault(app: &App, func: &Func, number: usize) -> Option<Refusal>
@@ -18,14 +18,9 @@ fn access_fault(app: &App, func: &Func, number: usize) -> Option<Refusal>
     ensures { IsSearchResult (AccessFault app.now func.now number) result }
 {
     let item = &func.items.items()[number];
-    let past = fault_if(
-        is_access_past(app, func, item.op),
-        Part::Src,
-        item.line,
-        Code::V2,
-    );
-    let uneven = fault_if(is_uneven(item.op), Part::Src, item.line, Code::V3);
-    let masked = fault_if(is_mask_past(app, item.op), Part::Src, item.line, Code::V4);
+    let past = line_fault!(item; V2 if is_access_past(app, func, item.op));
+    let uneven = line_fault!(item; V3 if is_uneven(item.op));
+    let masked = line_fault!(item; V4 if is_mask_past(app, item.op));
     merge(past, merge(uneven, masked))
 }
 
@@ -44,19 +39,9 @@ fn flow_fault(
     ensures { IsSearchResult (FlowFault config.now app.now body func.now number) result }
 {
     let item = &func.items.items()[number];
-    let out = fault_if(is_run_out(func, number), Part::Src, item.line, Code::V5);
-    let wrong = fault_if(
-        is_wrong_leave(func, item.op),
-        Part::Src,
-        item.line,
-        Code::V11,
-    );
-    let undeclared = fault_if(
-        is_undeclared_use(config, users, item.op),
-        Part::Src,
-        item.line,
-        Code::V12,
-    );
+    let out = line_fault!(item; V5 if is_run_out(func, number));
+    let wrong = line_fault!(item; V11 if is_wrong_leave(func, item.op));
+    let undeclared = line_fault!(item; V12 if is_undeclared_use(config, users, item.op));
     merge(out, merge(wrong, undeclared))
 }
 
@@ -67,7 +52,7 @@ fn path_fault(func: &Func, marks: &[bool], number: usize) -> Option<Refusal>
     ensures { IsSearchResult (PathFault func.now number) result }
 {
     let item = &func.items.items()[number];
-    fault_if(!marks[number], Part::Src, item.line, Code::V6)
+    line_fault!(item; V6 if !marks[number])
 }
 
 fn marked_faults(
@@ -105,7 +90,7 @@ pub fn item_faults(
     body: usize,
     users: u64,
     func: &Func,
-) -> Result<Option<Refusal>, NoMemory>
+) -> Result<Option<Refusal>>
     requires in_range { AppInRange config.now app.now }
     requires users { AreUsers app.now body users }
     requires items { AreOps config.now app.now func.now }

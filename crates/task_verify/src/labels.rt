@@ -6,12 +6,12 @@ ghost use Rattle.task_verify.specs.Labels.{or_else, first_label_below, last_labe
 ghost use Rattle.task_verify.specs.Cases.{IsBehindOther, LabelFault, LabelFaults};
 
 use least_fault::{fault_if, merge};
-use sloth_base::{Code, Func, Label, NoMemory, Part, Refusal, ResId};
+use sloth_base::{Code, Func, Label, NoMemory, Part, Refusal, ResId, Result};
 use std::alloc::Global;
 use text_pieces::push;
 
 /// As many places without a label.
-pub fn no_labels(alloc: Global, count: usize) -> Result<Vec<Option<usize>>, NoMemory>
+pub fn no_labels(alloc: Global, count: usize) -> Result<Vec<Option<usize>>>
     ensures count { IfOk result (λ places. length places.items ≡ count) }
     ensures clear { IfOk result (λ places. (place : ℕ) → place < count → get_or places.items place None ≡ None) }
 {
@@ -23,7 +23,7 @@ pub fn no_labels(alloc: Global, count: usize) -> Result<Vec<Option<usize>>, NoMe
 }
 
 /// The last label at each place, also behind the last item.
-pub fn last_labels(alloc: Global, func: &Func) -> Result<Vec<Option<usize>>, NoMemory>
+pub fn last_labels(alloc: Global, func: &Func) -> Result<Vec<Option<usize>>>
     requires { ArePlaced func.now }
     ensures count { IfOk result (λ places. length places.items ≡ length func.now.items + 1) }
     ensures exact { IfOk result (λ places. (place : ℕ) → place ≤ length func.now.items
@@ -46,7 +46,7 @@ fn or_else(first: Option<usize>, number: usize) -> Option<usize>
 }
 
 /// The first label at each place, also behind the last item.
-pub fn first_labels(alloc: Global, func: &Func) -> Result<Vec<Option<usize>>, NoMemory>
+pub fn first_labels(alloc: Global, func: &Func) -> Result<Vec<Option<usize>>>
     requires { ArePlaced func.now }
     ensures count { IfOk result (λ places. length places.items ≡ length func.now.items + 1) }
     ensures exact { IfOk result (λ places. (place : ℕ) → place ≤ length func.now.items
@@ -96,7 +96,8 @@ fn is_behind_other(func: &Func, number: usize, before: Option<usize>) -> bool
     }
 }
 
-fn is_start_with_resource(label: &Label) -> bool
+/// Whether something is held at a label in front of the first item.
+pub fn is_start_with_resource(label: &Label) -> bool
     ensures { Decides result ((label.now.item ≡ 0) × (label.now.holds ≢ [])) }
 {
     label.item == 0 && !label.holds.items().is_empty()
@@ -118,11 +119,11 @@ fn label_fault(func: &Func, number: usize, before: Option<usize>) -> Option<Refu
         is_behind_other(func, number, before),
         is_start_with_resource(label),
     );
-    fault_if(differs, Part::Src, label.line, Code::V7)
+    line_fault!(label; V7 if differs)
 }
 
 /// For each label the last one before it at its place.
-fn labels_before(alloc: Global, func: &Func) -> Result<Vec<Option<usize>>, NoMemory>
+fn labels_before(alloc: Global, func: &Func) -> Result<Vec<Option<usize>>>
     requires { ArePlaced func.now }
     ensures count { IfOk result (λ before. length before.items ≡ length func.now.labels) }
     ensures exact { IfOk result (λ before. (k : ℕ) → k < length func.now.labels
@@ -140,7 +141,8 @@ fn labels_before(alloc: Global, func: &Func) -> Result<Vec<Option<usize>>, NoMem
 
 fn judged_labels(func: &Func, before: &[Option<usize>]) -> Option<Refusal>
     requires count { length before.now ≡ length func.now.labels }
-    requires exact { (k : ℕ) → k < length func.now.labels → get_or before.now k None ≡ last_label_below func.now.labels (label_of func.now k).item k }
+    requires exact { (k : ℕ) → k < length func.now.labels
+        → get_or before.now k None ≡ last_label_below func.now.labels (label_of func.now k).item k }
     ensures { IsSearchResult (LabelFaults func.now) result }
 {
     let mut least = None;
@@ -151,7 +153,7 @@ fn judged_labels(func: &Func, before: &[Option<usize>]) -> Option<Refusal>
 }
 
 /// V7 of labels that stand behind others at their place, or before the first item.
-pub fn label_faults(alloc: Global, func: &Func) -> Result<Option<Refusal>, NoMemory>
+pub fn label_faults(alloc: Global, func: &Func) -> Result<Option<Refusal>>
     requires { ArePlaced func.now }
     ensures { IfOk result (IsSearchResult (LabelFaults func.now)) }
 {

@@ -1,10 +1,10 @@
 //! The verifier: V2 to V12 judged exactly, and task code that keeps them.
 //!
-//! With ranks that belong to the task code, `verify` gives exactly the least of V2 to V12, or equal copies that are well formed (`Verified`,
-//! `specs/Accepted`).
+//! With ranks that belong to the task code, `verify` gives exactly the least of V2 to V12, or equal copies that are
+//! well formed (`Verified`, `specs/Accepted`).
 //!
-//! Of one body (where its items go on, what its labels hold, what each item may do):
-//! `body_fault` finds exactly the least of V2 to V12 of a body, or none. How the rules are judged, in parts: `specs/Cases`, `specs/Tests`,
+//! Of one body (where its items go on, what its labels hold, what each item may do): `body_fault` finds exactly the
+//! least of V2 to V12 of a body, or none. How the rules are judged, in parts: `specs/Cases`, `specs/Tests`,
 //! `specs/Ways`, `specs/Labels`. The rules: `code_rules` (`WellFormed`); what a function reaches: `call_graph`.
 #![tactic(auto)]
 
@@ -14,10 +14,15 @@ ghost use Rattle.code_rules.specs.AppRange.{AppInRange};
 ghost use Rattle.code_rules.specs.WellFormed.{RuleFault, WellFormed};
 ghost use Rattle.call_graph.specs.Ranks.{RanksOf};
 
+// A fault of this code at the line of an item, a label or a body, where the test says so.
+macro_rules! line_fault {
+    ($place:ident; $code:ident if $test:expr) => {
+        fault_if($test, Part::Src, $place.line, Code::$code)
+    };
+}
+
 pub mod accesses;
 pub mod bodies;
-pub mod endings;
-pub mod faults;
 pub mod held_resources;
 pub mod items;
 pub mod labels;
@@ -30,7 +35,6 @@ pub mod ways;
 use crate::bodies::judge;
 pub use accesses::{is_access_past, is_mask_past, is_uneven};
 use call_graph::Ranks;
-pub use endings::is_wrong_leave;
 pub use held_resources::{
     held_after, held_at_label, held_by, is_held, is_leave_with_resource, is_other_list_jump,
     is_second_take, is_wrong_release,
@@ -42,7 +46,8 @@ use sloth_base::{App, BuildError, Config};
 use std::alloc::Global;
 pub use tasks::is_undeclared_use;
 pub use verified::Verified;
-pub use ways::{falls, is_run_out, jump_of, next_of, way};
+pub use walk::is_fallen_into;
+pub use ways::{falls, is_run_out, is_wrong_leave, jump_of, next_of, way};
 
 fn copied(alloc: Global, config: &Config, app: &App) -> Result<Verified, BuildError>
     requires { WellFormed config.now app.now }

@@ -4,15 +4,16 @@ ghost use Rattle.sloth_base.specs.Named.{item_of};
 ghost use Rattle.task_verify.specs.Ways.{HasBodyLabel, IsMarked, IsReachedItem, unmarked_count, IsMarkVisit, IsMarking};
 
 use crate::{jump_of, next_of};
-use sloth_base::{Func, NoMemory};
+use sloth_base::{Func, NoMemory, Result};
 use std::alloc::Global;
 use text_pieces::push;
 
 /// Marks an item and keeps it to go on from, where it is not marked yet.
-fn visit(marks: &mut [bool], pending: &mut Vec<usize>, at: usize) -> Result<(), NoMemory>
+fn visit(marks: &mut [bool], pending: &mut Vec<usize>, at: usize) -> Result<()>
     requires { at < length marks.old }
     ensures visited { OnOk result (IsMarkVisit marks.old marks.new pending.old.items pending.new.items at) }
-    ensures cost { OnOk result (2 * unmarked_count marks.new + length pending.new.items ≤ 2 * unmarked_count marks.old + length pending.old.items) }
+    ensures cost { OnOk result
+        (2 * unmarked_count marks.new + length pending.new.items ≤ 2 * unmarked_count marks.old + length pending.old.items) }
 {
     if marks[at] {
         return Ok(());
@@ -23,7 +24,7 @@ fn visit(marks: &mut [bool], pending: &mut Vec<usize>, at: usize) -> Result<(), 
 }
 
 /// Marks what the items that are kept lead to.
-fn spread(func: &Func, marks: &mut [bool], pending: &mut Vec<usize>) -> Result<(), NoMemory>
+fn spread(func: &Func, marks: &mut [bool], pending: &mut Vec<usize>) -> Result<()>
     requires labels { (i : ℕ) → i < length func.now.items → HasBodyLabel func.now (item_of func.now i).op }
     requires searching { IsMarking func.now marks.old pending.old.items }
     ensures { OnOk result ((i : ℕ) → IsMarked marks.new i ↔ IsReachedItem func.now i) }
@@ -40,7 +41,7 @@ fn spread(func: &Func, marks: &mut [bool], pending: &mut Vec<usize>) -> Result<(
 }
 
 /// Marks the items that paths from the first one reach, and no others.
-fn mark_reached(func: &Func, marks: &mut [bool], pending: &mut Vec<usize>) -> Result<(), NoMemory>
+fn mark_reached(func: &Func, marks: &mut [bool], pending: &mut Vec<usize>) -> Result<()>
     requires some { 0 < length marks.old }
     requires clear { (i : ℕ) → i < length marks.old → get_or marks.old i false ≡ false }
     requires count { length marks.old ≡ length func.now.items }
@@ -52,7 +53,7 @@ fn mark_reached(func: &Func, marks: &mut [bool], pending: &mut Vec<usize>) -> Re
     spread(func, marks, pending)
 }
 
-fn no_marks(alloc: Global, count: usize) -> Result<Vec<bool>, NoMemory>
+fn no_marks(alloc: Global, count: usize) -> Result<Vec<bool>>
     ensures count { IfOk result (λ marks. length marks.items ≡ count) }
     ensures clear { IfOk result (λ marks. (i : ℕ) → i < count → get_or marks.items i false ≡ false) }
 {
@@ -64,7 +65,7 @@ fn no_marks(alloc: Global, count: usize) -> Result<Vec<bool>, NoMemory>
 }
 
 /// The items that paths from the first one reach.
-pub fn reached(alloc: Global, func: &Func) -> Result<Vec<bool>, NoMemory>
+pub fn reached(alloc: Global, func: &Func) -> Result<Vec<bool>>
     requires some { 0 < length func.now.items }
     requires labels { (i : ℕ) → i < length func.now.items → HasBodyLabel func.now (item_of func.now i).op }
     ensures count { IfOk result (λ marks. length marks.items ≡ length func.now.items) }

@@ -1,5 +1,6 @@
 //! V12: what the tasks that reach an item may use there.
-ghost use Rattle.std.specs.Prelude.{◌≡◌, ◌==◌, ◌<◌, ◌||◌, ◌&&◌, not, length};
+ghost use Rattle.std.specs.Prelude.{◌≡◌, ◌==◌, ◌<◌, ◌||◌, ◌&&◌, not, length, true, Some};
+ghost use Rattle.sloth_base.specs.Options.{is_number};
 ghost use Rattle.std.specs.List.{list_any};
 ghost use Rattle.code_rules.specs.AppRange.{AreOperands};
 ghost use Rattle.code_rules.specs.Code.{is_in};
@@ -25,7 +26,8 @@ fn is_listed(resources: &[ResId], resource: u32) -> bool
     resources.iter().any(|listed| listed.0 == resource)
 }
 
-fn lists(task: &TaskDecl, resource: u32) -> bool
+/// Whether the task lists the resource.
+pub fn lists(task: &TaskDecl, resource: u32) -> bool
     ensures { result ≡ is_in resource task.now.resources }
 {
     is_listed(task.resources.items(), resource)
@@ -48,7 +50,8 @@ fn is_unlisted(config: &Config, users: u64, resource: u32) -> bool
     unlisted
 }
 
-fn lacks(config: &Config, task: usize, mask: u32) -> bool
+/// Whether the task lacks one of these events.
+pub fn lacks(config: &Config, task: usize, mask: u32) -> bool
     requires { task < length config.now.tasks }
     ensures { result ≡ lacks config.now task mask }
 {
@@ -95,5 +98,16 @@ pub fn is_undeclared_use(config: &Config, users: u64, op: Op) -> bool
     match op {
         Op::Serve(call) => misuses(config, users, call),
         _ => false,
+    }
+}
+
+/// Whether it is the body of this task.
+pub fn is_task_body(func: &Func, task: usize) -> bool
+    ensures is { result ≡ is_number task func.now.task }
+    ensures owner { result ≡ true → func.now.task ≡ Some task }
+{
+    match func.task {
+        Some(owner) => owner.0 as usize == task,
+        None => false,
     }
 }

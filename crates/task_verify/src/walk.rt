@@ -15,10 +15,11 @@ use crate::{
 };
 use call_graph::Ranks;
 use least_fault::{fault_if, merge};
-use sloth_base::{App, Code, Config, Func, NoMemory, Part, Refusal};
+use sloth_base::{App, Code, Config, Func, Part, Refusal, Result};
 use std::alloc::Global;
 
-fn is_fallen_into(func: &Func, place: usize) -> bool
+/// Whether the item before a place goes on to it.
+pub fn is_fallen_into(func: &Func, place: usize) -> bool
     requires { place ≤ length func.now.items }
     ensures { result ≡ is_fallen_into func.now place }
 {
@@ -28,7 +29,7 @@ fn is_fallen_into(func: &Func, place: usize) -> bool
     falls(func.items.items()[place - 1].op)
 }
 
-/// Whether the place is fallen into with another list than that of its label.
+// Whether the place is fallen into with another list than that of its label.
 fn falls_other(func: &Func, place: usize, label: usize, held: &[u32]) -> bool
     requires inside { place ≤ length func.now.items }
     requires known { label < length func.now.labels }
@@ -37,7 +38,7 @@ fn falls_other(func: &Func, place: usize, label: usize, held: &[u32]) -> bool
     is_fallen_into(func, place) && !is_held(func.labels.items()[label].holds.items(), held)
 }
 
-/// V7 of a label where its place is fallen into.
+// V7 of a label where its place is fallen into.
 fn labelled_fault(func: &Func, place: usize, label: usize, held: &[u32]) -> Option<Refusal>
     requires inside { place ≤ length func.now.items }
     requires known { label < length func.now.labels }
@@ -46,7 +47,7 @@ fn labelled_fault(func: &Func, place: usize, label: usize, held: &[u32]) -> Opti
 {
     let differs = falls_other(func, place, label, held);
     let at = &func.labels.items()[label];
-    fault_if(differs, Part::Src, at.line, Code::V7)
+    line_fault!(at; V7 if differs)
 }
 
 fn fall_fault(func: &Func, place: usize, first: Option<usize>, held: &[u32]) -> Option<Refusal>
@@ -73,33 +74,14 @@ fn held_fault(
     requires belong { RanksOf app.now ranks.now }
     requires inside { number < length func.now.items }
     requires item { IsOp config.now app.now func.now (item_of func.now number).op }
-    ensures { IsSearchResult (HeldFault app.now func.now held.now (item_of func.now number).line (item_of func.now number).op) result }
+    ensures { IsSearchResult (HeldFault app.now func.now held.now (item_of func.now number).line
+        (item_of func.now number).op) result }
 {
     let item = &func.items.items()[number];
-    let other = fault_if(
-        is_other_list_jump(func, held, item.op),
-        Part::Src,
-        item.line,
-        Code::V7,
-    );
-    let releases = fault_if(
-        is_wrong_release(held, item.op),
-        Part::Src,
-        item.line,
-        Code::V8,
-    );
-    let takes = fault_if(
-        is_second_take(ranks, held, item.op),
-        Part::Src,
-        item.line,
-        Code::V9,
-    );
-    let leaves = fault_if(
-        is_leave_with_resource(ranks, held, item.op),
-        Part::Src,
-        item.line,
-        Code::V10,
-    );
+    let other = line_fault!(item; V7 if is_other_list_jump(func, held, item.op));
+    let releases = line_fault!(item; V8 if is_wrong_release(held, item.op));
+    let takes = line_fault!(item; V9 if is_second_take(ranks, held, item.op));
+    let leaves = line_fault!(item; V10 if is_leave_with_resource(ranks, held, item.op));
     merge(other, merge(releases, merge(takes, leaves)))
 }
 
@@ -111,7 +93,7 @@ fn walk(
     func: &Func,
     first: &[Option<usize>],
     last: &[Option<usize>],
-) -> Result<Option<Refusal>, NoMemory>
+) -> Result<Option<Refusal>>
     requires in_range { AppInRange config.now app.now }
     requires belong { RanksOf app.now ranks.now }
     requires items { AreOps config.now app.now func.now }
@@ -139,7 +121,7 @@ pub fn held_faults(
     app: &App,
     ranks: &Ranks,
     func: &Func,
-) -> Result<Option<Refusal>, NoMemory>
+) -> Result<Option<Refusal>>
     requires in_range { AppInRange config.now app.now }
     requires belong { RanksOf app.now ranks.now }
     requires placed { ArePlaced func.now }

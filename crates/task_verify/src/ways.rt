@@ -1,11 +1,11 @@
-//! Where items of a body go on.
+//! Where items of a body go on, and V11: what ends a task, and what a function.
 ghost use Rattle.std.specs.Prelude.{◌≡◌, ℕ, ◌<◌, length, Some};
 ghost use Rattle.sloth_base.specs.Named.{item_of};
-ghost use Rattle.code_rules.specs.Code.{ends_for_good, is_followed, way};
-ghost use Rattle.task_verify.specs.Tests.{is_label_past, is_run_out};
+ghost use Rattle.code_rules.specs.Code.{is_followed, way};
+ghost use Rattle.task_verify.specs.Tests.{is_ending, is_label_past, is_run_out, is_wrong_leave};
 ghost use Rattle.task_verify.specs.Ways.{inside_or, next_of, label_place, jump_of, HasBodyLabel};
 
-use sloth_base::{Call, Func, Op, Service};
+use sloth_base::{Func, Op, Service};
 
 /// Whether a path goes on to the next item.
 pub fn falls(op: Op) -> bool
@@ -13,15 +13,9 @@ pub fn falls(op: Op) -> bool
 {
     match op {
         Op::Jump { .. } | Op::Return => false,
-        Op::Serve(call) => !is_terminate(call),
+        Op::Serve(call) => !matches!(call.service, Service::TerminateTask),
         _ => true,
     }
-}
-
-fn is_terminate(call: Call) -> bool
-    ensures { result ≡ ends_for_good call.service }
-{
-    matches!(call.service, Service::TerminateTask)
 }
 
 /// The label of a branch or a jump.
@@ -38,9 +32,9 @@ fn is_label_past(func: &Func, way: Option<u32>) -> bool
     requires { (k : ℕ) → way ≡ Some k → k < length func.now.labels }
     ensures { result ≡ is_label_past func.now way }
 {
+    let count = func.items.items().len();
     match way {
-        Some(label) => func.items.items().len()
-            <= func.labels.items()[label as usize].item as usize,
+        Some(label) => count <= func.labels.items()[label as usize].item as usize,
         None => false,
     }
 }
@@ -99,4 +93,22 @@ pub fn jump_of(func: &Func, from: usize) -> usize
     ensures { result ≡ jump_of func.now from }
 {
     label_place(func, way(func.items.items()[from].op), from)
+}
+
+/// A service that ends the caller.
+pub fn is_ending(service: Service) -> bool
+    ensures { result ≡ is_ending service }
+{
+    matches!(service, Service::TerminateTask | Service::ChainTask)
+}
+
+/// V11: an end of the task in the body of a function, a `ret` in that of a task.
+pub fn is_wrong_leave(func: &Func, op: Op) -> bool
+    ensures { result ≡ is_wrong_leave func.now op }
+{
+    match op {
+        Op::Serve(call) => is_ending(call.service) && func.task.is_none(),
+        Op::Return => func.task.is_some(),
+        _ => false,
+    }
 }

@@ -6,7 +6,7 @@ ghost use Rattle.text_pieces.specs.Lines.{line_of, lines, without_returns};
 ghost use Rattle.text_pieces.specs.Names.{referent};
 
 use crate::{front, push};
-use sloth_base::NoMemory;
+use sloth_base::Result;
 use std::alloc::{AllocError, Global};
 
 /// The parts between the bytes `stop`.
@@ -38,7 +38,7 @@ pub fn line_of<'a>(part: &'a [u8], is_last: bool) -> &'a [u8]
 }
 
 // The lines of the parts between LF bytes.
-fn lines_of_parts<'a>(alloc: Global, parts: &[&'a [u8]]) -> Result<Vec<&'a [u8]>, NoMemory>
+fn lines_of_parts<'a>(alloc: Global, parts: &[&'a [u8]]) -> Result<Vec<&'a [u8]>>
     ensures { IfOk result (λ read. map referent read.items ≡ without_returns (map referent parts.now)) }
 {
     let mut read = Vec::new(alloc);
@@ -50,7 +50,7 @@ fn lines_of_parts<'a>(alloc: Global, parts: &[&'a [u8]]) -> Result<Vec<&'a [u8]>
 
 /// The lines of a text.
 #[tactic(auto, unfolding(crate::specs::Lines::lines))]
-pub fn lines<'a>(alloc: Global, text: &'a [u8]) -> Result<Vec<&'a [u8]>, NoMemory>
+pub fn lines<'a>(alloc: Global, text: &'a [u8]) -> Result<Vec<&'a [u8]>>
     ensures { IfOk result (λ read. map referent read.items ≡ lines text.now) }
 {
     let parts = split(alloc, text, b'\n')?;

@@ -1,11 +1,11 @@
 //! Lists that grow.
 ghost use Rattle.std.specs.Prelude.{◌≡◌, [], ◌∷◌, ◌++◌, OnOk};
 
-use sloth_base::NoMemory;
+use sloth_base::Result;
 use std::alloc::AllocError;
 
 /// One more item, at the end.
-pub fn push<T: Drop>(list: &mut Vec<T>, item: T) -> Result<(), NoMemory>
+pub fn push<T: Drop>(list: &mut Vec<T>, item: T) -> Result<()>
     ensures { OnOk result (list.new.items ≡ list.old.items ++ item ∷ []) }
 {
     match list.push(item) {

@@ -1,5 +1,6 @@
-//! What readers and writers of texts share: parts of texts, their lines, digits, lists that grow, the numbers of names, and text put piece by
-//! piece (`line!`, `specs/Pieces`). Each has its definition in a file of `specs/`. Names are found by an index map and mean their place in a list.
+//! What readers and writers of texts share: parts of texts, their lines, digits, lists that grow, the numbers of names,
+//! and text put piece by piece (`line!`, `specs/Pieces`). Each has its definition in a file of `specs/`. Names are
+//! found by an index map and mean their place in a list.
 #![tactic(auto)]
 
 pub mod bytes;

@@ -5,7 +5,7 @@ ghost use Rattle.text_pieces.specs.Names.{number_in, with_first};
 
 use crate::push;
 use indexmap::IndexMap;
-use sloth_base::NoMemory;
+use sloth_base::Result;
 use std::alloc::{AllocError, Global};
 use std::marker::Model;
 
@@ -38,7 +38,7 @@ fn number_first<'t>(
     first: &mut IndexMap<&'t [u8], usize>,
     name: &'t [u8],
     number: usize,
-) -> Result<(), NoMemory>
+) -> Result<()>
     ensures { OnOk result ((word : List ℕ) → number_in first.new word ≡ with_first (number_in first.old) name.now number word) }
 {
     if first.contains_key(&name) {
@@ -62,7 +62,7 @@ impl<'t> Names<'t> {
     }
 
     /// One name more, at the end.
-    pub fn with(self, name: &'t [u8]) -> Result<Names<'t>, NoMemory>
+    pub fn with(self, name: &'t [u8]) -> Result<Names<'t>>
         ensures { IfOk result (λ names. names ≡ self.entry ++ name.now ∷ []) }
     {
         let Names {

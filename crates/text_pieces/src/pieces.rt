@@ -3,7 +3,7 @@ ghost use Rattle.std.specs.Prelude.{◌≡◌, ◌++◌, IfOk, OnOk, decimal};
 ghost use Rattle.text_pieces.specs.Pieces.{written, all_written, each_written};
 
 use itoa::Buffer;
-use sloth_base::NoMemory;
+use sloth_base::Result;
 use std::alloc::Global;
 
 /// What a text is made of.
@@ -35,7 +35,7 @@ macro_rules! text {
     };
 }
 
-fn put_number(text: &mut Vec<u8>, number: u32) -> Result<(), NoMemory>
+fn put_number(text: &mut Vec<u8>, number: u32) -> Result<()>
     ensures { OnOk result (text.new.items ≡ text.old.items ++ decimal number) }
 {
     let mut buffer = Buffer::new();
@@ -43,7 +43,7 @@ fn put_number(text: &mut Vec<u8>, number: u32) -> Result<(), NoMemory>
     Ok(())
 }
 
-fn put_count(text: &mut Vec<u8>, count: usize) -> Result<(), NoMemory>
+fn put_count(text: &mut Vec<u8>, count: usize) -> Result<()>
     ensures { OnOk result (text.new.items ≡ text.old.items ++ decimal count) }
 {
     let mut buffer = Buffer::new();
@@ -51,7 +51,7 @@ fn put_count(text: &mut Vec<u8>, count: usize) -> Result<(), NoMemory>
     Ok(())
 }
 
-fn put_sum(text: &mut Vec<u8>, sum: u128) -> Result<(), NoMemory>
+fn put_sum(text: &mut Vec<u8>, sum: u128) -> Result<()>
     ensures { OnOk result (text.new.items ≡ text.old.items ++ decimal sum) }
 {
     let mut buffer = Buffer::new();
@@ -59,7 +59,7 @@ fn put_sum(text: &mut Vec<u8>, sum: u128) -> Result<(), NoMemory>
     Ok(())
 }
 
-fn put_piece(text: &mut Vec<u8>, piece: &Piece) -> Result<(), NoMemory>
+fn put_piece(text: &mut Vec<u8>, piece: &Piece) -> Result<()>
     ensures { OnOk result (text.new.items ≡ text.old.items ++ written piece.now) }
 {
     match *piece {
@@ -73,7 +73,7 @@ fn put_piece(text: &mut Vec<u8>, piece: &Piece) -> Result<(), NoMemory>
     }
 }
 
-fn put_each(text: &mut Vec<u8>, pieces: &[Piece]) -> Result<(), NoMemory>
+fn put_each(text: &mut Vec<u8>, pieces: &[Piece]) -> Result<()>
     ensures { OnOk result (text.new.items ≡ text.old.items ++ each_written pieces.now) }
 {
     for piece in pieces {
@@ -83,14 +83,14 @@ fn put_each(text: &mut Vec<u8>, pieces: &[Piece]) -> Result<(), NoMemory>
 }
 
 /// Puts the pieces, one after another.
-pub fn put(text: &mut Vec<u8>, pieces: &[Piece]) -> Result<(), NoMemory>
+pub fn put(text: &mut Vec<u8>, pieces: &[Piece]) -> Result<()>
     ensures { OnOk result (text.new.items ≡ text.old.items ++ all_written pieces.now) }
 {
     put_each(text, pieces)
 }
 
 /// The text of the pieces.
-pub fn text(alloc: Global, pieces: &[Piece]) -> Result<Vec<u8>, NoMemory>
+pub fn text(alloc: Global, pieces: &[Piece]) -> Result<Vec<u8>>
     ensures { IfOk result (λ text. text.items ≡ all_written pieces.now) }
 {
     let mut text = Vec::new(alloc);

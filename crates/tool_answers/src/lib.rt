@@ -1,7 +1,7 @@
 //! What tools answer, the texts of answers, and their statuses.
 //!
-//! An answer has its status, and a status its number (`ToolAnswer::status`, `Status::code`; `specs/Statuses`). Texts: `specs/Lines`. Which tools read an
-//! image file: `specs/ImageReaders`.
+//! An answer has its status, and a status its number (`ToolAnswer::status`, `Status::code`; `specs/Statuses`). Texts:
+//! `specs/Lines`. Which tools read an image file: `specs/ImageReaders`.
 #![tactic(auto)]
 
 pub mod answer;

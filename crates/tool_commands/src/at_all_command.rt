@@ -13,7 +13,7 @@ use crate::at_command::sight_of;
 use crate::at_lines::count_line;
 use run_inputs::{RunInputs, Unread, read_run};
 use run_samples::{ServiceWords, WordsRead, push_system, words_at};
-use sloth_base::{Image, List, NoMemory};
+use sloth_base::{Image, List, NoMemory, Result};
 use sloth_runner::Sight;
 use sloth_runner::task_states::Seen;
 use std::alloc::Global;
@@ -30,12 +30,7 @@ fn text_answer(alloc: Global, text: Vec<u8>) -> ToolAnswer
 }
 
 // What is printed at a count.
-fn all_text(
-    alloc: Global,
-    image: &Image,
-    seen: &Seen,
-    words: &ServiceWords,
-) -> Result<Vec<u8>, NoMemory>
+fn all_text(alloc: Global, image: &Image, seen: &Seen, words: &ServiceWords) -> Result<Vec<u8>>
     requires { InFormat image.now }
     ensures { IfOk result (λ text. text.items ≡ all_text image.now seen.now words.now) }
 {
@@ -46,7 +41,7 @@ fn all_text(
 
 // The answer where the states of the tasks are seen at a count.
 #[tactic(auto, using(crate::proofs::AtAllAnswers::seen_is_answer, crate::proofs::AtAllAnswers::stop_is_answer))]
-fn seen_answer(alloc: Global, run: &RunInputs, k: u32, seen: &Seen) -> Result<ToolAnswer, NoMemory>
+fn seen_answer(alloc: Global, run: &RunInputs, k: u32, seen: &Seen) -> Result<ToolAnswer>
     requires format { InFormat run.now.image }
     requires arrivals { AreArrivals (owners_named run.now.image) run.now.arrivals.items }
     requires k { k ≤ 999999 }
@@ -68,7 +63,7 @@ fn seen_answer(alloc: Global, run: &RunInputs, k: u32, seen: &Seen) -> Result<To
 
 // The answer to an image and arrivals that were read.
 #[tactic(auto, using(crate::proofs::AtAllAnswers::booting_is_answer, crate::proofs::AtAllAnswers::stopped_is_answer))]
-fn all_of(alloc: Global, run: &RunInputs, k: u32) -> Result<ToolAnswer, NoMemory>
+fn all_of(alloc: Global, run: &RunInputs, k: u32) -> Result<ToolAnswer>
     requires format { InFormat run.now.image }
     requires arrivals { AreArrivals (owners_named run.now.image) run.now.arrivals.items }
     requires k { k ≤ 999999 }
@@ -84,8 +79,8 @@ fn all_of(alloc: Global, run: &RunInputs, k: u32) -> Result<ToolAnswer, NoMemory
     }
 }
 
-/// The states of the tasks, the counters and the alarms at the last count up to k, in the run of an image file with arrivals, that finds interrupts open.
-pub fn at_all(alloc: Global, img: &[u8], arr: &[u8], k: u32) -> Result<ToolAnswer, NoMemory>
+/// States of tasks, counters and alarms at the last count up to k of an image file's run that finds interrupts open.
+pub fn at_all(alloc: Global, img: &[u8], arr: &[u8], k: u32) -> Result<ToolAnswer>
     requires arr { length arr.now ≤ file_limit }
     requires k { k ≤ 999999 }
     ensures { IfOk result (λ answer. IsAtAllAnswer img.now arr.now k answer) }

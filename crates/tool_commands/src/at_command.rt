@@ -10,13 +10,13 @@ ghost use Rattle.run_inputs.specs.RunInputs.{AreRunInputs};
 
 use crate::at_lines::states_text;
 use run_inputs::{RunInputs, Unread, read_run};
-use sloth_base::{Arrival, Image, List, NoMemory};
+use sloth_base::{Arrival, Image, List, NoMemory, Result};
 use sloth_runner::{Runner, Sight};
 use std::alloc::Global;
 use tool_answers::{Outcome, ToolAnswer};
 
 // The answer to what a run of an image shows of its tasks.
-fn states_answer(alloc: Global, image: &Image, sight: &Sight) -> Result<ToolAnswer, NoMemory>
+fn states_answer(alloc: Global, image: &Image, sight: &Sight) -> Result<ToolAnswer>
     requires { InFormat image.now }
     ensures { IfOk result (λ answer. answer ≡ states_answer image.now sight.now) }
 {
@@ -37,12 +37,7 @@ fn states_answer(alloc: Global, image: &Image, sight: &Sight) -> Result<ToolAnsw
 }
 
 // What the run of an image with arrivals shows of its tasks.
-pub(crate) fn sight_of(
-    alloc: Global,
-    image: &Image,
-    arrivals: &[Arrival],
-    k: u32,
-) -> Result<Sight, NoMemory>
+pub(crate) fn sight_of(alloc: Global, image: &Image, arrivals: &[Arrival], k: u32) -> Result<Sight>
     requires format { InFormat image.now }
     requires arrivals { AreArrivals (owners_named image.now) arrivals.now }
     requires k { k ≤ 999999 }
@@ -54,7 +49,7 @@ pub(crate) fn sight_of(
 
 // The answer to an image and arrivals that were read.
 #[tactic(auto, using(crate::proofs::AtAnswers::sight_is_answer))]
-fn states_of(alloc: Global, run: &RunInputs, k: u32) -> Result<ToolAnswer, NoMemory>
+fn states_of(alloc: Global, run: &RunInputs, k: u32) -> Result<ToolAnswer>
     requires format { InFormat run.now.image }
     requires arrivals { AreArrivals (owners_named run.now.image) run.now.arrivals.items }
     requires k { k ≤ 999999 }
@@ -65,8 +60,8 @@ fn states_of(alloc: Global, run: &RunInputs, k: u32) -> Result<ToolAnswer, NoMem
     Ok(answer)
 }
 
-/// The states of the tasks at the last count up to k, in the run of an image file with arrivals, that finds interrupts open.
-pub fn at(alloc: Global, img: &[u8], arr: &[u8], k: u32) -> Result<ToolAnswer, NoMemory>
+/// The states of the tasks at the last count up to k of an image file's run with arrivals that finds interrupts open.
+pub fn at(alloc: Global, img: &[u8], arr: &[u8], k: u32) -> Result<ToolAnswer>
     requires arr { length arr.now ≤ file_limit }
     requires k { k ≤ 999999 }
     ensures { IfOk result (λ answer. IsAtAnswer img.now arr.now k answer) }

@@ -4,7 +4,7 @@ ghost use Rattle.sloth_base.specs.ImageRange.{InFormat};
 ghost use Rattle.tool_commands.specs.StatesText.{state_text, task_line, count_line, states_text};
 
 use osek_scheduler::TaskState;
-use sloth_base::{Image, NoMemory, TASK_LIMIT};
+use sloth_base::{Image, Result, TASK_LIMIT};
 use sloth_runner::task_states::Seen;
 use std::alloc::Global;
 use trace_text::LineText;
@@ -54,7 +54,7 @@ pub(crate) fn count_line(count: u32) -> LineText
 }
 
 /// What is printed of the tasks' states at a count of a run: the count, and a line for each task of the image.
-pub fn states_text(alloc: Global, image: &Image, seen: &Seen) -> Result<Vec<u8>, NoMemory>
+pub fn states_text(alloc: Global, image: &Image, seen: &Seen) -> Result<Vec<u8>>
     requires { InFormat image.now }
     ensures { IfOk result (λ text. text.items ≡ states_text image.now seen.now) }
 {

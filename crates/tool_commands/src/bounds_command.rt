@@ -4,12 +4,12 @@ ghost use Rattle.sloth_base.specs.Limits.{file_limit};
 ghost use Rattle.tool_commands.specs.BoundsAnswers.{IsBoundsAnswer, IsLatencyAnswer, IsLowerCountsAnswer};
 
 use bounds_text::{bounds_text, latency_lines, lower_count_lines};
-use sloth_base::{BuildError, NoMemory};
+use sloth_base::{BuildError, NoMemory, Result};
 use std::alloc::Global;
 use tool_answers::{ToolAnswer, told};
 
 /// How much work of lower tasks may stand between each task's becoming Ready and its entry; or the first refusal.
-pub fn bounds(alloc: Global, oil: &[u8], src: &[u8]) -> Result<ToolAnswer, NoMemory>
+pub fn bounds(alloc: Global, oil: &[u8], src: &[u8]) -> Result<ToolAnswer>
     requires oil { length oil.now ≤ file_limit }
     requires src { length src.now ≤ file_limit }
     ensures { IfOk result (λ answer. IsBoundsAnswer oil.now src.now answer) }
@@ -22,7 +22,7 @@ pub fn bounds(alloc: Global, oil: &[u8], src: &[u8]) -> Result<ToolAnswer, NoMem
 }
 
 /// The same, and how long the task of highest priority may wait for its entry; or the first refusal.
-pub fn latency(alloc: Global, oil: &[u8], src: &[u8]) -> Result<ToolAnswer, NoMemory>
+pub fn latency(alloc: Global, oil: &[u8], src: &[u8]) -> Result<ToolAnswer>
     requires oil { length oil.now ≤ file_limit }
     requires src { length src.now ≤ file_limit }
     ensures { IfOk result (λ answer. IsLatencyAnswer oil.now src.now answer) }
@@ -35,7 +35,7 @@ pub fn latency(alloc: Global, oil: &[u8], src: &[u8]) -> Result<ToolAnswer, NoMe
 }
 
 /// How many counts of lower tasks may stand between each task's becoming Ready and its entry; or the first refusal.
-pub fn lower_counts(alloc: Global, oil: &[u8], src: &[u8]) -> Result<ToolAnswer, NoMemory>
+pub fn lower_counts(alloc: Global, oil: &[u8], src: &[u8]) -> Result<ToolAnswer>
     requires oil { length oil.now ≤ file_limit }
     requires src { length src.now ≤ file_limit }
     ensures { IfOk result (λ answer. IsLowerCountsAnswer oil.now src.now answer) }

@@ -9,12 +9,12 @@ ghost use Rattle.tool_commands.specs.ElfAnswers.{IsElfAnswer, IsUnelfAnswer};
 use crate::lines::written_line;
 use elf_image::{read_elf, write_elf};
 use image_file::{ElfError, ImageError, read_image, write_image};
-use sloth_base::{Image, List, NoMemory};
+use sloth_base::{Image, List, NoMemory, Result};
 use std::alloc::Global;
 use tool_answers::{Outcome, ToolAnswer};
 
 /// The outcome of a tool that writes a file.
-pub fn written(alloc: Global, file: Vec<u8>) -> Result<Outcome, NoMemory>
+pub fn written(alloc: Global, file: Vec<u8>) -> Result<Outcome>
     ensures file { IfOk result (λ outcome. outcome.file ≡ file.items) }
     ensures text { IfOk result (λ outcome. outcome.text ≡ written_line (length file.items)) }
 {
@@ -26,7 +26,7 @@ pub fn written(alloc: Global, file: Vec<u8>) -> Result<Outcome, NoMemory>
 }
 
 // The answer to an image that was read.
-fn elf_of(alloc: Global, image: &Image) -> Result<ToolAnswer, NoMemory>
+fn elf_of(alloc: Global, image: &Image) -> Result<ToolAnswer>
     requires { InFormat image.now }
     ensures { (img : Sequence ℕ) → ImageText img image.now → IfOk result (λ answer. IsElfAnswer img answer) }
 {
@@ -35,7 +35,7 @@ fn elf_of(alloc: Global, image: &Image) -> Result<ToolAnswer, NoMemory>
 }
 
 /// The ELF file of an image file, or the image file's first fault.
-pub fn elf(alloc: Global, bytes: &[u8]) -> Result<ToolAnswer, NoMemory>
+pub fn elf(alloc: Global, bytes: &[u8]) -> Result<ToolAnswer>
     ensures { IfOk result (λ answer. IsElfAnswer bytes.now answer) }
 {
     match read_image(alloc, bytes) {
@@ -46,7 +46,7 @@ pub fn elf(alloc: Global, bytes: &[u8]) -> Result<ToolAnswer, NoMemory>
 }
 
 // The answer to an image that was read of an ELF file.
-fn unelf_of(alloc: Global, image: &Image) -> Result<ToolAnswer, NoMemory>
+fn unelf_of(alloc: Global, image: &Image) -> Result<ToolAnswer>
     requires { InFormat image.now }
     ensures { (elf : Sequence ℕ) → ElfText elf image.now → IfOk result (λ answer. IsUnelfAnswer elf answer) }
 {
@@ -55,7 +55,7 @@ fn unelf_of(alloc: Global, image: &Image) -> Result<ToolAnswer, NoMemory>
 }
 
 /// The image file of an ELF file, or the ELF file's first fault.
-pub fn unelf(alloc: Global, bytes: &[u8]) -> Result<ToolAnswer, NoMemory>
+pub fn unelf(alloc: Global, bytes: &[u8]) -> Result<ToolAnswer>
     ensures { IfOk result (λ answer. IsUnelfAnswer bytes.now answer) }
 {
     match read_elf(alloc, bytes) {

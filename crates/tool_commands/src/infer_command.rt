@@ -5,12 +5,12 @@ ghost use Rattle.tool_commands.specs.InferAnswers.{IsInferAnswer};
 
 use crate::elf_commands::written;
 use holds_infer::{FillError, fill_source};
-use sloth_base::NoMemory;
+use sloth_base::{NoMemory, Result};
 use std::alloc::Global;
 use tool_answers::ToolAnswer;
 
-/// The source with the list of each label filled in; or that no lists keep every rule; or the first refusal before the rules V2 to V12.
-pub fn infer(alloc: Global, oil: &[u8], src: &[u8]) -> Result<ToolAnswer, NoMemory>
+/// The source with all labels' lists filled in; or that none keep every rule; or the first refusal before V2 to V12.
+pub fn infer(alloc: Global, oil: &[u8], src: &[u8]) -> Result<ToolAnswer>
     requires oil { length oil.now ≤ file_limit }
     requires src { length src.now ≤ file_limit }
     ensures { IfOk result (λ answer. IsInferAnswer oil.now src.now answer) }

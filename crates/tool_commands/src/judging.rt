@@ -23,7 +23,7 @@ use crate::unused_command::unused;
 use crate::wave_command::wave;
 use crate::why_command::{task_bound, why};
 use command_line::{Counts, Tool, number_of, window_of};
-use sloth_base::{List, NoMemory};
+use sloth_base::{List, Result};
 use std::alloc::Global;
 use tool_answers::ToolAnswer;
 use trace_check::check_command::check;
@@ -43,7 +43,7 @@ pub fn judge(
     counts: Option<Counts>,
     names: &[String],
     inputs: &[List<u8>],
-) -> Result<ToolAnswer, NoMemory>
+) -> Result<ToolAnswer>
     requires named { length names.now ≡ input_count tool }
     requires counted { length inputs.now ≡ file_count tool }
     requires counts { AreCounts (counts_limit tool) counts }

@@ -7,11 +7,11 @@ ghost use Rattle.tool_commands.specs.LabelsAnswers.{IsLabelsAnswer};
 
 use crate::why_command::why;
 use holds_infer::{LabelAnswer, labels_text};
-use sloth_base::NoMemory;
+use sloth_base::Result;
 use std::alloc::Global;
 use tool_answers::{Explanation, ToolAnswer, told};
 
-fn filled(alloc: Global) -> Result<Vec<u8>, NoMemory>
+fn filled(alloc: Global) -> Result<Vec<u8>>
     ensures { IfOk result (λ text. text.items ≡ codes "filled\n") }
 {
     let text = Vec::from_slice(alloc, b"filled\n")?;
@@ -19,7 +19,7 @@ fn filled(alloc: Global) -> Result<Vec<u8>, NoMemory>
 }
 
 // What stands behind a refusal before the rules of task code.
-fn refused(alloc: Global, oil: &[u8], src: &[u8]) -> Result<ToolAnswer, NoMemory>
+fn refused(alloc: Global, oil: &[u8], src: &[u8]) -> Result<ToolAnswer>
     requires oil { length oil.now ≤ file_limit }
     requires src { length src.now ≤ file_limit }
     requires early { (refusal : AnyRefusal) × EarlyRefusal oil.now src.now refusal }
@@ -28,8 +28,8 @@ fn refused(alloc: Global, oil: &[u8], src: &[u8]) -> Result<ToolAnswer, NoMemory
     why(alloc, oil, src)
 }
 
-/// Whether lists of the labels of these texts keep the rules, or why none do; or the first refusal, with what stands behind it.
-pub fn labels(alloc: Global, oil: &[u8], src: &[u8]) -> Result<ToolAnswer, NoMemory>
+/// Whether lists of these texts' labels keep the rules, or why none do; or the first refusal, with what is behind it.
+pub fn labels(alloc: Global, oil: &[u8], src: &[u8]) -> Result<ToolAnswer>
     requires oil { length oil.now ≤ file_limit }
     requires src { length src.now ≤ file_limit }
     ensures { IfOk result (λ answer. IsLabelsAnswer oil.now src.now answer) }

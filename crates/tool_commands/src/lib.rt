@@ -1,13 +1,11 @@
-//! The commands that read files, judge what they hold, and end with one answer: `elf`, `unelf`, `infer`, `check`, `at` alone and with `all`, `losses`, `wave`, `picture`,
-//! `bounds` alone and with `latency` or `counts`, `map`, `shares`, `unused`, `response`, `symbols`, `orti`, `why`.
+//! The commands that read files, judge what they hold, and end with one answer: all but those that build and run, and
+//! `debug`.
 //!
-//! The files have exactly the answer that one table of all such commands says, and have one at most (`judge`, `one_answer`), but for `symbols` and `losses`, whose
-//! file or text is one for each image (`symbol_build`, `losses_text`), `why`, as one refusal may have several true witnesses, and `response` of one task, which may tell of any of
-//! the longest windows. The table:
-//! `specs/Answers`, with a row for each in `specs/ElfAnswers`, `specs/InferAnswers`, `specs/AtAnswers`, `specs/AtAllAnswers`, `specs/LossesAnswers`, `specs/BoundsAnswers`, `specs/MapAnswers`,
-//! `specs/WaveAnswers`, `specs/PictureAnswers`, `specs/SymbolsAnswers`, `specs/OrtiAnswers`, `specs/SharesAnswers`, `specs/ResponseAnswers`, `specs/UnusedAnswers`, `specs/WhyAnswers`, `specs/LabelsAnswers`, `specs/TraceReasons`; what some of them share: `specs/SourceAnswers` (`bounds`, `map` and `shares`), `specs/RunAnswers` (`wave` and
-//! `picture`); `specs/Lines`. The lines of task states: `specs/StatesText`; of a whole system: `run_samples`. Words: `command_line` (`Tools`); the answer of `check`: `tool_answers`
-//! (`CheckAnswers`).
+//! The files have exactly the answer that one table of all such commands says (`judge`; `specs/Answers`, with a row for
+//! each command in a file of `specs/` of its name), and one at most (`one_answer`), but for `symbols` and `losses`,
+//! which answer for each image, `why`, as one refusal may have several true witnesses, and `response` of one task. What
+//! rows share: `specs/SourceAnswers`, `specs/RunAnswers`, `specs/Lines`, `specs/StatesText`. Words: `command_line`
+//! (`Tools`); the answer of `check`: `tool_answers`.
 #![tactic(auto)]
 
 mod at_all_command;

@@ -12,12 +12,12 @@ use crate::elf_commands::written;
 use command_line::Window;
 use run_inputs::{RunInputs, Unread, read_run};
 use schedule_picture::{Picture, draw};
-use sloth_base::NoMemory;
+use sloth_base::{NoMemory, Result};
 use std::alloc::Global;
 use tool_answers::ToolAnswer;
 
 // The answer to an image and arrivals that were read.
-fn picture_of(alloc: Global, run: &RunInputs, window: Window) -> Result<ToolAnswer, NoMemory>
+fn picture_of(alloc: Global, run: &RunInputs, window: Window) -> Result<ToolAnswer>
     requires format { InFormat run.now.image }
     requires arrivals { AreArrivals (owners_named run.now.image) run.now.arrivals.items }
     requires window { IsWindow count_limit picture_limit window }
@@ -40,12 +40,7 @@ fn picture_of(alloc: Global, run: &RunInputs, window: Window) -> Result<ToolAnsw
 }
 
 /// The picture of a part of the run of an image file with arrivals.
-pub fn picture(
-    alloc: Global,
-    img: &[u8],
-    arr: &[u8],
-    window: Window,
-) -> Result<ToolAnswer, NoMemory>
+pub fn picture(alloc: Global, img: &[u8], arr: &[u8], window: Window) -> Result<ToolAnswer>
     requires arr { length arr.now ≤ file_limit }
     requires window { IsWindow count_limit picture_limit window }
     ensures { IfOk result (λ answer. IsPictureAnswer img.now arr.now window answer) }

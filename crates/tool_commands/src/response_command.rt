@@ -6,7 +6,7 @@ ghost use Rattle.tool_commands.specs.ResponseAnswers.{IsResponseAnswer, IsTaskRe
 
 use response_text::{Told, response_parts, response_text};
 use run_load::{ToldRun, run_text};
-use sloth_base::{BuildError, List, NoMemory};
+use sloth_base::{BuildError, List, NoMemory, Result};
 use std::alloc::Global;
 use tool_answers::{Outcome, ToolAnswer};
 
@@ -26,7 +26,7 @@ fn answer_of(alloc: Global, told: Told) -> ToolAnswer
 
 #[tactic(auto, using(crate::proofs::ResponseAnswers::told_answer))]
 /// How soon each task of two texts has left the processor in runs that keep the load of a third; or the first refusal.
-pub fn response(alloc: Global, oil: &[u8], src: &[u8], load: &[u8]) -> Result<ToolAnswer, NoMemory>
+pub fn response(alloc: Global, oil: &[u8], src: &[u8], load: &[u8]) -> Result<ToolAnswer>
     requires oil { length oil.now ≤ file_limit }
     requires src { length src.now ≤ file_limit }
     requires load { length load.now ≤ file_limit }
@@ -47,7 +47,7 @@ pub fn task_response(
     src: &[u8],
     load: &[u8],
     name: &[u8],
-) -> Result<ToolAnswer, NoMemory>
+) -> Result<ToolAnswer>
     requires oil { length oil.now ≤ file_limit }
     requires src { length src.now ≤ file_limit }
     requires load { length load.now ≤ file_limit }
@@ -76,8 +76,8 @@ fn run_answer(alloc: Global, told: ToldRun) -> ToolAnswer
 }
 
 #[tactic(auto, using(crate::proofs::ResponseAnswers::run_told_answer))]
-/// Whether a run of n instructions of two texts, with the arrivals of the last one, keeps the load of the third, and the longest responses that are seen in
-/// it; or the first refusal.
+/// Whether a run of n instructions of two texts, with the arrivals of the last one, keeps the load of the third, and
+/// the longest responses that are seen in it; or the first refusal.
 pub fn run_response(
     alloc: Global,
     oil: &[u8],
@@ -85,7 +85,7 @@ pub fn run_response(
     load: &[u8],
     arr: &[u8],
     n: u32,
-) -> Result<ToolAnswer, NoMemory>
+) -> Result<ToolAnswer>
     requires oil { length oil.now ≤ file_limit }
     requires src { length src.now ≤ file_limit }
     requires load { length load.now ≤ file_limit }

@@ -3,12 +3,12 @@ ghost use Rattle.std.specs.Prelude.{◌≤◌, IfOk, length};
 ghost use Rattle.sloth_base.specs.Limits.{file_limit};
 ghost use Rattle.tool_commands.specs.TraceReasons.{IsTraceReasonAnswer};
 
-use sloth_base::NoMemory;
+use sloth_base::Result;
 use std::alloc::Global;
 use tool_answers::{Explanation, ToolAnswer, told};
 use trace_check::{TraceReason, explain_trace};
 
-/// Whether a text of events is that of a run of n instructions, or where it fails to be and what could stand there; or the first refusal of the other texts.
+/// Whether events are a run's of n instructions, or where not and what fits there; or the other texts' first refusal.
 pub fn trace_reason(
     alloc: Global,
     oil: &[u8],
@@ -16,7 +16,7 @@ pub fn trace_reason(
     arr: &[u8],
     text: &[u8],
     n: u32,
-) -> Result<ToolAnswer, NoMemory>
+) -> Result<ToolAnswer>
     requires oil { length oil.now ≤ file_limit }
     requires src { length src.now ≤ file_limit }
     requires arr { length arr.now ≤ file_limit }

@@ -9,13 +9,13 @@ ghost use Rattle.tool_commands.specs.WaveAnswers.{IsWaveAnswer};
 
 use crate::elf_commands::written;
 use run_inputs::{RunInputs, Unread, read_run};
-use sloth_base::NoMemory;
+use sloth_base::{NoMemory, Result};
 use std::alloc::Global;
 use tool_answers::ToolAnswer;
 use wave_text::{Recorded, waves};
 
 // The answer to an image and arrivals that were read.
-fn waves_of(alloc: Global, run: &RunInputs, n: u32) -> Result<ToolAnswer, NoMemory>
+fn waves_of(alloc: Global, run: &RunInputs, n: u32) -> Result<ToolAnswer>
     requires format { InFormat run.now.image }
     requires arrivals { AreArrivals (owners_named run.now.image) run.now.arrivals.items }
     requires n { n ≤ count_limit }
@@ -31,7 +31,7 @@ fn waves_of(alloc: Global, run: &RunInputs, n: u32) -> Result<ToolAnswer, NoMemo
 }
 
 /// The waves of n instructions of the run of an image file with arrivals.
-pub fn wave(alloc: Global, img: &[u8], arr: &[u8], n: u32) -> Result<ToolAnswer, NoMemory>
+pub fn wave(alloc: Global, img: &[u8], arr: &[u8], n: u32) -> Result<ToolAnswer>
     requires arr { length arr.now ≤ file_limit }
     requires n { n ≤ count_limit }
     ensures { IfOk result (λ answer. IsWaveAnswer img.now arr.now n answer) }

@@ -7,7 +7,7 @@ ghost use Rattle.tool_commands.specs.WhyAnswers.{IsExplained, IsWhyAnswer, IsTas
 
 use bounds_text::task_bound_text;
 use command_line::refusal_line;
-use sloth_base::{BuildError, List, NoMemory, Refusal};
+use sloth_base::{BuildError, List, NoMemory, Refusal, Result};
 use std::alloc::Global;
 use tool_answers::{Explanation, Outcome, ToolAnswer, told};
 use why_text::{Why, explain};
@@ -19,7 +19,7 @@ fn explained(
     src: &[u8],
     refusal: Refusal,
     lines: &[u8],
-) -> Result<List<u8>, NoMemory>
+) -> Result<List<u8>>
     requires { IsWhy oil.now src.now (why_is.Refused refusal lines.now) }
     ensures { IfOk result (IsExplained oil.now src.now) }
 {
@@ -29,7 +29,7 @@ fn explained(
     Ok(List::from_vec(text))
 }
 
-fn accepted(alloc: Global) -> Result<Vec<u8>, NoMemory>
+fn accepted(alloc: Global) -> Result<Vec<u8>>
     ensures { IfOk result (λ text. text.items ≡ codes "accepted\n") }
 {
     let text = Vec::from_slice(alloc, b"accepted\n")?;
@@ -37,7 +37,7 @@ fn accepted(alloc: Global) -> Result<Vec<u8>, NoMemory>
 }
 
 /// That these texts are accepted, or their first refusal and what stands behind it.
-pub fn why(alloc: Global, oil: &[u8], src: &[u8]) -> Result<ToolAnswer, NoMemory>
+pub fn why(alloc: Global, oil: &[u8], src: &[u8]) -> Result<ToolAnswer>
     requires oil { length oil.now ≤ file_limit }
     requires src { length src.now ≤ file_limit }
     ensures { IfOk result (λ answer. IsWhyAnswer oil.now src.now answer) }
@@ -58,12 +58,7 @@ pub fn why(alloc: Global, oil: &[u8], src: &[u8]) -> Result<ToolAnswer, NoMemory
 }
 
 /// Of one task its bound and of what that is made, or the first refusal; or that no task has the name.
-pub fn task_bound(
-    alloc: Global,
-    oil: &[u8],
-    src: &[u8],
-    name: &[u8],
-) -> Result<ToolAnswer, NoMemory>
+pub fn task_bound(alloc: Global, oil: &[u8], src: &[u8], name: &[u8]) -> Result<ToolAnswer>
     requires oil { length oil.now ≤ file_limit }
     requires src { length src.now ≤ file_limit }
     ensures { IfOk result (λ answer. IsTaskBoundAnswer oil.now src.now name.now answer) }

@@ -6,7 +6,7 @@ use crate::rows::{Rows, shown};
 use crate::texts::{LONGEST, Texts, add, append, number_before, push, refill};
 use debug_command::{debug, debug_words};
 use debug_session::{MemInput, Transcript};
-use sloth_base::{List, Name, NoMemory};
+use sloth_base::{List, Name, NoMemory, Result};
 use sloth_cli::{Status, sloth_top};
 use sloth_io::{MemFile, MemSink, MemStore};
 use std::alloc::Global;
@@ -15,7 +15,7 @@ use std::alloc::Global;
 const SPACE: u32 = 2_200_000;
 
 // A file with this space, or with that for its own bytes where they are more; none of more than 16,000,000 bytes.
-fn file(alloc: Global, name: &[u8], bytes: &[u8], space: u32) -> Result<MemFile, NoMemory>
+fn file(alloc: Global, name: &[u8], bytes: &[u8], space: u32) -> Result<MemFile>
     ensures name { IfOk result (λ file. file.name ≡ name.now) }
     ensures within { IfOk result (λ file. length file.bytes ≤ file.space) }
 {
@@ -31,7 +31,7 @@ fn file(alloc: Global, name: &[u8], bytes: &[u8], space: u32) -> Result<MemFile,
 }
 
 // The texts, this image file, and a file `out`, which holds nothing. These calls fail.
-fn store(alloc: Global, texts: &Texts, img: &[u8], fails: &[u32]) -> Result<MemStore, NoMemory> {
+fn store(alloc: Global, texts: &Texts, img: &[u8], fails: &[u32]) -> Result<MemStore> {
     let oil = file(alloc, b"oil", &texts.oil, 0)?;
     let src = file(alloc, b"src", &texts.src, 0)?;
     let arr = file(alloc, b"arr", &texts.arr, 0)?;
@@ -164,8 +164,7 @@ pub fn run(rows: &mut Rows, word: &str, line: &str, texts: &mut Texts) {
     refill(&mut texts.img, &outcome.img);
 }
 
-/// Runs two commands, which ` / ` divides, one after the other, and prints how many bytes both answer, or that their
-/// answers differ.
+/// Runs two commands, which ` / ` divides, in turn, and prints how many bytes both answer, or that the answers differ.
 pub fn run_both(rows: &mut Rows, lines: &str, texts: &mut Texts) {
     let (one, other) = lines.split_once(" / ").unwrap_or((lines, ""));
     let none = Faults::new(rows.alloc);

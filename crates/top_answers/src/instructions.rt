@@ -10,8 +10,7 @@ fn put(rows: &mut Rows, name: &str, first: &Reg, second: &Reg, number: i32) {
     form!(rows; " % % % %\n"; Text(name), Number(first.0 as u64), Number(second.0 as u64), Signed(number))
 }
 
-// Appends an instruction on three registers, or another one without a number of 12 bits. Behind the last field stands
-// 0.
+// Appends an instruction on three registers, or another without a number of 12 bits. Behind the last field stands 0.
 fn put_plain(rows: &mut Rows, kind: &InstrKind) {
     match kind {
         Add { rd, rs1, rs2 } => put(rows, "Add", rd, rs1, rs2.0 as i32),

@@ -14,7 +14,7 @@ use rv32_instr::{Block, encode};
 use service_gen::tick;
 use sloth_base::{
     App, BLOCK_COUNT, CEILING_COUNT, Config, FRAME_LIMIT, Func, LINE_COUNT, Levels, List, Name,
-    NoMemory, ObjectKind, Places, Service, TASK_LIMIT, TaskId, service_named,
+    NoMemory, ObjectKind, Places, Result, Service, TASK_LIMIT, TaskId, service_named,
 };
 use sloth_region::{Extent, Map};
 use std::alloc::Global;
@@ -25,7 +25,7 @@ const IDLE: u32 = 0x8000_0548;
 const MARK_KINDS: &str = "Item Jump Opening Idle Back";
 
 // A list of one thing.
-fn only<T: Drop>(alloc: Global, thing: T) -> Result<Vec<T>, NoMemory>
+fn only<T: Drop>(alloc: Global, thing: T) -> Result<Vec<T>>
     ensures { IfOk result (λ list. list.items ≡ thing ∷ []) }
 {
     let mut list = Vec::new(alloc);
@@ -34,7 +34,7 @@ fn only<T: Drop>(alloc: Global, thing: T) -> Result<Vec<T>, NoMemory>
 }
 
 // A body of the task, with a frame of so many words.
-fn app(alloc: Global, frame_words: u32) -> Result<App, NoMemory>
+fn app(alloc: Global, frame_words: u32) -> Result<App>
     requires { frame_words ≤ frame_limit }
     ensures body { IfOk result (λ app. IsBodyPlace app.funcs 0 0) }
     ensures frames { IfOk result (λ app. All (λ func. func.frame_words ≤ frame_limit) app.funcs) }
@@ -55,8 +55,7 @@ fn app(alloc: Global, frame_words: u32) -> Result<App, NoMemory>
     })
 }
 
-// A level of the task, the level of a task that is not preempted, and the ceilings of the resources 1 and
-// RES_SCHEDULER.
+// A level of the task, that of a task that is not preempted, and the ceilings of the resources 1 and RES_SCHEDULER.
 fn levels() -> Levels
     ensures { (result.top < level_count) × ((t : ℕ) → slice_index result.task t < level_count) }
 {
@@ -73,7 +72,7 @@ fn levels() -> Levels
 }
 
 // The first item of the body.
-fn places(alloc: Global) -> Result<Places, NoMemory>
+fn places(alloc: Global) -> Result<Places>
     ensures { IfOk result (λ places. (length places.first ≡ 1) × All (λ i. i < length places.items) places.first) }
 {
     let items = Vec::from_slice(alloc, &[0x8000_1b74])?;
@@ -87,7 +86,7 @@ fn places(alloc: Global) -> Result<Places, NoMemory>
 }
 
 // Where all stands: the task's prologue, the end of its stack, and the first item of its body.
-fn map(alloc: Global) -> Result<Map, NoMemory>
+fn map(alloc: Global) -> Result<Map>
     ensures reach { IfOk result (λ map. AreInReach map.handlers) }
     ensures tops { IfOk result (λ map. (length map.tops ≡ 1) × All IsStackTop map.tops) }
     ensures items { IfOk result (λ map. (length map.places.first ≡ 1) × All (λ i. i < length map.places.items) map.places.first) }
@@ -123,7 +122,7 @@ fn is_called(service: Service, object: u32, config: &Config) -> bool
 }
 
 // The prologue of the task of a configuration, with a frame of so many words.
-fn entry(alloc: Global, words: u32, config: &Config, map: &Map) -> Result<Block, NoMemory>
+fn entry(alloc: Global, words: u32, config: &Config, map: &Map) -> Result<Block>
     requires tops { (length map.now.tops ≡ 1) × All IsStackTop map.now.tops }
     requires items { (length map.now.places.first ≡ 1) × All (λ i. i < length map.now.places.items) map.now.places.first }
 {
@@ -135,7 +134,7 @@ fn entry(alloc: Global, words: u32, config: &Config, map: &Map) -> Result<Block,
 }
 
 // The block of a service with an object.
-fn block(alloc: Global, asked: &str, config: &Config, map: &Map) -> Result<Block, NoMemory>
+fn block(alloc: Global, asked: &str, config: &Config, map: &Map) -> Result<Block>
     requires { InRange config.now }
 {
     let (name, number) = asked.split_once(' ').ok_or(NoMemory)?;
@@ -148,7 +147,7 @@ fn block(alloc: Global, asked: &str, config: &Config, map: &Map) -> Result<Block
 }
 
 // The tick of the first counter, if there is one.
-fn first_tick(alloc: Global, config: &Config, map: &Map) -> Result<Block, NoMemory>
+fn first_tick(alloc: Global, config: &Config, map: &Map) -> Result<Block>
     requires { InRange config.now }
 {
     if config.counters.items().len() == 0 {
@@ -190,9 +189,8 @@ fn list_asked(rows: &mut Rows, asked: &str, config: &Config, map: &Map) -> Told
     Ok(())
 }
 
-/// Prints the code of a kernel of this configuration: `vectors`, `idle`, `boot`, `tick` of the first counter, the
-/// prologue of the task with so many frame words (`prologue 32`), or the block of a service with an object (`service
-/// ActivateTask 29`).
+/// Prints a kernel's code: `vectors`, `idle`, `boot`, `tick` of the first counter, the prologue of the task with so
+/// many frame words (`prologue 32`), or the block of a service with an object (`service ActivateTask 29`).
 pub fn list_kernel(rows: &mut Rows, asked: &str, config: &Config) -> Told
     requires { InRange config.now }
 {

@@ -2,8 +2,7 @@
 //! line `=== oil`, `=== src`, `=== arr` or `=== img`, which says what it is; it stays until the next one of its kind. A
 //! line `%repeat N TEXT` in it stands for copies (`Texts::add_line`). Other lines after `=== `:
 //! - `image HEX` makes the image file of these bytes, `change AT HEX` writes bytes over those from a place on, and
-//!   those beyond the end behind it; `-AT` counts back from the end; `drop 2` takes line 2 out of it, `shorten` its
-//!   last byte;
+//!   those beyond the end behind it; `-AT` counts from the end; `drop 2` takes out line 2, `shorten` the last byte;
 //! - `text` prints the image file as a text, `checksum` how many bytes it has and a checksum of them;
 //! - `cut`, and a command such as `exec img arr 10`: it is run with the image file cut to each length, and each new
 //!   answer is printed;
@@ -40,8 +39,7 @@
 //!
 //! The lines before `=== system` say what is done with files of the system (`system`): the folder `data` has those of
 //! commands, and the picture of a run that the README shows is drawn anew and compared with the file `door.svg`. At
-//! last the program does as `sloth` does with its own words, and ends with the status 2 of a command whose texts are
-//! refused.
+//! last the program does as `sloth` does with its own words, and ends with the status 2 of refused texts.
 #![tactic(auto)]
 
 // Appends a text to rows, in which a piece stands for each `%`, or behind the pieces a number.

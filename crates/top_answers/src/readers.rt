@@ -1,5 +1,5 @@
 //! What OIL texts, task source and loads mean, or how they are refused.
-ghost use Rattle.std.specs.Prelude.{◌≤◌, IfOk, length};
+ghost use Rattle.std.specs.Prelude.{IfOk};
 ghost use Rattle.sloth_base.specs.ConfigRange.{InRange};
 ghost use Rattle.code_rules.specs.WellFormed.{WellFormed};
 ghost use Rattle.stack_bounds.specs.Bounds.{AreBounds};
@@ -115,8 +115,7 @@ fn list_sample(rows: &mut Rows, asked: &str) -> Told {
     Ok(())
 }
 
-/// Answers what is asked of the lines before the question, or of these beside the OIL text; after `words `, of a kernel
-/// of that.
+/// Answers what is asked of the lines before the question, or of these beside the OIL text; `words `: of its kernel.
 pub fn answer_read(rows: &mut Rows, asked: &str, texts: &Texts) -> Told {
     if let Some(numbers) = asked.strip_prefix("generated ") {
         return list_sample(rows, numbers);

@@ -94,8 +94,7 @@ impl Rows {
         self.text("\n");
     }
 
-    /// Prints the rows, and behind them where some are left out. What cannot be printed is missing where the output is
-    /// compared.
+    /// Prints the rows, then where some are left out. What cannot be printed is missing where the output is compared.
     pub fn print(&mut self, rt: &impl Print) {
         if self.wanting {
             self.text("rows are left out\n");

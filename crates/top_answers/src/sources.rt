@@ -1,5 +1,4 @@
-//! Public calls on the texts of a configuration and its task code: copies, rules, bytes of stack, generators, and the
-//! abstract scheduler.
+//! Public calls on a configuration's texts and task code: copies, rules, stack bytes, generators, abstract scheduler.
 ghost use Rattle.std.specs.Prelude.{◌≡◌, ◌<◌, length};
 ghost use Rattle.call_graph.specs.Ranks.{RanksOf};
 ghost use Rattle.code_rules.specs.AppRange.{AppInRange, IsTaskCode};
@@ -39,8 +38,7 @@ fn list_copies(rows: &mut Rows, config: &Config, app: &App) -> Told {
     Ok(())
 }
 
-// How many tasks and functions were verified, the bytes of stack of the tasks, and of the stack that the basic tasks
-// share.
+// How many tasks and functions were verified, the stack bytes of the tasks, and of the stack that basic tasks share.
 fn list_accepted(rows: &mut Rows, verified: &Verified, ranks: &Ranks) -> Told
     requires { RanksOf verified.now.app ranks.now }
 {
@@ -143,8 +141,7 @@ fn list_levels(rows: &mut Rows, config: &Config)
     form!(rows; "levels % % % %\n"; ; levels.task[0], levels.task[1], levels.ceiling[0], levels.top)
 }
 
-// Whether the first steps of the abstract scheduler have a next state, and the states of the first two tasks behind
-// them.
+// Whether the abstract scheduler's first steps have a next state, and the states of the first two tasks behind them.
 fn list_steps(rows: &mut Rows, osek: &mut Osek) {
     let boot = osek.step(&Event::Boot).is_ok();
     let idle = osek.step(&Event::Idle).is_ok();

@@ -1,9 +1,8 @@
-//! The files that commands are run on, and changes of them. What memory is wanting for is missing where the output is
-//! compared.
+//! Files that commands are run on, and changes of them. What memory is wanting for is missing where output is compared.
 ghost use Rattle.std.specs.Prelude.{◌≤◌, IfOk, length};
 
 use crate::rows::shown;
-use sloth_base::NoMemory;
+use sloth_base::{NoMemory, Result};
 use std::alloc::Global;
 
 /// The greatest length of a file.
@@ -20,7 +19,7 @@ pub struct Texts {
 }
 
 /// A text that readers take, of at most 16,000,000 bytes.
-pub fn short(text: &[u8]) -> Result<&[u8], NoMemory>
+pub fn short(text: &[u8]) -> Result<&[u8]>
     ensures { IfOk result (λ text. length text.now ≤ 16000000) }
 {
     if text.len() > LONGEST {
@@ -133,8 +132,7 @@ impl Texts {
         self.img = kept;
     }
 
-    /// Puts the lines in the place of the file of this name, or changes the image file, if that is what this word asks
-    /// for.
+    /// Puts the lines in the place of the file of this name, or changes the image file, if this word asks for that.
     pub fn alter(&mut self, alloc: Global, word: &str, rest: &str) -> bool {
         match word {
             "oil" => refill(&mut self.oil, &self.lines),

@@ -5,7 +5,7 @@ use Rattle.osek_scheduler.specs.State.{System, task}
 use Rattle.run_samples.specs.SystemText.{state_line}
 use Rattle.trace_check.specs.ReasonLines.{state_lines}
 use Rattle.trace_check.specs.Rows.{rows_below}
-use Rattle.trace_check.specs.declared.next_event.NextEvent.{NextEvent}
+use Rattle.trace_check.specs.declared.rows.NextEvent.{NextEvent}
 
 module _ (rows : ℕ → List NextEvent) (old : List NextEvent) where
   none : rows_below 0 rows ≡ []

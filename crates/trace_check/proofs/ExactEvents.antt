@@ -21,7 +21,7 @@ use Rattle.trace_check.proofs.Walking.{walked_more, walked_stops}
 use Rattle.trace_check.specs.MachineEvents.{item_event, service_event}
 use Rattle.trace_check.specs.NextEvents.{AreNextEvents, IsTold, IsToldBy, IsWithin}
 use Rattle.trace_check.specs.Rows.{all_rows, event_limit, leaves_count, rows_below, rows_of, task_rows}
-use Rattle.trace_check.specs.declared.next_event.NextEvent.{NextEvent}
+use Rattle.trace_check.specs.declared.rows.NextEvent.{NextEvent}
 use Rattle.trace_check.proofs.Told.{Each, each_both, each_below, teller, told_left, told_right, told_below}
 use Rattle.trace_check.proofs.Within.{leaves_within, passes_within, within_leaves, within_passes}
 use Rattle.trace_check.proofs.Items.{HasTask, has_task}

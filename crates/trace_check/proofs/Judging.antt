@@ -1,5 +1,5 @@
 -- What the pass over a text has found: with one line more, and at its end.
-use Rattle.std.proofs.Common.{◌≡◌, ℕ, ◌+◌, ◌<◌, ◌≤◌, ◌⊎◌, inl, inr, List, [], ◌∷◌, Bool, true, false, Option, Some, None, length, get_or, refl, subst, arith}
+use Rattle.std.proofs.Common.{◌≡◌, ℕ, ◌+◌, ◌<◌, ◌≤◌, ◌⊎◌, inl, inr, List, [], ◌∷◌, Bool, true, false, Option, Some, None, length, get_or, refl, sym, subst, arith}
 use Rattle.std.specs.Prelude.{◌==◌, ◌≢◌, All}
 use Rattle.std.proofs.lemmas.Bool.{eqb-true, true≢false}
 use Rattle.std.specs.Bool.{Decides}
@@ -14,13 +14,15 @@ use Rattle.sloth_base.specs.declared.event.Event.TheVariants as event
 use Rattle.sloth_base.specs.declared.event.Stamped.{Stamped}
 use Rattle.sloth_base.specs.Events.{admitted_line}
 use Rattle.sloth_base.specs.ConfigRange.{InRange}
+use Rattle.sloth_base.specs.ImageRange.{AreNames, AreNamesApart}
+use Rattle.code_rules.specs.WellFormed.{WellFormed}
 use Rattle.sloth_base.specs.Owners.{IsOwned, owners_in}
 use Rattle.sloth_base.specs.Limits.{counter_limit}
 use Rattle.sloth_base.proofs.Owners.{IsCounterLine, owned_cases}
 use Rattle.osek_scheduler.specs.InTime.{InTime}
 use Rattle.trace_text.specs.EventNumbers.{HasEventNumbers}
 use Rattle.trace_check.specs.Counts.{AreLinesInRange, IsLineInRange}
-use Rattle.trace_check.specs.TraceText.{HasNoFirstLine, HasLine, IsFirstBad, IsEventText}
+use Rattle.trace_check.specs.TraceText.{AreReadable, HasNoFirstLine, HasLine, IsFirstBad, IsEventText}
 use Rattle.sloth_base.specs.DeclaredNames.{AreNamesOf, task_names, counter_names, function_names}
 use Rattle.sloth_base.specs.declared.declared_names.DeclaredNames.{DeclaredNames}
 use Rattle.trace_check.proofs.ReadEvents.{HasRead}
@@ -50,6 +52,19 @@ is_left [] h e = true≢false h
 is_left (x ∷ rest) h e = cc
 
 module _ (config : Config) (app : App) (names : DeclaredNames) (named : AreNamesOf config app names) where
+  -- lines are read by them
+  pub readable : WellFormed config app → AreReadable names
+  readable well_formed =
+      let range = well_formed.in_range in
+      let P : List (List ℕ) → List (List ℕ) → Type 0 = λ cs ts. AreNamesApart cs ts in
+      record {
+        tasks = subst AreNames (sym named.tasks) range.configuration.task_names;
+        funcs = subst AreNames (sym named.funcs) range.func_names;
+        counters = subst AreNames (sym named.counters) range.configuration.counter_names;
+        apart = subst (λ (cs : List (List ℕ)). P cs names.tasks) (sym named.counters)
+            (subst (λ (ts : List (List ℕ)). P (counter_names config) ts) (sym named.tasks) range.configuration.counters_apart);
+      }
+
   pub all_read : (text rest : List ℕ) (events : List Stamped) → HasRead names.tasks names.funcs names.counters text events rest
       → HasRead (task_names config) (function_names app) (counter_names config) text events rest
   all_read text rest events reads =

@@ -4,7 +4,7 @@ use Rattle.std.proofs.lemmas.Bool.{cases_lt}
 use Rattle.sloth_base.specs.declared.event.Stamped.{Stamped}
 use Rattle.trace_check.specs.NextEvents.{IsTold, IsToldBy}
 use Rattle.trace_check.specs.Rows.{rows_below}
-use Rattle.trace_check.specs.declared.next_event.NextEvent.{NextEvent}
+use Rattle.trace_check.specs.declared.rows.NextEvent.{NextEvent}
 
 -- ---- an event that is told of
 

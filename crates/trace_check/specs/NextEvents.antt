@@ -4,7 +4,7 @@ use Rattle.sloth_base.specs.declared.config.Config.{Config}
 use Rattle.sloth_base.specs.declared.app.App.{App}
 use Rattle.sloth_base.specs.declared.event.Stamped.{Stamped}
 use Rattle.osek_scheduler.specs.Runs.{OsekRun}
-use Rattle.trace_check.specs.declared.next_event.NextEvent.{NextEvent}
+use Rattle.trace_check.specs.declared.rows.NextEvent.{NextEvent}
 
 -- what begins at this count begins before the limit, where there is one
 abbrev pub IsWithin : Option ℕ → ℕ → Type 0

@@ -7,7 +7,7 @@ use Rattle.trace_text.specs.EventWords.{event_text}
 use Rattle.run_samples.specs.SystemText.{state_line}
 use Rattle.trace_check.specs.declared.verdict.Verdict.{Verdict}
 use Rattle.trace_check.specs.declared.verdict.Verdict.TheVariants as verdict
-use Rattle.trace_check.specs.declared.next_event.NextEvent.{NextEvent}
+use Rattle.trace_check.specs.declared.rows.NextEvent.{NextEvent}
 
 -- the line of a verdict
 abbrev pub verdict_line : Verdict → List ℕ

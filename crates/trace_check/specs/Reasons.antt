@@ -19,7 +19,7 @@ use Rattle.trace_check.specs.Lateness.{IsLateness}
 use Rattle.trace_check.specs.LatenessLines.{lateness_lines}
 use Rattle.trace_check.specs.declared.lateness.Lateness.{Lateness}
 use Rattle.trace_check.specs.ReasonLines.{row_lines, state_lines, verdict_line}
-use Rattle.trace_check.specs.declared.next_event.NextEvent.{NextEvent}
+use Rattle.trace_check.specs.declared.rows.NextEvent.{NextEvent}
 use Rattle.trace_check.specs.declared.reason.TraceReason.{TraceReason}
 use Rattle.trace_check.specs.declared.reason.TraceReason.TheVariants as reason
 

@@ -11,7 +11,7 @@ use Rattle.osek_scheduler.specs.Next.{next_state}
 use Rattle.osek_machine.specs.Above.{is_line_above}
 use Rattle.trace_check.specs.Walk.{Walk}
 use Rattle.trace_check.specs.MachineEvents.{item_event, service_event}
-use Rattle.trace_check.specs.declared.next_event.NextEvent.{NextEvent}
+use Rattle.trace_check.specs.declared.rows.NextEvent.{NextEvent}
 
 -- ---- limits
 

@@ -4,7 +4,7 @@ ghost use Rattle.trace_check.specs.TraceAnswers.{IsTraceAnswer};
 
 use crate::{Verdict, check};
 use run_inputs::read_inputs;
-use sloth_base::{BuildError, NoMemory, Refusal};
+use sloth_base::{BuildError, NoMemory, Refusal, Result};
 use std::alloc::Global;
 
 /// What is said of a configuration, its task source, arrivals and a text of events.
@@ -16,7 +16,7 @@ pub enum TraceAnswer {
     Judged(Verdict),
 }
 
-/// The verdict on a text of events of n instructions, with the arrivals of a text; or the first refusal of the other texts.
+/// The verdict on a text of events of n instructions, with a text of arrivals; or the first refusal of the other texts.
 pub fn judge_trace(
     alloc: Global,
     oil: &[u8],
@@ -24,7 +24,7 @@ pub fn judge_trace(
     arr: &[u8],
     trace: &[u8],
     n: u32,
-) -> Result<TraceAnswer, NoMemory>
+) -> Result<TraceAnswer>
     requires oil { length oil.now < 4294967295 }
     requires src { length src.now < 4294967295 }
     requires arr { length arr.now < 4294967295 }
@@ -36,13 +36,7 @@ pub fn judge_trace(
         Err(BuildError::Refused(refusal)) => return Ok(TraceAnswer::Refused(refusal)),
         Err(BuildError::Memory) => return Err(NoMemory),
     };
-    let verdict = check(
-        alloc,
-        &inputs.config,
-        &inputs.app,
-        inputs.arrivals.as_slice(),
-        trace,
-        n,
-    )?;
+    let arrivals = inputs.arrivals.as_slice();
+    let verdict = check(alloc, &inputs.config, &inputs.app, arrivals, trace, n)?;
     Ok(TraceAnswer::Judged(verdict))
 }

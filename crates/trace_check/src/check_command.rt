@@ -4,11 +4,11 @@ ghost use Rattle.sloth_base.specs.Limits.{file_limit};
 ghost use Rattle.trace_check.specs.CheckAnswers.{IsCheckAnswer};
 
 use crate::{TraceAnswer, Verdict, judge_trace};
-use sloth_base::NoMemory;
+use sloth_base::Result;
 use std::alloc::Global;
 use tool_answers::{ToolAnswer, TraceFault, told};
 
-/// Whether a text of events is that of a run of n instructions, or where it fails to be; or the first refusal of the other texts.
+/// Whether a text of events is a run's of n instructions, or where it fails to be; or the other texts' first refusal.
 pub fn check(
     alloc: Global,
     oil: &[u8],
@@ -16,7 +16,7 @@ pub fn check(
     arr: &[u8],
     text: &[u8],
     n: u32,
-) -> Result<ToolAnswer, NoMemory>
+) -> Result<ToolAnswer>
     requires oil { length oil.now ≤ file_limit }
     requires src { length src.now ≤ file_limit }
     requires arr { length arr.now ≤ file_limit }

@@ -1,14 +1,14 @@
 //! The first moment at which admissions and arrivals differ in number.
-ghost use Rattle.std.specs.Prelude.{◌≡◌, ◌<◌, IfOk, All, cond, ltb};
+ghost use Rattle.std.specs.Prelude.{◌≡◌, ◌<◌, IfOk, All};
 ghost use Rattle.trace_check.specs.Counts.{AreLinesInRange, admit_numbers, least_apart};
 ghost use Rattle.trace_check.specs.Lateness.{IsFirstDifference};
 
 use crate::numbers::{arrival_numbers, push_number, sort};
-use sloth_base::{Arrival, NoMemory, Stamped};
+use sloth_base::{Arrival, Result, Stamped};
 use std::alloc::Global;
 
 // The numbers of admissions.
-fn admit_numbers(alloc: Global, events: &[Stamped]) -> Result<Vec<u64>, NoMemory>
+fn admit_numbers(alloc: Global, events: &[Stamped]) -> Result<Vec<u64>>
     requires { All (λ e. e.stamp.at < 4294967295) events.now }
     ensures { IfOk result (λ numbers. numbers.items ≡ admit_numbers events.now) }
 {
@@ -17,13 +17,6 @@ fn admit_numbers(alloc: Global, events: &[Stamped]) -> Result<Vec<u64>, NoMemory
         push_number(&mut numbers, event)?;
     }
     Ok(numbers)
-}
-
-// The lesser of two numbers.
-fn lesser(one: u64, other: u64) -> u64
-    ensures { result ≡ cond (ltb other one) other one }
-{
-    if other < one { other } else { one }
 }
 
 // The lesser of the first two that differ.
@@ -35,7 +28,11 @@ fn least_apart(ones: &[u64], others: &[u64]) -> u64
             return ones[i];
         }
         if ones[i] != others[i] {
-            return lesser(ones[i], others[i]);
+            return if others[i] < ones[i] {
+                others[i]
+            } else {
+                ones[i]
+            };
         }
     }
     if ones.len() < others.len() {
@@ -44,13 +41,8 @@ fn least_apart(ones: &[u64], others: &[u64]) -> u64
     u64::MAX
 }
 
-/// The least number of a moment and a line of which there are not as many admissions as arrivals; the greatest of 64 bits where
-/// there is none.
-pub fn first_difference(
-    alloc: Global,
-    arrivals: &[Arrival],
-    events: &[Stamped],
-) -> Result<u64, NoMemory>
+/// The least number of a moment and line with not as many admissions as arrivals; else the greatest of 64 bits.
+pub fn first_difference(alloc: Global, arrivals: &[Arrival], events: &[Stamped]) -> Result<u64>
     requires stamps { All (λ e. e.stamp.at < 4294967295) events.now }
     requires admits { AreLinesInRange events.now }
     requires lines { All (λ a. a.line < 4294967296) arrivals.now }

@@ -1,18 +1,18 @@
 //! The lines in front of one with which the events are no run any more.
 ghost use Rattle.std.specs.Prelude.{◌≡◌, ◌+◌, [], IfOk, false, true};
 ghost use Rattle.sloth_base.specs.DeclaredNames.{AreNamesOf};
-ghost use Rattle.sloth_base.specs.ImageRange.{AreNames, AreNamesApart};
 ghost use Rattle.sloth_base.specs.declared.app.App.{App as AnyApp};
 ghost use Rattle.sloth_base.specs.declared.config.Config.{Config as AnyConfig};
 ghost use Rattle.code_rules.specs.WellFormed.{WellFormed};
 ghost use Rattle.trace_check.specs.Verdicts.{IsFirstStray};
 ghost use Rattle.trace_check.specs.Reasons.{IsStepReason};
 ghost use Rattle.trace_check.specs.Front.{IsFront, IsLineEnd, IsLineStep};
+ghost use Rattle.trace_check.specs.TraceText.{AreReadable};
 ghost use Rattle.trace_check.specs.Walk.{IsWalked};
 
+use crate::first_line::next_event;
 use crate::lines::{push_rows, push_states};
 use crate::next_events;
-use crate::verdict::next_event;
 use crate::walk::Walk;
 use osek_machine::NotARun;
 use sloth_base::declared_names::declared_names;
@@ -22,10 +22,7 @@ use text_pieces::behind;
 
 // Walks along the first line of a text, if that is possible.
 fn walk_line(names: &DeclaredNames, walk: &mut Walk, text: &[u8]) -> bool
-    requires tasks { AreNames names.now.tasks }
-    requires funcs { AreNames names.now.funcs }
-    requires counters { AreNames names.now.counters }
-    requires apart { AreNamesApart names.now.counters names.now.tasks }
+    requires { AreReadable names.now }
     ensures steps { result ≡ true → IsLineStep names.now text.now walk.old walk.new }
     ensures ends { result ≡ false → IsLineEnd names.now text.now walk.old }
 {
@@ -40,10 +37,7 @@ fn walk_line(names: &DeclaredNames, walk: &mut Walk, text: &[u8]) -> bool
 
 // Walks along the first lines of a text, so many of them.
 fn walk_lines(names: &DeclaredNames, walk: &mut Walk, text: &[u8], lines: u32)
-    requires tasks { AreNames names.now.tasks }
-    requires funcs { AreNames names.now.funcs }
-    requires counters { AreNames names.now.counters }
-    requires apart { AreNamesApart names.now.counters names.now.tasks }
+    requires { AreReadable names.now }
     ensures { (config : AnyConfig) (app : AnyApp) → AreNamesOf config app names.now → IsWalked config app [] walk.old
         → IsFirstStray config app text.now (lines + 1) → IsFront config app names.now text.now (lines + 1) walk.new }
 {

@@ -1,21 +1,20 @@
 //! The lines behind the verdict that events are not in time.
-ghost use Rattle.std.specs.Prelude.{◌≡◌, ◌<◌, ◌≤◌, ◌++◌, IfOk, OnOk, All, length};
+ghost use Rattle.std.specs.Prelude.{◌≡◌, ◌<◌, ◌≤◌, IfOk, All, length};
 ghost use Rattle.std.specs.Prelude.{List as Items};
 ghost use Rattle.code_rules.specs.WellFormed.{WellFormed};
 ghost use Rattle.sloth_base.specs.Arrivals.{AreArrivals};
-ghost use Rattle.sloth_base.specs.ImageRange.{AreNames, AreNamesApart};
 ghost use Rattle.sloth_base.specs.Owners.{owners_in};
 ghost use Rattle.sloth_base.specs.declared.event.Stamped.{Stamped as AnyEvent};
 ghost use Rattle.osek_scheduler.specs.InTime.{AreAllAdmitted};
 ghost use Rattle.trace_check.specs.Counts.{AreLinesInRange};
-ghost use Rattle.trace_check.specs.Lateness.{AreInPlace, IsLateness};
+ghost use Rattle.trace_check.specs.Lateness.{AreInPlace};
 ghost use Rattle.trace_check.specs.LatenessLines.{admission_at, lateness_lines, missing_line, place_line};
 ghost use Rattle.trace_check.specs.Reasons.{AreLatenessLines, IsTimeReason};
 ghost use Rattle.trace_check.specs.Verdicts.{IsLate};
-ghost use Rattle.trace_check.specs.TraceText.{IsEventText};
+ghost use Rattle.trace_check.specs.TraceText.{AreReadable, IsEventText};
 
-use crate::lateness::{Lateness, reason_of};
-use crate::verdict::next_event;
+use crate::first_line::next_event;
+use crate::lateness::{Lateness, lateness_reason};
 use sloth_base::declared_names::declared_names;
 use sloth_base::{
     App, Arrival, Config, DeclaredNames, Event, FIRST_COUNTER_LINE, NoMemory, Stamp, Stamped,
@@ -29,11 +28,10 @@ const FIRST_COUNTER: u32 = FIRST_COUNTER_LINE as u32;
 
 // The events of a text.
 fn read_events(alloc: Global, names: &DeclaredNames, text: &[u8]) -> Result<Vec<Stamped>, NoMemory>
-    requires tasks { AreNames names.now.tasks }
-    requires funcs { AreNames names.now.funcs }
-    requires counters { AreNames names.now.counters }
-    requires apart { AreNamesApart names.now.counters names.now.tasks }
-    ensures shows { IfOk result (λ events. (shown : Items AnyEvent) → IsEventText names.now.tasks names.now.funcs names.now.counters shown text.now
+    requires { AreReadable names.now }
+    ensures shows { IfOk result
+        (λ events. (shown : Items AnyEvent)
+        → IsEventText names.now.tasks names.now.funcs names.now.counters shown text.now
         → events.items ≡ shown) }
     ensures few { IfOk result (λ events. length events.items ≤ length text.now) }
 {
@@ -50,7 +48,7 @@ fn read_events(alloc: Global, names: &DeclaredNames, text: &[u8]) -> Result<Vec<
 }
 
 // The event that admits an arrival of a moment and a line.
-fn admission_at(moment: u32, line: u32) -> Stamped
+fn admission(moment: u32, line: u32) -> Stamped
     ensures { result ≡ admission_at moment line }
 {
     let event = if line < FIRST_COUNTER {
@@ -70,12 +68,10 @@ fn admission_at(moment: u32, line: u32) -> Stamped
 // The event's line that a text lacks.
 #[tactic(auto, unfolding(crate::specs::LatenessLines::missing_line))]
 fn missing_line(names: &DeclaredNames, moment: u32, line: u32) -> LineText
-    requires tasks { AreNames names.now.tasks }
-    requires funcs { AreNames names.now.funcs }
-    requires counters { AreNames names.now.counters }
+    requires { AreReadable names.now }
     ensures { result ≡ missing_line names.now moment line }
 {
-    let admission = admission_at(moment, line);
+    let admission = admission(moment, line);
     let mut text = LineText::new();
     text.push(b"missing ");
     push_counts(&mut text, &admission);
@@ -108,15 +104,14 @@ fn lateness_lines(
     names: &DeclaredNames,
     reason: Lateness,
 ) -> Result<Vec<u8>, NoMemory>
-    requires tasks { AreNames names.now.tasks }
-    requires funcs { AreNames names.now.funcs }
-    requires counters { AreNames names.now.counters }
+    requires { AreReadable names.now }
     ensures { IfOk result (λ lines. lines.items ≡ lateness_lines names.now reason) }
 {
     let mut lines = Vec::new(alloc);
     match reason {
-        Lateness::Misplaced(place) => lines.extend_from_slice(place_line(place).bytes())?,
-        Lateness::Extra(place) => lines.extend_from_slice(place_line(place).bytes())?,
+        Lateness::Misplaced(place) | Lateness::Extra(place) => {
+            lines.extend_from_slice(place_line(place).bytes())?;
+        }
         Lateness::Passed {
             place,
             moment,
@@ -140,16 +135,14 @@ fn late_lines(
     events: &[Stamped],
     n: u32,
 ) -> Result<Vec<u8>, NoMemory>
-    requires tasks { AreNames names.now.tasks }
-    requires funcs { AreNames names.now.funcs }
-    requires counters { AreNames names.now.counters }
+    requires names { AreReadable names.now }
     requires short { length events.now < 4294967295 }
     requires admits { AreLinesInRange events.now }
     requires lines { All (λ a. a.line < 4294967296) arrivals.now }
     requires late { AreInPlace n arrivals.now events.now → AreAllAdmitted n arrivals.now events.now → ⊥ }
     ensures { IfOk result (λ lines. AreLatenessLines names.now n arrivals.now events.now lines.items) }
 {
-    let reason = reason_of(alloc, n, arrivals, events)?;
+    let reason = lateness_reason(alloc, n, arrivals, events)?;
     lateness_lines(alloc, names, reason)
 }
 

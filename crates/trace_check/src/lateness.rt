@@ -8,7 +8,7 @@ ghost use Rattle.trace_check.specs.Lateness.{AreInPlace, IsFirstDifference, IsFi
 
 use crate::differences::first_difference;
 use crate::pass::{Pass, admitted_line};
-use sloth_base::{Arrival, NoMemory, Stamped};
+use sloth_base::{Arrival, Result, Stamped};
 use std::alloc::Global;
 
 /// Why the events of a run are not in time. A place is the number of an event's line, a line one of the controller.
@@ -48,7 +48,7 @@ fn is_admission(event: &Stamped, moment: u32, line: u32) -> bool
 }
 
 // How many arrivals of a line a moment has.
-fn arrivals_at(arrivals: &[Arrival], moment: u32, line: u32) -> usize
+fn arrival_count(arrivals: &[Arrival], moment: u32, line: u32) -> usize
     ensures { result ≡ arrivals_at moment line arrivals.now }
 {
     arrivals
@@ -63,7 +63,7 @@ fn extra_place(arrivals: &[Arrival], events: &[Stamped], moment: u32, line: u32)
     ensures some { IfSome result (IsFirstExtra arrivals.now events.now moment line) }
     ensures none { IfNone result (admits_at moment line events.now ≤ arrivals_at moment line arrivals.now) }
 {
-    let wanted = arrivals_at(arrivals, moment, line);
+    let wanted = arrival_count(arrivals, moment, line);
     let mut count = 0;
     for i in 0..events.len() {
         if is_admission(&events[i], moment, line) {
@@ -138,12 +138,12 @@ fn explanation(
 }
 
 /// Why events are not in time.
-pub fn reason_of(
+pub fn lateness_reason(
     alloc: Global,
     n: u32,
     arrivals: &[Arrival],
     events: &[Stamped],
-) -> Result<Lateness, NoMemory>
+) -> Result<Lateness>
     requires short { length events.now < 4294967295 }
     requires admits { AreLinesInRange events.now }
     requires lines { All (λ a. a.line < 4294967296) arrivals.now }

@@ -73,7 +73,7 @@ fn shown_result(plan: Option<Plan>) -> Option<u32>
 }
 
 // The run of the next item of a task.
-fn item_of(config: &Config, app: &App, store: &Store, task: u32) -> Option<Event>
+fn own_run(config: &Config, app: &App, store: &Store, task: u32) -> Option<Event>
     requires read { IsRead config.now app.now store.now }
     requires declared { task < length store.now.tasks }
     ensures { result ≡ item_event app.now task store.now }
@@ -114,7 +114,7 @@ fn planned_event(task: u32, service: Service, plan: Option<Plan>) -> Option<Even
 }
 
 // The service that the next item of a task is.
-fn service_of(config: &Config, app: &App, store: &Store, task: u32) -> Option<Event>
+fn own_service(config: &Config, app: &App, store: &Store, task: u32) -> Option<Event>
     requires read { IsRead config.now app.now store.now }
     requires declared { task < length store.now.tasks }
     ensures { result ≡ service_event config.now app.now task store.now }
@@ -130,7 +130,7 @@ pub fn item_event(osek: &Osek, task: u32) -> Option<Event>
     requires { task < length osek.now.config.tasks }
     ensures { result ≡ item_event osek.now.app task osek.now.system }
 {
-    item_of(osek.config(), osek.app(), osek.store(), task)
+    own_run(osek.config(), osek.app(), osek.store(), task)
 }
 
 /// The service that the next item of a task is.
@@ -138,5 +138,5 @@ pub fn service_event(osek: &Osek, task: u32) -> Option<Event>
     requires { task < length osek.now.config.tasks }
     ensures { result ≡ service_event osek.now.config osek.now.app task osek.now.system }
 {
-    service_of(osek.config(), osek.app(), osek.store(), task)
+    own_service(osek.config(), osek.app(), osek.store(), task)
 }

@@ -7,12 +7,12 @@ ghost use Rattle.trace_check.specs.Counts.{SameCounts, arrival_number, last_mome
 ghost use Rattle.sloth_base.specs.Events.{admitted_line};
 
 use crate::pass::admitted_line;
-use sloth_base::{Arrival, NoMemory, Stamped};
+use sloth_base::{Arrival, Result, Stamped};
 use std::alloc::Global;
 use text_pieces::push;
 
 // A moment and a line as one number.
-fn number_at(moment: u32, line: u64) -> u64
+fn moment_number(moment: u32, line: u64) -> u64
     requires { moment * 4294967296 + line < 18446744073709551616 }
     ensures { result ≡ number_at moment line }
 {
@@ -20,32 +20,31 @@ fn number_at(moment: u32, line: u64) -> u64
 }
 
 /// One more number, where the event is an admission.
-pub fn push_number(numbers: &mut Vec<u64>, event: &Stamped) -> Result<(), NoMemory>
+pub fn push_number(numbers: &mut Vec<u64>, event: &Stamped) -> Result<()>
     requires { event.now.stamp.at < 4294967295 }
-    ensures { OnOk result (numbers.new.items ≡ numbers.old.items ++ with_admit (admitted_line event.now.event) event.now.stamp.at []) }
+    ensures { OnOk result
+        (numbers.new.items ≡ numbers.old.items ++ with_admit (admitted_line event.now.event) event.now.stamp.at []) }
 {
     match admitted_line(&event.event) {
-        Some(line) => push(numbers, number_at(event.stamp.at, line)),
+        Some(line) => push(numbers, moment_number(event.stamp.at, line)),
         None => Ok(()),
     }
 }
 
 /// The numbers of arrivals.
-pub fn arrival_numbers(alloc: Global, arrivals: &[Arrival]) -> Result<Vec<u64>, NoMemory>
+pub fn arrival_numbers(alloc: Global, arrivals: &[Arrival]) -> Result<Vec<u64>>
     ensures { IfOk result (λ numbers. numbers.items ≡ map arrival_number arrivals.now) }
 {
     let mut numbers = Vec::new(alloc);
     for arrival in arrivals {
-        push(
-            &mut numbers,
-            number_at(arrival.at, u64::from(arrival.line.0)),
-        )?;
+        let number = moment_number(arrival.at, u64::from(arrival.line.0));
+        push(&mut numbers, number)?;
     }
     Ok(numbers)
 }
 
 /// Sorts numbers.
-pub fn sort(numbers: &mut Vec<u64>) -> Result<(), NoMemory>
+pub fn sort(numbers: &mut Vec<u64>) -> Result<()>
     ensures permutation { OnOk result (IsPermutation numbers.old.items numbers.new.items) }
     ensures sorted { OnOk result (IsSorted nat_cmp numbers.new.items) }
 {
@@ -60,12 +59,8 @@ fn are_same(ones: &[u64], others: &[u64]) -> bool
     ones == others
 }
 
-/// Whether the admissions of these numbers are those of the arrivals, moment for moment and line for line. Sorts the numbers.
-pub fn are_admits_of(
-    alloc: Global,
-    arrivals: &[Arrival],
-    admits: &mut Vec<u64>,
-) -> Result<bool, NoMemory>
+/// Whether the admissions of these numbers are those of the arrivals, by moment and line. Sorts the numbers.
+pub fn are_admitted(alloc: Global, arrivals: &[Arrival], admits: &mut Vec<u64>) -> Result<bool>
     ensures { IfOk result (λ b. Decides b (SameCounts admits.old.items (map arrival_number arrivals.now))) }
 {
     let mut numbers = arrival_numbers(alloc, arrivals)?;

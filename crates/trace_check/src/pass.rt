@@ -1,4 +1,4 @@
-//! One pass over events with the arrivals: their stamps, where admits stand, and the order of admits with no other event between them.
+//! One pass over events and arrivals: stamps, where admits stand, and the order of admits next to each other.
 ghost use Rattle.std.specs.Prelude.{◌≡◌, ◌<◌, cond, option_copied, true, Some, None, IfSome};
 ghost use Rattle.sloth_base.specs.Events.{admitted_line, is_single};
 ghost use Rattle.trace_check.specs.Scan.{scan_after_admit, scan_after_other, behind_first, from_moment, is_stamped, scan_after_event, scan_start};
@@ -70,10 +70,10 @@ pub fn admitted_line(event: &Event) -> Option<u64>
 fn is_single(event: &Event) -> bool
     ensures { result ≡ is_single event.now }
 {
-    match *event {
-        Event::Idle | Event::Run { .. } | Event::Admit(_) | Event::Due(_) => true,
-        _ => false,
-    }
+    matches!(
+        *event,
+        Event::Idle | Event::Run { .. } | Event::Admit(_) | Event::Due(_)
+    )
 }
 
 // Whether an event may have its stamp in a run of n instructions.

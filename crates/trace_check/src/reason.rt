@@ -16,7 +16,7 @@ use crate::late::time_lines;
 use crate::lines::verdict_text;
 use crate::{Verdict, check};
 use run_inputs::{Inputs, read_inputs};
-use sloth_base::{App, Arrival, BuildError, Config, List, NoMemory, Refusal};
+use sloth_base::{App, Arrival, BuildError, Config, List, NoMemory, Refusal, Result};
 use std::alloc::Global;
 
 /// What is said of a configuration, its task source, arrivals and a text of events.
@@ -52,7 +52,7 @@ fn lines_behind(
     trace: &[u8],
     n: u32,
     verdict: Verdict,
-) -> Result<Vec<u8>, NoMemory>
+) -> Result<Vec<u8>>
     requires well_formed { WellFormed config.now app.now }
     requires in_range { AreArrivals (owners_in config.now) arrivals.now }
     requires short { length trace.now < 4294967295 }
@@ -69,7 +69,7 @@ fn lines_behind(
 }
 
 // The verdict on a text, and what stands behind it.
-fn judged(alloc: Global, inputs: &Inputs, trace: &[u8], n: u32) -> Result<TraceReason, NoMemory>
+fn judged(alloc: Global, inputs: &Inputs, trace: &[u8], n: u32) -> Result<TraceReason>
     requires well_formed { WellFormed inputs.now.config inputs.now.app }
     requires in_range { AreArrivals (owners_in inputs.now.config) inputs.now.arrivals.items }
     requires short { length trace.now < 4294967295 }
@@ -95,8 +95,8 @@ fn judged(alloc: Global, inputs: &Inputs, trace: &[u8], n: u32) -> Result<TraceR
     Ok(TraceReason::No(text))
 }
 
-/// The verdict on a text of events of n instructions, with the arrivals of a text, and what stands behind it; or the first refusal of
-/// the other texts. Texts of at most 4,294,967,294 bytes.
+/// The verdict on a text of events of n instructions, with the arrivals of a text, and what stands behind it; or the
+/// first refusal of the other texts. Texts of at most 4,294,967,294 bytes.
 pub fn explain_trace(
     alloc: Global,
     oil: &[u8],
@@ -104,7 +104,7 @@ pub fn explain_trace(
     arr: &[u8],
     trace: &[u8],
     n: u32,
-) -> Result<TraceReason, NoMemory>
+) -> Result<TraceReason>
     requires oil { length oil.now < 4294967295 }
     requires src { length src.now < 4294967295 }
     requires arr { length arr.now < 4294967295 }

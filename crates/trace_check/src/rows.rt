@@ -1,22 +1,27 @@
 //! The rows of the events that may come next behind a walk.
-ghost use Rattle.std.specs.Prelude.{◌≡◌, ◌<◌, ◌≤◌, ◌++◌, IfOk, List, OnOk, Some, length, option_to_list};
+ghost use Rattle.std.specs.Prelude.{◌≡◌, ◌<◌, ◌≤◌, ◌++◌, IfOk, List, OnOk, Some, length};
 ghost use Rattle.sloth_base.specs.declared.app.App.{App as AnyApp};
 ghost use Rattle.sloth_base.specs.declared.config.Config.{Config as AnyConfig};
 ghost use Rattle.sloth_base.specs.declared.event.Event.TheVariants as event_is;
 ghost use Rattle.sloth_base.specs.declared.event.Stamped.{Stamped as AnyEvent};
 ghost use Rattle.sloth_base.specs.Limits.{counter_limit, task_limit};
-ghost use Rattle.osek_scheduler.specs.Meaning.{on_some};
 ghost use Rattle.trace_check.specs.Walk.{IsWalked};
 ghost use Rattle.trace_check.specs.NextEvents.{AreNextEvents};
 ghost use Rattle.trace_check.specs.Rows.{all_rows, next_event, rows_below, rows_of, task_rows};
 
-use crate::NextEvent;
 use crate::limits::{event_limit, leaves_count};
 use crate::machine_events::{has_next, item_event, service_event};
 use crate::walk::Walk;
-use sloth_base::{Event, NoMemory};
+use sloth_base::{Event, Result};
 use std::alloc::Global;
 use text_pieces::push;
+
+/// An event that may come next, if it begins before the limit, where there is one.
+#[derive(Clone, Copy)]
+pub struct NextEvent {
+    pub event: Event,
+    pub limit: Option<u32>,
+}
 
 // The row of an event, if it may come next.
 fn next_event(walk: &Walk, event: Event) -> Option<NextEvent>
@@ -30,35 +35,20 @@ fn next_event(walk: &Walk, event: Event) -> Option<NextEvent>
 }
 
 // The row of an event, if there is one that may come next.
-fn row_of(walk: &Walk, event: Option<Event>) -> Option<NextEvent>
-    ensures { result ≡ on_some event (next_event walk.now) }
+fn push_event(rows: &mut Vec<NextEvent>, walk: &Walk, event: Option<Event>) -> Result<()>
+    ensures { OnOk result (rows.new.items ≡ rows.old.items ++ rows_of walk.now event) }
 {
-    match event {
-        Some(event) => next_event(walk, event),
-        None => None,
-    }
-}
-
-// One row more, if there is one.
-fn push_row(rows: &mut Vec<NextEvent>, row: Option<NextEvent>) -> Result<(), NoMemory>
-    ensures { OnOk result (rows.new.items ≡ rows.old.items ++ option_to_list row) }
-{
-    match row {
+    let Some(event) = event else {
+        return Ok(());
+    };
+    match next_event(walk, event) {
         Some(row) => push(rows, row),
         None => Ok(()),
     }
 }
 
-// The row of an event, if it may come next.
-fn push_event(rows: &mut Vec<NextEvent>, walk: &Walk, event: Option<Event>) -> Result<(), NoMemory>
-    ensures { OnOk result (rows.new.items ≡ rows.old.items ++ rows_of walk.now event) }
-{
-    let row = row_of(walk, event);
-    push_row(rows, row)
-}
-
 // The rows of a task, admissions aside.
-fn push_task(rows: &mut Vec<NextEvent>, walk: &Walk, task: u32) -> Result<(), NoMemory>
+fn push_task(rows: &mut Vec<NextEvent>, walk: &Walk, task: u32) -> Result<()>
     requires { task < length walk.now.machine.config.tasks }
     ensures { OnOk result (rows.new.items ≡ rows.old.items ++ task_rows walk.now task) }
 {
@@ -69,7 +59,7 @@ fn push_task(rows: &mut Vec<NextEvent>, walk: &Walk, task: u32) -> Result<(), No
 }
 
 // The rows of all tasks.
-fn push_tasks(rows: &mut Vec<NextEvent>, walk: &Walk, tasks: u32) -> Result<(), NoMemory>
+fn push_tasks(rows: &mut Vec<NextEvent>, walk: &Walk, tasks: u32) -> Result<()>
     requires { tasks ≡ length walk.now.machine.config.tasks }
     ensures { OnOk result (rows.new.items ≡ rows.old.items ++ rows_below tasks (task_rows walk.now)) }
 {
@@ -80,8 +70,9 @@ fn push_tasks(rows: &mut Vec<NextEvent>, walk: &Walk, tasks: u32) -> Result<(), 
 }
 
 // The ticks that may come next.
-fn push_ticks(rows: &mut Vec<NextEvent>, walk: &Walk, counters: u32) -> Result<(), NoMemory>
-    ensures { OnOk result (rows.new.items ≡ rows.old.items ++ rows_below counters (λ c. rows_of walk.now (Some (event_is.Tick c)))) }
+fn push_ticks(rows: &mut Vec<NextEvent>, walk: &Walk, counters: u32) -> Result<()>
+    ensures { OnOk result
+        (rows.new.items ≡ rows.old.items ++ rows_below counters (λ c. rows_of walk.now (Some (event_is.Tick c)))) }
 {
     for counter in 0..counters {
         push_event(rows, walk, Some(Event::Tick(counter)))?;
@@ -90,8 +81,9 @@ fn push_ticks(rows: &mut Vec<NextEvent>, walk: &Walk, counters: u32) -> Result<(
 }
 
 // The admissions of arrivals of tasks.
-fn push_admits(rows: &mut Vec<NextEvent>, walk: &Walk, tasks: u32) -> Result<(), NoMemory>
-    ensures { OnOk result (rows.new.items ≡ rows.old.items ++ rows_below tasks (λ t. rows_of walk.now (Some (event_is.Admit t)))) }
+fn push_admits(rows: &mut Vec<NextEvent>, walk: &Walk, tasks: u32) -> Result<()>
+    ensures { OnOk result
+        (rows.new.items ≡ rows.old.items ++ rows_below tasks (λ t. rows_of walk.now (Some (event_is.Admit t)))) }
 {
     for task in 0..tasks {
         push_event(rows, walk, Some(Event::Admit(task)))?;
@@ -100,8 +92,9 @@ fn push_admits(rows: &mut Vec<NextEvent>, walk: &Walk, tasks: u32) -> Result<(),
 }
 
 // The admissions of arrivals of counters.
-fn push_dues(rows: &mut Vec<NextEvent>, walk: &Walk, counters: u32) -> Result<(), NoMemory>
-    ensures { OnOk result (rows.new.items ≡ rows.old.items ++ rows_below counters (λ c. rows_of walk.now (Some (event_is.Due c)))) }
+fn push_dues(rows: &mut Vec<NextEvent>, walk: &Walk, counters: u32) -> Result<()>
+    ensures { OnOk result
+        (rows.new.items ≡ rows.old.items ++ rows_below counters (λ c. rows_of walk.now (Some (event_is.Due c)))) }
 {
     for counter in 0..counters {
         push_event(rows, walk, Some(Event::Due(counter)))?;
@@ -110,12 +103,7 @@ fn push_dues(rows: &mut Vec<NextEvent>, walk: &Walk, counters: u32) -> Result<()
 }
 
 // All rows.
-fn push_all(
-    rows: &mut Vec<NextEvent>,
-    walk: &Walk,
-    tasks: u32,
-    counters: u32,
-) -> Result<(), NoMemory>
+fn push_all(rows: &mut Vec<NextEvent>, walk: &Walk, tasks: u32, counters: u32) -> Result<()>
     requires tasks { tasks ≡ length walk.now.machine.config.tasks }
     requires counters { counters ≡ length walk.now.machine.config.counters }
     ensures { OnOk result (rows.new.items ≡ rows.old.items ++ all_rows walk.now) }
@@ -129,10 +117,11 @@ fn push_all(
 }
 
 /// The events that may come next behind those of a walk.
-pub fn next_events(alloc: Global, walk: &Walk) -> Result<Vec<NextEvent>, NoMemory>
+pub fn next_events(alloc: Global, walk: &Walk) -> Result<Vec<NextEvent>>
     requires tasks { length walk.now.machine.config.tasks ≤ task_limit }
     requires counters { length walk.now.machine.config.counters ≤ counter_limit }
-    ensures { IfOk result (λ rows. (config : AnyConfig) (app : AnyApp) (past : List AnyEvent) → IsWalked config app past walk.now
+    ensures { IfOk result
+        (λ rows. (config : AnyConfig) (app : AnyApp) (past : List AnyEvent) → IsWalked config app past walk.now
         → AreNextEvents config app past rows.items) }
 {
     let config = walk.osek().config();

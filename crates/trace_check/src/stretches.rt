@@ -15,7 +15,7 @@ pub fn boot_limit(_config: &Config) -> u32
 }
 
 // How many alarms a counter has.
-fn alarms_of(config: &Config, counter: u32) -> usize
+fn alarm_count(config: &Config, counter: u32) -> usize
     ensures is { result ≡ alarms_of config.now counter }
     ensures few { result ≤ length config.now.alarms }
 {
@@ -36,7 +36,7 @@ fn most_alarms(config: &Config) -> usize
 {
     let mut most = 0;
     for counter in 0..config.counters.items().len() {
-        most = alarms_of(config, counter as u32).max(most);
+        most = alarm_count(config, counter as u32).max(most);
     }
     most
 }

@@ -9,10 +9,10 @@ ghost use Rattle.osek_scheduler.specs.InTime.{InTime};
 ghost use Rattle.trace_check.specs.Counts.{AreLinesInRange};
 ghost use Rattle.trace_check.specs.Timed.{HasFewClocks, TimedBy, is_late};
 
-use crate::numbers::{are_admits_of, last_moment, may_leave, push_number};
+use crate::numbers::{are_admitted, last_moment, may_leave, push_number};
 use crate::pass::Pass;
 use crate::stretches::{boot_limit, longest_stretch};
-use sloth_base::{Arrival, Config, Event, NoMemory, Stamped};
+use sloth_base::{Arrival, Config, Event, Result, Stamped};
 use std::alloc::Global;
 use std::marker::Model;
 
@@ -102,8 +102,9 @@ impl<'a> Timing<'a> {
     }
 
     /// Takes an event.
-    pub fn take(&mut self, event: &Stamped) -> Result<(), NoMemory>
-        ensures timed { OnOk result ((events : List AnyEvent) → TimedBy events self.old → TimedBy (events ++ event.now ∷ []) self.new) }
+    pub fn take(&mut self, event: &Stamped) -> Result<()>
+        ensures timed { OnOk result
+            ((events : List AnyEvent) → TimedBy events self.old → TimedBy (events ++ event.now ∷ []) self.new) }
         ensures config { self.new.config ≡ self.old.config }
         ensures n { self.new.n ≡ self.old.n }
         ensures arrivals { self.new.arrivals ≡ self.old.arrivals }
@@ -121,7 +122,7 @@ impl<'a> Timing<'a> {
     }
 
     /// Whether the events stand where the arrivals allow.
-    pub fn in_time(&mut self, alloc: Global) -> Result<bool, NoMemory>
+    pub fn in_time(&mut self, alloc: Global) -> Result<bool>
         requires rising { AreRisingMoments 1 self.old.arrivals }
         requires lines { All (λ a. a.line < 4294967296) self.old.arrivals }
         ensures { IfOk result (λ b. (events : List AnyEvent) → AreLinesInRange events → TimedBy events self.old
@@ -131,7 +132,7 @@ impl<'a> Timing<'a> {
             return Ok(false);
         }
         let (front, back) = self.arrivals.split_at(self.admits.as_slice().len());
-        if !are_admits_of(alloc, front, &mut self.admits)? {
+        if !are_admitted(alloc, front, &mut self.admits)? {
             return Ok(false);
         }
         Ok(may_leave(

@@ -1,21 +1,20 @@
 //! The verdict on a text.
-ghost use Rattle.std.specs.Prelude.{◌≡◌, ◌<◌, ◌↔◌, IfOk, IfSome, IfNone, All, length};
+ghost use Rattle.std.specs.Prelude.{◌≡◌, ◌<◌, ◌↔◌, IfOk, All, length};
 ghost use Rattle.sloth_base.specs.Arrivals.{AreArrivals, AreRisingMoments};
-ghost use Rattle.sloth_base.specs.ImageRange.{AreNamesApart, AreNames};
 ghost use Rattle.sloth_base.specs.Owners.{owners_in};
 ghost use Rattle.sloth_base.specs.declared.app.App.{App as AnyApp};
 ghost use Rattle.sloth_base.specs.declared.config.Config.{Config as AnyConfig};
 ghost use Rattle.code_rules.specs.WellFormed.{WellFormed};
-ghost use Rattle.trace_check.specs.TraceText.{HasFirstLine, HasNoFirstLine};
+ghost use Rattle.trace_check.specs.TraceText.{AreReadable};
 ghost use Rattle.trace_check.specs.Verdicts.{Checked};
 ghost use Rattle.trace_check.specs.Answer.{IsVerdict};
 ghost use Rattle.trace_check.specs.Begun.{IsBegun};
 
 use crate::Timing;
-use crate::first_line::first_event;
+use crate::first_line::next_event;
 use crate::walk::Walk;
 use sloth_base::declared_names::declared_names;
-use sloth_base::{App, Arrival, Config, DeclaredNames, NoMemory, Stamped};
+use sloth_base::{App, Arrival, Config, DeclaredNames, NoMemory};
 use std::alloc::Global;
 use text_pieces::behind;
 
@@ -32,23 +31,6 @@ pub enum Verdict {
     Time,
 }
 
-/// The event of the first line, if an LF ends it.
-pub fn next_event(names: &DeclaredNames, text: &[u8]) -> Option<Stamped>
-    requires tasks { AreNames names.now.tasks }
-    requires funcs { AreNames names.now.funcs }
-    requires counters { AreNames names.now.counters }
-    requires apart { AreNamesApart names.now.counters names.now.tasks }
-    ensures some { IfSome result (λ e. HasFirstLine names.now.tasks names.now.funcs names.now.counters text.now e) }
-    ensures none { IfNone result (HasNoFirstLine names.now.tasks names.now.funcs names.now.counters text.now) }
-{
-    first_event(
-        text,
-        names.tasks.items(),
-        names.funcs.items(),
-        names.counters.items(),
-    )
-}
-
 // The verdict on a text, by a walk and a look at the arrivals before their first event.
 fn judge_lines(
     alloc: Global,
@@ -57,10 +39,7 @@ fn judge_lines(
     timing: &mut Timing,
     text: &[u8],
 ) -> Result<Verdict, NoMemory>
-    requires tasks { AreNames names.now.tasks }
-    requires funcs { AreNames names.now.funcs }
-    requires counters { AreNames names.now.counters }
-    requires apart { AreNamesApart names.now.counters names.now.tasks }
+    requires names { AreReadable names.now }
     requires rising { AreRisingMoments 1 timing.old.arrivals }
     requires lines { All (λ a. a.line < 4294967296) timing.old.arrivals }
     requires short { length text.now < 4294967295 }
@@ -88,26 +67,6 @@ fn judge_lines(
     Ok(Verdict::Time)
 }
 
-// The verdict.
-fn judge(
-    alloc: Global,
-    config: &Config,
-    app: &App,
-    arrivals: &[Arrival],
-    text: &[u8],
-    n: u32,
-) -> Result<Verdict, NoMemory>
-    requires well_formed { WellFormed config.now app.now }
-    requires arrivals { AreArrivals (owners_in config.now) arrivals.now }
-    requires short { length text.now < 4294967295 }
-    ensures { IfOk result (λ v. IsVerdict config.now app.now arrivals.now text.now n v) }
-{
-    let names = declared_names(alloc, config, app)?;
-    let mut walk = Walk::new(alloc, config, app)?;
-    let mut timing = Timing::new(alloc, config, n, arrivals);
-    judge_lines(alloc, &names, &mut walk, &mut timing, text)
-}
-
 /// Whether a text in the counted form is that of a run of n instructions with these arrivals, and if not, why not.
 pub fn check(
     alloc: Global,
@@ -123,5 +82,8 @@ pub fn check(
     ensures verdict { IfOk result (λ v. IsVerdict config.now app.now arrivals.now text.now n v) }
     ensures exact { IfOk result (λ v. (v ≡ Verdict.Yes) ↔ Checked config.now app.now arrivals.now text.now n) }
 {
-    judge(alloc, config, app, arrivals, text, n)
+    let names = declared_names(alloc, config, app)?;
+    let mut walk = Walk::new(alloc, config, app)?;
+    let mut timing = Timing::new(alloc, config, n, arrivals);
+    judge_lines(alloc, &names, &mut walk, &mut timing, text)
 }

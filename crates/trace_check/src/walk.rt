@@ -14,7 +14,7 @@ ghost use Rattle.trace_check.specs.Moments.{all_later, noted_moments};
 ghost use Rattle.trace_check.specs.Walk.{IsWalkEnd, IsWalked, IsWalkOrStray, IsWalkStep, event_passes, task_passes, with_moment};
 
 use osek_machine::{NotARun, Osek, is_active, is_suspended};
-use sloth_base::{App, Config, Event, LINE_COUNT, NoMemory, Stamped, TaskId};
+use sloth_base::{App, Config, Event, LINE_COUNT, Result, Stamped, TaskId};
 use std::alloc::Global;
 use std::marker::Model;
 
@@ -76,7 +76,7 @@ fn keep(moments: &mut [u32; LINE_COUNT], note: Option<(u32, u32)>)
 
 impl<'t> Walk<'t> {
     /// Before the first event.
-    pub fn new(alloc: Global, config: &'t Config, app: &'t App) -> Result<Walk<'t>, NoMemory>
+    pub fn new(alloc: Global, config: &'t Config, app: &'t App) -> Result<Walk<'t>>
         requires { WellFormed config.now app.now }
         ensures { IfOk result (λ w. IsWalked config.now app.now [] w) }
     {
@@ -101,16 +101,18 @@ impl<'t> Walk<'t> {
         &self.moments
     }
 
-    // Whether a task of the configuration is Active.
-    fn is_running(&self, task: u32) -> bool
-        ensures { result ≡ (ltb task (length self.now.machine.config.tasks) && is_active (task_of self.now.machine.system task).state) }
+    /// Whether a task of the configuration is Active.
+    pub fn is_running(&self, task: u32) -> bool
+        ensures { result ≡ (ltb task (length self.now.machine.config.tasks)
+            && is_active (task_of self.now.machine.system task).state) }
     {
         (task as usize) < self.osek.task_count() && is_active(self.osek.state(TaskId(task)))
     }
 
     // Whether a task of the configuration is Suspended.
     fn is_asleep(&self, task: u32) -> bool
-        ensures { task < length self.now.machine.config.tasks → result ≡ if_suspended (task_of self.now.machine.system task).state true false }
+        ensures { task < length self.now.machine.config.tasks
+            → result ≡ if_suspended (task_of self.now.machine.system task).state true false }
     {
         (task as usize) < self.osek.task_count() && is_suspended(self.osek.state(TaskId(task)))
     }
@@ -127,18 +129,19 @@ impl<'t> Walk<'t> {
 
     // Whether the tasks that an event passes over were admitted behind a count.
     fn event_passes(&self, event: &Event, count: u32) -> bool
-        ensures { result ≡ event_passes self.now.machine.config self.now.machine.system self.now.moments event.now count }
+        ensures { result
+            ≡ event_passes self.now.machine.config self.now.machine.system self.now.moments event.now count }
     {
         match *event {
-            Event::Call { task, .. } => self.task_passes(task, count),
-            Event::Left { task, .. } => self.task_passes(task, count),
+            Event::Call { task, .. } | Event::Left { task, .. } => self.task_passes(task, count),
             _ => true,
         }
     }
 
     // The task whose moment changes with an event, and that moment, if the event is a step.
     fn note(&self, event: &Stamped) -> Option<(u32, u32)>
-        ensures { (next : System) → OsekStep self.now.machine.config self.now.machine.app event.now.event self.now.machine.system next
+        ensures { (next : System)
+            → OsekStep self.now.machine.config self.now.machine.app event.now.event self.now.machine.system next
             → noted_moments event.now.event event.now.stamp.at self.now.machine.system self.now.moments ≡ with_moment result self.now.moments }
     {
         match event.event {
@@ -174,7 +177,8 @@ impl<'t> Walk<'t> {
 
     /// One event more, of a line, where none has strayed: the line of the first that strays.
     pub fn follow(&mut self, stray: Option<u32>, event: &Stamped, line: u32) -> Option<u32>
-        ensures { (config : AnyConfig) (app : AnyApp) (past : List AnyEvent) → line ≡ length past + 1 → IsWalkOrStray config app past stray self.old
+        ensures { (config : AnyConfig) (app : AnyApp) (past : List AnyEvent) → line ≡ length past + 1
+            → IsWalkOrStray config app past stray self.old
             → IsWalkOrStray config app (past ++ event.now ∷ []) result self.new }
     {
         if stray.is_some() {

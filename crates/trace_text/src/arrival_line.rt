@@ -6,7 +6,7 @@ ghost use Rattle.sloth_base.specs.Limits.{count_limit};
 ghost use Rattle.least_fault.specs.Search.{IsSearchResult};
 ghost use Rattle.text_pieces.specs.Digits.{capped_value};
 ghost use Rattle.trace_text.specs.ArrivalsText.{is_comment, are_digits, is_arrival, moment_of, named_among, owner_line, named_line, arrival_of};
-ghost use Rattle.trace_text.specs.ArrivalsText.{last_moment, is_outside, is_t1, is_t2, is_t3, is_t4, ArrivalLineFault};
+ghost use Rattle.trace_text.specs.ArrivalsText.{last_moment, is_t1, is_t2, is_t3, is_t4, ArrivalLineFault};
 
 use least_fault::{fault_if, merge};
 use sloth_base::{
@@ -85,10 +85,7 @@ fn named_among(most: usize, names: &[Name], word: &[u8]) -> Option<usize>
 pub fn task_line(tasks: &[Name], word: &[u8]) -> Option<u8>
     ensures { result ≡ named_among 256 tasks.now word.now }
 {
-    match named_among(LINES, tasks, word) {
-        Some(task) => Some(task as u8),
-        None => None,
-    }
+    Some(named_among(LINES, tasks, word)? as u8)
 }
 
 /// The line of the task or the counter of a name.
@@ -98,10 +95,8 @@ pub fn owner_line(tasks: &[Name], counters: &[Name], word: &[u8]) -> Option<u8>
     if let Some(line) = task_line(tasks, word) {
         return Some(line);
     }
-    match named_among(COUNTER_LINES, counters, word) {
-        Some(counter) => Some(FIRST_COUNTER_LINE + counter as u8),
-        None => None,
-    }
+    let counter = named_among(COUNTER_LINES, counters, word)?;
+    Some(FIRST_COUNTER_LINE + counter as u8)
 }
 
 // The line of the task or the counter that a line of the text names.
@@ -112,7 +107,7 @@ fn named_line(tasks: &[Name], counters: &[Name], line: &[u8]) -> Option<u8>
 }
 
 /// The arrival of a line, whose moment is at most `COUNT_LIMIT`.
-pub fn arrival_of(tasks: &[Name], counters: &[Name], line: &[u8]) -> Arrival
+pub fn arrival(tasks: &[Name], counters: &[Name], line: &[u8]) -> Arrival
     requires { moment_of line.now ≤ count_limit }
     ensures { result ≡ arrival_of tasks.now counters.now line.now }
 {
@@ -160,15 +155,8 @@ fn is_t3(before: &[Arrival], line: &[u8]) -> bool
 fn is_t4(before: &[Arrival], line: &[u8]) -> bool
     ensures { result ≡ is_t4 before.now line.now }
 {
-    is_arrival(line) && (before.len() >= ARRIVAL_LIMIT || is_outside(line))
-}
-
-// A moment out of range.
-fn is_outside(line: &[u8]) -> bool
-    ensures { result ≡ is_outside line.now }
-{
-    let moment = moment(line);
-    moment < 1 || u64::from(COUNT_LIMIT) < moment
+    let at = moment(line);
+    is_arrival(line) && (before.len() >= ARRIVAL_LIMIT || (at < 1 || u64::from(COUNT_LIMIT) < at))
 }
 
 /// The least fault of a line that these arrivals stand before, each at a moment of at most `COUNT_LIMIT`.

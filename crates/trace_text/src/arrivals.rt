@@ -5,11 +5,10 @@ ghost use Rattle.least_fault.specs.Order.{ErrorIs, NoFault};
 ghost use Rattle.text_pieces.specs.Names.{referent};
 ghost use Rattle.trace_text.specs.ArrivalsText.{arrivals_of, arrivals_in, owners_read, ArrivalLineFault, LinesFault, ArrivalsFault};
 
-use crate::arrival_line::{arrival_of, is_arrival, line_fault};
-use crate::arrival_words::push_arrival;
+use crate::arrival_line::{arrival, is_arrival, line_fault};
 use sloth_base::{Arrival, BuildError, Name};
 use std::alloc::Global;
-use text_pieces::lines;
+use text_pieces::{lines, push};
 
 // Reads a line behind these arrivals.
 fn read_line(
@@ -29,7 +28,7 @@ fn read_line(
         return Err(BuildError::Refused(fault));
     }
     if is_arrival(line) {
-        push_arrival(read, arrival_of(tasks, counters, line))?;
+        push(read, arrival(tasks, counters, line))?;
     }
     Ok(())
 }
@@ -54,9 +53,9 @@ fn read_lines(
     Ok(read)
 }
 
-/// The arrivals of a text of at most 4,294,967,294 bytes, with the names of the tasks and of the counters; or its least fault: T1 for a
-/// line of another shape, T2 for a name that is no task's and no counter's, T3 for a moment less than the one before, T4 for the 100,001st
-/// arrival or a moment outside 1 to 1,000,000.
+/// The arrivals of a text of at most 4,294,967,294 bytes, with the names of the tasks and of the counters; or its least
+/// fault: T1 for a line of another shape, T2 for a name that is no task's and no counter's, T3 for a moment less than
+/// the one before, T4 for the 100,001st arrival or a moment outside 1 to 1,000,000.
 pub fn read_arrivals(
     alloc: Global,
     text: &[u8],

@@ -4,11 +4,11 @@ ghost use Rattle.sloth_base.specs.ImageRange.{AreNames, AreNamesApart};
 ghost use Rattle.sloth_base.specs.declared.event.Stamped.{Stamped as AnyEvent};
 ghost use Rattle.trace_text.specs.EventNumbers.{HasEventNumbers, IsNameNumber, IsNumberOrNone, Has32Bits};
 ghost use Rattle.trace_text.specs.EventLines.{IsLineOf, counted_line};
-ghost use Rattle.trace_text.specs.EventsRead.{admit_in, call_in, event_in, is_single, left_in, more_in, named_in, number, of_task, place};
-ghost use Rattle.trace_text.specs.EventsRead.{place_or_none, run_in, stamped_in, tick_in};
+ghost use Rattle.trace_text.specs.EventsRead.{admit_in, event_in, is_single, more_in, named_in, number, of_task, place};
+ghost use Rattle.trace_text.specs.EventsRead.{place_or_none, run_in, stamped_in};
 
 use crate::arrival_line::position;
-use crate::reading::{bare_in, single_in};
+use crate::reading::{bare_event, single_event};
 use crate::{LineText, push_counts, push_event};
 use sloth_base::{Event, Name, Stamp, Stamped, service_named};
 use text_pieces::{before, behind, same, value};
@@ -59,7 +59,7 @@ fn place_or_none(names: &[Name], word: &[u8]) -> Option<u32>
 
 // A run of an item by a task.
 #[tactic(auto, unfolding(crate::specs::EventsRead::run_in))]
-fn run_in(task: u32, functions: &[Name], text: &[u8]) -> Option<Event>
+fn run_event(task: u32, functions: &[Name], text: &[u8]) -> Option<Event>
     ensures event { result ≡ run_in task functions.now text.now }
     ensures numbers { (tasks counters : ℕ) → IsNumberOrNone tasks task → IfSome result (λ event. HasEventNumbers tasks (length functions.now) counters event) }
 {
@@ -75,45 +75,27 @@ fn run_in(task: u32, functions: &[Name], text: &[u8]) -> Option<Event>
     })
 }
 
-// A call by a task.
-#[tactic(auto, unfolding(crate::specs::EventsRead::call_in))]
-fn call_in(task: u32, text: &[u8]) -> Option<Event>
-    ensures event { result ≡ call_in task text.now }
-    ensures numbers { (tasks functions counters : ℕ) → IsNumberOrNone tasks task → IfSome result (λ event. HasEventNumbers tasks functions counters event) }
-{
-    let service = service_named(before(text, b' '))?;
-    let status = number(behind(text, b' '))?;
-    Some(Event::Call {
-        task,
-        service,
-        status,
-    })
-}
-
-// A leave of a task.
-#[tactic(auto, unfolding(crate::specs::EventsRead::left_in))]
-fn left_in(task: u32, text: &[u8]) -> Option<Event>
-    ensures event { result ≡ left_in task text.now }
-    ensures numbers { (tasks functions counters : ℕ) → IsNumberOrNone tasks task → IfSome result (λ event. HasEventNumbers tasks functions counters event) }
-{
-    let service = service_named(text)?;
-    Some(Event::Left { task, service })
-}
-
 // An event of a task and of more, by its first word.
-#[tactic(auto, unfolding(crate::specs::EventsRead::more_in))]
-fn more_in(kind: &[u8], task: u32, functions: &[Name], text: &[u8]) -> Option<Event>
+#[tactic(auto, unfolding(crate::specs::EventsRead::more_in, crate::specs::EventsRead::call_in, crate::specs::EventsRead::left_in))]
+fn further_event(kind: &[u8], task: u32, functions: &[Name], text: &[u8]) -> Option<Event>
     ensures event { result ≡ more_in kind.now task functions.now text.now }
     ensures numbers { (tasks counters : ℕ) → IsNumberOrNone tasks task → IfSome result (λ event. HasEventNumbers tasks (length functions.now) counters event) }
 {
     if same(kind, b"run") {
-        return run_in(task, functions, text);
+        return run_event(task, functions, text);
     }
     if same(kind, b"call") {
-        return call_in(task, text);
+        let service = service_named(before(text, b' '))?;
+        let status = number(behind(text, b' '))?;
+        return Some(Event::Call {
+            task,
+            service,
+            status,
+        });
     }
     if same(kind, b"left") {
-        return left_in(task, text);
+        let service = service_named(text)?;
+        return Some(Event::Left { task, service });
     }
     None
 }
@@ -128,21 +110,21 @@ fn is_single(kind: &[u8]) -> bool
 
 // An event of a task, by its first word and the others.
 #[tactic(auto, unfolding(crate::specs::EventsRead::of_task))]
-fn of_task(tasks: &[Name], functions: &[Name], kind: &[u8], text: &[u8]) -> Option<Event>
+fn task_event(tasks: &[Name], functions: &[Name], kind: &[u8], text: &[u8]) -> Option<Event>
     ensures event { result ≡ of_task tasks.now functions.now kind.now text.now }
     ensures numbers { (counters : ℕ) → IfSome result (λ event. HasEventNumbers (length tasks.now) (length functions.now) counters event) }
 {
     if is_single(kind) {
         let task = place_or_none(tasks, text)?;
-        return single_in(kind, task);
+        return single_event(kind, task);
     }
     let task = place_or_none(tasks, before(text, b' '))?;
-    more_in(kind, task, functions, behind(text, b' '))
+    further_event(kind, task, functions, behind(text, b' '))
 }
 
 // The admission of the task or the counter of a name.
 #[tactic(auto, unfolding(crate::specs::EventsRead::admit_in))]
-fn admit_in(tasks: &[Name], counters: &[Name], text: &[u8]) -> Option<Event>
+fn admission(tasks: &[Name], counters: &[Name], text: &[u8]) -> Option<Event>
     ensures event { result ≡ admit_in tasks.now counters.now text.now }
     ensures numbers { (functions : ℕ) → IfSome result (λ event. HasEventNumbers (length tasks.now) functions (length counters.now) event) }
 {
@@ -153,19 +135,9 @@ fn admit_in(tasks: &[Name], counters: &[Name], text: &[u8]) -> Option<Event>
     Some(Event::Due(counter))
 }
 
-// A tick of a counter.
-#[tactic(auto, unfolding(crate::specs::EventsRead::tick_in))]
-fn tick_in(counters: &[Name], text: &[u8]) -> Option<Event>
-    ensures event { result ≡ tick_in counters.now text.now }
-    ensures numbers { (tasks functions : ℕ) → IfSome result (λ event. HasEventNumbers tasks functions (length counters.now) event) }
-{
-    let counter = place_or_none(counters, text)?;
-    Some(Event::Tick(counter))
-}
-
 // An event of a task or a counter, by its first word and the others.
-#[tactic(auto, unfolding(crate::specs::EventsRead::named_in))]
-fn named_in(
+#[tactic(auto, unfolding(crate::specs::EventsRead::named_in, crate::specs::EventsRead::tick_in))]
+fn named_event(
     tasks: &[Name],
     functions: &[Name],
     counters: &[Name],
@@ -176,24 +148,25 @@ fn named_in(
     ensures numbers { IfSome result (λ event. HasEventNumbers (length tasks.now) (length functions.now) (length counters.now) event) }
 {
     if same(kind, b"admit") {
-        return admit_in(tasks, counters, text);
+        return admission(tasks, counters, text);
     }
     if same(kind, b"tick") {
-        return tick_in(counters, text);
+        let counter = place_or_none(counters, text)?;
+        return Some(Event::Tick(counter));
     }
-    of_task(tasks, functions, kind, text)
+    task_event(tasks, functions, kind, text)
 }
 
 // The one event that these words may show.
 #[tactic(auto, unfolding(crate::specs::EventsRead::event_in))]
-fn event_in(tasks: &[Name], functions: &[Name], counters: &[Name], text: &[u8]) -> Option<Event>
+fn any_event(tasks: &[Name], functions: &[Name], counters: &[Name], text: &[u8]) -> Option<Event>
     ensures event { result ≡ event_in tasks.now functions.now counters.now text.now }
     ensures numbers { IfSome result (λ event. HasEventNumbers (length tasks.now) (length functions.now) (length counters.now) event) }
 {
-    if let Some(event) = bare_in(text) {
+    if let Some(event) = bare_event(text) {
         return Some(event);
     }
-    named_in(
+    named_event(
         tasks,
         functions,
         counters,
@@ -204,7 +177,7 @@ fn event_in(tasks: &[Name], functions: &[Name], counters: &[Name], text: &[u8]) 
 
 // The one event that a counted line may show.
 #[tactic(auto, unfolding(crate::specs::EventsRead::stamped_in))]
-fn stamped_in(tasks: &[Name], functions: &[Name], counters: &[Name], text: &[u8]) -> Option<Stamped>
+fn stamped(tasks: &[Name], functions: &[Name], counters: &[Name], text: &[u8]) -> Option<Stamped>
     ensures event { result ≡ stamped_in tasks.now functions.now counters.now text.now }
     ensures from { IfSome result (λ e. Has32Bits e.stamp.from) }
     ensures at { IfSome result (λ e. Has32Bits e.stamp.at) }
@@ -213,7 +186,7 @@ fn stamped_in(tasks: &[Name], functions: &[Name], counters: &[Name], text: &[u8]
     let from = number(before(text, b' '))?;
     let others = behind(text, b' ');
     let at = number(before(others, b' '))?;
-    let event = event_in(tasks, functions, counters, behind(others, b' '))?;
+    let event = any_event(tasks, functions, counters, behind(others, b' '))?;
     Some(Stamped {
         stamp: Stamp { from, at },
         event,
@@ -233,8 +206,8 @@ fn counted_line(tasks: &[Name], functions: &[Name], counters: &[Name], event: &S
     line
 }
 
-/// The event whose counted line this text is, without its LF: exactly where there is one. `-` is read as the task or the counter of
-/// number 4,294,967,295. Takes no memory.
+/// The event whose counted line this text is, without its LF: exactly where there is one. `-` is read as the task or
+/// the counter of number 4,294,967,295. Takes no memory.
 pub fn read_line(text: &[u8], tasks: &[Name], funcs: &[Name], counters: &[Name]) -> Option<Stamped>
     requires tasks { AreNames tasks.now }
     requires funcs { AreNames funcs.now }
@@ -242,7 +215,7 @@ pub fn read_line(text: &[u8], tasks: &[Name], funcs: &[Name], counters: &[Name])
     requires apart { AreNamesApart counters.now tasks.now }
     ensures { (event : AnyEvent) → (result ≡ Some event) ↔ IsLineOf tasks.now funcs.now counters.now event text.now }
 {
-    let Some(event) = stamped_in(tasks, funcs, counters, text) else {
+    let Some(event) = stamped(tasks, funcs, counters, text) else {
         return None;
     };
     let line = counted_line(tasks, funcs, counters, &event);

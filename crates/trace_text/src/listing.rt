@@ -7,8 +7,8 @@ ghost use Rattle.trace_text.specs.Listing.{line_at, mark_on, sizes_line, word_by
 use crate::{LineText, push_mark};
 use sloth_base::{Image, MEMORY_BASE, Mark};
 
-/// Line k of the listing of an image, counted from 0, without its LF: how many tasks, functions, bytes and marks there are; then each
-/// word of memory with its address, and what the mark on it says. k is at most the number of words.
+/// Line k of an image's listing, from 0, without its LF: how many tasks, functions, bytes and marks there are; then
+/// each word of memory with its address, and what its mark says. k is at most the number of words.
 pub fn listing_line(image: &Image, k: u32) -> LineText
     requires format { InFormat image.now }
     requires in_range { k ≤ length image.now.memory / 4 }
@@ -59,7 +59,7 @@ fn push_word(line: &mut LineText, image: &Image, offset: u32)
     line.push_word(address);
     line.push(b" ");
     push_bytes(line, image.memory.items(), offset as usize);
-    if let Some(mark) = mark_on(image.marks.items(), address) {
+    if let Some(mark) = word_mark(image.marks.items(), address) {
         push_mark(line, image.funcs.items(), &mark);
     }
 }
@@ -75,7 +75,7 @@ fn push_bytes(line: &mut LineText, memory: &[u8], at: usize)
 }
 
 // The mark on the word of an address.
-fn mark_on(marks: &[Mark], address: u32) -> Option<Mark>
+fn word_mark(marks: &[Mark], address: u32) -> Option<Mark>
     requires { AreAscending marks.now }
     ensures { result ≡ mark_on marks.now address }
 {

@@ -8,7 +8,7 @@ use text_pieces::same;
 
 /// An event that is one word.
 #[tactic(auto, unfolding(crate::specs::EventWords::bare_in))]
-pub fn bare_in(text: &[u8]) -> Option<Event>
+pub fn bare_event(text: &[u8]) -> Option<Event>
     ensures event { result ≡ bare_in text.now }
     ensures numbers { (tasks functions counters : ℕ) → IfSome result (λ event. HasEventNumbers tasks functions counters event) }
 {
@@ -26,7 +26,7 @@ pub fn bare_in(text: &[u8]) -> Option<Event>
 
 /// An event of a task alone, by its first word.
 #[tactic(auto, unfolding(crate::specs::EventWords::single_in))]
-pub fn single_in(kind: &[u8], task: u32) -> Option<Event>
+pub fn single_event(kind: &[u8], task: u32) -> Option<Event>
     ensures event { result ≡ single_in kind.now task }
     ensures numbers { (tasks functions counters : ℕ) → IsNumberOrNone tasks task → IfSome result (λ event. HasEventNumbers tasks functions counters event) }
 {

@@ -3,17 +3,18 @@ ghost use Rattle.std.specs.Prelude.{ℕ, ◌^◌, slice_index, ◌≡◌, ◌++�
 ghost use Rattle.sloth_base.specs.MemoryMap.{boot_base, line_count};
 ghost use Rattle.sloth_base.specs.ConfigRange.{InRange};
 ghost use Rattle.code_lengths.specs.CodeLengths.{boot_length};
-ghost use Rattle.vector_gen.specs.Boot.{register_code, line_start_code, lines_code, counters_code, finishing_code, IsBootCode};
+ghost use Rattle.vector_gen.specs.Boot.{register_code, line_start_code, lines_code, counters_code, finishing_code};
+ghost use Rattle.vector_gen.specs.Boot.{IsBootCode};
 ghost use Rattle.sloth_base.specs.Owners.{first_counter_line};
 ghost use Rattle.sloth_base.specs.Limits.{task_limit, counter_limit, level_count};
 
 use block_parts::{counter_level, raise_autostarted};
-use masked_code::emit::emit;
+use masked_code::put;
 use rv32_instr::{
     Block, Instr, MEPC, MPIE, MSTATUS, X1, X2, X3, X4, ZERO, addi, csrrw, hi, lo, lui, mret, sb,
 };
 use sloth_base::{
-    BOOT_BASE, Config, CounterDecl, FIRST_COUNTER_LINE, Levels, List, NoMemory, TASK_LIMIT,
+    BOOT_BASE, Config, CounterDecl, FIRST_COUNTER_LINE, Levels, List, NoMemory, Result, TASK_LIMIT,
     TaskDecl,
 };
 use sloth_region::{
@@ -22,13 +23,15 @@ use sloth_region::{
 use std::alloc::{AllocError, Global};
 
 /// The block of boot. It stores no zero to a pending byte and loads none.
-pub fn boot(alloc: Global, config: &Config, levels: &Levels, map: &Map) -> Result<Block, NoMemory>
+pub fn boot(alloc: Global, config: &Config, levels: &Levels, map: &Map) -> Result<Block>
     requires range { InRange config.now }
     requires levels { levels.now.top < level_count }
     ensures at { IfOk result (λ block. block.at ≡ boot_base) }
     ensures marks { IfOk result (λ block. block.marks ≡ []) }
-    ensures size { IfOk result (λ block. length block.code ≡ boot_length config.now.tasks (length config.now.counters)) }
-    ensures effect { IfOk result (λ block. IsBootCode config.now.tasks (length config.now.counters) levels.now.task levels.now.top map.now.idle
+    ensures size { IfOk result (λ block. length block.code
+        ≡ boot_length config.now.tasks (length config.now.counters)) }
+    ensures effect { IfOk result (λ block.
+        IsBootCode config.now.tasks (length config.now.counters) levels.now.task levels.now.top map.now.idle
         block.code) }
 {
     let mut code = Vec::new(alloc);
@@ -47,7 +50,7 @@ pub fn boot(alloc: Global, config: &Config, levels: &Levels, map: &Map) -> Resul
 fn begin(code: &mut Vec<Instr>) -> Result<(), AllocError>
     ensures { OnOk result (code.new.items ≡ code.old.items ++ register_code) }
 {
-    emit(code, &[lui(X3, CONTROLLER_HIGH), addi(X4, ZERO, 1)])
+    put!(code; lui(X3, CONTROLLER_HIGH), addi(X4, ZERO, 1))
 }
 
 /// A line gets its level and is enabled, and is raised where its task is autostarted.
@@ -55,12 +58,7 @@ fn start(code: &mut Vec<Instr>, line: u8, level: u8, autostart: bool) -> Result<
     requires { line < line_count }
     ensures { OnOk result (code.new.items ≡ code.old.items ++ line_start_code line level autostart) }
 {
-    let enabled = [
-        addi(X1, ZERO, level as i32),
-        sb(X1, X3, level_byte(line)),
-        sb(X4, X3, enabled_byte(line)),
-    ];
-    emit(code, &enabled)?;
+    put!(code; addi(X1, ZERO, level as i32), sb(X1, X3, level_byte(line)), sb(X4, X3, enabled_byte(line)))?;
     raise_autostarted(code, line, autostart)
 }
 
@@ -87,7 +85,8 @@ fn start_counters(
     level: u8,
 ) -> Result<(), AllocError>
     requires { length counters.now ≤ counter_limit }
-    ensures added { OnOk result (code.new.items ≡ code.old.items ++ counters_code (length counters.now) first_counter_line level) }
+    ensures added { OnOk result (code.new.items
+        ≡ code.old.items ++ counters_code (length counters.now) first_counter_line level) }
     ensures byte { level < 256 }
 {
     for i in 0..counters.len() {
@@ -101,15 +100,6 @@ fn finish(code: &mut Vec<Instr>, idle: u32) -> Result<(), AllocError>
     ensures added { OnOk result (code.new.items ≡ code.old.items ++ finishing_code idle) }
     ensures fits { idle < 2 ^ 32 }
 {
-    let finished = [
-        lui(X4, WORDS_HIGH),
-        addi(X2, X4, IDLE_CONTEXT + CONTEXT_BYTES),
-        addi(X1, ZERO, MPIE),
-        csrrw(ZERO, MSTATUS, X1),
-        lui(X1, hi(idle)),
-        addi(X1, X1, lo(idle)),
-        csrrw(ZERO, MEPC, X1),
-        mret(),
-    ];
-    emit(code, &finished)
+    put!(code; lui(X4, WORDS_HIGH), addi(X2, X4, IDLE_CONTEXT + CONTEXT_BYTES), addi(X1, ZERO, MPIE),
+        csrrw(ZERO, MSTATUS, X1), lui(X1, hi(idle)), addi(X1, X1, lo(idle)), csrrw(ZERO, MEPC, X1), mret())
 }

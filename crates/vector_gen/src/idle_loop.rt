@@ -4,12 +4,12 @@ ghost use Rattle.vector_gen.specs.Idle.{idle_mark, IsIdleCode};
 
 use block_parts::stay;
 use rv32_instr::Block;
-use sloth_base::{List, Mark, MarkKind, NoMemory};
+use sloth_base::{List, Mark, MarkKind, Result};
 use sloth_region::Map;
 use std::alloc::Global;
 
 /// The idle loop, under its mark.
-pub fn idle(alloc: Global, map: &Map) -> Result<Block, NoMemory>
+pub fn idle(alloc: Global, map: &Map) -> Result<Block>
     ensures at { IfOk result (λ block. block.at ≡ map.now.idle) }
     ensures marks { IfOk result (λ block. block.marks ≡ idle_mark map.now.idle ∷ []) }
     ensures size { IfOk result (λ block. length block.code ≤ 256) }

@@ -11,12 +11,12 @@ use crate::resumption::take_up;
 use block_parts::start_level;
 use code_lengths::body_of;
 use rv32_instr::{Block, Instr};
-use sloth_base::{App, Config, Levels, List, NoMemory, TaskId};
+use sloth_base::{App, Config, Levels, List, Result, TaskId};
 use sloth_region::Map;
 use std::alloc::{AllocError, Global};
 
-/// The prologue of a task, at the address of its line's handler in the map: 73 instructions for a basic task, 108 for an extended
-/// one, and one for each word of the frame of the task's body.
+/// The prologue of a task, at the address of its line's handler in the map: 73 instructions for a basic task, 108 for
+/// an extended one, and one for each word of the frame of the task's body.
 pub fn prologue(
     alloc: Global,
     task: TaskId,
@@ -24,13 +24,14 @@ pub fn prologue(
     app: &App,
     levels: &Levels,
     map: &Map,
-) -> Result<Block, NoMemory>
+) -> Result<Block>
     requires exists { (task < length config.now.tasks) × (length config.now.tasks ≤ task_limit) }
     requires levels { (levels.now.top < level_count) × ((t : ℕ) → slice_index levels.now.task t < level_count) }
     requires body { (body : ℕ) × IsBodyPlace app.now.funcs task body }
     requires frames { All (λ func. func.frame_words ≤ frame_limit) app.now.funcs }
     requires tops { (length map.now.tops ≡ length config.now.tasks) × All IsStackTop map.now.tops }
-    requires items { (length app.now.funcs ≤ length map.now.places.first) × All (λ i. i < length map.now.places.items) map.now.places.first }
+    requires items { (length app.now.funcs ≤ length map.now.places.first)
+        × All (λ i. i < length map.now.places.items) map.now.places.first }
     ensures at { IfOk result (λ block. block.at ≡ slice_index map.now.handlers task) }
     ensures marks { IfOk result (λ block. block.marks ≡ []) }
     ensures size { IfOk result (λ block. IsPrologueLength task config.now app.now (length block.code)) }
@@ -58,7 +59,8 @@ fn entry(
     requires body { (body : ℕ) × IsBodyPlace app.now.funcs task body }
     requires frames { All (λ func. func.frame_words ≤ frame_limit) app.now.funcs }
     requires tops { (length map.now.tops ≡ length config.now.tasks) × All IsStackTop map.now.tops }
-    requires items { (length app.now.funcs ≤ length map.now.places.first) × All (λ i. i < length map.now.places.items) map.now.places.first }
+    requires items { (length app.now.funcs ≤ length map.now.places.first)
+        × All (λ i. i < length map.now.places.items) map.now.places.first }
     ensures size { IfOk result (λ code. IsPrologueLength task config.now app.now (length code.items)) }
     ensures enters { IfOk result (λ code. IsTaskPrologue task config.now app.now levels.now map.now code.items) }
 {
@@ -100,7 +102,8 @@ fn code_of(
     requires small { (task < task_limit) × (level < level_count) × (words ≤ frame_limit) }
     requires in_ram { memory_base ≤ frame }
     ensures size { IfOk result (λ code. length code.items ≡ prologue_length extended words) }
-    ensures enters { IfOk result (λ code. IsPrologueCode extended task level first (frame - memory_base) words code.items) }
+    ensures enters { IfOk result (λ code.
+        IsPrologueCode extended task level first (frame - memory_base) words code.items) }
 {
     let mut code = Vec::new(alloc);
     save_context(&mut code, level)?;

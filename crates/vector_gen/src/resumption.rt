@@ -4,8 +4,7 @@ ghost use Rattle.sloth_base.specs.Limits.{task_limit};
 ghost use Rattle.vector_gen.specs.Pieces.{wait_answer_code, going_on_code, kept_context_test, context_taking_code};
 
 use block_parts::take_own;
-use masked_code::emit::emit;
-use masked_code::{past, restore};
+use masked_code::{past, put, restore};
 use rv32_instr::{A0, Instr, X1, X4, ZERO, addi, beq, lw, mret};
 use sloth_base::E_OK;
 use sloth_region::resume;
@@ -31,8 +30,7 @@ fn ask_kept(code: &mut Vec<Instr>, task: u32) -> Result<(), AllocError>
     requires { task < task_limit }
     ensures { OnOk result (code.new.items ≡ code.old.items ++ kept_context_test task) }
 {
-    let asked = [lw(X1, X4, resume(task)), beq(X1, ZERO, past(GOES_ON))];
-    emit(code, &asked)
+    put!(code; lw(X1, X4, resume(task)), beq(X1, ZERO, past(GOES_ON)))
 }
 
 /// The task goes on behind its wait, as its context at x1 says.
@@ -50,5 +48,5 @@ fn go_on(code: &mut Vec<Instr>, task: u32) -> Result<(), AllocError>
 fn answer_wait(code: &mut Vec<Instr>) -> Result<(), AllocError>
     ensures { OnOk result (code.new.items ≡ code.old.items ++ wait_answer_code) }
 {
-    emit(code, &[addi(A0, ZERO, E_OK as i32), mret()])
+    put!(code; addi(A0, ZERO, E_OK as i32), mret())
 }

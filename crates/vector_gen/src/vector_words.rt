@@ -4,14 +4,14 @@ ghost use Rattle.sloth_base.specs.MemoryMap.{vectors_base, line_count};
 ghost use Rattle.vector_gen.specs.Vectors.{AreInReach, AreJumps, StepToHandlers};
 
 use block_parts::jump;
-use masked_code::emit::emit;
+use masked_code::put;
 use rv32_instr::Block;
-use sloth_base::{LINE_COUNT, List, NoMemory, VECTORS_BASE};
+use sloth_base::{LINE_COUNT, List, Result, VECTORS_BASE};
 use sloth_region::Map;
 use std::alloc::Global;
 
 /// The 32 vector words.
-pub fn vectors(alloc: Global, map: &Map) -> Result<Block, NoMemory>
+pub fn vectors(alloc: Global, map: &Map) -> Result<Block>
     requires { AreInReach map.now.handlers }
     ensures at { IfOk result (λ block. block.at ≡ vectors_base) }
     ensures marks { IfOk result (λ block. block.marks ≡ []) }
@@ -22,7 +22,7 @@ pub fn vectors(alloc: Global, map: &Map) -> Result<Block, NoMemory>
     let mut code = Vec::new(alloc);
     for line in 0..LINE_COUNT as u32 {
         let from = VECTORS_BASE + 4 * line;
-        emit(&mut code, &[jump(from, map.handlers[line as usize])])?;
+        put!(&mut code; jump(from, map.handlers[line as usize]))?;
     }
     Ok(Block {
         at: VECTORS_BASE,

@@ -1,9 +1,9 @@
 -- Where parts may begin: the test tells it of items that walks reach.
 use Rattle.std.proofs.Common.{◌≡◌, ℕ, ◌+◌, ◌-◌, ◌<◌, Bool, true, false, ltb, ◌&&◌, length, get_or, refl, ap, sym, ◌∙◌, subst, arith}
-use Rattle.std.proofs.lemmas.Bool.{false≢true, and_parts, lt-ltb, ltb-true}
+use Rattle.std.proofs.lemmas.Bool.{false≢true, and_parts, lt-ltb, ltb-true, le-leb, leb-true}
 use Rattle.sloth_base.specs.declared.config.Config.{Config}
 use Rattle.sloth_base.specs.declared.app.App.{App}
-use Rattle.sloth_base.specs.Named.{function, operation}
+use Rattle.sloth_base.specs.Named.{function, operation, item_of}
 use Rattle.bound_rules.specs.declared.bodies.Body.{Body}
 use Rattle.walk_sums.specs.KnownBodies.{IsKnownBody}
 use Rattle.walk_sums.specs.declared.kinds.Kind.{Kind}
@@ -38,11 +38,15 @@ module _ (config : Config) (app : App) where
       marked : (b c : Bool) → ltb 0 (s.wait + 1) ≡ true → b ≡ true → c ≡ true → (ltb 0 (s.wait + 1) && (b && c)) ≡ true
       marked b c x y z = ap (λ v. v && (b && c)) x ∙ ap (λ v. v && c) y ∙ z
 
+  abbrev operation_line : (f i : ℕ) → ℕ
+  operation_line f i = (item_of (function app f) i).line
+
   pub begins_there : (kind : Kind) (f : ℕ) → f < length app.funcs → (body : Body) → IsKnownBody config app f body → (i : ℕ) → i < length (function app f).items
       → may_begin kind (function app f) body.reached i ≡ true → MayBegin app kind f i
   begins_there kinds.Turns f known body is i lt e = absurd (false≢true e)
   begins_there kinds.Rounds f known body is i lt e = behind_there f known body is i lt e
   begins_there kinds.Sections f known body is i lt e = tt
+  begins_there (kinds.EarlySections line) f known body is i lt e = leb-true (operation_line f i) line e
   begins_there (kinds.Uncleared events) f known body is i lt e = behind_there f known body is i lt e
 
   pub begins_marked : (kind : Kind) (f : ℕ) → f < length app.funcs → (body : Body) → IsKnownBody config app f body → (i : ℕ) → i < length (function app f).items
@@ -50,4 +54,5 @@ module _ (config : Config) (app : App) where
   begins_marked kinds.Turns f known body is i lt e = absurd e
   begins_marked kinds.Rounds f known body is i lt e = behind_marked f body is i e
   begins_marked kinds.Sections f known body is i lt e = refl
+  begins_marked (kinds.EarlySections line) f known body is i lt e = le-leb (operation_line f i) line e
   begins_marked (kinds.Uncleared events) f known body is i lt e = behind_marked f body is i e

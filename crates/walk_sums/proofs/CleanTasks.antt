@@ -42,7 +42,7 @@ module _ (config : Config) (app : App) (w : Facts config app) (k : ℕ) (table :
 
   module _ (t : ℕ) (declared : t < length config.tasks) where
     parts : AreParts (IsPart app t (IsBehindWait app) Anywhere (stops (kinds.Uncleared (2 ^ k)))) weights (Sums t)
-    parts = later_parts config app w weights (counted_fit (counts.Waits (2 ^ k)) app) (kinds.Uncleared (2 ^ k)) t declared (λ outer. None) Anywhere (all_stand config app)
+    parts = later_parts config app w weights (counted_fit (counts.Waits (2 ^ k)) app) (kinds.Uncleared (2 ^ k)) t declared (λ outer. None) Anywhere (all_stand config app) (λ at. tt)
 
     pub bit_decided : Decides (clears_it app.funcs table t) (ClearsBit app t k)
     bit_decided = by (summary_of table (body_of app.funcs t)).is_endless (are.each (body_of app.funcs t) (has_body config app w t declared).0)

@@ -20,7 +20,7 @@ use Rattle.walk_sums.proofs.Callers.{step_of, AreCallers, Walked, stands_on, ite
 use Rattle.walk_sums.specs.declared.kinds.Kind.{Kind}
 use Rattle.walk_sums.specs.declared.kinds.Kind.TheVariants as kinds
 use Rattle.walk_sums.specs.Rounds.{OnlyLast, IsPart, IsFirst, IsBehindWait, is_wait}
-use Rattle.walk_sums.specs.Kinds.{stops, StandsBehindWait, MayBegin, MayFollow}
+use Rattle.walk_sums.specs.Kinds.{stops, StandsBehindWait, MayBegin, MayFollow, MayOpen}
 use Rattle.walk_sums.specs.Parts.{IsOpenStep, SumsBack, SumsOn, SumsOut, SumsWithin, back_returns, back_inside, back_passes, on_ends, on_inside, on_enters, on_passes, out_here, out_behind, within_here, within_called, within_behind}
 use Rattle.walk_sums.proofs.Covering.{waits_next}
 
@@ -187,13 +187,14 @@ module _ (config : Config) (app : App) (weights : List BodyWeights) (kind : Kind
         begins_behind from at found.0 e found.1.0
 
     begins_at : t < length config.tasks → (k : Kind) → k ≡ kind → (before : List Position) (at : Position) (further : List Position) → IsWalk app t (before ++ at ∷ further)
-        → MayFollow app k before → Begins at
-    begins_at declared k same before [] further walk may = absurd (walked_to config app w t declared before [] further walk).0
-    begins_at declared kinds.Turns same before (here ∷ outer) further walk may = absurd may
-    begins_at declared kinds.Rounds same before (here ∷ outer) further walk may =
+        → MayFollow app k before → MayOpen app k at → Begins at
+    begins_at declared k same before [] further walk may may_open = absurd (walked_to config app w t declared before [] further walk).0
+    begins_at declared kinds.Turns same before (here ∷ outer) further walk may may_open = absurd may
+    begins_at declared kinds.Rounds same before (here ∷ outer) further walk may may_open =
         subst (λ v. MayBegin app v here.func here.item) same (behind_wait declared before (here ∷ outer) further walk may)
-    begins_at declared kinds.Sections same before (here ∷ outer) further walk may = subst (λ v. MayBegin app v here.func here.item) same tt
-    begins_at declared (kinds.Uncleared events) same before (here ∷ outer) further walk may =
+    begins_at declared kinds.Sections same before (here ∷ outer) further walk may may_open = subst (λ v. MayBegin app v here.func here.item) same tt
+    begins_at declared (kinds.EarlySections line) same before (here ∷ outer) further walk may may_open = subst (λ v. MayBegin app v here.func here.item) same may_open
+    begins_at declared (kinds.Uncleared events) same before (here ∷ outer) further walk may may_open =
         subst (λ v. MayBegin app v here.func here.item) same (behind_wait declared before (here ∷ outer) further walk may)
 
     -- ---- parts
@@ -210,8 +211,8 @@ module _ (config : Config) (app : App) (weights : List BodyWeights) (kind : Kind
 
     -- one that begins where parts may
     pub later_part : t < length config.tasks → (at : Position) (further : List Position) → IsPart app t (MayFollow app kind) IsRaisedAt (stops kind) (at ∷ further)
-        → Whole (sum_of weights (at ∷ further))
-    later_part declared at further is =
+        → MayOpen app kind at → Whole (sum_of weights (at ∷ further))
+    later_part declared at further is may_open =
         let found = walked_to config app w t declared is.before at further is.of_walk in
-        climb at (sum_of weights (at ∷ further)) found.0 (begins_at declared kind refl is.before at further is.of_walk is.begins)
+        climb at (sum_of weights (at ∷ further)) found.0 (begins_at declared kind refl is.before at further is.of_walk is.begins may_open)
         (spreads at further found.1 is.stands is.unbroken found.0)

@@ -16,8 +16,8 @@ use Rattle.walk_sums.specs.declared.kinds.Kind.TheVariants as kinds
 use Rattle.walk_sums.specs.Rounds.{is_wait}
 use Rattle.walk_sums.specs.Kinds.{stops, MayBegin}
 use Rattle.walk_sums.specs.Weights.{AreWeightless, SmallEndings}
-use Rattle.walk_sums.specs.Parts.{SumsBack, SumsOn, SumsOut, SumsWithin, back_returns, back_inside, back_passes, on_ends, on_inside, on_enters, on_passes, out_here, out_behind, within_here, within_called, within_behind}
-use Rattle.walk_sums.specs.Known.{SumsAny, IsEndless, IsSummed}
+use Rattle.walk_sums.specs.Parts.{IsOpenStep, SumsBack, SumsOn, SumsOut, SumsWithin, back_returns, back_inside, back_passes, on_ends, on_inside, on_enters, on_passes, out_here, out_behind, within_here, within_called, within_behind}
+use Rattle.walk_sums.specs.Known.{SumsAny, endless_kind, IsEndless, IsSummed}
 
 -- a WaitEvent leads to the next item alone
 no_way : (o : Op) (k : ℕ) → is_wait o ≡ true → way o ≡ Some k → ⊥
@@ -110,6 +110,29 @@ module _ (config : Config) (app : App) (weights : List BodyWeights) (kind : Kind
 
 -- ---- kinds
 
+-- parts of sections that begin early go on as those of all sections
+same_stops : (k : Kind) (o : Op) → stops (endless_kind k) o ≡ stops k o
+same_stops kinds.Turns o = refl
+same_stops kinds.Rounds o = refl
+same_stops kinds.Sections o = refl
+same_stops (kinds.EarlySections line) o = refl
+same_stops (kinds.Uncleared events) o = refl
+
+module _ (config : Config) (app : App) (weights : List BodyWeights) (kind : Kind) where
+  open_step : (level : Option ℕ) (f i j : ℕ) → IsOpenStep config app kind level f i j → IsOpenStep config app (endless_kind kind) level f i j
+  open_step level f i j s = record { step = s.step; no_stop = same_stops kind s.step.operation ∙ s.no_stop; raised = s.raised }
+
+  back_ever : (level : Option ℕ) (f i n : ℕ) → SumsBack config app weights kind level f i n → SumsBack config app weights (endless_kind kind) level f i n
+  back_ever level f i n (back_returns l g k item raised) = back_returns l g k item raised
+  back_ever level f i n (back_inside l g k j m p further) = back_inside l g k j m (open_step l g k j p) (back_ever l g j m further)
+  back_ever level f i n (back_passes l a k g m q e inner further) = back_passes l a k g m q e (back_ever None g 0 m inner) (back_ever l a (k + 1) q further)
+
+  on_ever : (level : Option ℕ) (f i n : ℕ) → SumsOn config app weights kind level f i n → SumsOn config app weights (endless_kind kind) level f i n
+  on_ever level f i n (on_ends l g k item raised) = on_ends l g k item raised
+  on_ever level f i n (on_inside l g k j m p further) = on_inside l g k j m (open_step l g k j p) (on_ever l g j m further)
+  on_ever level f i n (on_enters l a k g m e inner) = on_enters l a k g m e (on_ever None g 0 m inner)
+  on_ever level f i n (on_passes l a k g m q e inner further) = on_passes l a k g m q e (back_ever None g 0 m inner) (on_ever l a (k + 1) q further)
+
 resumes_turns : (app : App) (config : Config) (weights : List BodyWeights) → Resumes config app weights kinds.Turns
 resumes_turns app config weights f i j r s e = absurd (false≢true e)
 
@@ -125,24 +148,24 @@ resumes_rounds app config weights f i j r s e = record {
 module _ (config : Config) (app : App) (weights : List BodyWeights) where
   -- where parts from a reached item have no limit
   pub covered : (kind : Kind) (level : Option ℕ) (f : ℕ) → IsSummed weights kind level → (n i k : ℕ) → ReachesItem app f i → SumsOn config app weights kind level f i k → n ≤ k
-      → ((m : ℕ) → (q : ℕ) × SumsOn config app weights kind level f i q × (m ≤ q)) → (q : ℕ) × SumsAny config app weights kind level f q × (n ≤ q)
+      → ((m : ℕ) → (q : ℕ) × SumsOn config app weights kind level f i q × (m ≤ q)) → (q : ℕ) × SumsAny config app weights (endless_kind kind) level f q × (n ≤ q)
   covered kind level f (inl is) n i k r part le more =
-      (k, inr (within_here level f i k r (subst (λ v. MayBegin app v f i) (sym is) tt) part), le)
+      (k, inr (within_here level f i k r (subst (λ v. MayBegin app v f i) (sym is) tt) (on_ever config app weights kind level f i k part)), le)
   covered kind level f (inr (inl (is, by))) n i k r part le more = at is
     where
-      any : Any config app weights kind None f k
+      any : Any config app weights (endless_kind kind) None f k
       any = ⊎_elim
-          (λ e. subst (λ v. Any config app weights v None f k) (sym e) (on_all config app weights kinds.Turns (resumes_turns app config weights) f i k r (subst (λ v. SumsOn config app weights v None f i k) e here)))
-          (λ e. subst (λ v. Any config app weights v None f k) (sym e) (on_all config app weights kinds.Rounds (resumes_rounds app config weights) f i k r (subst (λ v. SumsOn config app weights v None f i k) e here)))
+          (λ e. subst (λ v. Any config app weights (endless_kind v) None f k) (sym e) (on_all config app weights kinds.Turns (resumes_turns app config weights) f i k r (subst (λ v. SumsOn config app weights v None f i k) e here)))
+          (λ e. subst (λ v. Any config app weights (endless_kind v) None f k) (sym e) (on_all config app weights kinds.Rounds (resumes_rounds app config weights) f i k r (subst (λ v. SumsOn config app weights v None f i k) e here)))
           by
         where
           here : SumsOn config app weights kind None f i k
           here = subst (λ l. SumsOn config app weights kind l f i k) is part
 
-      at : level ≡ None → (q : ℕ) × SumsAny config app weights kind level f q × (n ≤ q)
+      at : level ≡ None → (q : ℕ) × SumsAny config app weights (endless_kind kind) level f q × (n ≤ q)
       at e =
           let least = any.2 in
-          (any.0, subst (λ l. SumsAny config app weights kind l f any.0) (sym e) any.1, omega (arith, least, le))
+          (any.0, subst (λ l. SumsAny config app weights (endless_kind kind) l f any.0) (sym e) any.1, omega (arith, least, le))
   covered kind level f (inr (inr (none, small))) n i k r part le more =
       let large = more (suc size_limit) in
       let little = on_little config app weights kind none small level f i large.0 large.1 in
@@ -154,29 +177,31 @@ module _ (config : Config) (app : App) (weights : List BodyWeights) where
       → IsEndless config app weights kind level f
   covered_call kind level f summed i g c endless n = by summed (endless n)
     where
-      inside : (k : ℕ) → SumsWithin config app weights kind (level_behind config app level f i) g k → n ≤ k → (q : ℕ) × SumsAny config app weights kind level f q × (n ≤ q)
+      inside : (k : ℕ) → SumsWithin config app weights (endless_kind kind) (level_behind config app level f i) g k → n ≤ k
+          → (q : ℕ) × SumsAny config app weights (endless_kind kind) level f q × (n ≤ q)
       inside k part le = (k, inr (within_called level f i g k c part), le)
 
-      by : IsSummed weights kind level → (k : ℕ) × SumsAny config app weights kind (level_behind config app level f i) g k × (n ≤ k) → (q : ℕ) × SumsAny config app weights kind level f q × (n ≤ q)
+      by : IsSummed weights kind level → (k : ℕ) × SumsAny config app weights (endless_kind kind) (level_behind config app level f i) g k × (n ≤ k)
+          → (q : ℕ) × SumsAny config app weights (endless_kind kind) level f q × (n ≤ q)
       by s (k, inr within, le) = inside k within le
       by (inl is) (k, inl on, le) =
           inside k (within_here (level_behind config app level f i) g 0 k (reaches_first g) (subst (λ v. MayBegin app v g 0) (sym is) tt) on) le
       by (inr (inl (is, either))) (k, inl on, le) =
           let none : level_behind config app level f i ≡ None = ap (λ l. level_behind config app l f i) is in
-          let inner = subst (λ l. SumsOn config app weights kind l g 0 k) none on in
+          let inner = subst (λ l. SumsOn config app weights (endless_kind kind) l g 0 k) none on in
           let part = on_enters None f i g k (record { item = c.item; raised = refl }) inner in
           enters (going_weight weights f i + k) part (omega (arith, le))
         where
-          enters : (m : ℕ) → SumsOn config app weights kind None f i m → n ≤ m → (q : ℕ) × SumsAny config app weights kind level f q × (n ≤ q)
+          enters : (m : ℕ) → SumsOn config app weights (endless_kind kind) None f i m → n ≤ m → (q : ℕ) × SumsAny config app weights (endless_kind kind) level f q × (n ≤ q)
           enters m part le =
               let any = ⊎_elim
-              (λ e. subst (λ v. Any config app weights v None f m) (sym e) (on_all config app weights kinds.Turns (resumes_turns app config weights) f i m c.reached (subst (λ v. SumsOn config app weights v None f i m) e part)))
-              (λ e. subst (λ v. Any config app weights v None f m) (sym e) (on_all config app weights kinds.Rounds (resumes_rounds app config weights) f i m c.reached (subst (λ v. SumsOn config app weights v None f i m) e part)))
+              (λ e. subst (λ v. Any config app weights (endless_kind v) None f m) (sym e) (on_all config app weights kinds.Turns (resumes_turns app config weights) f i m c.reached (subst (λ v. SumsOn config app weights (endless_kind v) None f i m) e part)))
+              (λ e. subst (λ v. Any config app weights (endless_kind v) None f m) (sym e) (on_all config app weights kinds.Rounds (resumes_rounds app config weights) f i m c.reached (subst (λ v. SumsOn config app weights (endless_kind v) None f i m) e part)))
               either in
               let least = any.2 in
-              (any.0, subst (λ l. SumsAny config app weights kind l f any.0) (sym is) any.1, omega (arith, least, le))
+              (any.0, subst (λ l. SumsAny config app weights (endless_kind kind) l f any.0) (sym is) any.1, omega (arith, least, le))
       by (inr (inr (none, small))) (k, inl on, le) =
           let large = endless (suc size_limit) in
-          let little = any_little config app weights kind none small (level_behind config app level f i) g large.0 large.1 in
+          let little = any_little config app weights (endless_kind kind) none small (level_behind config app level f i) g large.0 large.1 in
           let above = large.2 in
           absurd (omega (arith, little, above))

@@ -24,7 +24,7 @@ use Rattle.walk_sums.specs.Activations.{is_raised, called_level, is_plain, Reach
 use Rattle.walk_sums.specs.declared.kinds.Kind.{Kind}
 use Rattle.walk_sums.specs.declared.kinds.Kind.TheVariants as kinds
 use Rattle.walk_sums.specs.Rounds.{OnlyLast, IsPart, IsFirst, IsBehindWait, is_wait}
-use Rattle.walk_sums.specs.Kinds.{stops, StandsBehindWait, MayBegin, MayFollow}
+use Rattle.walk_sums.specs.Kinds.{stops, StandsBehindWait, MayBegin, MayFollow, MayOpen, MayOpenPart}
 use Rattle.walk_sums.specs.Parts.{IsOpenStep, SumsBack, SumsOn, SumsOut, SumsWithin, back_returns, back_inside, back_passes, on_ends, on_inside, on_enters, on_passes, out_here, out_behind, within_here, within_called, within_behind}
 use Rattle.walk_sums.proofs.PlainSteps.{plain_leads, step_inside}
 use Rattle.walk_sums.proofs.Stopping.{call_free, return_free}
@@ -194,6 +194,7 @@ module _ (config : Config) (app : App) (weights : List BodyWeights) (kind : Kind
   record Begun (f i : ℕ) (outer : Position) : Type 0 where
     reached : IsReached app t (place f i ∷ outer)
     begins : MayFollow app kind reached.before
+    opens : MayOpen app kind (place f i ∷ outer)
 
   behind : (f i : ℕ) (outer : Position) → StandsBehindWait app f i → IsReached app t (place f 0 ∷ outer)
       → (r : IsReached app t (place f i ∷ outer)) × IsBehindWait app r.before
@@ -213,24 +214,29 @@ module _ (config : Config) (app : App) (weights : List BodyWeights) (kind : Kind
   begun : (k : Kind) → k ≡ kind → (f i : ℕ) (outer : Position) → ReachesItem app f i → MayBegin app kind f i → IsReached app t (place f 0 ∷ outer) → Begun f i outer
   begun k same f i outer r may from = by k same (subst (λ v. MayBegin app v f i) (sym same) may)
     where
-      at_wait : (v : Kind) → v ≡ kind → ((before : List Position) → IsBehindWait app before → MayFollow app v before) → StandsBehindWait app f i → Begun f i outer
-      at_wait v e follows s =
+      at_wait : (v : Kind) → v ≡ kind → ((before : List Position) → IsBehindWait app before → MayFollow app v before) → MayOpen app v (place f i ∷ outer) → StandsBehindWait app f i
+          → Begun f i outer
+      at_wait v e follows may_open s =
           let found = behind f i outer s from in
-          record { reached = found.0; begins = subst (λ w. MayFollow app w found.0.before) e (follows found.0.before found.1) }
+          record { reached = found.0; begins = subst (λ w. MayFollow app w found.0.before) e (follows found.0.before found.1); opens = subst (λ w. MayOpen app w (place f i ∷ outer)) e may_open }
 
       by : (v : Kind) → v ≡ kind → MayBegin app v f i → Begun f i outer
       by kinds.Turns e m = absurd m
-      by kinds.Rounds e m = at_wait kinds.Rounds e (λ before b. b) m
+      by kinds.Rounds e m = at_wait kinds.Rounds e (λ before b. b) tt m
       by kinds.Sections e m =
           let there = walk_inside f i outer r from in
-          record { reached = there; begins = subst (λ w. MayFollow app w there.before) e tt }
-      by (kinds.Uncleared events) e m = at_wait (kinds.Uncleared events) e (λ before b. b) m
+          record { reached = there; begins = subst (λ w. MayFollow app w there.before) e tt; opens = subst (λ w. MayOpen app w (place f i ∷ outer)) e tt }
+      by (kinds.EarlySections line) e m =
+          let there = walk_inside f i outer r from in
+          record { reached = there; begins = subst (λ w. MayFollow app w there.before) e tt; opens = subst (λ w. MayOpen app w (place f i ∷ outer)) e m }
+      by (kinds.Uncleared events) e m = at_wait (kinds.Uncleared events) e (λ before b. b) tt m
 
   -- in an activation that a walk enters, from some position up to a `ret`
   record Left (f n : ℕ) (outer : Position) : Type 0 where
     at : Position
     reached : IsReached app t at
     begins : MayFollow app kind reached.before
+    opens : MayOpen app kind at
     item : ℕ
     is : IsItem app f item op.Return
     part : Part at n (place f item ∷ outer)
@@ -247,7 +253,7 @@ module _ (config : Config) (app : App) (weights : List BodyWeights) (kind : Kind
   out_part l f n outer is from (out_here d g k size r may b) =
       let p = back_part d g k size outer is b in
       let here = begun kind refl g k outer r may from in
-      record { at = place g k ∷ outer; reached = here.reached; begins = here.begins; item = p.item; is = p.is; part = p.part }
+      record { at = place g k ∷ outer; reached = here.reached; begins = here.begins; opens = here.opens; item = p.item; is = p.is; part = p.part }
   out_part l f n outer is from (out_behind d a k g size more c inner b) =
       let p = out_part (level_behind config app d a k) g size (place a k ∷ outer) (called_is d a k outer is) (enter a k g outer c from) inner in
       let q = back_part d a (k + 1) more outer is b in
@@ -255,6 +261,7 @@ module _ (config : Config) (app : App) (weights : List BodyWeights) (kind : Kind
         at = p.at;
         reached = p.reached;
         begins = p.begins;
+        opens = p.opens;
         item = q.item;
         is = q.is;
         part = after_ret a k g p.item size more outer p.at (place a q.item ∷ outer) p.is p.part q.part;
@@ -265,6 +272,7 @@ module _ (config : Config) (app : App) (weights : List BodyWeights) (kind : Kind
     to : Position
     reached : IsReached app t at
     begins : MayFollow app kind reached.before
+    opens : MayOpen app kind at
     part : Part at n to
 
   within_part : (l : Option ℕ) (f n : ℕ) (outer : Position) → Level outer ≡ l → IsReached app t (place f 0 ∷ outer)
@@ -272,7 +280,7 @@ module _ (config : Config) (app : App) (weights : List BodyWeights) (kind : Kind
   within_part l f n outer is from (within_here d g k size r may b) =
       let p = on_part d g k size outer is b in
       let here = begun kind refl g k outer r may from in
-      record { at = place g k ∷ outer; to = p.to; reached = here.reached; begins = here.begins; part = p.part }
+      record { at = place g k ∷ outer; to = p.to; reached = here.reached; begins = here.begins; opens = here.opens; part = p.part }
   within_part l f n outer is from (within_called d a k g size c inner) =
       within_part (level_behind config app d a k) g size (place a k ∷ outer) (called_is d a k outer is) (enter a k g outer c from) inner
   within_part l f n outer is from (within_behind d a k g size more c inner b) =
@@ -283,15 +291,21 @@ module _ (config : Config) (app : App) (weights : List BodyWeights) (kind : Kind
         to = q.to;
         reached = p.reached;
         begins = p.begins;
+        opens = p.opens;
         part = after_ret a k g p.item size more outer p.at q.to p.is p.part q.part;
       }
 
   -- what begins within the task's body where parts may is one
   pub later_within : (n : ℕ) → SumsWithin config app weights kind (Level []) (body_of app.funcs t) n
-      → (positions : List Position) × IsPart app t (MayFollow app kind) IsRaisedAt (stops kind) positions × (sum_of weights positions ≡ n)
+      → (positions : List Position) × (IsPart app t (MayFollow app kind) IsRaisedAt (stops kind) positions × MayOpenPart app kind positions) × (sum_of weights positions ≡ n)
   later_within n w =
       let f = within_part (Level []) (body_of app.funcs t) n [] refl (reached_first app t) w in
-      part_of (MayFollow app kind) f.at f.to n f.reached f.begins f.part
+      let l = listed f.at f.to n f.part in
+      let walk = walk_on app t f.reached.before l.further f.at f.reached.walk l.consecutive in (
+        f.at ∷ l.further,
+        (record { before = f.reached.before; of_walk = walk; begins = f.begins; stands = l.raised; unbroken = l.unbroken }, f.opens),
+        l.size,
+      )
 
   -- what begins with its first item is one
   pub first_within : (n : ℕ) → SumsOn config app weights kind (Level []) (body_of app.funcs t) 0 n

@@ -42,9 +42,17 @@ pub record IsExact (config : Config) (app : App) (weights : List BodyWeights) (k
 abbrev pub SumsAny : Config → App → (weights : List BodyWeights) → (kind : Kind) → (level : Option ℕ) → (f n : ℕ) → Type 0
 SumsAny config app weights kind level f n = SumsOn config app weights kind level f 0 n ⊎ SumsWithin config app weights kind level f n
 
+-- in which parts a loop has no end: of sections that begin early in those of all sections
+abbrev pub endless_kind : Kind → Kind
+endless_kind kind.Turns = kind.Turns
+endless_kind kind.Rounds = kind.Rounds
+endless_kind kind.Sections = kind.Sections
+endless_kind (kind.EarlySections line) = kind.Sections
+endless_kind (kind.Uncleared events) = kind.Uncleared events
+
 -- such parts have no limit
 abbrev pub IsEndless : Config → App → (weights : List BodyWeights) → (kind : Kind) → (level : Option ℕ) → (f : ℕ) → Type 0
-IsEndless config app weights kind level f = (n : ℕ) → (k : ℕ) × SumsAny config app weights kind level f k × (n ≤ k)
+IsEndless config app weights kind level f = (n : ℕ) → (k : ℕ) × SumsAny config app weights (endless_kind kind) level f k × (n ≤ k)
 
 -- the summary of function f at a level
 abbrev pub IsSummary : Config → App → (weights : List BodyWeights) → (kind : Kind) → (level : Option ℕ) → (f : ℕ) → Summary → Type 0
@@ -57,11 +65,11 @@ pub record AreSums (config : Config) (app : App) (weights : List BodyWeights) (k
   pub small : AreCountedUp table
   pub each : (f : ℕ) → f < length app.funcs → IsSummary config app weights kind level f (summary_of table f)
 
--- Which sums have one answer for all parts of a function: those of sections; of turns and rounds where all is raised; and those of weights that are 0
+-- Which sums have one answer for all parts of a function: those of sections, early ones too; of turns and rounds where all is raised; and those of weights that are 0
 -- where parts go on.
 abbrev pub IsSummed : (weights : List BodyWeights) → Kind → (level : Option ℕ) → Type 0
 IsSummed weights k level =
-    (k ≡ kind.Sections) ⊎ ((level ≡ None) × ((k ≡ kind.Turns) ⊎ (k ≡ kind.Rounds))) ⊎ (AreWeightless weights × SmallEndings weights)
+    (endless_kind k ≡ kind.Sections) ⊎ ((level ≡ None) × ((k ≡ kind.Turns) ⊎ (k ≡ kind.Rounds))) ⊎ (AreWeightless weights × SmallEndings weights)
 
 -- a function before its summary: its parts are summed by these weights, and what is known of its body
 pub record CallerCode : Type 0 where

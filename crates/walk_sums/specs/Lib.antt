@@ -21,4 +21,5 @@ pub mod Counted
 pub mod Clears
 pub mod Told
 pub mod Sections
+pub mod Early
 pub mod Positions

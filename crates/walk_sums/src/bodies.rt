@@ -14,7 +14,7 @@ use crate::links::body_ways;
 use crate::search::reachable;
 use bound_rules::{Body, is_marked};
 use raised_sections::chains_itself;
-use sloth_base::{App, Config, Func, List, NoMemory, Op};
+use sloth_base::{App, Config, Func, List, Op, Result};
 use std::alloc::Global;
 use text_pieces::push;
 
@@ -27,7 +27,7 @@ pub fn numbered_function(app: &App, number: usize) -> &Func
 }
 
 /// All items.
-fn all_items(alloc: Global, func: &Func) -> Result<Vec<bool>, NoMemory>
+fn all_items(alloc: Global, func: &Func) -> Result<Vec<bool>>
     ensures count { IfOk result (λ marks. length marks.items ≡ length func.now.items) }
     ensures set { IfOk result (λ marks. (i : ℕ) → i < length func.now.items → HasMark marks.items i) }
 {
@@ -47,7 +47,7 @@ fn is_onward(func: &Func, number: usize) -> bool
 }
 
 /// The items behind which walks may go on.
-fn onward_items(alloc: Global, func: &Func) -> Result<Vec<bool>, NoMemory>
+fn onward_items(alloc: Global, func: &Func) -> Result<Vec<bool>>
     ensures count { IfOk result (λ marks. length marks.items ≡ length func.now.items) }
     ensures exact { IfOk result (λ marks. (i : ℕ) → i < length func.now.items
         → get_or marks.items i false ≡ not (chains_itself func.now (item_of func.now i).op)) }
@@ -67,7 +67,7 @@ fn reached_items(
     returns: &[bool],
     number: usize,
     func: &Func,
-) -> Result<Vec<bool>, NoMemory>
+) -> Result<Vec<bool>>
     requires well_formed { WellFormed config.now app.now }
     requires known { number < length app.now.funcs }
     requires func { func.now ≡ function app.now number }
@@ -100,12 +100,7 @@ fn has_return(func: &Func, reached: &[bool]) -> bool
 }
 
 /// Which functions a walk may return from.
-fn returning(
-    alloc: Global,
-    config: &Config,
-    app: &App,
-    order: &[usize],
-) -> Result<Vec<bool>, NoMemory>
+fn returning(alloc: Global, config: &Config, app: &App, order: &[usize]) -> Result<Vec<bool>>
     requires well_formed { WellFormed config.now app.now }
     requires order { IsCallOrder app.now order.now }
     ensures { IfOk result (λ returns. (g : ℕ) → g < length app.now.funcs
@@ -128,7 +123,7 @@ fn known_body(
     table: &[u32],
     returns: &[bool],
     number: usize,
-) -> Result<Body, NoMemory>
+) -> Result<Body>
     requires well_formed { WellFormed config.now app.now }
     requires table { AreResourceCeilings config.now table.now }
     requires returns { KnowsReturns app.now number returns.now }
@@ -145,12 +140,7 @@ fn known_body(
 }
 
 /// What is known of each body.
-pub fn bodies(
-    alloc: Global,
-    config: &Config,
-    app: &App,
-    order: &[usize],
-) -> Result<Vec<Body>, NoMemory>
+pub fn bodies(alloc: Global, config: &Config, app: &App, order: &[usize]) -> Result<Vec<Body>>
     requires well_formed { WellFormed config.now app.now }
     requires order { IsCallOrder app.now order.now }
     ensures { IfOk result (λ bodies. AreKnownBodies config.now app.now bodies.items) }

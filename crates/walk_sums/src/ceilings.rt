@@ -7,13 +7,13 @@ ghost use Rattle.task_verify.specs.Labels.{last_label_below, ArePlaced};
 ghost use Rattle.walk_sums.specs.Ceilings.{AreResourceCeilings};
 
 use osek_scheduler::ceiling;
-use sloth_base::{Config, Func, NoMemory, RES_SCHEDULER};
+use sloth_base::{Config, Func, RES_SCHEDULER, Result};
 use std::alloc::Global;
 use task_verify::{held_after, held_at_label, last_labels};
 use text_pieces::push;
 
 /// The ceilings of all resources, that of RES_SCHEDULER behind the others.
-pub fn ceilings(alloc: Global, config: &Config) -> Result<Vec<u32>, NoMemory>
+pub fn ceilings(alloc: Global, config: &Config) -> Result<Vec<u32>>
     ensures count { IfOk result (λ table. length table.items ≡ ceiling_count) }
     ensures exact { IfOk result (λ table. AreResourceCeilings config.now table.items) }
 {
@@ -54,7 +54,7 @@ fn item_ceilings(
     table: &[u32],
     func: &Func,
     last: &[Option<usize>],
-) -> Result<Vec<u32>, NoMemory>
+) -> Result<Vec<u32>>
     requires table { AreResourceCeilings config.now table.now }
     requires count { length last.now ≡ length func.now.items + 1 }
     requires lasts { (place : ℕ) → place ≤ length func.now.items
@@ -79,7 +79,7 @@ pub fn ceilings_before(
     config: &Config,
     table: &[u32],
     func: &Func,
-) -> Result<Vec<u32>, NoMemory>
+) -> Result<Vec<u32>>
     requires table { AreResourceCeilings config.now table.now }
     requires placed { ArePlaced func.now }
     ensures count { IfOk result (λ ceilings. length ceilings.items ≡ length func.now.items) }

@@ -11,7 +11,7 @@ ghost use Rattle.walk_sums.specs.Clears.{clears_it, AreClearing, AreAlsoClearing
 use crate::tasks::body_summary;
 use crate::{Counted, Kind, Walks, counted_weights};
 use bound_rules::{Summary, is_marked};
-use sloth_base::{App, Config, NoMemory};
+use sloth_base::{App, Config, Result};
 use std::alloc::Global;
 use text_pieces::push;
 
@@ -46,7 +46,7 @@ fn also_clear(
     app: &App,
     table: &[Summary],
     marks: &[bool],
-) -> Result<Vec<bool>, NoMemory>
+) -> Result<Vec<bool>>
     requires bodies { (t : ℕ) → t < length config.now.tasks → HasTaskBody app.now.funcs t }
     requires count { length table.now ≡ length app.now.funcs }
     ensures { IfOk result (λ both.
@@ -59,7 +59,7 @@ fn also_clear(
     Ok(both)
 }
 
-fn all_marks(alloc: Global, count: usize) -> Result<Vec<bool>, NoMemory>
+fn all_marks(alloc: Global, count: usize) -> Result<Vec<bool>>
     ensures count { IfOk result (λ marks. length marks.items ≡ count) }
     ensures set { IfOk result (λ marks. (t : ℕ) → t < count → get_or marks.items t false ≡ true) }
 {
@@ -73,7 +73,7 @@ fn all_marks(alloc: Global, count: usize) -> Result<Vec<bool>, NoMemory>
 impl Walks<'_> {
     /// The sums of walks from one WaitEvent to the next, on which nothing clears some of these events and the second
     /// one waits for some.
-    fn uncleared(&self, events: u32) -> Result<Vec<Summary>, NoMemory>
+    fn uncleared(&self, events: u32) -> Result<Vec<Summary>>
         ensures { IfOk result (λ table.
             AreSums self.now.config self.now.app (counted_weights (counts.Waits events) self.now.app)
             (kinds.Uncleared events) None table.items) }
@@ -83,7 +83,7 @@ impl Walks<'_> {
     }
 
     /// Of each task whether it clears one bit more.
-    fn next_bit(&self, bit: u32, marks: &[bool]) -> Result<Vec<bool>, NoMemory>
+    fn next_bit(&self, bit: u32, marks: &[bool]) -> Result<Vec<bool>>
         requires bit { bit < 32 }
         requires marks { AreClearing self.now.app (length self.now.config.tasks) bit marks.now }
         ensures { IfOk result (λ both. AreClearing self.now.app (length self.now.config.tasks) (bit + 1) both.items) }
@@ -92,9 +92,8 @@ impl Walks<'_> {
         also_clear(self.alloc(), self.config(), self.app(), &table, marks)
     }
 
-    /// Of each task whether it clears, on each walk from one WaitEvent to the next, all events that the next one waits
-    /// for.
-    pub fn clean_tasks(&self) -> Result<Vec<bool>, NoMemory>
+    /// Of each task whether it clears, on each walk from a WaitEvent to the next, all events that the next waits for.
+    pub fn clean_tasks(&self) -> Result<Vec<bool>>
         ensures count { IfOk result (λ clean. length clean.items ≡ length self.now.config.tasks) }
         ensures exact { IfOk result (λ clean. (t : ℕ) → t < length self.now.config.tasks
             → Decides (get_or clean.items t false) (IsClean self.now.app t)) }

@@ -6,7 +6,7 @@ ghost use Rattle.walk_sums.specs.Counted.{body_counts, counted_weights};
 ghost use Rattle.sloth_base.specs.declared.service.Service.TheVariants as service;
 
 use bound_rules::{BodyWeights, is_schedule};
-use sloth_base::{App, Func, Item, List, NoMemory, Op, Service};
+use sloth_base::{App, Func, Item, List, Op, Result, Service};
 use std::alloc::Global;
 use text_pieces::push;
 
@@ -110,7 +110,7 @@ fn counted_weight(is: bool) -> u32
     u32::from(is)
 }
 
-fn going(alloc: Global, counted: Counted, items: &[Item]) -> Result<Vec<u32>, NoMemory>
+fn going(alloc: Global, counted: Counted, items: &[Item]) -> Result<Vec<u32>>
     ensures { IfOk result (λ counts. counts.items ≡ map (λ item. one_if (is_going_counted counted item.op)) items.now) }
 {
     let mut counts = Vec::new(alloc);
@@ -123,7 +123,7 @@ fn going(alloc: Global, counted: Counted, items: &[Item]) -> Result<Vec<u32>, No
     Ok(counts)
 }
 
-fn ending(alloc: Global, counted: Counted, items: &[Item]) -> Result<Vec<u32>, NoMemory>
+fn ending(alloc: Global, counted: Counted, items: &[Item]) -> Result<Vec<u32>>
     ensures { IfOk result (λ counts.
         counts.items ≡ map (λ item. one_if (is_ending_counted counted item.op)) items.now) }
 {
@@ -138,7 +138,7 @@ fn ending(alloc: Global, counted: Counted, items: &[Item]) -> Result<Vec<u32>, N
 }
 
 /// Those of the items of a body.
-fn body_counts(alloc: Global, counted: Counted, func: &Func) -> Result<BodyWeights, NoMemory>
+fn body_counts(alloc: Global, counted: Counted, func: &Func) -> Result<BodyWeights>
     ensures { IfOk result (λ weights. weights ≡ body_counts counted func.now) }
 {
     let going = going(alloc, counted, func.items.items())?;
@@ -149,7 +149,7 @@ fn body_counts(alloc: Global, counted: Counted, func: &Func) -> Result<BodyWeigh
     })
 }
 
-fn all_counts(alloc: Global, counted: Counted, funcs: &[Func]) -> Result<Vec<BodyWeights>, NoMemory>
+fn all_counts(alloc: Global, counted: Counted, funcs: &[Func]) -> Result<Vec<BodyWeights>>
     ensures { IfOk result (λ weights. weights.items ≡ map (body_counts counted) funcs.now) }
 {
     let mut weights = Vec::new(alloc);
@@ -161,11 +161,7 @@ fn all_counts(alloc: Global, counted: Counted, funcs: &[Func]) -> Result<Vec<Bod
 }
 
 /// The weights of all items.
-pub fn counted_weights(
-    alloc: Global,
-    app: &App,
-    counted: Counted,
-) -> Result<Vec<BodyWeights>, NoMemory>
+pub fn counted_weights(alloc: Global, app: &App, counted: Counted) -> Result<Vec<BodyWeights>>
     ensures is { IfOk result (λ weights. weights.items ≡ counted_weights counted app.now) }
     ensures fit { IfOk result (λ weights. AreWeights app.now weights.items) }
 {

@@ -3,7 +3,7 @@ ghost use Rattle.std.specs.Prelude.{◌≡◌, ℕ, ◌<◌, [], ◌∷◌, ◌+
 ghost use Rattle.walk_sums.specs.Graph.{unseen_way, unseen_of, is_open, leads_to_open, AreInside, IsSearching};
 ghost use Rattle.walk_sums.specs.Graph.{IsSearchEnd, IsSearched, IsFound};
 
-use sloth_base::{List, NoMemory};
+use sloth_base::{List, Result};
 use std::alloc::Global;
 use text_pieces::push;
 
@@ -68,7 +68,7 @@ fn leads_to_open(ways: &[Ways], done: &[bool], from: usize) -> bool
 }
 
 /// Marks a node and puts it at the end of the list.
-pub fn keep(marks: &mut [bool], list: &mut Vec<usize>, node: usize) -> Result<(), NoMemory>
+pub fn keep(marks: &mut [bool], list: &mut Vec<usize>, node: usize) -> Result<()>
     requires { node < length marks.old }
     ensures marks { OnOk result (marks.new ≡ set marks.old node true) }
     ensures list { OnOk result (list.new.items ≡ list.old.items ++ node ∷ []) }
@@ -85,7 +85,7 @@ fn dive(
     done: &mut [bool],
     stack: &mut Vec<usize>,
     order: &mut Vec<usize>,
-) -> Result<bool, NoMemory>
+) -> Result<bool>
     requires inside { AreInside ways.now }
     requires searching { IsSearching ways.now seen.old done.old stack.old.items order.old.items }
     ensures { IfOk result (IsSearchEnd ways.now seen.old seen.new done.new stack.new.items order.new.items) }
@@ -109,7 +109,7 @@ fn dive(
     }
 }
 
-pub fn no_marks(alloc: Global, count: usize) -> Result<Vec<bool>, NoMemory>
+pub fn no_marks(alloc: Global, count: usize) -> Result<Vec<bool>>
     ensures count { IfOk result (λ marks. length marks.items ≡ count) }
     ensures clear { IfOk result (λ marks. (i : ℕ) → i < count → get_or marks.items i false ≡ false) }
 {
@@ -127,7 +127,7 @@ fn search(
     done: &mut [bool],
     stack: &mut Vec<usize>,
     order: &mut Vec<usize>,
-) -> Result<bool, NoMemory>
+) -> Result<bool>
     requires inside { AreInside ways.now }
     requires searching { IsSearching ways.now seen.old done.old stack.old.items order.old.items }
     requires none { stack.old.items ≡ [] }
@@ -145,7 +145,7 @@ fn search(
 }
 
 /// An order in which each node stands behind those that it leads to, or that there is a loop.
-pub fn finish_order(alloc: Global, ways: &[Ways]) -> Result<Found, NoMemory>
+pub fn finish_order(alloc: Global, ways: &[Ways]) -> Result<Found>
     requires { AreInside ways.now }
     ensures { IfOk result (IsFound ways.now) }
 {

@@ -10,7 +10,7 @@ ghost use Rattle.walk_sums.specs.Computed.{is_alive, is_passed, going_size, endi
 use crate::Kind;
 use crate::kinds::is_going;
 use bound_rules::{Body, Summary, is_marked, joined, number_at, reaches_level, summary_of};
-use sloth_base::{Func, NoMemory, Op};
+use sloth_base::{Func, Op, Result};
 use std::alloc::Global;
 use text_pieces::push;
 
@@ -22,12 +22,7 @@ fn is_alive(body: &Body, level: Option<u32>, number: usize) -> bool
 }
 
 /// The items that walks reach and before which the task is raised.
-pub fn alive_items(
-    alloc: Global,
-    func: &Func,
-    body: &Body,
-    level: Option<u32>,
-) -> Result<Vec<bool>, NoMemory>
+pub fn alive_items(alloc: Global, func: &Func, body: &Body, level: Option<u32>) -> Result<Vec<bool>>
     ensures count { IfOk result (λ alive. length alive.items ≡ length func.now.items) }
     ensures exact { IfOk result (λ alive. (i : ℕ) → i < length func.now.items
         → get_or alive.items i false ≡ is_alive body.now level i) }
@@ -40,12 +35,7 @@ pub fn alive_items(
 }
 
 /// Those of the items of one table from which parts go on.
-pub fn going_items(
-    alloc: Global,
-    func: &Func,
-    kind: Kind,
-    alive: &[bool],
-) -> Result<Vec<bool>, NoMemory>
+pub fn going_items(alloc: Global, func: &Func, kind: Kind, alive: &[bool]) -> Result<Vec<bool>>
     ensures count { IfOk result (λ going. length going.items ≡ length func.now.items) }
     ensures exact { IfOk result (λ going. (i : ℕ) → i < length func.now.items
         → get_or going.items i false ≡ is_going func.now kind alive.now i) }
@@ -58,7 +48,7 @@ pub fn going_items(
 }
 
 /// The functions through which a part may go.
-pub fn passed_functions(alloc: Global, whole: &[Summary]) -> Result<Vec<bool>, NoMemory>
+pub fn passed_functions(alloc: Global, whole: &[Summary]) -> Result<Vec<bool>>
     ensures { IfOk result (λ passed. (g : ℕ) → get_or passed.items g false ≡ is_passed (summary_of whole.now g)) }
 {
     let mut passed = Vec::new(alloc);
@@ -130,7 +120,7 @@ pub fn going_sizes(
     func: &Func,
     weights: &[u32],
     whole: &[Summary],
-) -> Result<Vec<u32>, NoMemory>
+) -> Result<Vec<u32>>
     requires whole { AreCountedUp whole.now }
     requires small { AreSizesInLimit weights.now }
     ensures count { IfOk result (λ sizes. length sizes.items ≡ length func.now.items) }
@@ -153,7 +143,7 @@ pub fn ending_sizes(
     weights: &[u32],
     alive: &[bool],
     whole: &[Summary],
-) -> Result<Vec<u32>, NoMemory>
+) -> Result<Vec<u32>>
     requires whole { AreCountedUp whole.now }
     requires small { AreSizesInLimit weights.now }
     ensures count { IfOk result (λ sizes. length sizes.items ≡ length func.now.items) }
@@ -176,7 +166,7 @@ pub fn leaving_sizes(
     func: &Func,
     weights: &[u32],
     alive: &[bool],
-) -> Result<Vec<u32>, NoMemory>
+) -> Result<Vec<u32>>
     requires small { AreSizesInLimit weights.now }
     ensures count { IfOk result (λ sizes. length sizes.items ≡ length func.now.items) }
     ensures exact { IfOk result (λ sizes. (i : ℕ) → i < length func.now.items

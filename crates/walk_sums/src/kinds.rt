@@ -16,6 +16,8 @@ pub enum Kind {
     Rounds,
     /// Of raised sections: no part goes on behind a Schedule; they begin anywhere.
     Sections,
+    /// Of raised sections that begin at an item of this source line or a lesser one.
+    EarlySections(u32),
     /// Between two WaitEvents, as long as none of these events is cleared.
     Uncleared(u32),
 }
@@ -50,7 +52,7 @@ fn stops(kind: Kind, op: Op) -> bool
     match kind {
         Kind::Turns => false,
         Kind::Rounds => is_wait(op),
-        Kind::Sections => is_schedule(op),
+        Kind::Sections | Kind::EarlySections(_) => is_schedule(op),
         Kind::Uncleared(events) => waits_or_clears(events, op),
     }
 }
@@ -72,6 +74,7 @@ pub fn may_begin(kind: Kind, func: &Func, reached: &[bool], number: usize) -> bo
         Kind::Turns => false,
         Kind::Rounds | Kind::Uncleared(_) => is_behind_wait(func, reached, number),
         Kind::Sections => true,
+        Kind::EarlySections(line) => func.items.items()[number].line <= line,
     }
 }
 

@@ -3,17 +3,16 @@ ghost use Rattle.std.specs.Prelude.{◌≡◌, ℕ, ◌<◌, None, Some, length,
 ghost use Rattle.bound_rules.specs.Summaries.{IsCountedUp, summary_of, unknown};
 ghost use Rattle.walk_sums.specs.KnownBodies.{no_body};
 ghost use Rattle.walk_sums.specs.Weights.{AreWeights};
-ghost use Rattle.walk_sums.specs.declared.kinds.Kind.TheVariants as kinds;
 ghost use Rattle.walk_sums.specs.Known.{AreSums, IsSummed, IsBefore, IsSummaryFor, caller_code};
 
 use crate::caller::Caller;
 use crate::{Kind, Walks, numbered_function};
 use bound_rules::{Body, BodyWeights, Summary, UNKNOWN};
-use sloth_base::NoMemory;
+use sloth_base::Result;
 use std::alloc::Global;
 use text_pieces::push;
 
-fn unknown(alloc: Global, count: usize) -> Result<Vec<Summary>, NoMemory>
+fn unknown(alloc: Global, count: usize) -> Result<Vec<Summary>>
     ensures count { IfOk result (λ table. length table.items ≡ count) }
     ensures none { IfOk result (λ table. (g : ℕ) → summary_of table.items g ≡ unknown) }
 {
@@ -42,7 +41,7 @@ impl Walks<'_> {
         number: usize,
         whole: &[Summary],
         own: &[Summary],
-    ) -> Result<Summary, NoMemory>
+    ) -> Result<Summary>
         requires { IsBefore (caller_code self.now weights.now kind level number whole.now own.now) }
         ensures is { IfOk result (IsSummaryFor (caller_code self.now weights.now kind level number whole.now own.now)) }
         ensures small { IfOk result IsCountedUp }
@@ -64,7 +63,7 @@ impl Walks<'_> {
     }
 
     /// The summaries of all functions where their callers have raised the task.
-    pub fn whole_sums(&self, weights: &[BodyWeights], kind: Kind) -> Result<Vec<Summary>, NoMemory>
+    pub fn whole_sums(&self, weights: &[BodyWeights], kind: Kind) -> Result<Vec<Summary>>
         requires weights { AreWeights self.now.app weights.now }
         requires summed { IsSummed weights.now kind None }
         ensures { IfOk result (λ whole. AreSums self.now.config self.now.app weights.now kind None whole.items) }
@@ -77,20 +76,21 @@ impl Walks<'_> {
         Ok(whole)
     }
 
-    /// The summaries of all functions, of raised sections, where they raise the task to a priority by what they hold
-    /// themselves.
+    /// The summaries of all functions, of raised sections or of those that begin early, where they raise the task to a
+    /// priority by what they hold themselves.
     pub fn own_sums(
         &self,
         weights: &[BodyWeights],
+        kind: Kind,
         priority: u32,
         whole: &[Summary],
-    ) -> Result<Vec<Summary>, NoMemory>
+    ) -> Result<Vec<Summary>>
         requires weights { AreWeights self.now.app weights.now }
-        requires whole { AreSums self.now.config self.now.app weights.now kinds.Sections None whole.now }
+        requires summed { IsSummed weights.now kind (Some priority) }
+        requires whole { AreSums self.now.config self.now.app weights.now kind None whole.now }
         ensures { IfOk result (λ own.
-            AreSums self.now.config self.now.app weights.now kinds.Sections (Some priority) own.items) }
+            AreSums self.now.config self.now.app weights.now kind (Some priority) own.items) }
     {
-        let kind = Kind::Sections;
         let mut own = unknown(self.alloc(), self.app().funcs.items().len())?;
         for number in self.order() {
             let summary = self.function_summary(

@@ -8,7 +8,7 @@ ghost use Rattle.walk_sums.specs.Links.{open_way, goes_past, next_way, label_way
 
 use crate::graph::Ways;
 use bound_rules::is_marked;
-use sloth_base::{Func, NoMemory, Op};
+use sloth_base::{Func, Op, Result};
 use std::alloc::Global;
 use task_verify::{falls, way};
 use text_pieces::push;
@@ -92,7 +92,7 @@ pub fn body_ways(
     passed: &[bool],
     going: &[bool],
     open_items: &[bool],
-) -> Result<Vec<Ways>, NoMemory>
+) -> Result<Vec<Ways>>
     requires labels { (i : ℕ) → i < length func.now.items → HasBodyLabel func.now (item_of func.now i).op }
     ensures count { IfOk result (λ ways. length ways.items ≡ length func.now.items) }
     ensures exact { IfOk result (λ ways. (i : ℕ) → i < length func.now.items

@@ -6,7 +6,7 @@ ghost use Rattle.walk_sums.specs.Trails.{along, longest_from, AreSizes, AreSizes
 
 use crate::graph::Ways;
 use bound_rules::joined;
-use sloth_base::NoMemory;
+use sloth_base::Result;
 use std::alloc::Global;
 use text_pieces::push;
 
@@ -49,7 +49,7 @@ pub fn longest_size(ways: &[Ways], table: &[u32], steps: &[u32], ends: &[u32], n
     larger(ends[node], on)
 }
 
-pub fn zeros(alloc: Global, count: usize) -> Result<Vec<u32>, NoMemory>
+pub fn zeros(alloc: Global, count: usize) -> Result<Vec<u32>>
     ensures count { IfOk result (λ table. length table.items ≡ count) }
     ensures none { IfOk result (λ table. (i : ℕ) → get_or table.items i 0 ≡ 0) }
 {
@@ -67,7 +67,7 @@ pub fn longest(
     order: &[usize],
     steps: &[u32],
     ends: &[u32],
-) -> Result<Vec<u32>, NoMemory>
+) -> Result<Vec<u32>>
     requires order { IsOrder ways.now order.now }
     requires sizes { AreSizes ways.now steps.now ends.now }
     ensures count { IfOk result (λ table. length table.items ≡ length ways.now) }

@@ -8,16 +8,11 @@ use crate::graph::Ways;
 use crate::ranks::{passed_ranks, some_raises};
 use crate::search::reachable;
 use bound_rules::{is_marked, number_at};
-use sloth_base::NoMemory;
+use sloth_base::Result;
 use std::alloc::Global;
 
 /// Whether a way leads to where a node is reached from.
-fn way_reaches(
-    alloc: Global,
-    ways: &[Ways],
-    way: Option<usize>,
-    node: usize,
-) -> Result<bool, NoMemory>
+fn way_reaches(alloc: Global, ways: &[Ways], way: Option<usize>, node: usize) -> Result<bool>
     requires inside { AreInside ways.now }
     requires way { (j : ℕ) → way ≡ Some j → j < length ways.now }
     ensures { IfOk result (λ leads. Decides leads ((j : ℕ) × (way ≡ Some j) × IsReachable ways.now j node)) }
@@ -32,7 +27,7 @@ fn way_reaches(
 }
 
 /// Whether a node leads back to itself.
-fn leads_back(alloc: Global, ways: &[Ways], node: usize) -> Result<bool, NoMemory>
+fn leads_back(alloc: Global, ways: &[Ways], node: usize) -> Result<bool>
     requires inside { AreInside ways.now }
     requires known { node < length ways.now }
     ensures { IfOk result (λ back. Decides back (LeadsBack ways.now node)) }
@@ -43,12 +38,7 @@ fn leads_back(alloc: Global, ways: &[Ways], node: usize) -> Result<bool, NoMemor
 }
 
 /// Whether a node that weighs something does.
-fn is_weighing_loop(
-    alloc: Global,
-    ways: &[Ways],
-    steps: &[u32],
-    node: usize,
-) -> Result<bool, NoMemory>
+fn is_weighing_loop(alloc: Global, ways: &[Ways], steps: &[u32], node: usize) -> Result<bool>
     requires inside { AreInside ways.now }
     requires count { length steps.now ≡ length ways.now }
     requires known { node < length ways.now }
@@ -71,7 +61,7 @@ fn is_some_raised(
     steps: &[u32],
     before: &[u32],
     behind: &[u32],
-) -> Result<bool, NoMemory>
+) -> Result<bool>
     requires inside { AreInside ways.now }
     requires count { length steps.now ≡ length ways.now }
     ensures { IfOk result (λ found. found ≡ true → HasWeighingLoop ways.now steps.now) }
@@ -88,7 +78,7 @@ fn is_some_raised(
 }
 
 /// Whether some node is.
-fn is_some_weighing(alloc: Global, ways: &[Ways], steps: &[u32]) -> Result<bool, NoMemory>
+fn is_some_weighing(alloc: Global, ways: &[Ways], steps: &[u32]) -> Result<bool>
     requires inside { AreInside ways.now }
     requires count { length steps.now ≡ length ways.now }
     ensures { IfOk result (λ found. Decides found (HasWeighingLoop ways.now steps.now)) }
@@ -102,12 +92,7 @@ fn is_some_weighing(alloc: Global, ways: &[Ways], steps: &[u32]) -> Result<bool,
 }
 
 /// The same, where ranks did not settle.
-fn is_some_behind(
-    alloc: Global,
-    ways: &[Ways],
-    steps: &[u32],
-    ranks: &[u32],
-) -> Result<bool, NoMemory>
+fn is_some_behind(alloc: Global, ways: &[Ways], steps: &[u32], ranks: &[u32]) -> Result<bool>
     requires inside { AreInside ways.now }
     requires count { length steps.now ≡ length ways.now }
     ensures { IfOk result (λ found. Decides found (HasWeighingLoop ways.now steps.now)) }
@@ -120,7 +105,7 @@ fn is_some_behind(
 }
 
 /// Whether some node that weighs something leads back to itself.
-pub fn has_weighing_loop(alloc: Global, ways: &[Ways], steps: &[u32]) -> Result<bool, NoMemory>
+pub fn has_weighing_loop(alloc: Global, ways: &[Ways], steps: &[u32]) -> Result<bool>
     requires inside { AreInside ways.now }
     requires count { length steps.now ≡ length ways.now }
     ensures { IfOk result (λ found. Decides found (HasWeighingLoop ways.now steps.now)) }

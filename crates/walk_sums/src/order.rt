@@ -7,7 +7,7 @@ ghost use Rattle.walk_sums.specs.CallOrder.{IsCallOrder, IsLeastRank, lesser_of,
 use crate::graph::{keep, no_marks};
 use bound_rules::{is_marked, number_at};
 use call_graph::Ranks;
-use sloth_base::{App, NoMemory};
+use sloth_base::{App, Result};
 use std::alloc::Global;
 
 /// The one of lesser rank.
@@ -49,7 +49,7 @@ fn least(ranks: &[u32], done: &[bool]) -> Option<usize>
 }
 
 /// All functions, each behind those that it calls.
-pub fn callees_first(alloc: Global, app: &App, ranks: &Ranks) -> Result<Vec<usize>, NoMemory>
+pub fn callees_first(alloc: Global, app: &App, ranks: &Ranks) -> Result<Vec<usize>>
     requires belong { RanksOf app.now ranks.now }
     requires known { (f g : ℕ) → HasCall app.now f g → g < length app.now.funcs }
     ensures { IfOk result (λ order. IsCallOrder app.now order.items) }

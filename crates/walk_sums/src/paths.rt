@@ -1,5 +1,4 @@
-//! What is made of a body before its summary: the ways between its items, how trails go along them, and the longest
-//! ones.
+//! What is made of a body before its summary: the ways between its items, how trails go along them, the longest ones.
 ghost use Rattle.std.specs.Prelude.{◌≡◌, ◌<◌, ℕ, false, length, get_or, IfOk};
 ghost use Rattle.walk_sums.specs.Shapes.{HasOrder};
 ghost use Rattle.walk_sums.specs.Trails.{AreSizesInLimit};
@@ -15,7 +14,7 @@ use crate::items::{
 use crate::links::body_ways;
 use crate::shape::{Shape, longest_sizes, trail_shape};
 use bound_rules::{BodyWeights, weights_at};
-use sloth_base::{List, NoMemory};
+use sloth_base::{List, Result};
 
 /// The items of a body before which the task is raised, the ways between those that go on, what each item adds to a
 /// part that goes on behind it, and how trails go along the ways.
@@ -45,7 +44,7 @@ impl Caller<'_> {
     }
 
     /// The ways between items before which the task is raised.
-    fn ways(&self, alive: &[bool]) -> Result<Vec<Ways>, NoMemory>
+    fn ways(&self, alive: &[bool]) -> Result<Vec<Ways>>
         requires count { length alive.now ≡ length self.now.known.func.items }
         requires alive { (i : ℕ) → i < length self.now.known.func.items
             → get_or alive.now i false ≡ is_alive self.now.known.body self.now.known.level i }
@@ -60,7 +59,7 @@ impl Caller<'_> {
     }
 
     /// What each item adds to a part that goes on behind it.
-    fn steps(&self) -> Result<Vec<u32>, NoMemory>
+    fn steps(&self) -> Result<Vec<u32>>
         ensures { IfOk result (λ steps.
             AreSteps self.now.known.func (weights_of self.now) self.now.known.whole steps.items) }
     {
@@ -70,7 +69,7 @@ impl Caller<'_> {
     }
 
     /// The paths of the body.
-    pub fn paths(&self) -> Result<Paths, NoMemory>
+    pub fn paths(&self) -> Result<Paths>
         ensures { IfOk result (ArePaths self.now) }
     {
         let alive = alive_items(self.alloc, self.func, self.body, self.level)?;
@@ -86,7 +85,7 @@ impl Caller<'_> {
     }
 
     /// For each item the size of the longest trail from it.
-    fn ending_trails(&self, paths: &Paths) -> Result<Vec<u32>, NoMemory>
+    fn ending_trails(&self, paths: &Paths) -> Result<Vec<u32>>
         requires paths { ArePaths self.now paths.now }
         requires order { HasOrder paths.now.ways paths.now.shape }
         ensures trails { IfOk result (λ on. AreEndingTrails self.now paths.now on.items) }
@@ -110,7 +109,7 @@ impl Caller<'_> {
     }
 
     /// For each item the size of the longest trail from it that ends with the body's `ret`.
-    fn leaving_trails(&self, paths: &Paths) -> Result<Vec<u32>, NoMemory>
+    fn leaving_trails(&self, paths: &Paths) -> Result<Vec<u32>>
         requires paths { ArePaths self.now paths.now }
         requires order { HasOrder paths.now.ways paths.now.shape }
         ensures trails { IfOk result (λ back. AreLeavingTrails self.now paths.now back.items) }
@@ -133,7 +132,7 @@ impl Caller<'_> {
     }
 
     /// The longest trails along the paths of the body.
-    pub fn trail_sizes(&self, paths: &Paths) -> Result<TrailSizes, NoMemory>
+    pub fn trail_sizes(&self, paths: &Paths) -> Result<TrailSizes>
         requires paths { ArePaths self.now paths.now }
         requires order { HasOrder paths.now.ways paths.now.shape }
         ensures trails { IfOk result (AreTrailSizes self.now paths.now) }

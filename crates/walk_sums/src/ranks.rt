@@ -6,11 +6,10 @@ ghost use Rattle.walk_sums.specs.Loops.{raises, raises_at};
 use crate::graph::Ways;
 use crate::longest::zeros;
 use bound_rules::number_at;
-use sloth_base::{COUNT_LIMIT, NoMemory};
+use sloth_base::{COUNT_LIMIT, Result};
 use std::alloc::Global;
 
-/// The rank that a way asks of its node: that of the node to which it leads, and one more where its own node weighs
-/// something.
+/// The rank that a way asks of its node: that of the node to which it leads, one more where its own weighs something.
 fn asked(ranks: &[u32], step: u32, way: Option<usize>) -> u32 {
     match way {
         Some(to) => {
@@ -52,7 +51,7 @@ pub fn passed_ranks(
     ways: &[Ways],
     steps: &[u32],
     passes: usize,
-) -> Result<Vec<u32>, NoMemory> {
+) -> Result<Vec<u32>> {
     let mut ranks = zeros(alloc, ways.len())?;
     for _pass in 0..passes {
         rank_all(ways, steps, &mut ranks);

@@ -4,17 +4,12 @@ ghost use Rattle.walk_sums.specs.Graph.{AreInside, HasMark};
 ghost use Rattle.walk_sums.specs.Search.{IsReachable, IsSpreading};
 
 use crate::graph::{Ways, keep, no_marks, unseen_next};
-use sloth_base::NoMemory;
+use sloth_base::Result;
 use std::alloc::Global;
 use text_pieces::push;
 
 /// Goes on from the nodes of the stack until all that they lead to are marked.
-fn spread(
-    ways: &[Ways],
-    first: usize,
-    marks: &mut [bool],
-    stack: &mut Vec<usize>,
-) -> Result<(), NoMemory>
+fn spread(ways: &[Ways], first: usize, marks: &mut [bool], stack: &mut Vec<usize>) -> Result<()>
     requires inside { AreInside ways.now }
     requires spreading { IsSpreading ways.now first marks.old stack.old.items }
     ensures { OnOk result ((i : ℕ) → HasMark marks.new i ↔ IsReachable ways.now first i) }
@@ -39,7 +34,7 @@ fn spread_from_first(
     first: usize,
     marks: &mut [bool],
     stack: &mut Vec<usize>,
-) -> Result<(), NoMemory>
+) -> Result<()>
     requires inside { AreInside ways.now }
     requires some { first < length ways.now }
     requires count { length marks.old ≡ length ways.now }
@@ -52,7 +47,7 @@ fn spread_from_first(
 }
 
 /// The nodes that this one reaches.
-pub fn reachable(alloc: Global, ways: &[Ways], first: usize) -> Result<Vec<bool>, NoMemory>
+pub fn reachable(alloc: Global, ways: &[Ways], first: usize) -> Result<Vec<bool>>
     requires some { first < length ways.now }
     requires inside { AreInside ways.now }
     ensures count { IfOk result (λ marks. length marks.items ≡ length ways.now) }

@@ -10,7 +10,7 @@ use crate::tasks::section_sum;
 use crate::weighed::Weighed;
 use crate::{Kind, Sum, Walks};
 use bound_rules::{BodyWeights, Summary};
-use sloth_base::{List, NoMemory};
+use sloth_base::{List, Result};
 use text_pieces::push;
 
 impl Weighed<'_> {
@@ -33,7 +33,7 @@ impl Weighed<'_> {
     }
 
     /// Those of all tasks for task `above`.
-    pub fn sums_above(&self, above: usize) -> Result<Vec<Sum>, NoMemory>
+    pub fn sums_above(&self, above: usize) -> Result<Vec<Sum>>
         requires { above < length self.now.walks.config.tasks }
         ensures { IfOk result (λ sums.
             AreToldSums self.now.walks.config self.now.walks.app self.now.weights above sums.items) }
@@ -42,7 +42,7 @@ impl Weighed<'_> {
         let priority = self.walks().priority(above);
         let own = self
             .walks()
-            .own_sums(self.weights(), priority, self.whole())?;
+            .own_sums(self.weights(), Kind::Sections, priority, self.whole())?;
         let mut sums = Vec::new(self.walks().alloc());
         for task in 0..config.tasks.items().len() {
             push(&mut sums, self.sum_for_task(&own, above, task))?;
@@ -51,7 +51,7 @@ impl Weighed<'_> {
     }
 
     /// Those for each task.
-    fn all_sums(&self) -> Result<Vec<List<Sum>>, NoMemory>
+    fn all_sums(&self) -> Result<Vec<List<Sum>>>
         ensures { IfOk result (λ table.
             AreAllSums self.now.walks.config self.now.walks.app self.now.weights table.items) }
     {
@@ -67,7 +67,7 @@ impl Weighed<'_> {
 
 impl Walks<'_> {
     /// For each two tasks the greatest sum, by these weights, of the sections of the one for the other.
-    pub fn section_sums(&self, weights: &[BodyWeights]) -> Result<Vec<List<Sum>>, NoMemory>
+    pub fn section_sums(&self, weights: &[BodyWeights]) -> Result<Vec<List<Sum>>>
         requires { AreWeights self.now.app weights.now }
         ensures { IfOk result (λ table. AreAllSums self.now.config self.now.app weights.now table.items) }
     {
@@ -76,7 +76,7 @@ impl Walks<'_> {
     }
 
     /// For one task the greatest sums, by these weights, of the sections of all tasks.
-    pub fn sums_above(&self, weights: &[BodyWeights], above: usize) -> Result<Vec<Sum>, NoMemory>
+    pub fn sums_above(&self, weights: &[BodyWeights], above: usize) -> Result<Vec<Sum>>
         requires weights { AreWeights self.now.app weights.now }
         requires above { above < length self.now.config.tasks }
         ensures { IfOk result (λ sums. AreToldSums self.now.config self.now.app weights.now above sums.items) }

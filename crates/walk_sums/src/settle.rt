@@ -6,7 +6,7 @@ ghost use Rattle.walk_sums.specs.Loops.{AreAttained, HasGrown};
 
 use crate::graph::Ways;
 use crate::longest::{longest_size, zeros};
-use sloth_base::NoMemory;
+use sloth_base::Result;
 use std::alloc::Global;
 
 /// Makes the entry of a node what its ways say, where that is more: whether it has grown.
@@ -50,12 +50,7 @@ fn pass(ways: &[Ways], table: &mut [u32], steps: &[u32], ends: &[u32]) -> bool
 
 /// For each node the size of the longest trail from it, whatever loops there are: where something weighs along one,
 /// that may be the greatest size that is counted.
-pub fn settled(
-    alloc: Global,
-    ways: &[Ways],
-    steps: &[u32],
-    ends: &[u32],
-) -> Result<Vec<u32>, NoMemory>
+pub fn settled(alloc: Global, ways: &[Ways], steps: &[u32], ends: &[u32]) -> Result<Vec<u32>>
     requires inside { AreInside ways.now }
     requires sizes { AreSizes ways.now steps.now ends.now }
     ensures count { IfOk result (λ table. length table.items ≡ length ways.now) }

@@ -1,5 +1,4 @@
-//! How trails go along the ways of a body, and the longest ones: by an order, or by passes where nothing weighs along
-//! loops.
+//! How trails go along a body's ways, and the longest ones: by an order, or by passes if nothing weighs along loops.
 ghost use Rattle.std.specs.Prelude.{◌≡◌, ℕ, ◌<◌, length, get_or, IfOk};
 ghost use Rattle.walk_sums.specs.Graph.{AreInside};
 ghost use Rattle.walk_sums.specs.Trails.{AreSizes, IsLongest};
@@ -9,7 +8,7 @@ use crate::graph::{Found, Ways, finish_order};
 use crate::longest::longest;
 use crate::loops::has_weighing_loop;
 use crate::settle::settled;
-use sloth_base::{List, NoMemory};
+use sloth_base::{List, Result};
 use std::alloc::Global;
 
 /// How trails go.
@@ -23,7 +22,7 @@ pub enum Shape {
     Endless,
 }
 
-fn looped(alloc: Global, ways: &[Ways], steps: &[u32]) -> Result<Shape, NoMemory>
+fn looped(alloc: Global, ways: &[Ways], steps: &[u32]) -> Result<Shape>
     requires inside { AreInside ways.now }
     requires count { length steps.now ≡ length ways.now }
     ensures { IfOk result (IsShape ways.now steps.now) }
@@ -36,7 +35,7 @@ fn looped(alloc: Global, ways: &[Ways], steps: &[u32]) -> Result<Shape, NoMemory
 }
 
 /// How the trails along these ways go, by what their nodes weigh.
-pub fn trail_shape(alloc: Global, ways: &[Ways], steps: &[u32]) -> Result<Shape, NoMemory>
+pub fn trail_shape(alloc: Global, ways: &[Ways], steps: &[u32]) -> Result<Shape>
     requires inside { AreInside ways.now }
     requires count { length steps.now ≡ length ways.now }
     ensures { IfOk result (IsShape ways.now steps.now) }
@@ -64,7 +63,7 @@ pub fn longest_sizes(
     shape: &Shape,
     steps: &[u32],
     ends: &[u32],
-) -> Result<Vec<u32>, NoMemory>
+) -> Result<Vec<u32>>
     requires inside { AreInside ways.now }
     requires order { HasOrder ways.now shape.now }
     requires sizes { AreSizes ways.now steps.now ends.now }

@@ -10,7 +10,7 @@ ghost use Rattle.walk_sums.specs.Clears.{is_steady, AreSteadyMarks};
 use crate::tasks::body_summary;
 use crate::{Counted, Kind, Walks, counted_weights};
 use bound_rules::Summary;
-use sloth_base::{App, Config, NoMemory};
+use sloth_base::{App, Config, Result};
 use std::alloc::Global;
 use text_pieces::push;
 
@@ -23,12 +23,7 @@ fn is_steady(config: &Config, app: &App, table: &[Summary], task: usize) -> bool
     config.tasks.items()[task].non && body_summary(app, table, task).on <= 1
 }
 
-fn marks(
-    alloc: Global,
-    config: &Config,
-    app: &App,
-    table: &[Summary],
-) -> Result<Vec<bool>, NoMemory>
+fn marks(alloc: Global, config: &Config, app: &App, table: &[Summary]) -> Result<Vec<bool>>
     requires bodies { (t : ℕ) → t < length config.now.tasks → HasTaskBody app.now.funcs t }
     requires count { length table.now ≡ length app.now.funcs }
     ensures { IfOk result (λ steady.
@@ -43,7 +38,7 @@ fn marks(
 
 impl Walks<'_> {
     /// The sums of turns, by what counts where a turn ends with it.
-    fn counted_turns(&self, counted: Counted) -> Result<Vec<Summary>, NoMemory>
+    fn counted_turns(&self, counted: Counted) -> Result<Vec<Summary>>
         ensures { IfOk result (λ table.
             AreSums self.now.config self.now.app (counted_weights counted self.now.app) kinds.Turns None table.items) }
     {
@@ -52,7 +47,7 @@ impl Walks<'_> {
     }
 
     /// Of each task whether it is not preemptable and no walk of it reaches a Schedule.
-    pub fn steady_tasks(&self) -> Result<Vec<bool>, NoMemory>
+    pub fn steady_tasks(&self) -> Result<Vec<bool>>
         ensures { IfOk result (λ steady. (t : ℕ) → t < length self.now.config.tasks
             → Decides (get_or steady.items t false) (IsSteady self.now.config self.now.app t)) }
     {

@@ -14,7 +14,7 @@ use crate::kinds::may_begin;
 use crate::paths::{Paths, TrailSizes};
 use crate::shape::is_endless;
 use bound_rules::{ENDLESS, Summary, callee, is_marked, joined, number_at, size_behind};
-use sloth_base::{NoMemory, Op};
+use sloth_base::{Op, Result};
 
 /// One part behind another, where there are both.
 fn joined_both(one: u32, other: u32) -> u32
@@ -161,7 +161,7 @@ impl Caller<'_> {
     }
 
     /// The summary along the paths of the body.
-    fn summary_along(&self, paths: &Paths) -> Result<Summary, NoMemory>
+    fn summary_along(&self, paths: &Paths) -> Result<Summary>
         requires before { IsBefore self.now }
         requires bounded { calls_endless self.now.known ≡ false }
         requires paths { ArePaths self.now paths.now }
@@ -176,7 +176,7 @@ impl Caller<'_> {
     }
 
     /// The summary of the function.
-    pub fn summary(&self) -> Result<Summary, NoMemory>
+    pub fn summary(&self) -> Result<Summary>
         ensures is { IfOk result (IsSummaryFor self.now) }
         ensures small { IfOk result IsCountedUp }
     {

@@ -18,8 +18,7 @@ use bound_rules::{BodyWeights, Summary, task_summary};
 use sloth_base::{App, COUNT_LIMIT, Config};
 use stack_bounds::body_of;
 
-/// The greatest sums of the rounds of a task that begin with its first item, and of those that begin behind a
-/// WaitEvent.
+/// The greatest sums of a task's rounds that begin with its first item, and of those that begin behind a WaitEvent.
 #[derive(Clone, Copy)]
 pub struct RoundSums {
     pub first: Sum,
@@ -78,7 +77,14 @@ fn told_turn(app: &App, table: &[Summary], task: usize) -> Sum
     }
 }
 
-fn told_section(config: &Config, app: &App, whole: &[Summary], own: &[Summary], task: usize) -> Sum
+/// The greatest sum of raised sections of a task by the summaries of all functions.
+pub fn told_section(
+    config: &Config,
+    app: &App,
+    whole: &[Summary],
+    own: &[Summary],
+    task: usize,
+) -> Sum
     requires inside { task < length config.now.tasks }
     requires body { HasTaskBody app.now.funcs task }
     requires whole_count { length whole.now ≡ length app.now.funcs }
@@ -94,9 +100,8 @@ fn told_section(config: &Config, app: &App, whole: &[Summary], own: &[Summary], 
 }
 
 impl Walks<'_> {
-    /// The greatest sums of the rounds of a task, from the summaries of all functions, of rounds. A task of whose
-    /// WaitEvents one goes on without its events cleared before has no rounds but its turns (`clean_tasks`,
-    /// `turn_sum`).
+    /// The greatest sums of a task's rounds, from the summaries of all functions, of rounds. A task of whose WaitEvents
+    /// one goes on without its events cleared before has no rounds but its turns (`clean_tasks`, `turn_sum`).
     pub fn round_sums(&self, weights: &[BodyWeights], table: &[Summary], task: usize) -> RoundSums
         requires weights { AreWeights self.now.app weights.now }
         requires table { AreSums self.now.config self.now.app weights.now kinds.Rounds None table.now }

@@ -12,7 +12,7 @@ use crate::bodies::bodies;
 use crate::callees_first;
 use bound_rules::Body;
 use call_graph::Ranks;
-use sloth_base::{App, Config, List, NoMemory, TaskDecl};
+use sloth_base::{App, Config, List, Result, TaskDecl};
 use stack_bounds::body_of;
 use std::alloc::Global;
 use std::marker::Model;
@@ -25,12 +25,7 @@ pub struct KnownCode {
 }
 
 /// The functions of well-formed task code in such an order, and what is known of their bodies.
-pub fn known_code(
-    alloc: Global,
-    config: &Config,
-    app: &App,
-    ranks: &Ranks,
-) -> Result<KnownCode, NoMemory>
+pub fn known_code(alloc: Global, config: &Config, app: &App, ranks: &Ranks) -> Result<KnownCode>
     requires well_formed { WellFormed config.now app.now }
     requires belong { RanksOf app.now ranks.now }
     ensures { IfOk result (IsKnownCode config.now app.now) }

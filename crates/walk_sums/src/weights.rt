@@ -4,7 +4,7 @@ ghost use Rattle.raised_sections.specs.Sections.{is_counted};
 ghost use Rattle.walk_sums.specs.Weights.{item_weight, body_weights, item_weights, AreWeights};
 
 use bound_rules::BodyWeights;
-use sloth_base::{App, Call, Func, Item, List, NoMemory, Op, Service};
+use sloth_base::{App, Call, Func, Item, List, Op, Result, Service};
 use std::alloc::Global;
 use text_pieces::push;
 
@@ -23,7 +23,7 @@ fn count(op: Op) -> u32
     }
 }
 
-fn counts(alloc: Global, items: &[Item]) -> Result<Vec<u32>, NoMemory>
+fn counts(alloc: Global, items: &[Item]) -> Result<Vec<u32>>
     ensures { IfOk result (λ counts. counts.items ≡ map item_weight items.now) }
 {
     let mut counts = Vec::new(alloc);
@@ -34,7 +34,7 @@ fn counts(alloc: Global, items: &[Item]) -> Result<Vec<u32>, NoMemory>
 }
 
 /// Those of the items of a body.
-fn body_weights(alloc: Global, func: &Func) -> Result<BodyWeights, NoMemory>
+fn body_weights(alloc: Global, func: &Func) -> Result<BodyWeights>
     ensures { IfOk result (λ weights. weights ≡ body_weights func.now) }
 {
     let going = counts(alloc, func.items.items())?;
@@ -46,7 +46,7 @@ fn body_weights(alloc: Global, func: &Func) -> Result<BodyWeights, NoMemory>
 }
 
 /// Those of all bodies.
-fn all_weights(alloc: Global, funcs: &[Func]) -> Result<Vec<BodyWeights>, NoMemory>
+fn all_weights(alloc: Global, funcs: &[Func]) -> Result<Vec<BodyWeights>>
     ensures { IfOk result (λ weights. weights.items ≡ map body_weights funcs.now) }
 {
     let mut weights = Vec::new(alloc);
@@ -58,7 +58,7 @@ fn all_weights(alloc: Global, funcs: &[Func]) -> Result<Vec<BodyWeights>, NoMemo
 }
 
 /// The weights that count items: each counts 1 but TerminateTask, which is no event of its task's work.
-pub fn item_weights(alloc: Global, app: &App) -> Result<Vec<BodyWeights>, NoMemory>
+pub fn item_weights(alloc: Global, app: &App) -> Result<Vec<BodyWeights>>
     ensures is { IfOk result (λ weights. weights.items ≡ item_weights app.now) }
     ensures fit { IfOk result (λ weights. AreWeights app.now weights.items) }
 {

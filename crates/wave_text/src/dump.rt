@@ -1,5 +1,5 @@
 //! The changes of signals, written as they come.
-ghost use Rattle.std.specs.Prelude.{◌≡◌, ◌≤◌, ◌++◌, ◌+◌, true, false, Some, None, OnOk, length};
+ghost use Rattle.std.specs.Prelude.{◌≡◌, ◌≤◌, ◌++◌, ◌+◌, true, false, Some, None, OnOk};
 ghost use Rattle.sloth_base.specs.Limits.{task_limit, counter_limit, alarm_limit};
 ghost use Rattle.wave_text.specs.Changes.{DumpEntry, same_value, change_entries, kernel_changes, changes, scope_changes, moment_entries, with_moment};
 ghost use Rattle.wave_text.specs.Text.{digit, byte_digits, word_digits, value_text, signal_end, entry_line, entry_lines};
@@ -13,7 +13,7 @@ use crate::signals::{
     LEVEL, MASKED, Scope, Width, alarm_count, first_code, level_value, masked_value, value_of,
     width_of,
 };
-use sloth_base::NoMemory;
+use sloth_base::Result;
 use sloth_base::lines::Owners;
 use text_pieces::line;
 use text_pieces::pieces::Piece::{Number, Word};
@@ -39,7 +39,7 @@ fn digit(number: u32) -> u8
 }
 
 // Appends the eight last digits of a number.
-fn push_byte(text: &mut Vec<u8>, n: u32) -> Result<(), NoMemory>
+fn push_byte(text: &mut Vec<u8>, n: u32) -> Result<()>
     ensures { OnOk result (text.new.items ≡ text.old.items ++ byte_digits n) }
 {
     text.extend_from_slice(&[
@@ -57,7 +57,7 @@ fn push_byte(text: &mut Vec<u8>, n: u32) -> Result<(), NoMemory>
 
 // Appends all digits of a word.
 #[tactic(auto, unfolding(crate::specs::Text::word_digits))]
-fn push_word(text: &mut Vec<u8>, n: u32) -> Result<(), NoMemory>
+fn push_word(text: &mut Vec<u8>, n: u32) -> Result<()>
     ensures { OnOk result (text.new.items ≡ text.old.items ++ word_digits n) }
 {
     push_byte(text, n / 16_777_216)?;
@@ -68,7 +68,7 @@ fn push_word(text: &mut Vec<u8>, n: u32) -> Result<(), NoMemory>
 
 // Appends a value.
 #[tactic(auto, unfolding(crate::specs::Text::value_text))]
-fn push_number(text: &mut Vec<u8>, width: Width, n: u32) -> Result<(), NoMemory>
+fn push_number(text: &mut Vec<u8>, width: Width, n: u32) -> Result<()>
     ensures { OnOk result (text.new.items ≡ text.old.items ++ value_text width (Some n)) }
 {
     match width {
@@ -97,7 +97,7 @@ fn push_number(text: &mut Vec<u8>, width: Width, n: u32) -> Result<(), NoMemory>
 
 // Appends the value that is unknown.
 #[tactic(auto, unfolding(crate::specs::Text::value_text))]
-fn push_unknown(text: &mut Vec<u8>, width: Width) -> Result<(), NoMemory>
+fn push_unknown(text: &mut Vec<u8>, width: Width) -> Result<()>
     ensures { OnOk result (text.new.items ≡ text.old.items ++ value_text width None) }
 {
     match width {
@@ -107,7 +107,7 @@ fn push_unknown(text: &mut Vec<u8>, width: Width) -> Result<(), NoMemory>
 }
 
 // Appends a value, or the one that is unknown.
-fn push_value(text: &mut Vec<u8>, width: Width, value: Option<u32>) -> Result<(), NoMemory>
+fn push_value(text: &mut Vec<u8>, width: Width, value: Option<u32>) -> Result<()>
     ensures { OnOk result (text.new.items ≡ text.old.items ++ value_text width value) }
 {
     match value {
@@ -118,7 +118,7 @@ fn push_value(text: &mut Vec<u8>, width: Width, value: Option<u32>) -> Result<()
 
 // Appends the end of a signal's line.
 #[tactic(auto, unfolding(crate::specs::Text::signal_end, crate::specs::Signals::code_text))]
-fn push_end(text: &mut Vec<u8>, code: u8) -> Result<(), NoMemory>
+fn push_end(text: &mut Vec<u8>, code: u8) -> Result<()>
     ensures { OnOk result (text.new.items ≡ text.old.items ++ signal_end code) }
 {
     if code < 127 {
@@ -131,12 +131,7 @@ fn push_end(text: &mut Vec<u8>, code: u8) -> Result<(), NoMemory>
 
 // Appends the line of a signal that changes.
 #[tactic(auto, unfolding(crate::specs::Text::entry_line))]
-fn push_change(
-    text: &mut Vec<u8>,
-    code: u8,
-    width: Width,
-    value: Option<u32>,
-) -> Result<(), NoMemory>
+fn push_change(text: &mut Vec<u8>, code: u8, width: Width, value: Option<u32>) -> Result<()>
     ensures { OnOk result (text.new.items ≡ text.old.items ++ entry_line (DumpEntry.change code width value)) }
 {
     push_value(text, width, value)?;
@@ -145,7 +140,7 @@ fn push_change(
 
 // Appends the line of a moment.
 #[tactic(auto, unfolding(crate::specs::Text::entry_line))]
-fn push_moment(text: &mut Vec<u8>, count: u32) -> Result<(), NoMemory>
+fn push_moment(text: &mut Vec<u8>, count: u32) -> Result<()>
     ensures { OnOk result (text.new.items ≡ text.old.items ++ entry_line (DumpEntry.moment count)) }
 {
     line!(text; Word(b"#"), Number(count), Word(b"\n"))
@@ -161,7 +156,7 @@ pub struct Dump {
 
 impl Dump {
     // Appends the line of the moment.
-    fn stamp(&mut self) -> Result<(), NoMemory>
+    fn stamp(&mut self) -> Result<()>
         ensures text { OnOk result (self.new.text.items ≡ self.old.text.items ++ entry_line (DumpEntry.moment self.old.count)) }
         ensures count { OnOk result (self.new.count ≡ self.old.count) }
         ensures stamped { OnOk result (self.new.stamped ≡ true) }
@@ -172,7 +167,7 @@ impl Dump {
     }
 
     // Appends it unless it stands.
-    fn stand(&mut self) -> Result<(), NoMemory>
+    fn stand(&mut self) -> Result<()>
         ensures text { OnOk result (self.new.text.items ≡ self.old.text.items ++ entry_lines (moment_entries self.old.count self.old.stamped)) }
         ensures count { OnOk result (self.new.count ≡ self.old.count) }
         ensures stamped { OnOk result (self.new.stamped ≡ true) }
@@ -190,7 +185,7 @@ impl Dump {
         width: Width,
         before: Option<u32>,
         after: Option<u32>,
-    ) -> Result<(), NoMemory>
+    ) -> Result<()>
         ensures { OnOk result (HasNewEntries self.old self.new (change_entries code width before after)) }
     {
         if same_value(before, after) {
@@ -207,7 +202,7 @@ impl Dump {
         count: usize,
         before: &Option<Moment>,
         after: &Option<Moment>,
-    ) -> Result<(), NoMemory>
+    ) -> Result<()>
         requires small { count ≤ alarm_limit }
         requires few { count ≤ most_signals scope }
         ensures { OnOk result (HasNewEntries self.old self.new (scope_changes scope before.now after.now count)) }
@@ -232,7 +227,7 @@ impl Dump {
         owners: &Owners,
         before: &Option<Moment>,
         after: &Option<Moment>,
-    ) -> Result<(), NoMemory>
+    ) -> Result<()>
         requires tasks { owners.now.tasks ≤ task_limit }
         requires counters { owners.now.counters ≤ counter_limit }
         ensures { OnOk result (HasNewEntries self.old self.new (kernel_changes owners.now before.now after.now)) }
@@ -257,7 +252,7 @@ impl Dump {
         counters: usize,
         before: &Option<Moment>,
         after: &Option<Moment>,
-    ) -> Result<(), NoMemory>
+    ) -> Result<()>
         requires { counters ≤ counter_limit }
         ensures { OnOk result (HasNewEntries self.old self.new
             (scope_changes Values before.now after.now counters ++ scope_changes Alarms before.now after.now (alarm_count counters))) }
@@ -274,7 +269,7 @@ impl Dump {
         owners: &Owners,
         before: &Option<Moment>,
         after: &Option<Moment>,
-    ) -> Result<(), NoMemory>
+    ) -> Result<()>
         requires tasks { owners.now.tasks ≤ task_limit }
         requires counters { owners.now.counters ≤ counter_limit }
         ensures { OnOk result
@@ -288,7 +283,7 @@ impl Dump {
     }
 
     /// Appends the line of the end.
-    pub fn end(&mut self, count: u32) -> Result<(), NoMemory>
+    pub fn end(&mut self, count: u32) -> Result<()>
         ensures { OnOk result (self.new.text.items ≡ self.old.text.items ++ entry_line (DumpEntry.moment count)) }
     {
         self.count = count;

@@ -7,7 +7,7 @@ ghost use Rattle.wave_text.specs.Signals.{code_text, first_code, width_of};
 ghost use Rattle.wave_text.specs.declared.signals.Scope.TheVariants.{Alarms};
 
 use crate::signals::{Scope, Width, first_code, width_of};
-use sloth_base::{ALARM_LIMIT, Image, Name, NoMemory};
+use sloth_base::{ALARM_LIMIT, Image, Name, Result};
 use std::alloc::Global;
 use trace_text::LineText;
 
@@ -80,7 +80,7 @@ fn scope_line(scope: Scope) -> LineText
 }
 
 // Appends the declarations of signals, one for each name.
-fn push_variables(text: &mut Vec<u8>, scope: Scope, names: &[Name]) -> Result<(), NoMemory>
+fn push_variables(text: &mut Vec<u8>, scope: Scope, names: &[Name]) -> Result<()>
     requires few { length names.now ≤ task_limit }
     requires short { All IsName names.now }
     ensures { OnOk result (text.new.items ≡ text.old.items ++ variable_lines scope names.now (length names.now)) }
@@ -109,7 +109,7 @@ fn alarm_name(alarm: u32) -> LineText
 }
 
 // Appends the declaration of an alarm's signal.
-fn push_alarm(text: &mut Vec<u8>, alarm: usize) -> Result<(), NoMemory>
+fn push_alarm(text: &mut Vec<u8>, alarm: usize) -> Result<()>
     requires { alarm < alarm_limit }
     ensures { OnOk result (text.new.items ≡ text.old.items
         ++ variable_line (width_of Alarms) (first_code Alarms + alarm) (alarm_name alarm)) }
@@ -125,7 +125,7 @@ fn push_alarm(text: &mut Vec<u8>, alarm: usize) -> Result<(), NoMemory>
 }
 
 // Appends those of all alarms.
-fn push_alarms(text: &mut Vec<u8>) -> Result<(), NoMemory>
+fn push_alarms(text: &mut Vec<u8>) -> Result<()>
     ensures { OnOk result (text.new.items ≡ text.old.items ++ alarm_lines alarm_limit) }
 {
     for alarm in 0..ALARM_LIMIT {
@@ -135,12 +135,7 @@ fn push_alarms(text: &mut Vec<u8>) -> Result<(), NoMemory>
 }
 
 // Appends a scope that has a signal for each of these names, and one for the line of each of these counters.
-fn push_scope(
-    text: &mut Vec<u8>,
-    scope: Scope,
-    names: &[Name],
-    counters: &[Name],
-) -> Result<(), NoMemory>
+fn push_scope(text: &mut Vec<u8>, scope: Scope, names: &[Name], counters: &[Name]) -> Result<()>
     requires few_names { length names.now ≤ task_limit }
     requires short_names { All IsName names.now }
     requires few_counters { length counters.now ≤ counter_limit }
@@ -156,7 +151,7 @@ fn push_scope(
 
 // Appends the scopes of the counters' values and of the alarms, where there are counters.
 #[tactic(auto, unfolding(crate::specs::Header::clock_text))]
-fn push_clock(text: &mut Vec<u8>, counters: &[Name]) -> Result<(), NoMemory>
+fn push_clock(text: &mut Vec<u8>, counters: &[Name]) -> Result<()>
     requires few { length counters.now ≤ counter_limit }
     requires short { All IsName counters.now }
     ensures { OnOk result (text.new.items ≡ text.old.items ++ clock_text counters.now) }
@@ -174,7 +169,7 @@ fn push_clock(text: &mut Vec<u8>, counters: &[Name]) -> Result<(), NoMemory>
 
 /// The declarations of all signals, with the names of an image.
 #[tactic(auto, unfolding(crate::specs::Header::header))]
-pub fn header(alloc: Global, image: &Image) -> Result<Vec<u8>, NoMemory>
+pub fn header(alloc: Global, image: &Image) -> Result<Vec<u8>>
     requires { InFormat image.now }
     ensures { IfOk result (λ text. text.items ≡ header image.now) }
 {

@@ -1,5 +1,5 @@
 //! What waves show of a count: its sample, and what the service words said when the tasks were seen.
-ghost use Rattle.std.specs.Prelude.{◌≡◌, cond};
+ghost use Rattle.std.specs.Prelude.{◌≡◌};
 ghost use Rattle.wave_text.specs.Moments.{no_words, is_open, words_behind_look};
 
 use run_samples::{Sample, ServiceWords};
@@ -35,7 +35,7 @@ fn is_open(seen: &Option<Seen>, count: u32) -> bool
     }
 }
 
-/// The words of a count of which this is the sample: those that it shows, where the tasks are seen there, and else those of the count before.
+/// The words of this sample's count: those that it shows, where tasks are seen there, else those of the count before.
 pub fn words_behind_look(
     sample: &Sample,
     count: u32,

@@ -66,7 +66,7 @@ pub fn width_of(scope: Scope) -> Width
     }
 }
 
-/// How many signals of alarms there are beside so many counters: those of all alarms that there may be, or none where no counter ticks.
+/// The number of signals of alarms beside so many counters: that of all possible alarms, or 0 where no counter ticks.
 pub fn alarm_count(counters: usize) -> usize
     ensures is { result ≡ alarm_count counters }
     ensures few { result ≤ alarm_limit }

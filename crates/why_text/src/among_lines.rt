@@ -1,10 +1,10 @@
 //! The lines `among`: each fault of the stage that is at fault.
 ghost use Rattle.std.specs.Prelude.{◌≡◌, ◌++◌, nat_lt, OnOk, take};
 ghost use Rattle.std.specs.List.{list_all};
-ghost use Rattle.why_text.specs.NameLines.{is_word, concerned_words, among_line, among_lines, more_lines, told_lines};
+ghost use Rattle.why_text.specs.NameLines.{is_word, concerned_words, among_lines, more_lines, told_lines};
 
 use command_line::code_text;
-use sloth_base::NoMemory;
+use sloth_base::Result;
 use stage_faults::Note;
 use text_pieces::line;
 use text_pieces::pieces::Piece::{Number, Word};
@@ -34,7 +34,7 @@ pub fn is_word(name: &[u8]) -> bool
     !name.is_empty() && name.len() <= LONGEST && are_shown(name)
 }
 
-fn push_concerned(text: &mut Vec<u8>, name: &[u8]) -> Result<(), NoMemory>
+fn push_concerned(text: &mut Vec<u8>, name: &[u8]) -> Result<()>
     ensures { OnOk result (text.new.items ≡ text.old.items ++ concerned_words name.now) }
 {
     if is_word(name) {
@@ -43,19 +43,13 @@ fn push_concerned(text: &mut Vec<u8>, name: &[u8]) -> Result<(), NoMemory>
     Ok(())
 }
 
-fn push_note(text: &mut Vec<u8>, note: &Note) -> Result<(), NoMemory>
-    ensures { OnOk result (text.new.items ≡ text.old.items ++ among_line note.now) }
-{
-    line!(text; Word(b"among "), Number(note.line), Word(b" "), Word(code_text(note.code)))?;
-    push_concerned(text, note.name)?;
-    line!(text; Word(b"\n"))
-}
-
-fn push_notes(text: &mut Vec<u8>, notes: &[Note]) -> Result<(), NoMemory>
+fn push_notes(text: &mut Vec<u8>, notes: &[Note]) -> Result<()>
     ensures { OnOk result (text.new.items ≡ text.old.items ++ among_lines notes.now) }
 {
     for note in notes {
-        push_note(text, note)?;
+        line!(text; Word(b"among "), Number(note.line), Word(b" "), Word(code_text(note.code)))?;
+        push_concerned(text, note.name)?;
+        line!(text; Word(b"\n"))?;
     }
     Ok(())
 }
@@ -70,7 +64,7 @@ fn first_notes<'n, 't>(notes: &'n [Note<'t>], count: usize) -> &'n [Note<'t>]
     notes
 }
 
-fn push_more(text: &mut Vec<u8>, more: bool) -> Result<(), NoMemory>
+fn push_more(text: &mut Vec<u8>, more: bool) -> Result<()>
     ensures { OnOk result (text.new.items ≡ text.old.items ++ more_lines more) }
 {
     if more {
@@ -80,7 +74,7 @@ fn push_more(text: &mut Vec<u8>, more: bool) -> Result<(), NoMemory>
 }
 
 /// The lines of these faults, of no more than 1,000.
-pub fn push_told(text: &mut Vec<u8>, notes: &[Note]) -> Result<(), NoMemory>
+pub fn push_told(text: &mut Vec<u8>, notes: &[Note]) -> Result<()>
     ensures { OnOk result (text.new.items ≡ text.old.items ++ told_lines notes.now) }
 {
     push_notes(text, first_notes(notes, AMONG_LIMIT))?;

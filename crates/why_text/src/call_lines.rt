@@ -1,22 +1,22 @@
 //! The lines of calls.
 ghost use Rattle.std.specs.Prelude.{◌≡◌, ◌++◌, OnOk};
-ghost use Rattle.why_text.specs.RuleLines.{pair_words, link_words, service_words, ending_words, calls_line};
+ghost use Rattle.why_text.specs.RuleLines.{pair_words, link_words, ending_words, calls_line};
 
 use crate::numbered::func_name;
 use fault_witnesses::Link;
-use sloth_base::{App, Item, NoMemory, Op};
+use sloth_base::{App, Item, Op, Result};
 use text_pieces::line;
 use text_pieces::pieces::Piece::{Number, Word};
 
 // A space, a name, and a line.
-fn push_pair(text: &mut Vec<u8>, name: &[u8], line: u32) -> Result<(), NoMemory>
+fn push_pair(text: &mut Vec<u8>, name: &[u8], line: u32) -> Result<()>
     ensures { OnOk result (text.new.items ≡ text.old.items ++ pair_words name.now line) }
 {
     line!(text; Word(b" "), Word(name), Word(b" "), Number(line))
 }
 
 // Calls, each behind a comma.
-fn push_links(text: &mut Vec<u8>, app: &App, links: &[Link]) -> Result<(), NoMemory>
+fn push_links(text: &mut Vec<u8>, app: &App, links: &[Link]) -> Result<()>
     ensures { OnOk result (text.new.items ≡ text.old.items ++ link_words app.now links.now) }
 {
     for link in links {
@@ -26,23 +26,17 @@ fn push_links(text: &mut Vec<u8>, app: &App, links: &[Link]) -> Result<(), NoMem
     Ok(())
 }
 
-fn push_service(text: &mut Vec<u8>, item: Item) -> Result<(), NoMemory>
-    ensures { OnOk result (text.new.items ≡ text.old.items ++ service_words item) }
-{
-    match item.op {
-        Op::Serve(call) => push_pair(text, call.service.name(), item.line),
-        _ => Ok(()),
-    }
-}
-
 // The service that the calls lead to, if there is one.
-fn push_ending(text: &mut Vec<u8>, ending: Option<Item>) -> Result<(), NoMemory>
+fn push_ending(text: &mut Vec<u8>, ending: Option<Item>) -> Result<()>
     ensures { OnOk result (text.new.items ≡ text.old.items ++ ending_words ending) }
 {
     match ending {
         Some(item) => {
             line!(text; Word(b","))?;
-            push_service(text, item)
+            match item.op {
+                Op::Serve(call) => push_pair(text, call.service.name(), item.line),
+                _ => Ok(()),
+            }
         },
         None => Ok(()),
     }
@@ -56,7 +50,7 @@ pub fn push_calls(
     line: u32,
     links: &[Link],
     ending: Option<Item>,
-) -> Result<(), NoMemory>
+) -> Result<()>
     ensures { OnOk result (text.new.items ≡ text.old.items ++ calls_line app.now name.now line links.now ending) }
 {
     line!(text; Word(b"calls "), Word(name), Word(b" "), Number(line))?;

@@ -24,18 +24,7 @@ fn system_line(objects: &[OilObject]) -> Option<u32> {
     None
 }
 
-// The kind whose names the object may not have too.
-fn other_kind(object: &OilObject) -> &'static [u8] {
-    if is_of_kind(object, b"TASK") {
-        return b"COUNTER";
-    }
-    if is_of_kind(object, b"COUNTER") {
-        return b"TASK";
-    }
-    b""
-}
-
-// The line of the first of these objects that an object doubles.
+// The line of the first of these objects that an object doubles: a task and a counter may not share a name either.
 fn doubled_line(front: &[OilObject], object: &OilObject) -> Option<u32> {
     if is_of_kind(object, b"OS") {
         return system_line(front);
@@ -45,7 +34,13 @@ fn doubled_line(front: &[OilObject], object: &OilObject) -> Option<u32> {
     if first.is_some() {
         return first;
     }
-    declaration_line(front, other_kind(object), name)
+    if is_of_kind(object, b"TASK") {
+        return declaration_line(front, b"COUNTER", name);
+    }
+    if is_of_kind(object, b"COUNTER") {
+        return declaration_line(front, b"TASK", name);
+    }
+    None
 }
 
 // The line of the first use of an attribute's name in its block.

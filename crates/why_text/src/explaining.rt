@@ -14,11 +14,11 @@ use crate::meaning::oil_text;
 use crate::named_events::named_events;
 use crate::naming::{forms_text, names_text};
 use crate::rule_lines::{cycle_line, witness_lines};
-use asm_lines::{SourceLine, read};
+use asm_lines::{SourceLine, read_lines};
 use asm_parse::parse_app;
 use call_graph::Ranks;
 use fault_witnesses::{cycle_calls, fault_witness};
-use sloth_base::{App, BuildError, Code, Config, List, NoMemory, Refusal};
+use sloth_base::{App, BuildError, Code, Config, List, NoMemory, Refusal, Result};
 use sloth_source::{Ranked, read_config, read_ranked};
 use std::alloc::Global;
 
@@ -31,7 +31,7 @@ fn no_lines(alloc: Global) -> List<u8>
 // ---- names
 
 // The configuration of a text, if it has one.
-fn text_config(alloc: Global, oil: &[u8]) -> Result<Option<Config>, NoMemory>
+fn text_config(alloc: Global, oil: &[u8]) -> Result<Option<Config>>
     requires { length oil.now < 4294967295 }
     ensures means { IfOk result (λ found. IfSome found (OilText oil.now)) }
     ensures none { IfOk result (λ found. IfNone found ((config : Config) → OilText oil.now config → ⊥)) }
@@ -45,7 +45,7 @@ fn text_config(alloc: Global, oil: &[u8]) -> Result<Option<Config>, NoMemory>
 }
 
 // The lines behind A5 to A7.
-fn name_lines(alloc: Global, oil: &[u8], src: &[u8], refusal: Refusal) -> Result<List<u8>, NoMemory>
+fn name_lines(alloc: Global, oil: &[u8], src: &[u8], refusal: Refusal) -> Result<List<u8>>
     requires oil { length oil.now < 4294967295 }
     requires src { length src.now < 4294967295 }
     ensures { IfOk result (TellsNames oil.now src.now) }
@@ -72,7 +72,7 @@ fn body_on_line(app: &App, line: u32) -> Option<usize>
 }
 
 // The line of a cycle of calls of the body with this header, if there is one.
-fn cycle_on_line(alloc: Global, app: &App, line: u32) -> Result<Option<List<u8>>, NoMemory>
+fn cycle_on_line(alloc: Global, app: &App, line: u32) -> Result<Option<List<u8>>>
     ensures { IfOk result (λ found. IfSome found (λ lines. IsCycleOn app.now line lines)) }
 {
     let Some(body) = body_on_line(app, line) else {
@@ -88,7 +88,7 @@ fn cycle_on_line(alloc: Global, app: &App, line: u32) -> Result<Option<List<u8>>
 }
 
 // The task code of a text, if it has any.
-fn text_app(alloc: Global, config: &Config, src: &[u8]) -> Result<Option<App>, NoMemory>
+fn text_app(alloc: Global, config: &Config, src: &[u8]) -> Result<Option<App>>
     requires src { length src.now < 4294967295 }
     requires config { InRange config.now }
     ensures { IfOk result (λ found. IfSome found (HasApp src.now config.now)) }
@@ -100,12 +100,7 @@ fn text_app(alloc: Global, config: &Config, src: &[u8]) -> Result<Option<App>, N
     }
 }
 
-fn source_cycle(
-    alloc: Global,
-    src: &[u8],
-    config: &Config,
-    line: u32,
-) -> Result<Option<List<u8>>, NoMemory>
+fn source_cycle(alloc: Global, src: &[u8], config: &Config, line: u32) -> Result<Option<List<u8>>>
     requires src { length src.now < 4294967295 }
     requires config { InRange config.now }
     ensures { IfOk result (λ found. IfSome found (λ lines. HasCycleIn src.now config.now line lines)) }
@@ -121,7 +116,7 @@ fn refusal_cycle(
     oil: &[u8],
     src: &[u8],
     refusal: Refusal,
-) -> Result<Option<List<u8>>, NoMemory>
+) -> Result<Option<List<u8>>>
     requires oil { length oil.now < 4294967295 }
     requires src { length src.now < 4294967295 }
     ensures { IfOk result (λ found. IfSome found (TellsCycle oil.now src.now refusal)) }
@@ -134,17 +129,6 @@ fn refusal_cycle(
 
 // ---- rules of task code
 
-// What the lines of a text are, if none is at fault.
-fn text_lines(alloc: Global, src: &[u8]) -> Result<List<SourceLine>, NoMemory>
-    requires { length src.now < 4294967295 }
-{
-    match read(alloc, src) {
-        Ok(lines) => Ok(lines),
-        Err(BuildError::Refused(_)) => Ok(List::from_vec(Vec::new(alloc))),
-        Err(BuildError::Memory) => Err(NoMemory),
-    }
-}
-
 // What is shown of a fault, in these lines.
 fn shown_fault(
     alloc: Global,
@@ -153,7 +137,7 @@ fn shown_fault(
     ranks: &Ranks,
     lines: &[SourceLine],
     refusal: Refusal,
-) -> Result<Option<List<u8>>, NoMemory>
+) -> Result<Option<List<u8>>>
     requires in_range { AppInRange config.now app.now }
     requires belong { RanksOf app.now ranks.now }
     ensures { IfOk result (λ found. IfSome found (λ text. HasWitnessLines config.now app.now refusal text)) }
@@ -176,18 +160,18 @@ pub fn told_fault(
     app: &App,
     ranks: &Ranks,
     refusal: Refusal,
-) -> Result<Option<List<u8>>, NoMemory>
+) -> Result<Option<List<u8>>>
     requires src { length src.now < 4294967295 }
     requires in_range { AppInRange config.now app.now }
     requires belong { RanksOf app.now ranks.now }
     ensures { IfOk result (λ found. IfSome found (λ text. HasWitnessLines config.now app.now refusal text)) }
 {
-    let lines = text_lines(alloc, src)?;
+    let lines = read_lines(alloc, src)?;
     shown_fault(alloc, config, app, ranks, lines.items(), refusal)
 }
 
 /// What both texts mean, of at most 4,294,967,294 bytes each, if no rule up to V1 is broken.
-pub fn ranked_texts(alloc: Global, oil: &[u8], src: &[u8]) -> Result<Option<Ranked>, NoMemory>
+pub fn ranked_texts(alloc: Global, oil: &[u8], src: &[u8]) -> Result<Option<Ranked>>
     requires oil { length oil.now < 4294967295 }
     requires src { length src.now < 4294967295 }
     ensures has_ranks { IfOk result (λ found. IfSome found (λ ranked. HasRanks oil.now src.now ranked.config ranked.app)) }
@@ -206,7 +190,7 @@ fn refusal_fault(
     oil: &[u8],
     src: &[u8],
     refusal: Refusal,
-) -> Result<Option<List<u8>>, NoMemory>
+) -> Result<Option<List<u8>>>
     requires oil { length oil.now < 4294967295 }
     requires src { length src.now < 4294967295 }
     ensures { IfOk result (λ found. IfSome found (TellsFault oil.now src.now refusal)) }
@@ -272,7 +256,7 @@ fn cause_lines(
     oil: &[u8],
     src: &[u8],
     refusal: Refusal,
-) -> Result<List<u8>, NoMemory>
+) -> Result<List<u8>>
     requires oil { length oil.now < 4294967295 }
     requires src { length src.now < 4294967295 }
     ensures { IfOk result (AreLinesBy cause oil.now src.now refusal) }
@@ -281,25 +265,14 @@ fn cause_lines(
         Cause::OilName => oil_text(alloc, oil, refusal),
         Cause::SourceForm => forms_text(alloc, src, refusal),
         Cause::SourceName => name_lines(alloc, oil, src, refusal),
-        Cause::Cycle => {
-            let cycle = refusal_cycle(alloc, oil, src, refusal)?;
-            Ok(few_lines(alloc, cycle))
-        },
-        Cause::Rule => {
-            let fault = refusal_fault(alloc, oil, src, refusal)?;
-            Ok(few_lines(alloc, fault))
-        },
+        Cause::Cycle => Ok(few_lines(alloc, refusal_cycle(alloc, oil, src, refusal)?)),
+        Cause::Rule => Ok(few_lines(alloc, refusal_fault(alloc, oil, src, refusal)?)),
         Cause::Nothing => Ok(no_lines(alloc)),
     }
 }
 
 /// The lines behind the first refusal of texts of at most 4,294,967,294 bytes.
-pub fn lines_behind(
-    alloc: Global,
-    oil: &[u8],
-    src: &[u8],
-    refusal: Refusal,
-) -> Result<List<u8>, NoMemory>
+pub fn lines_behind(alloc: Global, oil: &[u8], src: &[u8], refusal: Refusal) -> Result<List<u8>>
     requires oil { length oil.now < 4294967295 }
     requires src { length src.now < 4294967295 }
     ensures { IfOk result (AreWhyLines oil.now src.now refusal) }

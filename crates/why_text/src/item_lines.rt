@@ -1,7 +1,6 @@
 //! The lines of an item that breaks a rule.
-ghost use Rattle.std.specs.Prelude.{◌≡◌, ◌++◌, ◌<◌, codes, length, Some, OnOk};
-ghost use Rattle.sloth_base.specs.Named.{function, item_of};
-ghost use Rattle.why_text.specs.RuleLines.{name_line, number_line, symbol_lines, size_lines, falls_out, run_out_lines, target_lines, op_object, last_lines, release_lines, op_callee, culprit_item, called_lines, taken_lines, left_lines, is_of_resource, lacked_lines, user_calls, user_lines};
+ghost use Rattle.std.specs.Prelude.{◌≡◌, ◌++◌, ◌<◌, length, Some, OnOk};
+ghost use Rattle.why_text.specs.RuleLines.{symbol_lines, size_lines, falls_out, run_out_lines, target_lines, op_object, last_lines, release_lines, op_callee, culprit_item, called_lines, taken_lines, left_lines, is_of_resource, lacked_lines, user_calls, user_lines};
 
 use crate::call_lines::push_calls;
 use crate::numbered::{
@@ -11,26 +10,19 @@ use crate::numbered::{
 use crate::pieces::{push_count_line, push_line, push_name, push_number_line};
 use crate::{label_name, push_list_line};
 use fault_witnesses::{Calls, Link, User, chain_end};
-use sloth_base::{App, Config, Func, Item, NoMemory, Op, Service};
+use sloth_base::{App, Config, Func, Item, Op, Result, Service};
 use std::alloc::Global;
 use task_verify::{falls, held_by, way};
 
-fn push_symbol(text: &mut Vec<u8>, app: &App, symbol: u32) -> Result<(), NoMemory>
+fn push_symbol(text: &mut Vec<u8>, app: &App, symbol: u32) -> Result<()>
     ensures { OnOk result (text.new.items ≡ text.old.items ++ symbol_lines app.now symbol) }
 {
     push_name(text, symbol_name(app, symbol))?;
     push_count_line(text, b"bytes", symbol_size(app, symbol))
 }
 
-fn push_frame(text: &mut Vec<u8>, words: u32) -> Result<(), NoMemory>
-    ensures { OnOk result (text.new.items ≡ text.old.items ++ (name_line (codes "frame") ++ number_line (codes "words") words)) }
-{
-    push_name(text, b"frame")?;
-    push_number_line(text, b"words", words)
-}
-
 /// V2 to V4: what is accessed, and its size.
-pub fn push_size(text: &mut Vec<u8>, app: &App, func: &Func, op: Op) -> Result<(), NoMemory>
+pub fn push_size(text: &mut Vec<u8>, app: &App, func: &Func, op: Op) -> Result<()>
     ensures { OnOk result (text.new.items ≡ text.old.items ++ size_lines app.now func.now op) }
 {
     match op {
@@ -38,7 +30,10 @@ pub fn push_size(text: &mut Vec<u8>, app: &App, func: &Func, op: Op) -> Result<(
         Op::Store { symbol, .. } => push_symbol(text, app, symbol.0),
         Op::LoadAt { symbol, .. } => push_symbol(text, app, symbol.0),
         Op::StoreAt { symbol, .. } => push_symbol(text, app, symbol.0),
-        _ => push_frame(text, func.frame_words),
+        _ => {
+            push_name(text, b"frame")?;
+            push_number_line(text, b"words", func.frame_words)
+        }
     }
 }
 
@@ -50,7 +45,7 @@ fn falls_out(func: &Func, item: usize) -> bool
 }
 
 /// V5: the label behind the last item.
-pub fn push_run_out(text: &mut Vec<u8>, func: &Func, item: usize) -> Result<(), NoMemory>
+pub fn push_run_out(text: &mut Vec<u8>, func: &Func, item: usize) -> Result<()>
     requires { item < length func.now.items }
     ensures { OnOk result (text.new.items ≡ text.old.items ++ run_out_lines func.now item) }
 {
@@ -70,7 +65,7 @@ pub fn push_target(
     config: &Config,
     func: &Func,
     label: Option<usize>,
-) -> Result<(), NoMemory>
+) -> Result<()>
     ensures { OnOk result (text.new.items ≡ text.old.items ++ target_lines config.now func.now label) }
 {
     match label {
@@ -92,7 +87,7 @@ fn op_object(op: Op) -> u32
     }
 }
 
-fn push_last(text: &mut Vec<u8>, config: &Config, held: &[u32]) -> Result<(), NoMemory>
+fn push_last(text: &mut Vec<u8>, config: &Config, held: &[u32]) -> Result<()>
     ensures { OnOk result (text.new.items ≡ text.old.items ++ last_lines config.now held.now) }
 {
     if held.is_empty() {
@@ -102,12 +97,7 @@ fn push_last(text: &mut Vec<u8>, config: &Config, held: &[u32]) -> Result<(), No
 }
 
 /// V8: the resource that is released, and the last one taken.
-pub fn push_release(
-    text: &mut Vec<u8>,
-    config: &Config,
-    held: &[u32],
-    op: Op,
-) -> Result<(), NoMemory>
+pub fn push_release(text: &mut Vec<u8>, config: &Config, held: &[u32], op: Op) -> Result<()>
     ensures { OnOk result (text.new.items ≡ text.old.items ++ release_lines config.now held.now op) }
 {
     push_name(text, resource_name(config, op_object(op)))?;
@@ -123,13 +113,14 @@ fn op_callee(op: Op) -> usize
     }
 }
 
-fn item_of_func(app: &App, func: usize, item: usize) -> Item
-    ensures { result ≡ item_of (function app.now func) item }
+fn culprit_item(app: &App, op: Op, calls: &Calls) -> Item
+    ensures { result ≡ culprit_item app.now op calls.now }
 {
-    match app.funcs.items().get(func) {
+    let end = chain_end(op_callee(op), calls.links.items());
+    match app.funcs.items().get(end) {
         Some(func) => Item {
-            line: item_line(func, item),
-            op: item_op(func, item),
+            line: item_line(func, calls.item),
+            op: item_op(func, calls.item),
         },
         None => Item {
             line: 0,
@@ -138,14 +129,7 @@ fn item_of_func(app: &App, func: usize, item: usize) -> Item
     }
 }
 
-fn culprit_item(app: &App, op: Op, calls: &Calls) -> Item
-    ensures { result ≡ culprit_item app.now op calls.now }
-{
-    let end = chain_end(op_callee(op), calls.links.items());
-    item_of_func(app, end, calls.item)
-}
-
-fn push_called(text: &mut Vec<u8>, app: &App, item: &Item, calls: &Calls) -> Result<(), NoMemory>
+fn push_called(text: &mut Vec<u8>, app: &App, item: &Item, calls: &Calls) -> Result<()>
     ensures { OnOk result (text.new.items ≡ text.old.items ++ called_lines app.now item.now calls.now) }
 {
     let name = func_name(app, op_callee(item.op));
@@ -161,7 +145,7 @@ pub fn push_taken(
     app: &App,
     item: &Item,
     calls: &Option<Calls>,
-) -> Result<(), NoMemory>
+) -> Result<()>
     ensures { OnOk result (text.new.items ≡ text.old.items ++ taken_lines config.now app.now item.now calls.now) }
 {
     match calls {
@@ -175,12 +159,7 @@ pub fn push_taken(
 }
 
 /// V10: the calls that lead to the wait.
-pub fn push_left(
-    text: &mut Vec<u8>,
-    app: &App,
-    item: &Item,
-    calls: &Option<Calls>,
-) -> Result<(), NoMemory>
+pub fn push_left(text: &mut Vec<u8>, app: &App, item: &Item, calls: &Option<Calls>) -> Result<()>
     ensures { OnOk result (text.new.items ≡ text.old.items ++ left_lines app.now item.now calls.now) }
 {
     match calls {
@@ -201,12 +180,7 @@ fn is_of_resource(op: Op) -> bool
     }
 }
 
-fn push_lacked(
-    text: &mut Vec<u8>,
-    config: &Config,
-    op: &Op,
-    event: Option<usize>,
-) -> Result<(), NoMemory>
+fn push_lacked(text: &mut Vec<u8>, config: &Config, op: &Op, event: Option<usize>) -> Result<()>
     ensures { OnOk result (text.new.items ≡ text.old.items ++ lacked_lines config.now op.now event) }
 {
     if is_of_resource(*op) {
@@ -218,12 +192,7 @@ fn push_lacked(
     }
 }
 
-fn push_user_calls(
-    text: &mut Vec<u8>,
-    app: &App,
-    body: usize,
-    links: &[Link],
-) -> Result<(), NoMemory>
+fn push_user_calls(text: &mut Vec<u8>, app: &App, body: usize, links: &[Link]) -> Result<()>
     ensures { OnOk result (text.new.items ≡ text.old.items ++ user_calls app.now body links.now) }
 {
     if links.is_empty() {
@@ -240,7 +209,7 @@ pub fn push_user(
     app: &App,
     op: &Op,
     user: &Option<User>,
-) -> Result<(), NoMemory>
+) -> Result<()>
     ensures { OnOk result (text.new.items ≡ text.old.items ++ user_lines config.now app.now op.now user.now) }
 {
     match user {

@@ -4,52 +4,33 @@ use crate::oil_names::named_note;
 use oil_parse::{OilAttr, OilObject};
 use oil_rules::{first_block, is_used_in};
 use oil_table::{Place, block_place, first_use, is_of_kind, is_used};
-use sloth_base::{Code, NoMemory};
+use sloth_base::{Code, Result};
 use stage_faults::Note;
 use text_pieces::push;
 
-fn add_unless<'t>(
-    named: &mut Vec<Note<'t>>,
-    is_there: bool,
-    line: u32,
-    name: &'static [u8],
-) -> Result<(), NoMemory> {
-    if is_there {
-        return Ok(());
-    }
-    push(named, named_note(line, Code::O11, name, None))
-}
-
-fn own_lacking<'t>(
-    named: &mut Vec<Note<'t>>,
-    object: &OilObject,
-    words: &[&'static [u8]],
-) -> Result<(), NoMemory> {
-    for word in words {
-        let is_there = is_used(object.attrs.items(), *word);
-        add_unless(named, is_there, object.line, *word)?;
-    }
-    Ok(())
-}
-
-fn inner_lacking<'t>(
+// O11 for each of these words that attributes lack: those of an object, or those in a block.
+fn add_missing<'t>(
     named: &mut Vec<Note<'t>>,
     line: u32,
-    inner: &[OilAttr],
+    attrs: &[OilAttr],
+    in_block: bool,
     words: &[&'static [u8]],
-) -> Result<(), NoMemory> {
+) -> Result<()> {
     for word in words {
-        add_unless(named, is_used_in(inner, *word), line, *word)?;
+        let is_there = if in_block {
+            is_used_in(attrs, *word)
+        } else {
+            is_used(attrs, *word)
+        };
+        if !is_there {
+            push(named, named_note(line, Code::O11, *word, None))?;
+        }
     }
     Ok(())
 }
 
 // What the block of an attribute of an alarm lacks.
-fn lacking_behind<'t>(
-    named: &mut Vec<Note<'t>>,
-    object: &OilObject,
-    name: &[u8],
-) -> Result<(), NoMemory> {
+fn lacking_behind<'t>(named: &mut Vec<Note<'t>>, object: &OilObject, name: &[u8]) -> Result<()> {
     let attrs = object.attrs.items();
     let Some(head) = first_use(attrs, name) else {
         return Ok(());
@@ -57,26 +38,25 @@ fn lacking_behind<'t>(
     let inner = first_block(attrs, name);
     let line = object.line;
     match block_place(Place::Alarm, head) {
-        Place::Activating => inner_lacking(named, line, inner, &[b"TASK"]),
-        Place::Setting => inner_lacking(named, line, inner, &[b"TASK", b"EVENT"]),
-        Place::Wakeup => inner_lacking(named, line, inner, &[b"ALARMTIME", b"CYCLETIME"]),
+        Place::Activating => add_missing(named, line, inner, true, &[b"TASK"]),
+        Place::Setting => add_missing(named, line, inner, true, &[b"TASK", b"EVENT"]),
+        Place::Wakeup => add_missing(named, line, inner, true, &[b"ALARMTIME", b"CYCLETIME"]),
         _ => Ok(()),
     }
 }
 
-fn object_lacking<'t>(named: &mut Vec<Note<'t>>, object: &OilObject) -> Result<(), NoMemory> {
+fn object_lacking<'t>(named: &mut Vec<Note<'t>>, object: &OilObject) -> Result<()> {
+    let line = object.line;
+    let attrs = object.attrs.items();
     if is_of_kind(object, b"TASK") {
-        return own_lacking(
-            named,
-            object,
-            &[b"PRIORITY", b"SCHEDULE", b"ACTIVATION", b"AUTOSTART"],
-        );
+        add_missing(named, line, attrs, false, &[b"PRIORITY", b"SCHEDULE"])?;
+        return add_missing(named, line, attrs, false, &[b"ACTIVATION", b"AUTOSTART"]);
     }
     if is_of_kind(object, b"COUNTER") {
-        return own_lacking(named, object, &[b"MAXALLOWEDVALUE"]);
+        return add_missing(named, line, attrs, false, &[b"MAXALLOWEDVALUE"]);
     }
     if is_of_kind(object, b"ALARM") {
-        own_lacking(named, object, &[b"COUNTER", b"ACTION"])?;
+        add_missing(named, line, attrs, false, &[b"COUNTER", b"ACTION"])?;
         lacking_behind(named, object, b"AUTOSTART")?;
         return lacking_behind(named, object, b"ACTION");
     }
@@ -84,7 +64,7 @@ fn object_lacking<'t>(named: &mut Vec<Note<'t>>, object: &OilObject) -> Result<(
 }
 
 /// Each attribute that these objects lack.
-pub fn add_lacking<'t>(named: &mut Vec<Note<'t>>, objects: &[OilObject]) -> Result<(), NoMemory> {
+pub fn add_lacking<'t>(named: &mut Vec<Note<'t>>, objects: &[OilObject]) -> Result<()> {
     for object in objects {
         object_lacking(named, object)?;
     }

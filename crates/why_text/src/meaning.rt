@@ -13,7 +13,7 @@ use crate::naming::refusal_name;
 use crate::oil_names::oil_names;
 use oil_lex::tokens;
 use oil_parse::{OilTree, parse};
-use sloth_base::{BuildError, List, NoMemory, Refusal};
+use sloth_base::{BuildError, List, NoMemory, Refusal, Result};
 use stage_faults::told_list::told_list;
 use stage_faults::{Note, model_notes, put_in_order};
 use std::alloc::Global;
@@ -34,7 +34,7 @@ fn named_text(
     faults: &[Note],
     notes: &mut Vec<Note>,
     refusal: Refusal,
-) -> Result<List<u8>, NoMemory>
+) -> Result<List<u8>>
     requires { AreInOrder faults.now }
     ensures { IfOk result (TellsNamed faults.now) }
 {
@@ -45,7 +45,7 @@ fn named_text(
     Ok(List::from_vec(text))
 }
 
-fn tree_text(alloc: Global, tree: &OilTree, refusal: Refusal) -> Result<List<u8>, NoMemory>
+fn tree_text(alloc: Global, tree: &OilTree, refusal: Refusal) -> Result<List<u8>>
     ensures { IfOk result (AreNamedLines Oil (ToldModel tree.now)) }
 {
     let mut notes = model_notes(alloc, tree)?;
@@ -55,7 +55,7 @@ fn tree_text(alloc: Global, tree: &OilTree, refusal: Refusal) -> Result<List<u8>
 }
 
 /// The lines behind a refusal of O7 to O15.
-pub fn oil_text(alloc: Global, oil: &[u8], refusal: Refusal) -> Result<List<u8>, NoMemory>
+pub fn oil_text(alloc: Global, oil: &[u8], refusal: Refusal) -> Result<List<u8>>
     requires { length oil.now < 4294967295 }
     ensures { IfOk result (TellsMeaning oil.now) }
 {

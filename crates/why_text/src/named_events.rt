@@ -3,29 +3,29 @@
 use asm_forms::Mnemonic;
 use asm_lines::{Operand, SourceLine};
 use asm_scopes::{Kind, kind_of, written};
-use sloth_base::{Config, NoMemory};
+use sloth_base::{Config, Result};
 use std::alloc::Global;
-use text_pieces::{Names, push};
+use text_pieces::{push, same};
 
-fn event_names<'t>(alloc: Global, config: &'t Config) -> Result<Names<'t>, NoMemory> {
-    let mut names = Names::new(alloc);
-    for event in config.events.items() {
-        names = names.with(event.name.bytes())?;
-    }
-    Ok(names)
+fn event_number(config: &Config, name: &[u8]) -> Option<usize> {
+    config
+        .events
+        .items()
+        .iter()
+        .position(|event| same(event.name.bytes(), name))
 }
 
 // The events that these operands name.
 fn operand_events(
     alloc: Global,
-    names: &Names,
+    config: &Config,
     mnemonic: Mnemonic,
     operands: &[Operand],
-) -> Result<Vec<usize>, NoMemory> {
+) -> Result<Vec<usize>> {
     let mut events = Vec::new(alloc);
     for (place, operand) in operands.iter().enumerate() {
         if let (Kind::Event, Some(name)) = (kind_of(mnemonic, place), written(operand)) {
-            if let Some(event) = names.number(name) {
+            if let Some(event) = event_number(config, name) {
                 push(&mut events, event)?;
             }
         }
@@ -39,15 +39,14 @@ pub fn named_events(
     config: &Config,
     lines: &[SourceLine],
     line: u32,
-) -> Result<Vec<usize>, NoMemory> {
+) -> Result<Vec<usize>> {
     let number = line as usize;
     if number == 0 || number > lines.len() {
         return Ok(Vec::new(alloc));
     }
     match &lines[number - 1] {
         SourceLine::Statement { mnemonic, operands } => {
-            let names = event_names(alloc, config)?;
-            operand_events(alloc, &names, *mnemonic, operands.items())
+            operand_events(alloc, config, *mnemonic, operands.items())
         },
         _ => Ok(Vec::new(alloc)),
     }

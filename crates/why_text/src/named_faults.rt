@@ -7,7 +7,7 @@ ghost use Rattle.why_text.specs.NamedFaults.{is_same_place, is_key, apart_with, 
 
 use indexmap::IndexSet;
 use oil_table::insert;
-use sloth_base::NoMemory;
+use sloth_base::Result;
 use stage_faults::{Note, order, put_in_order};
 use std::alloc::Global;
 use text_pieces::push;
@@ -32,11 +32,7 @@ fn is_same_place(fault: &Note, note: &Note) -> bool
 }
 
 // Those of the group that stand where the fault does; the fault itself, where there are none.
-fn push_group<'t>(
-    list: &mut Vec<Note<'t>>,
-    fault: &Note<'t>,
-    group: &[Note<'t>],
-) -> Result<(), NoMemory>
+fn push_group<'t>(list: &mut Vec<Note<'t>>, fault: &Note<'t>, group: &[Note<'t>]) -> Result<()>
     requires { fault.now.follows ≡ false }
     ensures { OnOk result (AddsGroup fault.now list.old.items list.new.items) }
 {
@@ -53,11 +49,7 @@ fn push_group<'t>(
     push(list, *fault)
 }
 
-fn grouped<'t>(
-    alloc: Global,
-    faults: &[Note<'t>],
-    named: &[Note<'t>],
-) -> Result<Vec<Note<'t>>, NoMemory>
+fn grouped<'t>(alloc: Global, faults: &[Note<'t>], named: &[Note<'t>]) -> Result<Vec<Note<'t>>>
     requires { AreInOrder faults.now }
     ensures { IfOk result (λ list. NamesAll faults.now list.items) }
 {
@@ -76,7 +68,7 @@ fn is_seen(seen: &IndexSet<(u64, &[u8])>, place: u64, name: &[u8]) -> bool
     seen.contains(&(place, name))
 }
 
-fn see<'t>(seen: &mut IndexSet<(u64, &'t [u8])>, place: u64, name: &'t [u8]) -> Result<(), NoMemory>
+fn see<'t>(seen: &mut IndexSet<(u64, &'t [u8])>, place: u64, name: &'t [u8]) -> Result<()>
     ensures { OnOk result ((n : ℕ) (word : List ℕ) → list_any (is_key n word) seen.new.keys
         ≡ (list_any (is_key n word) seen.old.keys || ((place == n) && bytes_eq name.now word))) }
 {
@@ -87,7 +79,7 @@ fn push_once<'t>(
     seen: &mut IndexSet<(u64, &'t [u8])>,
     list: &mut Vec<Note<'t>>,
     note: &Note<'t>,
-) -> Result<(), NoMemory>
+) -> Result<()>
     requires { AreKeys seen.now.keys list.now.items }
     ensures list { OnOk result (list.new.items ≡ apart_with list.old.items note.now) }
     ensures keys { OnOk result (AreKeys seen.new.keys list.new.items) }
@@ -100,7 +92,7 @@ fn push_once<'t>(
     push(list, *note)
 }
 
-fn first_of_each<'t>(alloc: Global, notes: &[Note<'t>]) -> Result<Vec<Note<'t>>, NoMemory>
+fn first_of_each<'t>(alloc: Global, notes: &[Note<'t>]) -> Result<Vec<Note<'t>>>
     ensures { IfOk result (λ list. list.items ≡ first_of_each notes.now) }
 {
     let mut seen = IndexSet::new(alloc);
@@ -111,12 +103,12 @@ fn first_of_each<'t>(alloc: Global, notes: &[Note<'t>]) -> Result<Vec<Note<'t>>,
     Ok(list)
 }
 
-/// These faults, which stand in order, under the names that other faults in order have there: each line once, at least one for each fault.
+/// These faults, in order, under the names that others in order have there: each line once, at least one per fault.
 pub fn with_names<'t>(
     alloc: Global,
     faults: &[Note<'t>],
     named: &[Note<'t>],
-) -> Result<Vec<Note<'t>>, NoMemory>
+) -> Result<Vec<Note<'t>>>
     requires { AreInOrder faults.now }
     ensures names { IfOk result (λ list. NamesAll faults.now list.items) }
     ensures sorted { IfOk result (λ list. IsNonDecreasingBy note_order list.items) }

@@ -12,14 +12,14 @@ use crate::oil_names::is_refusal_fault;
 use crate::pieces::{push_name, push_number_line};
 use asm_lines::{SourceLine, read};
 use asm_scopes::bodies_of;
-use sloth_base::{BuildError, Config, List, NoMemory, Refusal};
+use sloth_base::{BuildError, Config, List, NoMemory, Refusal, Result};
 use stage_faults::told_list::told_list;
 use stage_faults::{Note, line_notes, name_notes};
 use std::alloc::Global;
 
 // ---- the lines
 
-fn push_first(text: &mut Vec<u8>, first: Option<u32>) -> Result<(), NoMemory>
+fn push_first(text: &mut Vec<u8>, first: Option<u32>) -> Result<()>
     ensures text { OnOk result (text.new.items ≡ text.old.items ++ first_lines first) }
     ensures number { IfSome first (λ line. line < 4294967296) }
 {
@@ -29,7 +29,7 @@ fn push_first(text: &mut Vec<u8>, first: Option<u32>) -> Result<(), NoMemory>
     }
 }
 
-fn name_text(alloc: Global, note: &Note) -> Result<Vec<u8>, NoMemory>
+fn name_text(alloc: Global, note: &Note) -> Result<Vec<u8>>
     requires { IsTrue (is_word note.now.name.now) }
     ensures { IfOk result (λ text. HasName text.items) }
 {
@@ -40,7 +40,7 @@ fn name_text(alloc: Global, note: &Note) -> Result<Vec<u8>, NoMemory>
 }
 
 /// The name that the first of these faults concerns, if it is that of the refusal and a word.
-pub fn refusal_name(alloc: Global, notes: &[Note], refusal: Refusal) -> Result<Vec<u8>, NoMemory>
+pub fn refusal_name(alloc: Global, notes: &[Note], refusal: Refusal) -> Result<Vec<u8>>
     ensures { IfOk result (λ text. IsNamed text.items) }
 {
     if notes.is_empty() || !is_refusal_fault(&notes[0], refusal) || !is_word(notes[0].name) {
@@ -52,7 +52,7 @@ pub fn refusal_name(alloc: Global, notes: &[Note], refusal: Refusal) -> Result<V
 
 // ---- task source
 
-fn source_text(alloc: Global, notes: &mut Vec<Note>, refusal: Refusal) -> Result<List<u8>, NoMemory>
+fn source_text(alloc: Global, notes: &mut Vec<Note>, refusal: Refusal) -> Result<List<u8>>
     ensures { IfOk result (TellsNotes notes.old.items) }
 {
     let told = told_list(alloc, notes)?;
@@ -62,7 +62,7 @@ fn source_text(alloc: Global, notes: &mut Vec<Note>, refusal: Refusal) -> Result
 }
 
 /// The lines behind a refusal of A1 to A4.
-pub fn forms_text(alloc: Global, src: &[u8], refusal: Refusal) -> Result<List<u8>, NoMemory>
+pub fn forms_text(alloc: Global, src: &[u8], refusal: Refusal) -> Result<List<u8>>
     requires { length src.now < 4294967295 }
     ensures { IfOk result (TellsForms src.now) }
 {
@@ -75,7 +75,7 @@ fn names_lines(
     config: &Config,
     lines: &[SourceLine],
     refusal: Refusal,
-) -> Result<List<u8>, NoMemory>
+) -> Result<List<u8>>
     requires { length lines.now < 2 ^ 32 }
     ensures { IfOk result (AreFaultLines Src (ToldName config.now lines.now)) }
 {
@@ -101,12 +101,7 @@ fn names_read(
 }
 
 /// The lines behind a refusal of A5 to A7.
-pub fn names_text(
-    alloc: Global,
-    config: &Config,
-    src: &[u8],
-    refusal: Refusal,
-) -> Result<List<u8>, NoMemory>
+pub fn names_text(alloc: Global, config: &Config, src: &[u8], refusal: Refusal) -> Result<List<u8>>
     requires { length src.now < 4294967295 }
     ensures { IfOk result (TellsNamesFor config.now src.now) }
 {

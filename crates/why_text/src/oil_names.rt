@@ -4,7 +4,7 @@ use crate::earlier::earlier_line;
 use crate::lacking::add_lacking;
 use crate::priorities::add_priorities;
 use oil_parse::{OilObject, OilTree};
-use sloth_base::{Code, NoMemory, Refusal};
+use sloth_base::{Code, Refusal, Result};
 use stage_faults::{Note, Position};
 use std::alloc::Global;
 use text_pieces::push;
@@ -26,18 +26,13 @@ pub fn named_note<'t>(line: u32, code: Code, name: &'t [u8], first: Option<u32>)
     }
 }
 
-fn add_named<'t>(named: &mut Vec<Note<'t>>, notes: &[Note<'t>]) -> Result<(), NoMemory> {
+fn add_named<'t>(named: &mut Vec<Note<'t>>, notes: &[Note<'t>]) -> Result<()> {
     for note in notes {
         if !note.name.is_empty() {
             push(named, *note)?;
         }
     }
     Ok(())
-}
-
-// By object, and in one object by attribute.
-fn place_in_tree(note: &Note) -> u64 {
-    (note.position.object as u64) << 32 | note.position.attribute as u64
 }
 
 // The line of the earlier thing, where the refusal is O9.
@@ -59,13 +54,13 @@ pub fn oil_names<'t>(
     tree: &'t OilTree,
     notes: &[Note<'t>],
     refusal: Refusal,
-) -> Result<Vec<Note<'t>>, NoMemory> {
+) -> Result<Vec<Note<'t>>> {
     let objects = tree.objects.items();
     let mut named = Vec::new(alloc);
     add_named(&mut named, notes)?;
     add_lacking(&mut named, objects)?;
     add_priorities(alloc, &mut named, objects)?;
-    named.sort_by_key(|note| place_in_tree(note))?;
+    named.sort_by_key(|note| (note.position.object as u64) << 32 | note.position.attribute as u64)?;
     add_first(&mut named, objects, refusal);
     Ok(named)
 }

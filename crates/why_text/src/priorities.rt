@@ -4,18 +4,18 @@ use crate::oil_names::named_note;
 use indexmap::IndexSet;
 use oil_parse::OilObject;
 use oil_table::{first_use, insert, is_of_kind, number_of};
-use sloth_base::{Code, NoMemory};
+use sloth_base::{Code, Result};
 use stage_faults::Note;
 use std::alloc::Global;
 use text_pieces::push;
 
-// O13 of a task behind those that gave these priorities first, or one of these more: its name, and the line of its priority.
+// O13 of a task behind those that gave these priorities first, or one of these more: its name and its priority's line.
 fn add_priority<'t>(
     named: &mut Vec<Note<'t>>,
     numbers: &mut IndexSet<u32>,
     firsts: &mut Vec<Note<'t>>,
     task: &'t OilObject,
-) -> Result<(), NoMemory> {
+) -> Result<()> {
     let Some(attr) = first_use(task.attrs.items(), b"PRIORITY") else {
         return Ok(());
     };
@@ -44,7 +44,7 @@ pub fn add_priorities<'t>(
     alloc: Global,
     named: &mut Vec<Note<'t>>,
     objects: &'t [OilObject],
-) -> Result<(), NoMemory> {
+) -> Result<()> {
     let mut numbers = IndexSet::new(alloc);
     let mut firsts = Vec::new(alloc);
     for object in objects {

@@ -5,7 +5,7 @@ ghost use Rattle.code_rules.specs.AppRange.{AppInRange};
 ghost use Rattle.code_rules.specs.Code.{held_list_at};
 ghost use Rattle.task_verify.specs.Labels.{ArePlaced};
 ghost use Rattle.fault_witnesses.specs.Places.{IsPlace};
-ghost use Rattle.why_text.specs.RuleLines.{own_lines, is_of_held, held_lines, item_lines, lists_at_begin, entry_lines, entered_lines, place_lines, witness_lines, cycle_line};
+ghost use Rattle.why_text.specs.RuleLines.{own_lines, held_lines, item_lines, lists_at_begin, entry_lines, entered_lines, place_lines, witness_lines, cycle_line};
 
 use crate::call_lines::push_calls;
 use crate::item_lines::{
@@ -16,11 +16,19 @@ use crate::pieces::push_name;
 use crate::push_list_line;
 use crate::way_lines::{push_front, push_shown_way, push_start, push_way};
 use fault_witnesses::{Link, Place, Way, Witness, held_entering, held_list, label_before};
-use sloth_base::{App, Code, Config, Func, NoMemory, Refusal};
+use sloth_base::{App, Code, Config, Func, Refusal, Result};
 use std::alloc::Global;
 use task_verify::way;
 use text_pieces::line;
 use text_pieces::pieces::Piece::Word;
+
+// Task code, and what shows a fault of it.
+#[derive(Clone, Copy)]
+struct Shown<'t> {
+    config: &'t Config,
+    app: &'t App,
+    witness: &'t Witness,
+}
 
 fn label_number(label: Option<u32>) -> Option<usize>
     ensures { result ≡ label }
@@ -35,38 +43,29 @@ fn label_number(label: Option<u32>) -> Option<usize>
 fn push_own(
     alloc: Global,
     text: &mut Vec<u8>,
-    config: &Config,
-    app: &App,
+    shown: &Shown,
     func: &Func,
     number: usize,
     held: &[u32],
     code: Code,
-    witness: &Witness,
-) -> Result<(), NoMemory>
+) -> Result<()>
     requires inside { number < length func.now.items }
     requires held { held.now ≡ held_list_at func.now number }
-    ensures { OnOk result (text.new.items ≡ text.old.items ++ own_lines config.now app.now func.now number code witness.now) }
+    ensures { OnOk result (text.new.items ≡ text.old.items
+        ++ own_lines shown.now.config.now shown.now.app.now func.now number code shown.now.witness.now) }
 {
     let item = &func.items.items()[number];
     match code {
-        Code::V2 => push_size(text, app, func, item.op),
-        Code::V3 => push_size(text, app, func, item.op),
-        Code::V4 => push_size(text, app, func, item.op),
+        Code::V2 | Code::V3 | Code::V4 => push_size(text, shown.app, func, item.op),
         Code::V5 => push_run_out(text, func, number),
-        Code::V7 => push_target(alloc, text, config, func, label_number(way(item.op))),
-        Code::V8 => push_release(text, config, held, item.op),
-        Code::V9 => push_taken(text, config, app, item, &witness.calls),
-        Code::V10 => push_left(text, app, item, &witness.calls),
+        Code::V7 => push_target(alloc, text, shown.config, func, label_number(way(item.op))),
+        Code::V8 => push_release(text, shown.config, held, item.op),
+        Code::V9 => push_taken(text, shown.config, shown.app, item, &shown.witness.calls),
+        Code::V10 => push_left(text, shown.app, item, &shown.witness.calls),
         Code::V11 => push_name(text, func.name.bytes()),
-        Code::V12 => push_user(text, config, app, &item.op, &witness.user),
+        Code::V12 => push_user(text, shown.config, shown.app, &item.op, &shown.witness.user),
         _ => Ok(()),
     }
-}
-
-fn is_of_held(code: Code) -> bool
-    ensures { result ≡ is_of_held code }
-{
-    matches!(code, Code::V7 | Code::V8 | Code::V9 | Code::V10)
 }
 
 fn push_held(
@@ -76,35 +75,34 @@ fn push_held(
     number: usize,
     held: &[u32],
     code: Code,
-) -> Result<(), NoMemory>
+) -> Result<()>
     requires held { held.now ≡ held_list_at func.now number }
     ensures { OnOk result (text.new.items ≡ text.old.items ++ held_lines config.now func.now number code) }
 {
-    if is_of_held(code) {
-        return push_list_line(text, config, b"holds", held);
+    match code {
+        Code::V7 | Code::V8 | Code::V9 | Code::V10 => push_list_line(text, config, b"holds", held),
+        _ => Ok(()),
     }
-    Ok(())
 }
 
 fn push_item(
     alloc: Global,
     text: &mut Vec<u8>,
-    config: &Config,
-    app: &App,
+    shown: &Shown,
     func: &Func,
     number: usize,
     code: Code,
-    witness: &Witness,
-) -> Result<(), NoMemory>
+) -> Result<()>
     requires placed { ArePlaced func.now }
     requires inside { number < length func.now.items }
-    ensures { OnOk result (text.new.items ≡ text.old.items ++ item_lines config.now app.now func.now number code witness.now) }
+    ensures { OnOk result (text.new.items ≡ text.old.items
+        ++ item_lines shown.now.config.now shown.now.app.now func.now number code shown.now.witness.now) }
 {
-    push_shown_way(text, func, &witness.way)?;
-    push_front(text, func, witness.behind)?;
+    push_shown_way(text, func, &shown.witness.way)?;
+    push_front(text, func, shown.witness.behind)?;
     let held = held_list(alloc, func, number)?;
-    push_held(text, config, func, number, &held, code)?;
-    push_own(alloc, text, config, app, func, number, &held, code, witness)
+    push_held(text, shown.config, func, number, &held, code)?;
+    push_own(alloc, text, shown, func, number, &held, code)
 }
 
 fn lists_at_begin(func: &Func, label: usize) -> bool
@@ -115,12 +113,7 @@ fn lists_at_begin(func: &Func, label: usize) -> bool
     label.item == 0 && !label.holds.items().is_empty()
 }
 
-fn push_entry(
-    text: &mut Vec<u8>,
-    func: &Func,
-    label: usize,
-    way: &Option<Way>,
-) -> Result<(), NoMemory>
+fn push_entry(text: &mut Vec<u8>, func: &Func, label: usize, way: &Option<Way>) -> Result<()>
     requires { label < length func.now.labels }
     ensures { OnOk result (text.new.items ≡ text.old.items ++ entry_lines func.now label way.now) }
 {
@@ -140,7 +133,7 @@ fn push_entered(
     func: &Func,
     label: usize,
     way: &Option<Way>,
-) -> Result<(), NoMemory>
+) -> Result<()>
     requires placed { ArePlaced func.now }
     requires inside { label < length func.now.labels }
     ensures { OnOk result (text.new.items ≡ text.old.items ++ entered_lines config.now func.now label way.now) }
@@ -153,17 +146,18 @@ fn push_entered(
     push_list_line(text, config, b"holds", &held)
 }
 
-fn push_place(
+fn push_place<'t>(
     alloc: Global,
     text: &mut Vec<u8>,
-    config: &Config,
-    app: &App,
+    config: &'t Config,
+    app: &'t App,
     code: Code,
-    witness: &Witness,
-) -> Result<(), NoMemory>
+    witness: &'t Witness,
+) -> Result<()>
     requires in_range { AppInRange config.now app.now }
     requires is_place { IsPlace app.now witness.now.place }
-    ensures { OnOk result (text.new.items ≡ text.old.items ++ place_lines config.now app.now code witness.now witness.now.place) }
+    ensures { OnOk result (text.new.items ≡ text.old.items
+        ++ place_lines config.now app.now code witness.now witness.now.place) }
 {
     match witness.place {
         Place::Header(body) => push_name(text, func_name(app, body)),
@@ -174,7 +168,12 @@ fn push_place(
         },
         Place::Item { body, item } => {
             let func = app.function(body);
-            push_item(alloc, text, config, app, func, item, code, witness)
+            let shown = Shown {
+                config,
+                app,
+                witness,
+            };
+            push_item(alloc, text, &shown, func, item, code)
         },
     }
 }
@@ -186,7 +185,7 @@ pub fn witness_lines(
     app: &App,
     refusal: Refusal,
     witness: &Witness,
-) -> Result<Vec<u8>, NoMemory>
+) -> Result<Vec<u8>>
     requires in_range { AppInRange config.now app.now }
     requires is_place { IsPlace app.now witness.now.place }
     ensures { IfOk result (λ text. text.items ≡ witness_lines config.now app.now refusal witness.now) }
@@ -197,12 +196,7 @@ pub fn witness_lines(
 }
 
 /// The line behind V1.
-pub fn cycle_line(
-    alloc: Global,
-    app: &App,
-    body: usize,
-    links: &[Link],
-) -> Result<Vec<u8>, NoMemory>
+pub fn cycle_line(alloc: Global, app: &App, body: usize, links: &[Link]) -> Result<Vec<u8>>
     ensures { IfOk result (λ text. text.items ≡ cycle_line app.now body links.now) }
 {
     let mut text = Vec::new(alloc);

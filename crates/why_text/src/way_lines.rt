@@ -6,12 +6,12 @@ use crate::numbered::{item_line, resource_name};
 use crate::pieces::push_number_line;
 use crate::{label_line, label_name};
 use fault_witnesses::Way;
-use sloth_base::{Config, Func, NoMemory};
+use sloth_base::{Config, Func, Result};
 use text_pieces::line;
 use text_pieces::pieces::Piece::{Number, Word};
 
 // The lines of these items.
-fn push_items(text: &mut Vec<u8>, func: &Func, items: &[usize]) -> Result<(), NoMemory>
+fn push_items(text: &mut Vec<u8>, func: &Func, items: &[usize]) -> Result<()>
     ensures { OnOk result (text.new.items ≡ text.old.items ++ item_words func.now items.now) }
 {
     for item in items {
@@ -21,7 +21,7 @@ fn push_items(text: &mut Vec<u8>, func: &Func, items: &[usize]) -> Result<(), No
 }
 
 /// The line `from`: the label that a way starts behind, if it does not start where the body begins.
-pub fn push_start(text: &mut Vec<u8>, func: &Func, label: Option<usize>) -> Result<(), NoMemory>
+pub fn push_start(text: &mut Vec<u8>, func: &Func, label: Option<usize>) -> Result<()>
     ensures { OnOk result (text.new.items ≡ text.old.items ++ start_lines func.now label) }
 {
     let Some(label) = label else {
@@ -32,7 +32,7 @@ pub fn push_start(text: &mut Vec<u8>, func: &Func, label: Option<usize>) -> Resu
 }
 
 /// The line of a way's items.
-pub fn push_way_line(text: &mut Vec<u8>, func: &Func, items: &[usize]) -> Result<(), NoMemory>
+pub fn push_way_line(text: &mut Vec<u8>, func: &Func, items: &[usize]) -> Result<()>
     ensures { OnOk result (text.new.items ≡ text.old.items ++ way_line func.now items.now) }
 {
     line!(text; Word(b"way"))?;
@@ -41,7 +41,7 @@ pub fn push_way_line(text: &mut Vec<u8>, func: &Func, items: &[usize]) -> Result
 }
 
 /// The lines of a way.
-pub fn push_way(text: &mut Vec<u8>, func: &Func, way: &Way) -> Result<(), NoMemory>
+pub fn push_way(text: &mut Vec<u8>, func: &Func, way: &Way) -> Result<()>
     ensures { OnOk result (text.new.items ≡ text.old.items ++ way_lines func.now way.now) }
 {
     push_start(text, func, way.label)?;
@@ -49,7 +49,7 @@ pub fn push_way(text: &mut Vec<u8>, func: &Func, way: &Way) -> Result<(), NoMemo
 }
 
 /// The way, if there is one.
-pub fn push_shown_way(text: &mut Vec<u8>, func: &Func, way: &Option<Way>) -> Result<(), NoMemory>
+pub fn push_shown_way(text: &mut Vec<u8>, func: &Func, way: &Option<Way>) -> Result<()>
     ensures { OnOk result (text.new.items ≡ text.old.items ++ shown_way_lines func.now way.now) }
 {
     match way {
@@ -59,7 +59,7 @@ pub fn push_shown_way(text: &mut Vec<u8>, func: &Func, way: &Option<Way>) -> Res
 }
 
 /// The item in front, if there is one.
-pub fn push_front(text: &mut Vec<u8>, func: &Func, item: Option<usize>) -> Result<(), NoMemory>
+pub fn push_front(text: &mut Vec<u8>, func: &Func, item: Option<usize>) -> Result<()>
     ensures { OnOk result (text.new.items ≡ text.old.items ++ behind_lines func.now item) }
 {
     match item {
@@ -68,7 +68,7 @@ pub fn push_front(text: &mut Vec<u8>, func: &Func, item: Option<usize>) -> Resul
     }
 }
 
-fn push_resources(text: &mut Vec<u8>, config: &Config, list: &[u32]) -> Result<(), NoMemory>
+fn push_resources(text: &mut Vec<u8>, config: &Config, list: &[u32]) -> Result<()>
     ensures { OnOk result (text.new.items ≡ text.old.items ++ resource_words config.now list.now) }
 {
     for resource in list {
@@ -77,7 +77,7 @@ fn push_resources(text: &mut Vec<u8>, config: &Config, list: &[u32]) -> Result<(
     Ok(())
 }
 
-fn push_list(text: &mut Vec<u8>, config: &Config, list: &[u32]) -> Result<(), NoMemory>
+fn push_list(text: &mut Vec<u8>, config: &Config, list: &[u32]) -> Result<()>
     ensures { OnOk result (text.new.items ≡ text.old.items ++ list_words config.now list.now) }
 {
     if list.is_empty() {
@@ -87,12 +87,7 @@ fn push_list(text: &mut Vec<u8>, config: &Config, list: &[u32]) -> Result<(), No
 }
 
 /// A line of resources, `-` for none.
-pub fn push_list_line(
-    text: &mut Vec<u8>,
-    config: &Config,
-    word: &[u8],
-    list: &[u32],
-) -> Result<(), NoMemory>
+pub fn push_list_line(text: &mut Vec<u8>, config: &Config, word: &[u8], list: &[u32]) -> Result<()>
     ensures { OnOk result (text.new.items ≡ text.old.items ++ list_line config.now word.now list.now) }
 {
     line!(text; Word(word))?;

@@ -3,7 +3,7 @@ ghost use Rattle.std.specs.Prelude.{◌<◌, length, IfOk};
 ghost use Rattle.why_text.specs.WhyLines.{IsWhy};
 
 use crate::explaining::lines_behind;
-use sloth_base::{BuildError, List, NoMemory, Refusal};
+use sloth_base::{BuildError, List, NoMemory, Refusal, Result};
 use sloth_source::read;
 use std::alloc::Global;
 
@@ -16,7 +16,7 @@ pub enum Why {
 }
 
 /// That the texts are accepted, or their first refusal and what stands behind it; texts of at most 4,294,967,294 bytes.
-pub fn explain(alloc: Global, oil: &[u8], src: &[u8]) -> Result<Why, NoMemory>
+pub fn explain(alloc: Global, oil: &[u8], src: &[u8]) -> Result<Why>
     requires oil { length oil.now < 4294967295 }
     requires src { length src.now < 4294967295 }
     ensures { IfOk result (IsWhy oil.now src.now) }

@@ -5,8 +5,8 @@ use Rattle.asm_scopes.specs.Bodies.{BodyText, bodies_of}
 use Rattle.asm_scopes.proofs.Short.{short_bodies, EndsBefore}
 use Rattle.asm_items.proofs.apps.app_in_scope.Goals as goal
 
-pub funcs_of-requires-clause-short : goal.funcs_of-requires-clause-short
-funcs_of-requires-clause-short c =
+pub functions-requires-clause-short : goal.functions-requires-clause-short
+functions-requires-clause-short c =
     let l = c.requires.few in
     subst (λ (bodies : List BodyText). All (λ body. body.line + length body.lines < 2 ^ 32) bodies) (sym c.requires.bodies)
     (All-weaker (EndsBefore (1 + length c.args.lines.now)) (λ (body : BodyText). body.line + length body.lines < 2 ^ 32) (λ (body : BodyText) h. omega (arith, h, l)) (bodies_of c.args.lines.now)

@@ -11,7 +11,7 @@ four all old first second third last e =
 
 pub returns : goal.returns
 returns c =
-    four c.emit.new.code.items c.args.code.now.items taking_up_code idle_loop_test (restoring_code 27 5 1) (Mret ∷ [])
-    (c.in_ok-emit.ensures ∙ ap (λ kind. c.restore.new.code.items ++ kind ∷ []) c.mret.ensures
+    four c.put.new.code.items c.args.code.now.items taking_up_code idle_loop_test (restoring_code 27 5 1) (Mret ∷ [])
+    (c.in_ok-put.ensures ∙ ap (λ kind. c.restore.new.code.items ++ kind ∷ []) c.mret.ensures
     ∙ ap (λ (x : List InstrKind). x ++ Mret ∷ []) (c.in_ok-restore.ensures
     ∙ ap (λ (x : List InstrKind). x ++ restoring_code 27 5 1) (c.in_ok-ask_idle.ensures ∙ ap (λ (x : List InstrKind). x ++ idle_loop_test) c.in_ok-take_up.ensures)))

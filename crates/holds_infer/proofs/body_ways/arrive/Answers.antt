@@ -7,4 +7,4 @@ pub returns : goal.returns
 returns c =
     let f = c.args.func.now in
     subst (AreWayLists f) (sym c.in_ok-keep.ensures)
-    (one_list f c.args.lists.now c.args.to c.args.held.now (c.requires.held c.args.to (c.goes.ensures c.if-not-goes.false)) c.requires.lists)
+    (one_list f c.args.lists.now c.args.step.place c.args.held.now (c.requires.held c.args.step.place (c.goes.ensures c.if-not-goes.false)) c.requires.lists)

@@ -9,5 +9,5 @@ orderly_behind-requires-clause-held c =
     let f = c.args.func.now in
     let lists = c.args.lists.now in
     let i = c.args.item in
-    subst (IsWayList f i) (sym (c.in_ok-held.ensures ∙ c.list_at.ensures))
+    subst (IsWayList f i) (sym (c.in_ok-held.ensures ∙ c.place_list.ensures))
     (c.requires.lists i (list_at lists i) (listed (get_or lists i None) (sym c.has_list.ensures ∙ c.if-not-has_list.false)))

@@ -1,4 +1,4 @@
-use Rattle.std.proofs.Common.{ℕ, List, map, ap, sym, subst, inl, ◌∙◌}
+use Rattle.std.proofs.Common.{ℕ, List, map, ap, sym, subst, ◌∙◌}
 use Rattle.std.specs.List.{join_with_byte}
 use Rattle.text_pieces.specs.Names.{referent}
 use Rattle.text_pieces.specs.Lines.{lines, without_returns}
@@ -8,9 +8,6 @@ use Rattle.holds_infer.specs.Relabel.{all_holds}
 use Rattle.holds_infer.specs.FilledText.{filled_parts, filled_text}
 use Rattle.holds_infer.proofs.Accepts.{out_has_app, out_accepted, range_known}
 use Rattle.holds_infer.proofs.filling.fill.Goals as goal
-
-pub lines_of-requires-clause-none : goal.lines_of-requires-clause-none
-lines_of-requires-clause-none c = λ r fault. c.requires.says.no_fault r (inl fault)
 
 pub filled_parts-requires : goal.filled_parts-requires
 unfolding lines

@@ -46,7 +46,7 @@ loop-n-preserved c =
           ∙ ap (λ (x : List ℕ). source_line (line_of (length (drop (n + 1) ps) == 0) x)) (sym part)
           ∙ ap (λ (b : Bool). source_line (line_of b p)) (sym is_last);
       is_last = is_last;
-      grown = c.in_ok-write_line.ensures ∙ ap (λ (held : List ℕ). c.loop-n.out.items ++ (filled_part config line last held p ++ cond last [] (10 ∷ []))) c.list_at.ensures;
+      grown = c.in_ok-write_line.ensures ∙ ap (λ (held : List ℕ). c.loop-n.out.items ++ (filled_part config line last held p ++ cond last [] (10 ∷ []))) c.numbered_list-list.ensures;
     }) c.loop-n.invariant.text in
     record {
       few = subst (λ (x : ℕ). x ≤ n + 1) (sym number) (few_behind (is_label line) k n c.loop-n.invariant.few);

@@ -56,7 +56,7 @@ loop-from-preserved c =
     let more = c.visit.new.pending.items in
     let kept = c.visit-in-Some.new.pending.items in
     let behind = c.in_ok-behind-in-Some.behind.items in
-    let behind_is : behind ≡ list_after c.op.result (list_at lists x) = c.in_ok-behind-in-Some.ensures ∙ ap (list_after c.op.result) c.list_at.ensures in
+    let behind_is : behind ≡ list_after c.op.result (list_at lists x) = c.in_ok-behind-in-Some.ensures ∙ ap (list_after c.op.result) c.place_list.ensures in
     turned f lists mid new c.loop-from.pending.items rest more kept x behind (record {
       spreading = c.loop-from.invariant;
       taken_from = c.in-Some.ensures.items;

@@ -16,7 +16,7 @@ returns c =
     let l = c.args.line.now in
     let one = case_found Load (is_l1 l) c.is_l1.result n L1 c.fault_if-l1.result c.fault_if-l1.ensures c.is_l1.ensures in
     let two = case_found Load (is_l2 ts cs l) c.is_l2.result n L2 c.fault_if-l2.result c.fault_if-l2.ensures c.is_l2.ensures in
-    let three = case_found Load (is_l3 ts cs b l) c.is_l3.result n L3 c.fault_if-l3.result c.fault_if-l3.ensures c.is_l3.ensures in
+    let three = case_found Load (is_l3 ts cs b l) c.is_l3-l3.result n L3 c.fault_if-l3.result c.fault_if-l3.ensures c.is_l3-l3.ensures in
     let four = case_found Load (is_l4 l) c.is_l4.result n L4 c.fault_if-l4.result c.fault_if-l4.ensures c.is_l4.ensures in
     both_are (CaseOf Load (is_l1 l) n L1) (λ r. CaseOf Load (is_l2 ts cs l) n L2 r ⊎ (CaseOf Load (is_l3 ts cs b l) n L3 r ⊎ CaseOf Load (is_l4 l) n L4 r))
     c.fault_if-l1.result c.merge-2.result c.merge-3.result one

@@ -18,22 +18,22 @@ use Rattle.oil_model.proofs.NoFaults.{few_tasks, few_counters, few_names, number
 use Rattle.oil_model.proofs.Range.{in_range}
 use Rattle.oil_model.proofs.resolving.config_or_refusal.Goals as goal
 
-pub config_of-requires-clause-few : goal.config_of-requires-clause-few
-config_of-requires-clause-few c =
+pub declared_config-requires-clause-few : goal.declared_config-requires-clause-few
+declared_config-requires-clause-few c =
     let tree = c.args.tree.now in
     subst (λ (x : List OilObject). length (resource_names x) ≤ resource_limit) (sym c.items.ensures)
     (few_names tree (subst (λ (o : Option Refusal). IsSearchResult (ModelFault tree) o) c.in_default.is c.in_ok-refusal.ensures))
 
-pub config_of-requires-clause-few_tasks : goal.config_of-requires-clause-few_tasks
-config_of-requires-clause-few_tasks c =
+pub declared_config-requires-clause-few_tasks : goal.declared_config-requires-clause-few_tasks
+declared_config-requires-clause-few_tasks c =
     let tree = c.args.tree.now in
     let none = subst (λ (o : Option Refusal). IsSearchResult (ModelFault tree) o) c.in_default.is c.in_ok-refusal.ensures in
     let n = number_of_names tree none (codes "TASK") in
     let few = few_tasks tree none in
     subst (λ (x : List OilObject). length (names_of (codes "TASK") x) ≤ line_count) (sym c.items.ensures) (omega (arith, n, few))
 
-pub config_of-requires-clause-few_counters : goal.config_of-requires-clause-few_counters
-config_of-requires-clause-few_counters c =
+pub declared_config-requires-clause-few_counters : goal.declared_config-requires-clause-few_counters
+declared_config-requires-clause-few_counters c =
     let tree = c.args.tree.now in
     let none = subst (λ (o : Option Refusal). IsSearchResult (ModelFault tree) o) c.in_default.is c.in_ok-refusal.ensures in
     let n = number_of_names tree none (codes "COUNTER") in

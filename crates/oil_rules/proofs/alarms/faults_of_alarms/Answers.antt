@@ -8,6 +8,6 @@ use Rattle.oil_rules.proofs.alarms.faults_of_alarms.Goals as goal
 pub returns : goal.returns
 returns c =
     let objects = c.args.objects.now in
-    IfOk-weaker c.judge_by.result (IsSearchResult (Somewhere (AlarmFault c.in_ok-tasks.tasks) objects)) (IsSearchResult (Somewhere (AlarmFault objects) objects))
+    IfOk-weaker c.judge_alarms.result (IsSearchResult (Somewhere (AlarmFault c.in_ok-tasks.tasks) objects)) (IsSearchResult (Somewhere (AlarmFault objects) objects))
     (λ found. subst (λ (x : List OilObject). IsSearchResult (Somewhere (AlarmFault x) objects) found) c.in_ok-tasks.ensures)
-    c.judge_by.ensures
+    c.judge_alarms.ensures

@@ -11,7 +11,7 @@ pub returns : goal.returns
 returns c =
     let o = c.args.object.now in
     let front = c.args.front.now in
-    let doubled = case_found Oil (is_doubled c.args.scheduler front o) c.is_doubled.result o.line O9 c.fault_if-doubled.result c.fault_if-doubled.ensures c.is_doubled.ensures in
+    let doubled = case_found Oil (is_doubled c.args.scheduler front o) c.is_doubled-doubled.result o.line O9 c.fault_if-doubled.result c.fault_if-doubled.ensures c.is_doubled-doubled.ensures in
     let lacking = case_found Oil (lacks_attribute o) c.lacks_attribute.result o.line O11 c.fault_if-lacking.result c.fault_if-lacking.ensures c.lacks_attribute.ensures in
     let strange = case_found Oil (is_strange_mode o) c.is_strange_mode.result o.line O12 c.fault_if-strange.result c.fault_if-strange.ensures c.is_strange_mode.ensures in
     let above = case_found Oil (is_above front o) c.is_above.result o.line O14 c.fault_if-above.result c.fault_if-above.ensures c.is_above.ensures in

@@ -12,6 +12,6 @@ returns c =
     let b = c.body.result in
     let known = subst (λ (l : LoopCode). b < length l.walks.app.funcs) (sym c.of-loops.ensures) c.body.ensures.known in
     let least = subst (λ (l : LoopCode). IsLeastLine l None b (line_at lines b)) c.of-loops.ensures (c.in_ok-lines.ensures.each b known) in
-    let same : c.line_at.result ≡ line_at lines b = c.line_at.ensures ∙ ap (λ (l : List (Option ℕ)). line_at l b) c.deref-2.ensures.value in
-    of_turns w.config w.app c.args.weights.now c.args.task b c.body.ensures.is c.line_at.result c.args.kind
+    let same : c.numbered_line.result ≡ line_at lines b = c.numbered_line.ensures ∙ ap (λ (l : List (Option ℕ)). line_at l b) c.deref-2.ensures.value in
+    of_turns w.config w.app c.args.weights.now c.args.task b c.body.ensures.is c.numbered_line.result c.args.kind
     (subst (IsLeastOf (HasLoopAt w.config w.app c.args.weights.now c.args.kind None b)) (sym same) least)

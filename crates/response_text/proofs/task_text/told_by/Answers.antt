@@ -1,15 +1,15 @@
-use Rattle.std.proofs.Common.{◌≡◌, ◌∙◌, ℕ, ◌<◌, Bool, false, List, length, get_or, Option, sym, ap, subst, arith}
+use Rattle.std.proofs.Common.{◌≡◌, ◌∙◌, ℕ, ◌<◌, Bool, false, List, length, get_or, sym, ap, subst, arith}
 use Rattle.std.specs.Prelude.{Decides}
 use Rattle.std.proofs.lemmas.Result.{IfOk-weaker}
 use Rattle.sloth_base.specs.declared.config.Config.{Config}
 use Rattle.sloth_base.specs.declared.app.App.{App}
-use Rattle.response_reasons.specs.declared.reasons.Reason.{Reason}
 use Rattle.response_text.specs.declared.told.Told.{Told}
 use Rattle.response_text.specs.declared.told.Response.{Response}
 use Rattle.walk_sums.specs.Rounds.{IsClean}
 use Rattle.run_windows.specs.Costs.{comes}
 use Rattle.response_text.specs.Reasons.{IsReason}
-use Rattle.response_text.specs.TaskText.{response_of, task_lines, HasParts, AreBothParts}
+use Rattle.response_text.specs.TaskText.{response_of, task_lines, HasParts}
+use Rattle.response_text.proofs.OwnSections.{own_sections}
 use Rattle.response_text.proofs.task_text.told_by.Goals as goal
 
 pub both_parts-requires-clause-anywhere : goal.both_parts-requires-clause-anywhere
@@ -17,6 +17,10 @@ both_parts-requires-clause-anywhere c = c.in_ok-anywhere.ensures (subst (λ n. c
 
 pub both_parts-requires-clause-behind : goal.both_parts-requires-clause-behind
 both_parts-requires-clause-behind c = c.in_ok-behind.ensures (subst (λ n. c.args.task < n) (sym c.requires.costs.count) c.requires.there)
+
+pub both_parts-requires-clause-sections : goal.both_parts-requires-clause-sections
+both_parts-requires-clause-sections c =
+    own_sections c.args.walks.now.config c.args.walks.now.app c.args.load.now c.args.found.now c.in_ok-names.names.weights c.requires.costs c.in_ok-names.ensures.counts
 
 pub reason-requires-clause-small : goal.reason-requires-clause-small
 reason-requires-clause-small c = let few = c.config-config.ensures.well_formed.in_range.configuration.few_tasks in omega (arith, few)
@@ -49,8 +53,10 @@ returns c =
       is_behind = c.in_ok-behind.ensures there;
       why = why;
       is_why = subst (λ (r : Response). IsReason w.config w.app costs.costs task r why) same c.in_ok-why.ensures;
+      names = c.in_ok-names.names;
+      are_names = c.in_ok-names.ensures;
       parts = parts;
-      are_parts = subst (λ (g : Config). AreBothParts g costs task anywhere behind parts) c.config-config.ensures.is c.in_ok-parts.ensures;
+      are_parts = c.in_ok-parts.ensures;
       is = subst (λ (g : Config). told ≡ task_lines g w.app load task (response_of (comes costs.costs task) anywhere behind) why parts) c.config-config.ensures.is
           (subst (λ (a : App). told ≡ task_lines c.config-config.result.now a load task (response_of (comes costs.costs task) anywhere behind) why parts) c.app-app.ensures.is
           (subst (λ (r : Response). told ≡ task_lines c.config-config.result.now c.app-app.result.now load task r why parts) same

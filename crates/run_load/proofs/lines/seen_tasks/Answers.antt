@@ -18,6 +18,6 @@ loop-task-preserved c =
     let added = c.in_ok-push_seen.ensures ∙ ap (λ (r : Response). c.loop-task.text.items ++ seen_line run.config.now t r seen.all seen.behind) c.response_at-response.ensures in
     record {
       text = lines-more run.config.now run.app.now run.events.now c.args.responses.now t seen.all seen.behind _ _ c.loop-task.invariant.text added is.all is.behind;
-      above = above-more run.config.now run.app.now run.load.now (cuts_of run.costs.now) run.events.now t c.cuts_of-cuts.result _ seen.above _ c.loop-task.invariant.above is.above
-          c.cuts_of-cuts.ensures c.earlier-above.ensures;
+      above = above-more run.config.now run.app.now run.load.now (cuts_of run.costs.now) run.events.now t c.is_cut-cuts.result _ seen.above _ c.loop-task.invariant.above is.above
+          c.is_cut-cuts.ensures c.earlier-above.ensures;
     }

@@ -20,7 +20,7 @@ loop-start-preserved c =
     record {
       most = λ there.
           one_more c.args.longest c.args.late c.args.costs.now c.args.h c.args.starts.now c.loop-start.start-index (start_at c.args.starts.now c.loop-start.start-index)
-          c.loop-start.most c.in-Some.next lt refl (c.loop-start.invariant.most there) (c.in-Some.ensures.longer there);
+          c.loop-start.most c.in-Some.next there lt refl (c.loop-start.invariant.most there) (c.in-Some.ensures.longer there);
       count = c.longer_start.ensures.count;
     }
 

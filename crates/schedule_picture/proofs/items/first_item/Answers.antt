@@ -1,5 +1,5 @@
 use Rattle.std.proofs.Common.{◌≡◌, ◌≤◌, ◌<◌, ◌∙◌, Some, None, get_or, sym, arith}
-use Rattle.schedule_picture.specs.Items.{item_at}
+use Rattle.schedule_picture.specs.Items.{address_item}
 use Rattle.schedule_picture.proofs.Itemized.{first_here, first_none}
 use Rattle.schedule_picture.proofs.items.first_item.Goals as goal
 
@@ -9,7 +9,7 @@ returns-in-Some c =
     let addresses = c.args.addresses.now in
     let place = c.loop-place.place in
     let below : place < c.args.to = c.loop-place-test.true in
-    let found : Some c.in-Some.mark ≡ item_at image (get_or addresses place 0) = sym c.in-Some.is ∙ c.item_of.ensures in
+    let found : Some c.in-Some.mark ≡ address_item image (get_or addresses place 0) = sym c.in-Some.is ∙ c.count_item.ensures in
     sym (c.loop-place.invariant ∙ first_here image addresses place c.args.to (Some c.in-Some.mark) below found)
 
 pub loop-place-preserved : goal.loop-place-preserved
@@ -18,7 +18,7 @@ loop-place-preserved c =
     let addresses = c.args.addresses.now in
     let place = c.loop-place.place in
     let below : place < c.args.to = c.loop-place-test.true in
-    c.loop-place.invariant ∙ first_here image addresses place c.args.to None below (sym c.in_default.is ∙ c.item_of.ensures)
+    c.loop-place.invariant ∙ first_here image addresses place c.args.to None below (sym c.in_default.is ∙ c.count_item.ensures)
 
 pub returns : goal.returns
 returns c =

@@ -5,4 +5,4 @@ use Rattle.sloth_runner.proofs.machine_states.look.Goals as goal
 pub returns-clause-same : goal.returns-clause-same
 returns-clause-same c =
     let machine = c.args.machine.now in
-    ap (λ (bus : Memory). record machine { bus = bus }) (c.states_of.ensures.same ∙ c.bus_mut.ensures.value)
+    ap (λ (bus : Memory). record machine { bus = bus }) (c.seen_states.ensures.same ∙ c.bus_mut.ensures.value)

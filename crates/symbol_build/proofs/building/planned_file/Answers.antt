@@ -7,12 +7,12 @@ use Rattle.symbol_build.specs.SymbolFiles.{IsFileOfImage, parts_of, source_origi
 use Rattle.symbol_build.proofs.OwnFile.{may_show_again, own_file}
 use Rattle.symbol_build.proofs.building.planned_file.Goals as goal
 
-pub file_of-requires-clause-listable : goal.file_of-requires-clause-listable
-file_of-requires-clause-listable c =
+pub parts_file-requires-clause-listable : goal.parts_file-requires-clause-listable
+parts_file-requires-clause-listable c =
     listable c.args.config.now c.args.app.now c.args.bounds.now c.in_ok-map.map c.requires.may.well_formed c.in_ok-map.ensures
 
-pub file_of-requires-clause-may : goal.file_of-requires-clause-may
-file_of-requires-clause-may c =
+pub parts_file-requires-clause-may : goal.parts_file-requires-clause-may
+parts_file-requires-clause-may c =
     may_show_again c.args.config.now c.args.app.now c.args.bounds.now c.in_ok-image.image c.in_ok-image.ensures.planned c.in_ok-map.map c.in_ok-map.ensures
     c.args.name.now c.in_ok-origins.origins c.items.result.now c.items.ensures
 
@@ -24,7 +24,7 @@ returns c =
     let origins = source_origins c.args.src.now in
     let image = c.in_ok-image.image in
     let h = c.in_ok-image.ensures in
-    IfOk-weaker c.file_of.result (λ file. file.items ≡ symbol_file (parts_of name c.in_ok-origins.origins config app c.in_ok-map.map c.items.result.now))
+    IfOk-weaker c.parts_file.result (λ file. file.items ≡ symbol_file (parts_of name c.in_ok-origins.origins config app c.in_ok-map.map c.items.result.now))
     (λ file. (i : Image) × IsFileOfImage config app name origins i file.items)
     (λ file e. (
       image,
@@ -44,4 +44,4 @@ returns c =
             file.items c.items.ensures c.in_ok-origins.ensures e;
       },
     ))
-    c.file_of.ensures
+    c.parts_file.ensures

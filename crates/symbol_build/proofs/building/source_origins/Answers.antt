@@ -7,11 +7,11 @@ use Rattle.asm_lines.specs.SourceLines.{source_line}
 use Rattle.asm_lines.specs.declared.source_line.SourceLine.{SourceLine}
 use Rattle.text_pieces.specs.Lines.{lines}
 use Rattle.text_pieces.specs.Names.{referent}
-use Rattle.symbol_image.specs.LinePlaces.{origins_of}
+use Rattle.symbol_image.specs.LinePlaces.{line_origins}
 use Rattle.symbol_build.proofs.building.source_origins.Goals as goal
 
-pub origins_of-requires-clause-few : goal.origins_of-requires-clause-few
-origins_of-requires-clause-few c =
+pub line_origins-requires-clause-few : goal.line_origins-requires-clause-few
+line_origins-requires-clause-few c =
     let texts : map referent c.as_slice.result.now ≡ lines c.args.src.now = ap (map referent) c.as_slice.ensures.value ∙ c.in_ok-texts.ensures in
     let count = length-map c.as_slice.result.now referent in
     let is = ap (λ (ts : List (List ℕ)). length ts) texts in
@@ -20,8 +20,8 @@ origins_of-requires-clause-few c =
     let short = c.requires.short in
     omega (arith, count, is, all, few, short)
 
-pub origins_of-requires-clause-same : goal.origins_of-requires-clause-same
-origins_of-requires-clause-same c =
+pub line_origins-requires-clause-same : goal.line_origins-requires-clause-same
+line_origins-requires-clause-same c =
     let texts : map referent c.as_slice.result.now ≡ lines c.args.src.now = ap (map referent) c.as_slice.ensures.value ∙ c.in_ok-texts.ensures in
     let statements = c.items.ensures ∙ c.in_ok-statements.ensures in
     ap (λ (ss : List SourceLine). length ss) statements ∙ length-map (lines c.args.src.now) source_line ∙ sym (ap (λ (ts : List (List ℕ)). length ts) texts)
@@ -31,6 +31,6 @@ pub returns : goal.returns
 returns c =
     let texts : map referent c.as_slice.result.now ≡ lines c.args.src.now = ap (map referent) c.as_slice.ensures.value ∙ c.in_ok-texts.ensures in
     let statements = c.items.ensures ∙ c.in_ok-statements.ensures in
-    subst (λ (ts : List (List ℕ)). IfOk c.origins_of.result (λ found. found ≡ origins_of ts (source_lines c.args.src.now))) texts
-    (subst (λ (ss : List SourceLine). IfOk c.origins_of.result (λ found. found ≡ origins_of (map referent c.as_slice.result.now) ss)) statements
-    c.origins_of.ensures)
+    subst (λ (ts : List (List ℕ)). IfOk c.line_origins.result (λ found. found ≡ line_origins ts (source_lines c.args.src.now))) texts
+    (subst (λ (ss : List SourceLine). IfOk c.line_origins.result (λ found. found ≡ line_origins (map referent c.as_slice.result.now) ss)) statements
+    c.line_origins.ensures)

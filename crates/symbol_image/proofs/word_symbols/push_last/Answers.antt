@@ -21,9 +21,9 @@ returns c =
     let last : List Symbol = context_symbol ∷ [] in
     let put_resumes : b ≡ a ++ resumes = c.in_ok-push_resumes.ensures ∙ ap (λ (l : List TaskDecl). a ++ resume_words 0 l) c.items.ensures in
     let put_levels : d ≡ b ++ levels = c.in_ok-push_levels.ensures ∙ ap (λ (l : List (List ℕ)). b ++ saved_words 0 l) c.items-2.ensures in
-    on_ok_weaker c.push_context.result
-    (λ h. two_put c.args.symbols.now.items a c.push_context.new.symbols.items first (resumes ++ (levels ++ (scheduler ++ last))) c.in_ok-push_object.ensures
-    (two_put a b c.push_context.new.symbols.items resumes (levels ++ (scheduler ++ last)) put_resumes
-    (two_put b d c.push_context.new.symbols.items levels (scheduler ++ last) put_levels
-    (two_put d e c.push_context.new.symbols.items scheduler last c.in_ok-push_scheduler.ensures h))))
-    c.push_context.ensures
+    on_ok_weaker c.push_object-2.result
+    (λ h. two_put c.args.symbols.now.items a c.push_object-2.new.symbols.items first (resumes ++ (levels ++ (scheduler ++ last))) c.in_ok-push_object.ensures
+    (two_put a b c.push_object-2.new.symbols.items resumes (levels ++ (scheduler ++ last)) put_resumes
+    (two_put b d c.push_object-2.new.symbols.items levels (scheduler ++ last) put_levels
+    (two_put d e c.push_object-2.new.symbols.items scheduler last c.in_ok-push_scheduler.ensures h))))
+    c.push_object-2.ensures

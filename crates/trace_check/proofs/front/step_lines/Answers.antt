@@ -5,27 +5,16 @@ use Rattle.sloth_base.specs.declared.config.Config.{Config}
 use Rattle.sloth_base.specs.declared.config.TaskDecl.{TaskDecl}
 use Rattle.osek_machine.specs.Steps.{Machine}
 use Rattle.trace_check.specs.ReasonLines.{row_lines, state_lines}
-use Rattle.trace_check.specs.declared.next_event.NextEvent.{NextEvent}
+use Rattle.trace_check.specs.declared.rows.NextEvent.{NextEvent}
 use Rattle.trace_check.proofs.Fronts.{front_at}
-use Rattle.sloth_base.specs.ImageRange.{AreNames, AreNamesApart}
-use Rattle.sloth_base.specs.DeclaredNames.{counter_names}
+use Rattle.trace_check.proofs.Judging.{readable}
 use Rattle.trace_check.proofs.front.step_lines.Goals as goal
 
-pub walk_lines-requires-clause-tasks : goal.walk_lines-requires-clause-tasks
-walk_lines-requires-clause-tasks c = subst AreNames (sym c.in_ok-names.ensures.tasks) c.requires.well_formed.in_range.configuration.task_names
+pub walk_lines-requires : goal.walk_lines-requires
+walk_lines-requires c = readable c.args.config.now c.args.app.now c.in_ok-names.names c.in_ok-names.ensures c.requires.well_formed
 
-pub walk_lines-requires-clause-funcs : goal.walk_lines-requires-clause-funcs
-walk_lines-requires-clause-funcs c = subst AreNames (sym c.in_ok-names.ensures.funcs) c.requires.well_formed.in_range.func_names
-
-pub walk_lines-requires-clause-counters : goal.walk_lines-requires-clause-counters
-walk_lines-requires-clause-counters c = subst AreNames (sym c.in_ok-names.ensures.counters) c.requires.well_formed.in_range.configuration.counter_names
-
-pub walk_lines-requires-clause-apart : goal.walk_lines-requires-clause-apart
-walk_lines-requires-clause-apart c =
-    let P : List (List ℕ) → List (List ℕ) → Type 0 = λ cs ts. AreNamesApart cs ts in
-    subst (λ (cs : List (List ℕ)). P cs c.in_ok-names.names.tasks) (sym c.in_ok-names.ensures.counters)
-    (subst (λ (ts : List (List ℕ)). P (counter_names c.args.config.now) ts) (sym c.in_ok-names.ensures.tasks)
-    c.requires.well_formed.in_range.configuration.counters_apart)
+pub push_rows-requires : goal.push_rows-requires
+push_rows-requires c = readable c.args.config.now c.args.app.now c.in_ok-names.names c.in_ok-names.ensures c.requires.well_formed
 
 pub next_events-requires-clause-tasks : goal.next_events-requires-clause-tasks
 next_events-requires-clause-tasks c =

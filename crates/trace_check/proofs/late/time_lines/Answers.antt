@@ -1,40 +1,19 @@
 use Rattle.std.proofs.Common.{◌∙◌, ℕ, List, inl, length, sym, ap, subst, arith}
 use Rattle.std.proofs.lemmas.Result.{IfOk-weaker}
-use Rattle.sloth_base.specs.ImageRange.{AreNames, AreNamesApart}
-use Rattle.sloth_base.specs.DeclaredNames.{counter_names}
 use Rattle.sloth_base.specs.declared.event.Stamped.{Stamped}
 use Rattle.osek_scheduler.specs.InTime.{AreAllAdmitted}
 use Rattle.trace_check.specs.Counts.{AreLinesInRange}
 use Rattle.trace_check.specs.Lateness.{AreInPlace}
 use Rattle.trace_check.specs.Reasons.{AreLatenessLines, IsTimeReason}
 use Rattle.trace_check.proofs.Fronts.{shows_by}
-use Rattle.trace_check.proofs.Judging.{few_names, line_words, lines_small}
+use Rattle.trace_check.proofs.Judging.{few_names, line_words, lines_small, readable}
 use Rattle.trace_check.proofs.late.time_lines.Goals as goal
 
-pub read_events-requires-clause-tasks : goal.read_events-requires-clause-tasks
-read_events-requires-clause-tasks c = subst AreNames (sym c.in_ok-names.ensures.tasks) c.requires.well_formed.in_range.configuration.task_names
+pub read_events-requires : goal.read_events-requires
+read_events-requires c = readable c.args.config.now c.args.app.now c.in_ok-names.names c.in_ok-names.ensures c.requires.well_formed
 
-pub read_events-requires-clause-funcs : goal.read_events-requires-clause-funcs
-read_events-requires-clause-funcs c = subst AreNames (sym c.in_ok-names.ensures.funcs) c.requires.well_formed.in_range.func_names
-
-pub read_events-requires-clause-counters : goal.read_events-requires-clause-counters
-read_events-requires-clause-counters c = subst AreNames (sym c.in_ok-names.ensures.counters) c.requires.well_formed.in_range.configuration.counter_names
-
-pub read_events-requires-clause-apart : goal.read_events-requires-clause-apart
-read_events-requires-clause-apart c =
-    let P : List (List ℕ) → List (List ℕ) → Type 0 = λ cs ts. AreNamesApart cs ts in
-    subst (λ (cs : List (List ℕ)). P cs c.in_ok-names.names.tasks) (sym c.in_ok-names.ensures.counters)
-    (subst (λ (ts : List (List ℕ)). P (counter_names c.args.config.now) ts) (sym c.in_ok-names.ensures.tasks)
-    c.requires.well_formed.in_range.configuration.counters_apart)
-
-pub late_lines-requires-clause-tasks : goal.late_lines-requires-clause-tasks
-late_lines-requires-clause-tasks c = subst AreNames (sym c.in_ok-names.ensures.tasks) c.requires.well_formed.in_range.configuration.task_names
-
-pub late_lines-requires-clause-funcs : goal.late_lines-requires-clause-funcs
-late_lines-requires-clause-funcs c = subst AreNames (sym c.in_ok-names.ensures.funcs) c.requires.well_formed.in_range.func_names
-
-pub late_lines-requires-clause-counters : goal.late_lines-requires-clause-counters
-late_lines-requires-clause-counters c = subst AreNames (sym c.in_ok-names.ensures.counters) c.requires.well_formed.in_range.configuration.counter_names
+pub late_lines-requires-clause-names : goal.late_lines-requires-clause-names
+late_lines-requires-clause-names c = readable c.args.config.now c.args.app.now c.in_ok-names.names c.in_ok-names.ensures c.requires.well_formed
 
 pub late_lines-requires-clause-short : goal.late_lines-requires-clause-short
 late_lines-requires-clause-short c =

@@ -12,6 +12,6 @@ pub loop-line-preserved : goal.loop-line-preserved
 loop-line-preserved c =
     let row : ℕ → Bool = λ u. bit_at c.args.row u == 1 in
     let line = c.loop-line.line in
-    c.limit_with-limit.ensures
+    c.row_limit-limit.ensures
     ∙ ap (λ (o : Option ℕ). cond (row line) (lesser_limit o (get_or c.args.moments.now line 0)) o) c.loop-line.invariant
     ∙ sym (one_moment_more row c.args.moments.now line)

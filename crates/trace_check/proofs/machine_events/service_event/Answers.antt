@@ -2,5 +2,5 @@ use Rattle.osek_machine.proofs.Rooms.{reads}
 use Rattle.trace_check.proofs.Items.{sound_at}
 use Rattle.trace_check.proofs.machine_events.service_event.Goals as goal
 
-pub service_of-requires-clause-read : goal.service_of-requires-clause-read
-service_of-requires-clause-read c = reads (sound_at _ _ _ _ _ _ c.config.ensures.is c.app.ensures c.store.ensures c.config.ensures.sound)
+pub own_service-requires-clause-read : goal.own_service-requires-clause-read
+own_service-requires-clause-read c = reads (sound_at _ _ _ _ _ _ c.config.ensures.is c.app.ensures c.store.ensures c.config.ensures.sound)

@@ -1,7 +1,7 @@
 use Rattle.std.proofs.Common.{◌∙◌, ◌++◌, List, ap, subst}
 use Rattle.osek_machine.specs.Steps.{IsSound, Machine}
 use Rattle.trace_check.specs.Rows.{all_rows}
-use Rattle.trace_check.specs.declared.next_event.NextEvent.{NextEvent}
+use Rattle.trace_check.specs.declared.rows.NextEvent.{NextEvent}
 use Rattle.trace_check.proofs.ExactEvents.{are_next_events}
 use Rattle.trace_check.proofs.rows.next_events.Goals as goal
 

@@ -2,7 +2,7 @@ use Rattle.std.proofs.Common.{◌≡◌, ◌++◌, ℕ, List, Some, length, subs
 use Rattle.std.proofs.lemmas.Result.{on_ok_weaker}
 use Rattle.sloth_base.specs.declared.event.Event.TheVariants as event
 use Rattle.trace_check.specs.Walk.{Walk}
-use Rattle.trace_check.specs.declared.next_event.NextEvent.{NextEvent}
+use Rattle.trace_check.specs.declared.rows.NextEvent.{NextEvent}
 use Rattle.trace_check.specs.Rows.{rows_below, rows_of, task_rows}
 use Rattle.trace_check.proofs.Below.{six}
 use Rattle.trace_check.proofs.rows.push_all.Goals as goal

@@ -10,8 +10,8 @@ four all old a b d e h = h ∙ append_assoc ((old ++ a) ++ b) d e ∙ append_ass
 
 pub returns : goal.returns
 returns c =
-    four c.emit.new.code.items c.args.code.now.items (beginning_code c.args.frame c.args.first) (words_clearing_code c.args.words 0 2) (clearing_code 25 5) (Mret ∷ [])
-    (c.in_ok-emit.ensures ∙ ap (λ kind. c.clear.new.code.items ++ kind ∷ []) c.mret.ensures
+    four c.put.new.code.items c.args.code.now.items (beginning_code c.args.frame c.args.first) (words_clearing_code c.args.words 0 2) (clearing_code 25 5) (Mret ∷ [])
+    (c.in_ok-put.ensures ∙ ap (λ kind. c.clear.new.code.items ++ kind ∷ []) c.mret.ensures
     ∙ ap (λ (x : List InstrKind). x ++ Mret ∷ []) (c.in_ok-clear.ensures
     ∙ ap (λ (x : List InstrKind). x ++ clearing_code 25 5) (c.in_ok-clear_words.ensures
     ∙ ap (λ (x : List InstrKind). x ++ words_clearing_code c.args.words 0 2) c.in_ok-begin.ensures)))

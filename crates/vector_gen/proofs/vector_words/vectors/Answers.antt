@@ -6,7 +6,7 @@ use Rattle.vector_gen.proofs.Stepping.{step_to_handlers}
 use Rattle.vector_gen.proofs.vector_words.vectors.Goals as goal
 
 pub loop-line-preserved : goal.loop-line-preserved
-loop-line-preserved c = jumps_more c.loop-line.line c.args.map.now.handlers c.loop-line.code.items _ c.jump.result c.loop-line.invariant c.in_ok-emit.ensures c.jump.ensures.jumps
+loop-line-preserved c = jumps_more c.loop-line.line c.args.map.now.handlers c.loop-line.code.items _ c.jump.result c.loop-line.invariant c.in_ok-put.ensures c.jump.ensures.jumps
 
 pub returns-clause-steps : goal.returns-clause-steps
 returns-clause-steps c =

@@ -4,20 +4,20 @@ use Rattle.why_text.specs.WhyLines.{lines_limit, TellsCycle, TellsFault, AreLine
 use Rattle.why_text.proofs.FewLines.{few_told}
 use Rattle.why_text.proofs.explaining.cause_lines.Goals as goal
 
-pub returns-in_ok-cycle-in-Cycle : goal.returns-in_ok-cycle-in-Cycle
-returns-in_ok-cycle-in-Cycle c =
+pub returns-in_ok-refusal_cycle-in-Cycle : goal.returns-in_ok-refusal_cycle-in-Cycle
+returns-in_ok-refusal_cycle-in-Cycle c =
     let oil = c.args.oil.now in
     let src = c.args.src.now in
     let lines = c.few_lines.result in
-    let found = c.in_ok-cycle-in-Cycle in
+    let found = c.in_ok-refusal_cycle-in-Cycle in
     subst (λ (cause : Cause). AreLinesBy cause oil src c.args.refusal lines) (sym c.in-Cycle.is)
-    (few_told found.cycle (TellsCycle oil src c.args.refusal) lines_limit lines found.ensures c.few_lines.ensures)
+    (few_told found.field-0 (TellsCycle oil src c.args.refusal) lines_limit lines found.ensures c.few_lines.ensures)
 
-pub returns-in_ok-fault-in-Rule : goal.returns-in_ok-fault-in-Rule
-returns-in_ok-fault-in-Rule c =
+pub returns-in_ok-refusal_fault-in-Rule : goal.returns-in_ok-refusal_fault-in-Rule
+returns-in_ok-refusal_fault-in-Rule c =
     let oil = c.args.oil.now in
     let src = c.args.src.now in
     let lines = c.few_lines-in-Rule.result in
-    let found = c.in_ok-fault-in-Rule in
+    let found = c.in_ok-refusal_fault-in-Rule in
     subst (λ (cause : Cause). AreLinesBy cause oil src c.args.refusal lines) (sym c.in-Rule.is)
-    (few_told found.fault (TellsFault oil src c.args.refusal) lines_limit lines found.ensures c.few_lines-in-Rule.ensures)
+    (few_told found.field-0 (TellsFault oil src c.args.refusal) lines_limit lines found.ensures c.few_lines-in-Rule.ensures)

@@ -17,7 +17,7 @@ returns-then-not-branch c events small timed =
     let Q : Bool → Type 0 = λ b. Decides b (SameCounts admits (map arrival_number c.split_at.result.0.now)) in
     let R : List Arrival → Type 0 = λ l. Decides false (SameCounts admits (map arrival_number l)) in
     others_in_time c.args.self.now c.requires.rising c.requires.lines events small timed (sym c.is_late.ensures ∙ c.if-is_late.false)
-    (subst P c.self.view_is (subst R front (subst Q c.if-not-branch.true c.in_ok-are_admits_of.ensures)))
+    (subst P c.self.view_is (subst R front (subst Q c.if-not-branch.true c.in_ok-are_admitted.ensures)))
 
 pub returns : goal.returns
 returns c events small timed =
@@ -30,7 +30,7 @@ returns c events small timed =
     let Q : Bool → Type 0 = λ b. Decides b (SameCounts admits (map arrival_number c.split_at.result.0.now)) in
     let R : List Arrival → Type 0 = λ l. Decides true (SameCounts admits (map arrival_number l)) in
     decided c.args.self.now c.requires.rising c.requires.lines events small timed (sym c.is_late.ensures ∙ c.if-is_late.false)
-    (subst P c.self.view_is (subst R front (subst Q c.if-not-branch.false c.in_ok-are_admits_of.ensures))) c.may_leave.result
+    (subst P c.self.view_is (subst R front (subst Q c.if-not-branch.false c.in_ok-are_admitted.ensures))) c.may_leave.result
     (c.may_leave.ensures
     ∙ (ap (λ k. may_leave inside.n inside.most k c.last_moment.result c.split_at.result.1.now) (c.ends.ensures)
     ∙ (ap (λ k. may_leave inside.n inside.most inside.pass.ends k c.split_at.result.1.now) (c.last_moment.ensures ∙ ap last_moment front)

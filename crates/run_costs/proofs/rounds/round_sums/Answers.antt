@@ -1,0 +1,17 @@
+use Rattle.std.proofs.Common.{arith, false, get_or, length, subst, ◌≤◌, ℕ}
+use Rattle.sloth_base.specs.Named.{declaration}
+use Rattle.walk_sums.specs.declared.tasks.RoundSums.{RoundSums}
+use Rattle.run_costs.specs.Rounds.{AreRounds}
+use Rattle.run_costs.specs.Tables.{no_sums}
+use Rattle.run_costs.proofs.Growing.{each_more, each_of}
+use Rattle.run_costs.proofs.rounds.round_sums.Goals as goal
+
+pub loop-task-preserved : goal.loop-task-preserved
+loop-task-preserved c =
+    each_more (RoundSums) (λ t. AreRounds c.args.walks.now.app (get_or c.args.clean.now t false) (declaration c.args.walks.now.config t).extended t c.args.weights.now) c.loop-task.sums.items c.push.new.list.items c.task_rounds-sum.result (no_sums) c.loop-task.task c.loop-task.invariant c.in_ok-push.ensures c.task_rounds-sum.ensures
+
+pub returns : goal.returns
+returns c =
+    let over = subst (λ (n : ℕ). n ≤ c.loop-task.task) c.tasks-task-end.ensures.is c.loop-task-test.false in
+    let most = subst (λ (n : ℕ). c.loop-task.task ≤ n) c.tasks-task-end.ensures.is c.loop-task.auto.task-end in
+    each_of (RoundSums) (λ t. AreRounds c.args.walks.now.app (get_or c.args.clean.now t false) (declaration c.args.walks.now.config t).extended t c.args.weights.now) c.loop-task.sums.items (no_sums) c.loop-task.task (length c.args.walks.now.config.tasks) (omega (arith, over, most)) c.loop-task.invariant

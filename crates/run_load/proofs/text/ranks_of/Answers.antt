@@ -1,4 +1,0 @@
-use Rattle.run_load.proofs.text.ranks_of.Goals as goal
-
-pub ranks-requires : goal.ranks-requires
-ranks-requires c = (c.args.config.now, c.requires.in_range)

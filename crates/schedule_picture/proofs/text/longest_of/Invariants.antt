@@ -1,7 +1,0 @@
-use Rattle.std.proofs.Common.{◌≡◌, ◌≤◌}
-use Rattle.sloth_base.specs.Limits.{name_limit}
-use Rattle.schedule_picture.specs.Picture.{longest_of}
-use Rattle.schedule_picture.proofs.text.longest_of.Given as goal
-
-abbrev pub invariant-loop-i : goal.invariant-loop-i
-invariant-loop-i l = (l.longest ≡ longest_of l.names l.i) × (6 ≤ l.longest) × (l.longest ≤ name_limit)

@@ -1,3 +1,0 @@
-//! A line in a fixed buffer.
-
-pub use crate::LineText;
