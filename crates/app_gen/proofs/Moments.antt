@@ -4,7 +4,7 @@ use Rattle.std.specs.List.{All, range_with_len}
 use Rattle.std.proofs.lemmas.List.Elements.{All-nil, All-cons}
 use Rattle.std.proofs.lemmas.List.FromFn.{length-map-range_with_len, map-range_with_len_more}
 use Rattle.sloth_base.specs.Arrivals.{AreArrivals, AreRisingMoments}
-use Rattle.sloth_base.specs.declared.event.Arrival.{Arrival}
+use Rattle.sloth_base.specs.declared.service.Arrival.{Arrival}
 use Rattle.sloth_base.specs.Limits.{count_limit}
 use Rattle.sloth_base.proofs.Owners.{task_owned}
 use Rattle.app_gen.specs.Load.{gap, moment_before, line_of, arrival, first_arrivals, owners_of}

@@ -1,8 +1,8 @@
 -- The arrivals of a generated application of n tasks.
 use Rattle.std.specs.Prelude.{ℕ, zero, suc, ◌+◌, ◌-◌, ◌*◌, ◌/◌, ◌%◌, List, map}
 use Rattle.std.specs.List.{range_with_len}
-use Rattle.sloth_base.specs.declared.event.Arrival.{Arrival}
-use Rattle.sloth_base.specs.declared.lines.Owners.{Owners}
+use Rattle.sloth_base.specs.declared.service.Arrival.{Arrival}
+use Rattle.sloth_base.specs.declared.numbers.Owners.{Owners}
 use Rattle.app_gen.specs.Draws.{draw}
 
 -- a draw without its low 16 bits, which repeat early

@@ -6,13 +6,9 @@
 //! `specs/Source`) and the arrivals (`specs/Load`). Arrivals in range: `sloth_base` (`Arrivals`).
 #![tactic(auto)]
 
-pub mod application;
-mod draws;
-pub mod generate;
-mod load;
+pub mod load;
 mod oil;
-mod pieces;
-mod source;
+pub mod source;
 
-pub use application::Sample;
-pub use generate::sample;
+pub use load::Sample;
+pub use source::sample;

@@ -1,10 +1,10 @@
-//! The arrivals.
+//! The arrivals. What is generated.
 ghost use Rattle.std.specs.Prelude.{◌≡◌, ◌≤◌, ◌+◌, ◌%◌, IfOk};
 ghost use Rattle.sloth_base.specs.Limits.{task_limit};
 ghost use Rattle.app_gen.specs.Load.{high_bits, first_arrivals};
 
-use crate::draws::Draws;
-use sloth_base::{Arrival, Line, Result};
+use crate::source::Draws;
+use sloth_base::{Arrival, Line, List, Result};
 use std::alloc::Global;
 use text_pieces::push;
 
@@ -46,4 +46,12 @@ pub fn arrivals(alloc: Global, tasks: u32, draws: &mut Draws) -> Result<Vec<Arri
         push(&mut arrivals, Arrival { at, line })?;
     }
     Ok(arrivals)
+}
+
+/// A generated application: its texts, and the arrivals of a run.
+#[derive(Drop)]
+pub struct Sample {
+    pub oil: List<u8>,
+    pub src: List<u8>,
+    pub arrivals: List<Arrival>,
 }

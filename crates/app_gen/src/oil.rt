@@ -1,9 +1,10 @@
 //! The OIL text.
 ghost use Rattle.std.specs.Prelude.{◌≡◌, ◌++◌, ◌<◌, ◌^◌, ◌-◌, OnOk, IfOk};
 ghost use Rattle.std.specs.List.{flat_map, range_with_len};
-ghost use Rattle.app_gen.specs.Oil.{event_object, resource_object, resource_objects, schedule_of, autostart_of, event_attribute, task_object, oil_text};
+ghost use Rattle.app_gen.specs.Oil.{event_object, resource_object, schedule_of, autostart_of};
+ghost use Rattle.app_gen.specs.Oil.{event_attribute, task_object, oil_text};
 
-use crate::pieces::has_event;
+use crate::source::has_event;
 use sloth_base::Result;
 use std::alloc::Global;
 use text_pieces::line;
@@ -37,19 +38,9 @@ fn put_resource(text: &mut Vec<u8>, resource: u32) -> Result<()>
     line!(text; Word(b"RESOURCE R"), Number(resource), Word(b" { RESOURCEPROPERTY = STANDARD; };\n"))
 }
 
-// Appends the four resources.
-fn put_resources(text: &mut Vec<u8>) -> Result<()>
-    ensures { OnOk result (text.new.items ≡ text.old.items ++ resource_objects) }
-{
-    put_resource(text, 0)?;
-    put_resource(text, 1)?;
-    put_resource(text, 2)?;
-    put_resource(text, 3)
-}
-
 // The value of SCHEDULE of a task.
 #[tactic(auto, unfolding(crate::specs::Oil::schedule_of))]
-fn schedule_of(task: u32) -> &'static [u8]
+fn schedule_word(task: u32) -> &'static [u8]
     ensures { result.now ≡ schedule_of task }
 {
     if task % 7 == 3 { b"NON" } else { b"FULL" }
@@ -57,7 +48,7 @@ fn schedule_of(task: u32) -> &'static [u8]
 
 // The value of AUTOSTART of a task.
 #[tactic(auto, unfolding(crate::specs::Oil::autostart_of))]
-fn autostart_of(task: u32) -> &'static [u8]
+fn autostart_value(task: u32) -> &'static [u8]
     ensures { result.now ≡ autostart_of task }
 {
     if task == 0 {
@@ -83,8 +74,8 @@ fn put_task(text: &mut Vec<u8>, task: u32) -> Result<()>
     ensures { OnOk result (text.new.items ≡ text.old.items ++ task_object task) }
 {
     line!(text; Word(b"TASK T"), Number(task), Word(b" { PRIORITY = "), Number(task + 1),
-        Word(b"; SCHEDULE = "), Word(schedule_of(task)),
-        Word(b"; ACTIVATION = 1; AUTOSTART = "), Word(autostart_of(task)),
+        Word(b"; SCHEDULE = "), Word(schedule_word(task)),
+        Word(b"; ACTIVATION = 1; AUTOSTART = "), Word(autostart_value(task)),
         Word(b"; RESOURCE = R"), Number(task % 4), Word(b";"))?;
     put_event_attribute(text, task)?;
     line!(text; Word(b" };\n"))
@@ -108,7 +99,10 @@ pub fn oil_text(alloc: Global, tasks: u32) -> Result<Vec<u8>>
     let mut text = Vec::new(alloc);
     text.extend_from_slice(b"OIL_VERSION = \"2.5\";\nCPU c {\nOS o { STATUS = EXTENDED; };\n")?;
     put_events(&mut text, tasks)?;
-    put_resources(&mut text)?;
+    put_resource(&mut text, 0)?;
+    put_resource(&mut text, 1)?;
+    put_resource(&mut text, 2)?;
+    put_resource(&mut text, 3)?;
     put_tasks(&mut text, tasks)?;
     text.extend_from_slice(b"};\n")?;
     Ok(text)

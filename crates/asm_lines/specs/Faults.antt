@@ -5,13 +5,13 @@ use Rattle.sloth_base.specs.declared.refusal.Part.TheVariants.{Src}
 use Rattle.sloth_base.specs.declared.refusal.Code.{Code}
 use Rattle.sloth_base.specs.declared.refusal.Code.TheVariants as code
 use Rattle.sloth_base.specs.declared.refusal.Refusal.{Refusal}
-use Rattle.least_fault.specs.Search.{Somewhere}
-use Rattle.least_fault.specs.Cases.{CaseOf}
+use Rattle.sloth_base.specs.Search.{Somewhere}
+use Rattle.sloth_base.specs.Cases.{CaseOf}
 use Rattle.asm_lines.specs.declared.operands.Operand.{Operand}
 use Rattle.asm_lines.specs.declared.operands.Operand.TheVariants as o
 use Rattle.asm_lines.specs.declared.source_line.SourceLine.{SourceLine}
 use Rattle.asm_lines.specs.declared.source_line.SourceLine.TheVariants.{Empty, Shapeless, Unknown, Statement}
-use Rattle.asm_forms.specs.Forms.{is_operand_count, is_outer, is_body_start, is_body_end}
+use Rattle.asm_lines.specs.Forms.{is_operand_count, is_outer, is_body_start, is_body_end}
 use Rattle.text_pieces.specs.Lines.{lines}
 use Rattle.asm_lines.specs.SourceLines.{source_line}
 

@@ -8,8 +8,8 @@ use Rattle.asm_lines.specs.declared.operands.Operand.{Operand}
 use Rattle.asm_lines.specs.declared.operands.Operand.TheVariants.{Wrong, Outside, Register, Number, Name, Frame, Direct, Indexed, Bytes}
 use Rattle.asm_lines.specs.declared.operands.Small.{Small}
 use Rattle.asm_lines.specs.declared.operands.Small.TheVariants.{NoNumber, TooFar, Is}
-use Rattle.asm_forms.specs.declared.forms.Form.{Form}
-use Rattle.asm_forms.specs.declared.forms.Form.TheVariants as form
+use Rattle.asm_lines.specs.declared.forms.Form.{Form}
+use Rattle.asm_lines.specs.declared.forms.Form.TheVariants as form
 use Rattle.text_pieces.specs.Bytes.{is_name, is_byte_of, before, behind}
 use Rattle.asm_lines.specs.Bytes.{trim}
 use Rattle.asm_lines.specs.Numbers.{number, is_within}

@@ -1,18 +1,20 @@
-//! What a line of task source is.
-ghost use Rattle.std.specs.Prelude.{◌≡◌, IfOk, map};
+//! What a line of task source is. Reads task source.
+ghost use Rattle.std.specs.Prelude.{◌≡◌, IfOk, map, ◌<◌, length, IfErr, OnOk};
 ghost use Rattle.text_pieces.specs.Names.{referent};
 ghost use Rattle.asm_lines.specs.SourceLines.{has_empty, read_operands, statement, source_line};
 ghost use Rattle.asm_lines.specs.Lines.{operands_of};
 ghost use Rattle.asm_lines.specs.Bytes.{trim};
+ghost use Rattle.sloth_base.specs.Order.{ErrorIs, NoFault};
+ghost use Rattle.asm_lines.specs.Faults.{source_lines, SourceLinesFault};
 
-use crate::Operand;
 use crate::bytes::{are_shown, begins_with_letter, first_word, is_blank, trim};
 use crate::operands::read_operand;
+use crate::rules::source_fault;
 use crate::table::mnemonic;
-use asm_forms::{Mnemonic, form_of};
-use sloth_base::{List, Result};
+use crate::{Mnemonic, Operand, form_of};
+use sloth_base::{BuildError, List, Result};
 use std::alloc::Global;
-use text_pieces::{after, before, push, split};
+use text_pieces::{after, before, lines, push, split};
 
 /// What a line of task source is.
 #[derive(Drop)]
@@ -111,4 +113,39 @@ pub fn source_line(alloc: Global, line: &[u8]) -> Result<SourceLine>
     }
     let operands = operand_texts(alloc, rest)?;
     statement(alloc, word, operands.as_slice())
+}
+
+fn all_read(alloc: Global, lines: &[&[u8]]) -> Result<Vec<SourceLine>>
+    ensures { IfOk result (λ read. read.items ≡ map source_line (map referent lines.now)) }
+{
+    let mut read = Vec::new(alloc);
+    for line in lines {
+        let line = source_line(alloc, *line)?;
+        push(&mut read, line)?;
+    }
+    Ok(read)
+}
+
+/// What the lines of a text are, whatever their faults.
+pub fn read_lines(alloc: Global, text: &[u8]) -> Result<List<SourceLine>>
+    ensures { IfOk result (λ read. read ≡ source_lines text.now) }
+{
+    let lines = lines(alloc, text)?;
+    let read = all_read(alloc, lines.as_slice())?;
+    Ok(List::from_vec(read))
+}
+
+/// The lines of a task source, or its least fault: A1 for a line that is no statement, or one out of place; A2 for an
+/// unknown statement; A3 for a wrong operand; A4 for a number out of range. The text has at most 4,294,967,294 bytes.
+pub fn read(alloc: Global, text: &[u8]) -> Result<List<SourceLine>, BuildError>
+    requires { length text.now < 4294967295 }
+    ensures lines { IfOk result (λ read. read ≡ source_lines text.now) }
+    ensures none { OnOk result (NoFault (SourceLinesFault text.now)) }
+    ensures refused { IfErr result (λ error. ErrorIs (SourceLinesFault text.now) error) }
+{
+    let read = read_lines(alloc, text)?;
+    match source_fault(read.items()) {
+        None => Ok(read),
+        Some(fault) => Err(BuildError::Refused(fault)),
+    }
 }

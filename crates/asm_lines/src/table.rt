@@ -2,7 +2,7 @@
 ghost use Rattle.std.specs.Prelude.{◌≡◌};
 ghost use Rattle.asm_lines.specs.Table.{alu_of, imm_of, shift_of, load_of, store_of, branch_of, plain_of, mnemonic_of};
 
-use asm_forms::Mnemonic;
+use crate::Mnemonic;
 use sloth_base::{AluKind, BranchKind, ImmKind, Width, service_named};
 use text_pieces::same;
 

@@ -8,8 +8,8 @@ use Rattle.std.proofs.lemmas.List.Elements.{All-nil, All-cons, All-head, All-tai
 use Rattle.sloth_base.specs.declared.refusal.Code.TheVariants.{A5, A6}
 use Rattle.sloth_base.specs.declared.refusal.Part.TheVariants.{Src}
 use Rattle.sloth_base.specs.Limits.{body_limit, item_limit, frame_limit}
-use Rattle.least_fault.specs.Order.{NoFault}
-use Rattle.least_fault.proofs.Nowhere.{nowhere, case_false}
+use Rattle.sloth_base.specs.Order.{NoFault}
+use Rattle.sloth_base.proofs.Nowhere.{nowhere, case_false}
 use Rattle.asm_lines.specs.declared.source_line.SourceLine.{SourceLine}
 use Rattle.asm_lines.specs.declared.source_line.SourceLine.TheVariants.{Empty}
 use Rattle.asm_scopes.specs.declared.scope.Scope.{Scope}

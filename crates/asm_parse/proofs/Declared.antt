@@ -11,15 +11,15 @@ use Rattle.asm_lines.specs.declared.operands.Operand.{Operand}
 use Rattle.asm_lines.specs.declared.operands.Operand.TheVariants.{Number, Name, Bytes}
 use Rattle.asm_lines.specs.declared.source_line.SourceLine.{SourceLine}
 use Rattle.asm_lines.specs.declared.source_line.SourceLine.TheVariants.{Empty, Shapeless, Unknown, Statement}
-use Rattle.asm_forms.specs.declared.forms.Form.TheVariants as form
-use Rattle.asm_forms.specs.declared.forms.Mnemonic.{Mnemonic}
-use Rattle.asm_forms.specs.declared.forms.Mnemonic.TheVariants as m
+use Rattle.asm_lines.specs.declared.forms.Form.TheVariants as form
+use Rattle.asm_lines.specs.declared.forms.Mnemonic.{Mnemonic}
+use Rattle.asm_lines.specs.declared.forms.Mnemonic.TheVariants as m
 use Rattle.asm_lines.specs.Faults.{is_long}
 use Rattle.asm_lines.specs.Numbers.{is_within}
-use Rattle.asm_forms.specs.Forms.{is_operand_count, form_of, is_body_start}
+use Rattle.asm_lines.specs.Forms.{is_operand_count, form_of, is_body_start}
 use Rattle.asm_scopes.specs.Statements.{is_data, opens_body, name_of, first_name, second_number, written_name}
 use Rattle.asm_parse.specs.NameFaults.{has_long_name, has_long}
-use Rattle.asm_items.specs.Apps.{third_bytes, bytes_with}
+use Rattle.asm_parse.specs.Apps.{third_bytes, bytes_with}
 use Rattle.asm_parse.proofs.Fit.{FitsBytes, FitsForm, AllFit}
 use Rattle.asm_parse.proofs.Operands.{name_case, number_case, some_of, two_of, three_of}
 use Rattle.asm_parse.proofs.OpsRange.{at_most}

@@ -4,11 +4,11 @@ use Rattle.sloth_base.specs.ImageRange.{IsWord}
 use Rattle.sloth_base.specs.Limits.{operand_limit}
 use Rattle.asm_lines.specs.declared.operands.Operand.{Operand}
 use Rattle.asm_lines.specs.declared.operands.Operand.TheVariants.{Register, Number, Name, Frame, Direct, Indexed, Bytes}
-use Rattle.asm_forms.specs.declared.forms.Form.{Form}
-use Rattle.asm_forms.specs.declared.forms.Form.TheVariants as form
-use Rattle.asm_forms.specs.declared.forms.Mnemonic.{Mnemonic}
+use Rattle.asm_lines.specs.declared.forms.Form.{Form}
+use Rattle.asm_lines.specs.declared.forms.Form.TheVariants as form
+use Rattle.asm_lines.specs.declared.forms.Mnemonic.{Mnemonic}
 use Rattle.asm_lines.specs.Numbers.{is_within}
-use Rattle.asm_forms.specs.Forms.{form_of}
+use Rattle.asm_lines.specs.Forms.{form_of}
 use Rattle.code_rules.specs.AppRange.{IsRegister}
 
 -- a place in a symbol

@@ -16,13 +16,13 @@ use Rattle.sloth_base.specs.declared.config.Config.{Config}
 use Rattle.asm_lines.specs.declared.operands.Operand.{Operand}
 use Rattle.asm_lines.specs.declared.source_line.SourceLine.{SourceLine}
 use Rattle.asm_lines.specs.declared.source_line.SourceLine.TheVariants.{Statement}
-use Rattle.asm_forms.specs.declared.forms.Mnemonic.TheVariants as m
+use Rattle.asm_lines.specs.declared.forms.Mnemonic.TheVariants as m
 use Rattle.asm_scopes.specs.declared.scope.Kind.TheVariants as kind
 use Rattle.asm_scopes.specs.declared.scope.Scope.{Scope}
 use Rattle.asm_scopes.specs.Statements.{is_item, is_label, name_of, label_names, written_name}
 use Rattle.asm_scopes.specs.Scopes.{is_lacking, any_unknown, has_unknown}
-use Rattle.asm_items.specs.Operations.{op_of, resource_number, behind_first}
-use Rattle.asm_items.specs.Apps.{item_by, count_op, items_from, held_resource_by, holds_of, label_holds, label_of, labels_from}
+use Rattle.asm_parse.specs.Operations.{op_of, resource_number, behind_first}
+use Rattle.asm_parse.specs.Apps.{item_by, count_op, items_from, held_resource_by, holds_of, label_holds, label_of, labels_from}
 use Rattle.code_rules.specs.AppRange.{IsOp, IsResource}
 use Rattle.asm_parse.proofs.Known.{IsKnown}
 use Rattle.asm_parse.proofs.Operands.{Names, some_of, all_names}

@@ -3,8 +3,8 @@ use Rattle.std.proofs.Common.{ℕ, Bool, true, false, List, [], ◌∷◌, Optio
 use Rattle.std.specs.Prelude.{if◌then◌else◌}
 use Rattle.std.specs.List.{AllByRecursion}
 use Rattle.std.specs.Str.{bytes_eq}
-use Rattle.asm_forms.specs.declared.forms.Mnemonic.{Mnemonic}
-use Rattle.asm_forms.specs.declared.forms.Mnemonic.TheVariants as m
+use Rattle.asm_lines.specs.declared.forms.Mnemonic.{Mnemonic}
+use Rattle.asm_lines.specs.declared.forms.Mnemonic.TheVariants as m
 use Rattle.sloth_base.specs.ServiceCodes.{service_named}
 use Rattle.asm_lines.specs.Table.{kind_named, alu_of, imm_words, imm_of, shift_words, shift_of, load_of, store_words, store_of, branch_of, plain_words, plain_of, or_else, mnemonic_of}
 use Rattle.asm_parse.proofs.MnemonicKinds.{HasKind}

@@ -6,7 +6,7 @@ use Rattle.sloth_base.specs.declared.config.Config.{Config}
 use Rattle.asm_scopes.specs.declared.scope.Kind.TheVariants as kind
 use Rattle.asm_scopes.specs.declared.scope.Scope.{Scope}
 use Rattle.asm_scopes.specs.Scopes.{is_named}
-use Rattle.asm_items.specs.Operations.{number_of, resource_number, mask_by}
+use Rattle.asm_parse.specs.Operations.{number_of, resource_number, mask_by}
 use Rattle.code_rules.specs.AppRange.{IsSymbol, IsLabel, IsCallable, IsDeclared, IsResource, IsDeclaredAlarm}
 use Rattle.sloth_base.specs.ConfigRange.{no_event}
 

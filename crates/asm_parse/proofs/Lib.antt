@@ -1,3 +1,5 @@
+pub mod Numbering
+pub mod Made
 pub mod Fronts
 pub mod Stages
 pub mod Fit

@@ -6,15 +6,15 @@ use Rattle.std.specs.List.{list_any}
 use Rattle.std.proofs.lemmas.Bool.{not-false, or_parts}
 use Rattle.sloth_base.specs.declared.refusal.Code.TheVariants as code
 use Rattle.sloth_base.specs.declared.refusal.Part.TheVariants.{Src}
-use Rattle.least_fault.specs.Order.{NoFault}
-use Rattle.least_fault.proofs.Nowhere.{nowhere, case_false}
+use Rattle.sloth_base.specs.Order.{NoFault}
+use Rattle.sloth_base.proofs.Nowhere.{nowhere, case_false}
 use Rattle.asm_lines.specs.declared.source_line.SourceLine.{SourceLine}
 use Rattle.asm_lines.specs.declared.source_line.SourceLine.TheVariants.{Empty, Shapeless}
-use Rattle.asm_forms.specs.declared.forms.Mnemonic.{Mnemonic}
+use Rattle.asm_lines.specs.declared.forms.Mnemonic.{Mnemonic}
 use Rattle.asm_lines.specs.Bytes.{word_of, trim}
 use Rattle.text_pieces.specs.Lines.{lines}
 use Rattle.asm_lines.specs.Lines.{operands_of}
-use Rattle.asm_forms.specs.Forms.{is_operand_count}
+use Rattle.asm_lines.specs.Forms.{is_operand_count}
 use Rattle.asm_lines.specs.Table.{mnemonic_of}
 use Rattle.text_pieces.specs.Bytes.{before}
 use Rattle.asm_lines.specs.SourceLines.{read_operands, known_statement, statement_of, source_line, has_empty, begins_statement}

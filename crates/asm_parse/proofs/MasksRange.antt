@@ -10,8 +10,8 @@ use Rattle.asm_lines.specs.declared.operands.Operand.{Operand}
 use Rattle.asm_scopes.specs.declared.scope.Kind.TheVariants as kind
 use Rattle.asm_scopes.specs.declared.scope.Scope.{Scope}
 use Rattle.asm_scopes.specs.Scopes.{is_named}
-use Rattle.asm_items.specs.Operations.{mask_named}
-use Rattle.asm_items.specs.Operations.{mask_of as mask_read}
+use Rattle.asm_parse.specs.Operations.{mask_named}
+use Rattle.asm_parse.specs.Operations.{mask_of as mask_read}
 use Rattle.code_rules.specs.AppRange.{IsMask, mask_of}
 use Rattle.sloth_base.specs.ConfigRange.{no_event}
 use Rattle.asm_parse.proofs.Known.{IsEvent}

@@ -1,7 +1,7 @@
 -- The widths and kinds that the mnemonics of a text have.
 use Rattle.std.specs.Prelude.{ℤ}
-use Rattle.asm_forms.specs.declared.forms.Mnemonic.{Mnemonic}
-use Rattle.asm_forms.specs.declared.forms.Mnemonic.TheVariants as m
+use Rattle.asm_lines.specs.declared.forms.Mnemonic.{Mnemonic}
+use Rattle.asm_lines.specs.declared.forms.Mnemonic.TheVariants as m
 use Rattle.code_rules.specs.AppRange.{IsShort, IsAmount, IsNumberOf, IsStored}
 
 -- a mnemonic with a width or kind of its group

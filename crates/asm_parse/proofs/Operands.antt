@@ -5,10 +5,10 @@ use Rattle.std.specs.List.{AllByRecursion}
 use Rattle.std.proofs.lemmas.Bool.{not-false, or_parts}
 use Rattle.asm_lines.specs.declared.operands.Operand.{Operand}
 use Rattle.asm_lines.specs.declared.operands.Operand.TheVariants.{Register, Number, Name}
-use Rattle.asm_forms.specs.declared.forms.Form.TheVariants as form
-use Rattle.asm_forms.specs.declared.forms.Mnemonic.{Mnemonic}
+use Rattle.asm_lines.specs.declared.forms.Form.TheVariants as form
+use Rattle.asm_lines.specs.declared.forms.Mnemonic.{Mnemonic}
 use Rattle.asm_lines.specs.Numbers.{is_within}
-use Rattle.asm_forms.specs.Forms.{form_of}
+use Rattle.asm_lines.specs.Forms.{form_of}
 use Rattle.asm_scopes.specs.declared.scope.Kind.{Kind}
 use Rattle.asm_scopes.specs.declared.scope.Scope.{Scope}
 use Rattle.asm_scopes.specs.Statements.{written_name}

@@ -19,18 +19,18 @@ use Rattle.sloth_base.specs.declared.service.Service.{Service}
 use Rattle.sloth_base.specs.declared.service.Service.TheVariants as service
 use Rattle.asm_lines.specs.declared.operands.Operand.{Operand}
 use Rattle.asm_lines.specs.declared.operands.Operand.TheVariants.{Register, Number, Name, Frame, Direct, Indexed}
-use Rattle.asm_forms.specs.declared.forms.Mnemonic.{Mnemonic}
-use Rattle.asm_forms.specs.declared.forms.Mnemonic.TheVariants as m
+use Rattle.asm_lines.specs.declared.forms.Mnemonic.{Mnemonic}
+use Rattle.asm_lines.specs.declared.forms.Mnemonic.TheVariants as m
 use Rattle.asm_lines.specs.Numbers.{is_within}
-use Rattle.asm_forms.specs.declared.forms.Form.TheVariants as form
-use Rattle.asm_forms.specs.Forms.{is_operand_count, form_of}
+use Rattle.asm_lines.specs.declared.forms.Form.TheVariants as form
+use Rattle.asm_lines.specs.Forms.{is_operand_count, form_of}
 use Rattle.asm_scopes.specs.declared.scope.Kind.TheVariants as kind
 use Rattle.asm_scopes.specs.declared.scope.Scope.{Scope}
 use Rattle.asm_scopes.specs.Statements.{is_action, written_name}
 use Rattle.asm_scopes.specs.Scopes.{is_named, is_lacking, any_unknown, kind_of, service_kind}
-use Rattle.asm_items.specs.declared.operations.Access.{Access}
-use Rattle.asm_items.specs.declared.operations.Access.TheVariants.{Load, Store}
-use Rattle.asm_items.specs.Operations.{as_word, as_short, number_of, frame_op, symbol_op, element_op, access_op, op_by, call_of, mask_of}
+use Rattle.asm_parse.specs.declared.operations.Access.{Access}
+use Rattle.asm_parse.specs.declared.operations.Access.TheVariants.{Load, Store}
+use Rattle.asm_parse.specs.Operations.{as_word, as_short, number_of, frame_op, symbol_op, element_op, access_op, op_by, call_of, mask_of}
 use Rattle.code_rules.specs.AppRange.{IsRegister, IsShort, IsAmount, IsNumberOf, IsStored, IsSymbol, IsMask, IsOp}
 use Rattle.asm_parse.proofs.Fit.{FitsForm, FitsRegister, FitsPlace, FitsWord, AllFit}
 use Rattle.asm_parse.proofs.MnemonicKinds.{HasKind}

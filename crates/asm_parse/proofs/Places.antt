@@ -6,7 +6,7 @@ use Rattle.std.specs.Str.{bytes_eq}
 use Rattle.std.proofs.lemmas.List.Quantifiers.{position-Some}
 use Rattle.std.proofs.lemmas.Slice.Eq.{bytes_eq-Decides}
 use Rattle.text_pieces.proofs.Places.{position-any}
-use Rattle.asm_items.specs.Operations.{number_of}
+use Rattle.asm_parse.specs.Operations.{number_of}
 
 -- the place of a name that is there
 pub place_of : (names : List (List ℕ)) (name : List ℕ) → list_any (bytes_eq name) names ≡ true → (i : ℕ) × (position (bytes_eq name) names ≡ Some i)

@@ -25,8 +25,8 @@ use Rattle.sloth_base.specs.declared.config.TaskDecl.{TaskDecl}
 use Rattle.sloth_base.specs.declared.config.AlarmDecl.{AlarmDecl}
 use Rattle.sloth_base.specs.declared.refusal.Code.TheVariants.{A7}
 use Rattle.sloth_base.specs.declared.refusal.Part.TheVariants.{Src}
-use Rattle.least_fault.specs.Order.{NoFault}
-use Rattle.least_fault.proofs.Nowhere.{nowhere, case_false}
+use Rattle.sloth_base.specs.Order.{NoFault}
+use Rattle.sloth_base.proofs.Nowhere.{nowhere, case_false}
 use Rattle.asm_lines.specs.declared.source_line.SourceLine.{SourceLine}
 use Rattle.asm_lines.specs.declared.source_line.SourceLine.TheVariants.{Empty}
 use Rattle.asm_lines.specs.Faults.{source_lines, SourceLinesFault}
@@ -36,8 +36,8 @@ use Rattle.asm_scopes.specs.Bodies.{BodyText, bodies_of, body_name, is_task_body
 use Rattle.sloth_base.specs.DeclaredNames.{task_names, event_names, alarm_names}
 use Rattle.asm_scopes.specs.Scopes.{scope_of, is_scheduler}
 use Rattle.asm_parse.specs.NameFaults.{has_long, items_in, is_body_missing, BodyNameFault, NameFault}
-use Rattle.asm_items.specs.Operations.{number_of as number_in, resource_number, mask_given, mask_at}
-use Rattle.asm_items.specs.Apps.{func_of, symbol_of, body_task, app_of, labels_from}
+use Rattle.asm_parse.specs.Operations.{number_of as number_in, resource_number, mask_given, mask_at}
+use Rattle.asm_parse.specs.Apps.{func_of, symbol_of, body_task, app_of, labels_from}
 use Rattle.asm_parse.specs.AppTexts.{AppText, SourceTextFault}
 use Rattle.code_rules.specs.AppRange.{IsResource, IsCallable, IsLabelPlaced, IsBody, HasBodies, IsWithinLimits, AppInRange}
 use Rattle.sloth_base.specs.ConfigRange.{no_event}

@@ -2,7 +2,7 @@
 use Rattle.std.specs.Prelude.{◌≡◌, true, false, length}
 use Rattle.asm_lines.specs.declared.source_line.SourceLine.{SourceLine}
 use Rattle.asm_lines.specs.declared.source_line.SourceLine.TheVariants.{Statement}
-use Rattle.asm_forms.specs.Forms.{is_operand_count}
+use Rattle.asm_lines.specs.Forms.{is_operand_count}
 use Rattle.asm_lines.specs.Faults.{is_long}
 use Rattle.asm_parse.proofs.Fit.{AllFit}
 use Rattle.asm_parse.proofs.MnemonicKinds.{HasKind}

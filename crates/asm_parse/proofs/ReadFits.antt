@@ -4,8 +4,8 @@ use Rattle.std.specs.Prelude.{nat_le, ◌==◌, slice_index, drop, codes, if◌t
 use Rattle.std.specs.List.{list_any, list_all, AllPass}
 use Rattle.std.proofs.lemmas.List.Sums.{AllPass-from_list_all}
 use Rattle.asm_lines.specs.SourceLines.{read_operands}
-use Rattle.asm_forms.specs.Forms.{form_of}
-use Rattle.asm_forms.specs.declared.forms.Mnemonic.{Mnemonic}
+use Rattle.asm_lines.specs.Forms.{form_of}
+use Rattle.asm_lines.specs.declared.forms.Mnemonic.{Mnemonic}
 use Rattle.std.specs.Str.{bytes_eq}
 use Rattle.std.proofs.lemmas.Bool.Decides.{eqb_tells, leb_tells}
 use Rattle.std.proofs.lemmas.Bool.{or_parts, and_parts}
@@ -18,8 +18,8 @@ use Rattle.asm_lines.specs.declared.operands.Operand.{Operand}
 use Rattle.asm_lines.specs.declared.operands.Operand.TheVariants.{Wrong, Outside, Register, Number, Name, Frame, Direct, Indexed, Bytes}
 use Rattle.asm_lines.specs.declared.operands.Small.{Small}
 use Rattle.asm_lines.specs.declared.operands.Small.TheVariants.{NoNumber, TooFar, Is}
-use Rattle.asm_forms.specs.declared.forms.Form.{Form}
-use Rattle.asm_forms.specs.declared.forms.Form.TheVariants as form
+use Rattle.asm_lines.specs.declared.forms.Form.{Form}
+use Rattle.asm_lines.specs.declared.forms.Form.TheVariants as form
 use Rattle.asm_lines.specs.Bytes.{trim}
 use Rattle.asm_lines.specs.Numbers.{number, is_within}
 use Rattle.asm_lines.specs.Registers.{register, lettered_register, lettered_register_by, small_number}

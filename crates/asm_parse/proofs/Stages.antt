@@ -4,7 +4,7 @@ use Rattle.sloth_base.specs.declared.config.Config.{Config}
 use Rattle.sloth_base.specs.declared.refusal.Refusal.{Refusal}
 use Rattle.sloth_base.specs.declared.refusal.BuildError.{BuildError}
 use Rattle.sloth_base.specs.declared.refusal.BuildError.TheVariants.{Refused, Memory}
-use Rattle.least_fault.specs.Order.{NoFault, IsLeast, ErrorIs}
+use Rattle.sloth_base.specs.Order.{NoFault, IsLeast, ErrorIs}
 use Rattle.asm_lines.specs.Faults.{source_lines, SourceLinesFault}
 use Rattle.asm_parse.specs.NameFaults.{NameFault}
 use Rattle.asm_parse.specs.AppTexts.{SourceTextFault}

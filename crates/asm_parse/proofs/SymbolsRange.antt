@@ -12,14 +12,14 @@ use Rattle.sloth_base.specs.declared.app.Symbol.{Symbol}
 use Rattle.sloth_base.specs.declared.refusal.Code.TheVariants.{A5, A6}
 use Rattle.sloth_base.specs.declared.refusal.Part.TheVariants.{Src}
 use Rattle.sloth_base.specs.Limits.{symbol_limit, data_limit}
-use Rattle.least_fault.specs.Order.{NoFault}
-use Rattle.least_fault.specs.Search.{Somewhere}
-use Rattle.least_fault.proofs.Nowhere.{nowhere, case_false}
+use Rattle.sloth_base.specs.Order.{NoFault}
+use Rattle.sloth_base.specs.Search.{Somewhere}
+use Rattle.sloth_base.proofs.Nowhere.{nowhere, case_false}
 use Rattle.asm_lines.specs.declared.source_line.SourceLine.{SourceLine}
 use Rattle.asm_lines.specs.declared.source_line.SourceLine.TheVariants.{Empty}
 use Rattle.asm_scopes.specs.Statements.{is_data, name_of, number_of, symbol_names}
 use Rattle.asm_parse.specs.NameFaults.{has_long, bytes_of, is_taken, is_too_much, DataFault}
-use Rattle.asm_items.specs.Apps.{symbol_of}
+use Rattle.asm_parse.specs.Apps.{symbol_of}
 use Rattle.asm_parse.proofs.Declared.{data_or, data_name, data_size}
 use Rattle.asm_parse.proofs.Growth.{within, sum_kept, Apart, kept_apart}
 use Rattle.asm_parse.proofs.Read.{IsRead}

@@ -3,10 +3,10 @@ use Rattle.std.specs.Prelude.{◌≡◌, ℕ, ◌⊎◌, List}
 use Rattle.sloth_base.specs.declared.app.App.{App}
 use Rattle.sloth_base.specs.declared.config.Config.{Config}
 use Rattle.sloth_base.specs.declared.refusal.Refusal.{Refusal}
-use Rattle.least_fault.specs.Order.{NoFault}
+use Rattle.sloth_base.specs.Order.{NoFault}
 use Rattle.asm_lines.specs.Faults.{source_lines, SourceLinesFault}
 use Rattle.asm_parse.specs.NameFaults.{NameFault}
-use Rattle.asm_items.specs.Apps.{app_of}
+use Rattle.asm_parse.specs.Apps.{app_of}
 
 -- the text says this task code
 abbrev pub AppText : List ℕ → Config → App → Type 0

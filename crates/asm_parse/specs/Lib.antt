@@ -1,2 +1,5 @@
+pub mod Operations
+pub mod Numbered
+pub mod Apps
 pub mod NameFaults
 pub mod AppTexts

@@ -1,16 +1,21 @@
-//! A5 to A7 of bodies.
+//! A5 to A7 of bodies. The least fault of names and limits.
 ghost use Rattle.std.specs.Prelude.{◌≡◌, ◌+◌, ◌<◌, ◌^◌, take, length, ◌⊎◌, All, IfOk};
-ghost use Rattle.least_fault.specs.Search.{IsSearchResult, Somewhere};
+ghost use Rattle.sloth_base.specs.Search.{IsSearchResult, Somewhere};
 ghost use Rattle.asm_scopes.specs.Statements.{label_names};
-ghost use Rattle.asm_scopes.specs.Bodies.{function_names};
-ghost use Rattle.asm_parse.specs.NameFaults.{is_too_great, is_strange, is_misnamed, is_beyond, HeaderFault, BodyLineFault, LineNameFault, BodyNameFault};
+ghost use Rattle.asm_scopes.specs.Bodies.{function_names, bodies_of};
+ghost use Rattle.asm_parse.specs.NameFaults.{is_too_great, is_strange, is_misnamed, is_beyond, HeaderFault, BodyLineFault, LineNameFault, BodyNameFault, is_body_missing, NameFault};
+ghost use Rattle.asm_scopes.specs.Scopes.{scope_of};
 
+use crate::data_faults::data_faults;
 use crate::limits::has_long;
 use crate::{count_item, count_items, count_label};
 use asm_lines::SourceLine;
-use asm_scopes::{Body, Scope, is_item, is_label, is_task, label_names, name_of, number_of};
-use least_fault::{fault_if, merge};
-use sloth_base::{BODY_LIMIT, Code, FRAME_LIMIT, ITEM_LIMIT, Part, Refusal, Result};
+use asm_scopes::{
+    Body, Scope, is_item, is_label, is_task, label_names, name_of, number_of, scope_of,
+    task_body_names,
+};
+use sloth_base::least_fault::{fault_if, merge};
+use sloth_base::{BODY_LIMIT, Code, Config, FRAME_LIMIT, ITEM_LIMIT, Part, Refusal, Result};
 use std::alloc::Global;
 use text_pieces::Names;
 
@@ -65,12 +70,8 @@ fn inner_fault(
 ) -> Option<Refusal>
     ensures { IsSearchResult (BodyLineFault scope.now labels.now (take count labels.now) items number line.now) result }
 {
-    let misnamed = fault_if(
-        is_misnamed(scope, labels, count, line),
-        Part::Src,
-        number,
-        Code::A5,
-    );
+    let test = is_misnamed(scope, labels, count, line);
+    let misnamed = fault_if(test, Part::Src, number, Code::A5);
     let beyond = fault_if(is_beyond(items, line), Part::Src, number, Code::A6);
     merge(misnamed, beyond)
 }
@@ -113,7 +114,8 @@ fn body_fault(
     requires items { items + length body.now.lines < 2 ^ 64 }
     ensures { IfOk result (λ found. IsSearchResult (λ r.
         HeaderFault scope.now (take count scope.now.functions) count body.now.line body.now.header r
-        ⊎ Somewhere (LineNameFault scope.now (label_names body.now.lines) items body.now.line) body.now.lines r) found) }
+        ⊎ Somewhere (LineNameFault scope.now
+        (label_names body.now.lines) items body.now.line) body.now.lines r) found) }
 {
     let labels = label_names(alloc, body.lines())?;
     let of_header = header_fault(scope, count, body.line(), body.header());
@@ -136,4 +138,49 @@ pub fn body_faults(alloc: Global, scope: &Scope, bodies: &[Body]) -> Result<Opti
         items += count_items(body.lines());
     }
     Ok(least)
+}
+
+/// A7 of line 1: a task of the configuration has no body.
+pub fn is_body_missing(alloc: Global, config: &Config, bodies: &[Body]) -> Result<bool>
+    ensures { IfOk result (λ lacks. lacks ≡ is_body_missing config.now bodies.now) }
+{
+    let names = task_body_names(alloc, bodies)?;
+    let tasks = config.tasks.items();
+    Ok(tasks.iter().any(|task| !names.has(task.name.bytes())))
+}
+
+// The least fault in these lines, which may use these names.
+fn fault_in_scope(
+    alloc: Global,
+    config: &Config,
+    lines: &[SourceLine],
+    bodies: &[Body],
+    scope: &Scope,
+) -> Result<Option<Refusal>>
+    requires few { length lines.now < 2 ^ 32 }
+    requires bodies { bodies.now ≡ bodies_of lines.now }
+    requires scope { scope.now ≡ scope_of config.now lines.now bodies.now }
+    ensures { IfOk result (λ found. IsSearchResult (NameFault config.now lines.now) found) }
+{
+    let of_data = data_faults(&scope.symbols, lines);
+    let of_bodies = body_faults(alloc, scope, bodies)?;
+    let lacks = is_body_missing(alloc, config, bodies)?;
+    let of_tasks = fault_if(lacks, Part::Src, 1, Code::A7);
+    Ok(merge(of_data, merge(of_bodies, of_tasks)))
+}
+
+/// The least fault of names and limits in these lines: A5 for a doubled name, or one that nothing of the wanted kind
+/// has; A6 for a limit that is passed; A7 for a task without a body, or a body without its task.
+pub fn judge(
+    alloc: Global,
+    config: &Config,
+    lines: &[SourceLine],
+    bodies: &[Body],
+) -> Result<Option<Refusal>>
+    requires few { length lines.now < 2 ^ 32 }
+    requires bodies { bodies.now ≡ bodies_of lines.now }
+    ensures { IfOk result (λ found. IsSearchResult (NameFault config.now lines.now) found) }
+{
+    let scope = scope_of(alloc, config, lines, bodies)?;
+    fault_in_scope(alloc, config, lines, bodies, &scope)
 }

@@ -1,6 +1,6 @@
 //! A5 and A6 of symbols.
 ghost use Rattle.std.specs.Prelude.{◌≡◌, ◌<◌, ◌^◌, take, length};
-ghost use Rattle.least_fault.specs.Search.{IsSearchResult, Somewhere};
+ghost use Rattle.sloth_base.specs.Search.{IsSearchResult, Somewhere};
 ghost use Rattle.asm_scopes.specs.Statements.{symbol_names};
 ghost use Rattle.asm_parse.specs.NameFaults.{is_taken, is_too_much, SymbolFault, DataFault};
 
@@ -8,7 +8,7 @@ use crate::limits::has_long;
 use crate::{bytes_of, count_data};
 use asm_lines::SourceLine;
 use asm_scopes::{is_data, name_of, number_of};
-use least_fault::{fault_if, merge};
+use sloth_base::least_fault::{fault_if, merge};
 use sloth_base::{Code, DATA_LIMIT, Part, Refusal, SYMBOL_LIMIT};
 use text_pieces::{Names, same};
 
@@ -57,10 +57,8 @@ pub fn data_faults(symbols: &Names, lines: &[SourceLine]) -> Option<Refusal>
     let mut count = 0;
     let mut bytes = 0;
     for (n, line) in lines.iter().enumerate() {
-        least = merge(
-            least,
-            symbol_fault(symbols, count, bytes, n as u32 + 1, line),
-        );
+        let found = symbol_fault(symbols, count, bytes, n as u32 + 1, line);
+        least = merge(least, found);
         count += count_data(line);
         bytes += bytes_of(line);
     }

@@ -3,15 +3,15 @@ ghost use Rattle.std.specs.Prelude.{◌≡◌, ◌<◌, ◌^◌, length, List, �
 ghost use Rattle.sloth_base.specs.ConfigRange.{InRange};
 ghost use Rattle.sloth_base.specs.declared.config.Config.{Config};
 ghost use Rattle.sloth_base.specs.declared.app.App.{App};
-ghost use Rattle.least_fault.specs.Order.{ErrorIs, NoFault, IsLeast};
+ghost use Rattle.sloth_base.specs.Order.{ErrorIs, NoFault, IsLeast};
 ghost use Rattle.asm_scopes.specs.Bodies.{bodies_of};
 ghost use Rattle.asm_parse.specs.NameFaults.{NameFault};
 ghost use Rattle.code_rules.specs.AppRange.{AppInRange};
-ghost use Rattle.asm_items.specs.Apps.{app_of};
+ghost use Rattle.asm_parse.specs.Apps.{app_of};
 ghost use Rattle.asm_parse.specs.AppTexts.{AppText, SourceTextFault};
 
-use crate::judging::judge;
-use asm_items::app_of;
+use crate::app_of;
+use crate::body_faults::judge;
 use asm_lines::{SourceLine, read};
 use asm_scopes::{Body, bodies_of};
 use sloth_base::{App, BuildError, Config, Refusal, Result};

@@ -5,9 +5,9 @@ use Rattle.asm_lines.specs.declared.operands.Operand.{Operand}
 use Rattle.asm_lines.specs.declared.operands.Operand.TheVariants as o
 use Rattle.asm_lines.specs.declared.source_line.SourceLine.{SourceLine}
 use Rattle.asm_lines.specs.declared.source_line.SourceLine.TheVariants.{Statement}
-use Rattle.asm_forms.specs.declared.forms.Mnemonic.{Mnemonic}
-use Rattle.asm_forms.specs.declared.forms.Mnemonic.TheVariants as m
-use Rattle.asm_forms.specs.Forms.{is_body_start, is_body_end}
+use Rattle.asm_lines.specs.declared.forms.Mnemonic.{Mnemonic}
+use Rattle.asm_lines.specs.declared.forms.Mnemonic.TheVariants as m
+use Rattle.asm_lines.specs.Forms.{is_body_start, is_body_end}
 use Rattle.asm_scopes.specs.declared.statements.Declared.{Declared}
 use Rattle.asm_scopes.specs.declared.statements.Declared.TheVariants as declared
 

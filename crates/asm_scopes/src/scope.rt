@@ -1,11 +1,11 @@
 //! What a name may stand for where it is used.
 ghost use Rattle.std.specs.Prelude.{◌≡◌};
-ghost use Rattle.asm_scopes.specs.Scopes.{object_name, service_kind, kind_of, is_scheduler, is_named, is_lacking, any_unknown, has_unknown};
+ghost use Rattle.asm_scopes.specs.Scopes.{object_name, service_kind, kind_of, is_scheduler, is_named, is_lacking};
+ghost use Rattle.asm_scopes.specs.Scopes.{any_unknown, has_unknown};
 ghost use Rattle.asm_scopes.specs.Statements.{written_name};
 
 use crate::written;
-use asm_forms::Mnemonic;
-use asm_lines::{Operand, SourceLine};
+use asm_lines::{Mnemonic, Operand, SourceLine};
 use sloth_base::{ObjectKind, Service};
 use text_pieces::{Names, same};
 

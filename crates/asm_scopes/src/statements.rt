@@ -1,10 +1,11 @@
 //! What a line of task source says: what it declares, and the names that it writes.
 ghost use Rattle.std.specs.Prelude.{◌≡◌, ◌≤◌, map, filter, IfOk, option_copied};
 ghost use Rattle.sloth_base.specs.Limits.{operand_limit};
-ghost use Rattle.asm_scopes.specs.Statements.{is_data, opens_body, closes_body, is_task, is_label, is_action, is_item, first_name, name_of, small_value, second_number, number_of, written_name, declares, symbol_names, label_names};
+ghost use Rattle.asm_scopes.specs.Statements.{is_data, opens_body, closes_body, is_task, is_label, is_action, is_item};
+ghost use Rattle.asm_scopes.specs.Statements.{first_name, name_of, small_value, number_of, written_name, declares};
+ghost use Rattle.asm_scopes.specs.Statements.{symbol_names, label_names};
 
-use asm_forms::{Mnemonic, closes, opens};
-use asm_lines::{Operand, SourceLine};
+use asm_lines::{Mnemonic, Operand, SourceLine, closes, opens};
 use sloth_base::{OPERAND_LIMIT, Result};
 use std::alloc::Global;
 use text_pieces::Names;
@@ -14,10 +15,7 @@ pub fn is_data(line: &SourceLine) -> bool
     ensures { result ≡ is_data line.now }
 {
     match line {
-        SourceLine::Statement {
-            mnemonic: Mnemonic::Data,
-            ..
-        } => true,
+        SourceLine::Statement { mnemonic, .. } => matches!(*mnemonic, Mnemonic::Data),
         _ => false,
     }
 }
@@ -47,10 +45,7 @@ pub fn is_task(line: &SourceLine) -> bool
     ensures { result ≡ is_task line.now }
 {
     match line {
-        SourceLine::Statement {
-            mnemonic: Mnemonic::Task,
-            ..
-        } => true,
+        SourceLine::Statement { mnemonic, .. } => matches!(*mnemonic, Mnemonic::Task),
         _ => false,
     }
 }
@@ -60,10 +55,7 @@ pub fn is_label(line: &SourceLine) -> bool
     ensures { result ≡ is_label line.now }
 {
     match line {
-        SourceLine::Statement {
-            mnemonic: Mnemonic::Label,
-            ..
-        } => true,
+        SourceLine::Statement { mnemonic, .. } => matches!(*mnemonic, Mnemonic::Label),
         _ => false,
     }
 }
@@ -120,23 +112,16 @@ fn small(number: i64) -> u32
     }
 }
 
-fn second_number(operands: &[Operand]) -> u32
-    ensures value { result ≡ second_number operands.now }
-    ensures bound { result ≤ operand_limit }
-{
-    match operands {
-        [_, Operand::Number(number), ..] => small(*number),
-        _ => 0,
-    }
-}
-
 /// The size of a symbol, or the words of a frame: the number behind the name, 0 where there is none.
 pub fn number_of(line: &SourceLine) -> u32
     ensures value { result ≡ number_of line.now }
     ensures bound { result ≤ operand_limit }
 {
     match line {
-        SourceLine::Statement { operands, .. } => second_number(operands.items()),
+        SourceLine::Statement { operands, .. } => match operands.items() {
+            [_, Operand::Number(number), ..] => small(*number),
+            _ => 0,
+        },
         _ => 0,
     }
 }
@@ -146,9 +131,9 @@ pub fn written(operand: &Operand) -> Option<&[u8]>
     ensures { option_copied result ≡ written_name operand.now }
 {
     match operand {
-        Operand::Name(name) => Some(name.bytes()),
-        Operand::Direct { name, .. } => Some(name.bytes()),
-        Operand::Indexed { name, .. } => Some(name.bytes()),
+        Operand::Name(name) | Operand::Direct { name, .. } | Operand::Indexed { name, .. } => {
+            Some(name.bytes())
+        },
         _ => None,
     }
 }

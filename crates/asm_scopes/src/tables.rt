@@ -67,14 +67,14 @@ fn names_of_bodies<'t>(alloc: Global, of_tasks: bool, bodies: &[Body<'t>]) -> Re
 {
     let mut names = Names::new(alloc);
     for body in bodies {
-        if is_body_of(of_tasks, body) {
+        if is_wanted(of_tasks, body) {
             names = names.with(body.name())?;
         }
     }
     Ok(names)
 }
 
-fn is_body_of(of_task: bool, body: &Body) -> bool
+fn is_wanted(of_task: bool, body: &Body) -> bool
     ensures { result ≡ is_body_of of_task body.now }
 {
     if of_task {
@@ -82,12 +82,6 @@ fn is_body_of(of_task: bool, body: &Body) -> bool
     } else {
         !body.is_task()
     }
-}
-
-fn called_names<'t>(alloc: Global, bodies: &[Body<'t>]) -> Result<Names<'t>>
-    ensures { IfOk result (λ names. names ≡ called_names bodies.now) }
-{
-    names_of_bodies(alloc, false, bodies)
 }
 
 /// The names of the tasks that have a body.
@@ -139,7 +133,7 @@ fn names_of_source<'t>(
 {
     let symbols = symbol_names(alloc, lines)?;
     let functions = function_names(alloc, bodies)?;
-    let called = called_names(alloc, bodies)?;
+    let called = names_of_bodies(alloc, false, bodies)?;
     Ok(SourceNames {
         symbols,
         functions,

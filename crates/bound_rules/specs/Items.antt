@@ -1,7 +1,7 @@
 -- Levels that are reached, and the functions that items call.
 use Rattle.std.specs.Prelude.{ℕ, leb, cond, List, get_or, Bool, true, Option, Some, None}
-use Rattle.bound_rules.specs.declared.bodies.Body.{Body}
-use Rattle.bound_rules.specs.declared.sizes.Summary.{Summary}
+use Rattle.bound_rules.specs.declared.bound.Body.{Body}
+use Rattle.bound_rules.specs.declared.bound.Summary.{Summary}
 use Rattle.bound_rules.specs.Summaries.{summary_of}
 
 -- A level is the priority that a function has to reach by what it holds itself; there is none where its callers have raised the task already.

@@ -1,7 +1,7 @@
 -- The summaries of functions.
 use Rattle.std.specs.Prelude.{ℕ, ◌≤◌, false, List, get_or}
 use Rattle.sloth_base.specs.Limits.{size_limit}
-use Rattle.bound_rules.specs.declared.sizes.Summary.{Summary}
+use Rattle.bound_rules.specs.declared.bound.Summary.{Summary}
 
 -- a function of which nothing is known
 abbrev pub unknown : Summary

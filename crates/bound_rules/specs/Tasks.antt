@@ -6,7 +6,7 @@ use Rattle.sloth_base.specs.Named.{undeclared_task, body_of}
 use Rattle.sloth_base.specs.Limits.{count_limit}
 use Rattle.bound_rules.specs.declared.bound.Bound.{Bound}
 use Rattle.bound_rules.specs.declared.bound.Bound.TheVariants as bound
-use Rattle.bound_rules.specs.declared.sizes.Summary.{Summary}
+use Rattle.bound_rules.specs.declared.bound.Summary.{Summary}
 use Rattle.bound_rules.specs.Summaries.{summary_of}
 
 -- a task by its number

@@ -1,10 +1,16 @@
 //! What is told of a task: the summary of its body, and the bound by a greatest size.
+//! The summaries of functions that are called. What is known of a body before any level.
+//! Levels that are reached, and items with which no section goes on.
+//! The greatest sizes of parts of sections, function by function.
 ghost use Rattle.std.specs.Prelude.{◌≡◌, ◌<◌, length};
 ghost use Rattle.call_graph.specs.Tables.{HasTaskBody};
 ghost use Rattle.bound_rules.specs.Tasks.{task_summary, told};
+ghost use Rattle.bound_rules.specs.Items.{callee_of, reaches_level};
+ghost use Rattle.bound_rules.specs.Summaries.{summary_of, IsCountedUp, AreCountedUp};
+ghost use Rattle.osek_blocking.specs.Sections.{is_schedule};
 
-use crate::Summary;
-use sloth_base::{COUNT_LIMIT, Func, TaskDecl};
+use crate::number_at;
+use sloth_base::{COUNT_LIMIT, Func, FuncId, List, Op, Service, TaskDecl};
 use stack_bounds::body_of;
 
 /// How much work of lower tasks may stand between a task's becoming Ready and its entry.
@@ -50,3 +56,94 @@ pub fn told(most: u32) -> Bound
         Bound::Huge
     }
 }
+
+/// The summary of a function.
+pub fn summary_of(table: &[Summary], func: FuncId) -> Summary
+    ensures { result ≡ summary_of table.now func }
+{
+    match table.get(func.0 as usize) {
+        Some(summary) => *summary,
+        None => UNKNOWN,
+    }
+}
+
+/// The summary of the function that item `number` calls.
+pub fn callee(
+    body: &Body,
+    level: Option<u32>,
+    whole: &[Summary],
+    own: &[Summary],
+    number: usize,
+    func: FuncId,
+) -> Summary
+    requires whole_small { AreCountedUp whole.now }
+    requires own_small { AreCountedUp own.now }
+    ensures is { result ≡ callee_of body.now level whole.now own.now number func }
+    ensures small { IsCountedUp result }
+{
+    if reaches_level(level, number_at(body.ceilings.items(), number)) {
+        summary_of(whole, func)
+    } else {
+        summary_of(own, func)
+    }
+}
+
+/// The items of a body that walks reach, and the greatest ceiling that the function itself holds before each, or 0.
+#[derive(Drop)]
+pub struct Body {
+    pub reached: List<bool>,
+    pub ceilings: List<u32>,
+}
+
+/// Whether what is held reaches a level.
+pub fn reaches_level(level: Option<u32>, ceiling: u32) -> bool
+    ensures { result ≡ reaches_level level ceiling }
+{
+    match level {
+        Some(priority) => priority <= ceiling,
+        None => true,
+    }
+}
+
+/// Whether an operation is a Schedule.
+pub fn is_schedule(op: Op) -> bool
+    ensures { result ≡ is_schedule op }
+{
+    match op {
+        Op::Serve(call) => call.service.code() == Service::Schedule.code(),
+        _ => false,
+    }
+}
+
+/// The greatest sizes of a function's parts, counted up to 1,000,001, 0 where there is none; or that some is endless.
+#[derive(Clone, Copy)]
+pub struct Summary {
+    /// Some part that begins in the function or in what it calls is larger than any number.
+    pub is_endless: bool,
+    /// From its first item, inside the function and what it calls.
+    pub on: u32,
+    /// From its first item up to its `ret`.
+    pub back: u32,
+    /// From any item of it or of what it calls, inside the function and what it calls.
+    pub most: u32,
+    /// From any item of it or of what it calls up to its `ret`.
+    pub out: u32,
+}
+
+/// A function of which nothing is known.
+pub const UNKNOWN: Summary = Summary {
+    is_endless: false,
+    on: 0,
+    back: 0,
+    most: 0,
+    out: 0,
+};
+
+/// A function in which parts have no limit.
+pub const ENDLESS: Summary = Summary {
+    is_endless: true,
+    on: 0,
+    back: 0,
+    most: 0,
+    out: 0,
+};

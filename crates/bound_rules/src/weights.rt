@@ -1,9 +1,8 @@
-//! What items weigh.
-ghost use Rattle.std.specs.Prelude.{◌≡◌, ◌≤◌, ◌<◌, ◌+◌, length, get_or};
+//! What items weigh. Tables with an entry for each item or function.
+ghost use Rattle.std.specs.Prelude.{◌≡◌, ◌≤◌, ◌<◌, ◌+◌, length, get_or, false};
 ghost use Rattle.sloth_base.specs.Limits.{size_limit};
 ghost use Rattle.bound_rules.specs.Weights.{no_weights, joined};
 
-use crate::number_at;
 use sloth_base::{Item, List, SIZE_LIMIT};
 
 /// What the items of a body weigh: where a part goes on behind an item, and where it ends with it.
@@ -37,4 +36,24 @@ pub fn size_behind(items: &[Item], table: &[u32], number: usize) -> u32
     ensures { result ≡ get_or table.now (number + 1) 0 }
 {
     number_at(table, number + 1)
+}
+
+/// Whether this one is marked.
+pub fn is_marked(marks: &[bool], number: usize) -> bool
+    ensures { result ≡ get_or marks.now number false }
+{
+    match marks.get(number) {
+        Some(mark) => *mark,
+        None => false,
+    }
+}
+
+/// The number of this one, 0 where the table has none.
+pub fn number_at(table: &[u32], number: usize) -> u32
+    ensures { result ≡ get_or table.now number 0 }
+{
+    match table.get(number) {
+        Some(entry) => *entry,
+        None => 0,
+    }
 }

@@ -2,7 +2,7 @@
 use Rattle.std.proofs.Common.{◌≡◌, ◌+◌, ℕ, List, [], ◌++◌, refl, ap}
 use Rattle.std.proofs.Math.Numerals.{add-one}
 use Rattle.sloth_base.specs.declared.config.TaskDecl.{TaskDecl}
-use Rattle.walk_sums.specs.declared.sum.Sum.{Sum}
+use Rattle.walk_sums.specs.declared.sections.Sum.{Sum}
 use Rattle.bounds_text.specs.LowerCounts.{count_line, count_lines}
 
 pub no-lines : (tasks : List TaskDecl) (weight : ℕ) (table : List (List Sum)) → count_lines tasks weight table 0 ≡ []

@@ -10,16 +10,16 @@ use Rattle.call_graph.specs.Reached.{any_below}
 use Rattle.call_graph.specs.Tables.{max_below}
 use Rattle.call_graph.proofs.Itself.{number_counts}
 use Rattle.osek_blocking.specs.Blocking.{events_up_to_entry}
-use Rattle.raised_sections.specs.Pace.{last_count}
-use Rattle.raised_sections.specs.Sections.{IsSectionFor}
-use Rattle.raised_sections.specs.Spent.{spent_counts}
+use Rattle.osek_blocking.specs.Pace.{last_count}
+use Rattle.osek_blocking.specs.Sections.{IsSectionFor}
+use Rattle.osek_blocking.specs.Spent.{spent_counts}
 use Rattle.bound_rules.specs.declared.weights.BodyWeights.{BodyWeights}
 use Rattle.bound_rules.specs.Weights.{no_weights, going_weight, ending_weight}
 use Rattle.bound_rules.specs.Tasks.{task_at}
-use Rattle.event_weights.specs.Items.{length_of}
-use Rattle.event_weights.proofs.BodyLengths.{short}
-use Rattle.walk_sums.specs.declared.sum.Sum.{Sum}
-use Rattle.walk_sums.specs.declared.sum.Sum.TheVariants as sum
+use Rattle.sim_induction.specs.Items.{length_of}
+use Rattle.sim_induction.proofs.BodyLengths.{short}
+use Rattle.walk_sums.specs.declared.sections.Sum.{Sum}
+use Rattle.walk_sums.specs.declared.sections.Sum.TheVariants as sum
 use Rattle.run_counts.specs.Counts.{AreCounts}
 use Rattle.walk_sums.specs.Told.{IsToldSum}
 use Rattle.walk_sums.specs.Sections.{AreToldSums, AreAllSums, greatest_of}

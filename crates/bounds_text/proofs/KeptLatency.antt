@@ -4,7 +4,7 @@ use Rattle.std.specs.List.{AllByRecursion}
 use Rattle.std.proofs.lemmas.Bool.{cases_Bool}
 use Rattle.sloth_base.specs.declared.config.Config.{Config}
 use Rattle.sloth_base.specs.declared.app.App.{App}
-use Rattle.sloth_base.specs.declared.event.Stamped.{Stamped}
+use Rattle.sloth_base.specs.declared.service.Stamped.{Stamped}
 use Rattle.sloth_base.specs.Named.{declaration, function, body_of}
 use Rattle.code_rules.specs.WellFormed.{WellFormed}
 use Rattle.call_graph.specs.Reached.{any_below}
@@ -17,11 +17,11 @@ use Rattle.bound_rules.specs.declared.bound.Bound.{Bound}
 use Rattle.bound_rules.specs.declared.weights.BodyWeights.{BodyWeights}
 use Rattle.bound_rules.specs.Tasks.{task_at}
 use Rattle.bound_rules.specs.Weights.{ending_weight}
-use Rattle.event_weights.specs.Events.{enter_counts, stretch_counts}
-use Rattle.event_weights.specs.Items.{length_of, AreLengths}
-use Rattle.event_weights.proofs.BodyLengths.{short}
-use Rattle.walk_sums.specs.declared.sum.Sum.{Sum}
-use Rattle.walk_sums.specs.declared.sum.Sum.TheVariants as sum
+use Rattle.sim_induction.specs.Events.{enter_counts, stretch_counts}
+use Rattle.sim_induction.specs.Items.{length_of, AreLengths}
+use Rattle.sim_induction.proofs.BodyLengths.{short}
+use Rattle.walk_sums.specs.declared.sections.Sum.{Sum}
+use Rattle.walk_sums.specs.declared.sections.Sum.TheVariants as sum
 use Rattle.run_counts.specs.Counts.{AreCountsBy}
 use Rattle.walk_sums.specs.Sections.{AreAllSums}
 use Rattle.sim_induction.specs.Paced.{AreStretchesWithin}

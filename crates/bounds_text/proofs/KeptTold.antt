@@ -3,8 +3,8 @@ use Rattle.std.proofs.Common.{◌≡◌, ◌<◌, ℕ, List, length, get_or, sub
 use Rattle.sloth_base.specs.declared.config.Config.{Config}
 use Rattle.sloth_base.specs.declared.app.App.{App}
 use Rattle.code_rules.specs.WellFormed.{WellFormed}
-use Rattle.raised_sections.specs.Sections.{IsBound}
-use Rattle.raised_sections.proofs.KeptBounds.{keeps_bounds}
+use Rattle.osek_blocking.specs.Sections.{IsBound}
+use Rattle.osek_blocking.proofs.KeptBounds.{keeps_bounds}
 use Rattle.bound_rules.specs.declared.bound.Bound.{Bound}
 use Rattle.bound_rules.specs.declared.bound.Bound.TheVariants as bound
 use Rattle.bounds_text.specs.Bounds.{IsTold, AreToldBounds}

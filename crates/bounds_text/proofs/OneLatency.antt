@@ -6,7 +6,7 @@ use Rattle.sloth_base.specs.declared.app.App.{App}
 use Rattle.sloth_source.proofs.Unique.{one_meaning}
 use Rattle.bound_rules.specs.declared.bound.Bound.{Bound}
 use Rattle.bound_rules.specs.declared.bound.Bound.TheVariants as bound
-use Rattle.event_weights.specs.Items.{AreLengths}
+use Rattle.sim_induction.specs.Items.{AreLengths}
 use Rattle.walk_sums.specs.Sections.{AreAllSums}
 use Rattle.bounds_text.specs.Bounds.{AreToldBounds}
 use Rattle.bounds_text.proofs.OneTold.{one_told}

@@ -7,13 +7,13 @@ use Rattle.sloth_base.specs.declared.app.App.{App}
 use Rattle.sloth_base.specs.Named.{function, item_of}
 use Rattle.sloth_source.proofs.Unique.{one_meaning}
 use Rattle.osek_scheduler.specs.Apart.{static_priority}
-use Rattle.raised_sections.specs.Sections.{IsSection, IsLower}
+use Rattle.osek_blocking.specs.Sections.{IsSection, IsLower}
 use Rattle.bound_rules.specs.declared.weights.BodyWeights.{BodyWeights}
 use Rattle.bound_rules.specs.Weights.{no_weights}
 use Rattle.rv32_expand.proofs.Agreeing.{size_same}
 use Rattle.rv32_expand.proofs.Least.{least_is_one}
-use Rattle.event_weights.specs.Items.{length_of, AreLengths, going_counts, ending_counts}
-use Rattle.walk_sums.specs.declared.sum.Sum.{Sum}
+use Rattle.sim_induction.specs.Items.{length_of, AreLengths, going_counts, ending_counts}
+use Rattle.walk_sums.specs.declared.sections.Sum.{Sum}
 use Rattle.run_counts.specs.Counts.{AreBodyCounts, AreCounts}
 use Rattle.walk_sums.specs.Sections.{AreToldSums, AreAllSums, no_sum}
 use Rattle.walk_sums.proofs.OneTold.{one_told}

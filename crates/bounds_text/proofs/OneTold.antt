@@ -2,7 +2,7 @@
 use Rattle.std.proofs.Common.{◌≡◌, ℕ, ◌≤◌, refl, ap, arith}
 use Rattle.sloth_base.specs.declared.config.Config.{Config}
 use Rattle.sloth_base.specs.declared.app.App.{App}
-use Rattle.raised_sections.specs.Sections.{IsBound, lowest, above, HasNoBound, ExceedsBound, greatest_told_bound}
+use Rattle.osek_blocking.specs.Sections.{IsBound, lowest, above, HasNoBound, ExceedsBound, greatest_told_bound}
 use Rattle.bound_rules.specs.declared.bound.Bound.{Bound}
 use Rattle.bound_rules.specs.declared.bound.Bound.TheVariants as bound
 use Rattle.bounds_text.specs.Bounds.{IsTold}

@@ -8,11 +8,11 @@ use Rattle.code_rules.specs.WellFormed.{WellFormed}
 use Rattle.osek_scheduler.specs.Apart.{static_priority}
 use Rattle.osek_scheduler.proofs.Facts.{Facts, facts}
 use Rattle.call_graph.specs.Reached.{any_below}
-use Rattle.raised_sections.specs.Walks.{Position}
-use Rattle.raised_sections.specs.Sections.{size_of_section, IsLower, IsSectionFor, NoneIsLarger, IsGreatestSize, IsBound, lowest, above}
+use Rattle.osek_blocking.specs.Walks.{Position}
+use Rattle.osek_blocking.specs.Sections.{size_of_section, IsLower, IsSectionFor, NoneIsLarger, IsGreatestSize, IsBound, lowest, above}
 use Rattle.bound_rules.specs.declared.bound.Bound.TheVariants as bound
-use Rattle.walk_sums.specs.declared.sum.Sum.{Sum}
-use Rattle.walk_sums.specs.declared.sum.Sum.TheVariants as sum
+use Rattle.walk_sums.specs.declared.sections.Sum.{Sum}
+use Rattle.walk_sums.specs.declared.sections.Sum.TheVariants as sum
 use Rattle.walk_sums.specs.Weights.{item_weights, sum_of}
 use Rattle.walk_sums.specs.Told.{IsGreatestSum, IsToldSum, NoneIsAbove}
 use Rattle.walk_sums.specs.Sections.{AreToldSums, greatest_of}

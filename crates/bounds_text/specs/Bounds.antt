@@ -4,12 +4,12 @@ use Rattle.sloth_base.specs.declared.config.Config.{Config}
 use Rattle.sloth_base.specs.declared.config.TaskDecl.{TaskDecl}
 use Rattle.sloth_base.specs.declared.app.App.{App}
 use Rattle.call_graph.specs.Reached.{any_below}
-use Rattle.raised_sections.specs.Sections.{IsBound, HasNoBound, ExceedsBound, greatest_told_bound}
+use Rattle.osek_blocking.specs.Sections.{IsBound, HasNoBound, ExceedsBound, greatest_told_bound}
 use Rattle.bound_rules.specs.declared.bound.Bound.{Bound}
 use Rattle.bound_rules.specs.declared.bound.Bound.TheVariants as bound
 use Rattle.bound_rules.specs.Tasks.{task_at, told}
-use Rattle.walk_sums.specs.declared.sum.Sum.{Sum}
-use Rattle.walk_sums.specs.declared.sum.Sum.TheVariants as sum
+use Rattle.walk_sums.specs.declared.sections.Sum.{Sum}
+use Rattle.walk_sums.specs.declared.sections.Sum.TheVariants as sum
 use Rattle.walk_sums.specs.Sections.{greatest_of}
 
 -- what is told of task h is so: its bound, up to the greatest that is told; or that it is above that; or that sections have no greatest size

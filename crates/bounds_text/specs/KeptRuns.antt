@@ -2,15 +2,15 @@
 use Rattle.std.specs.Prelude.{ℕ, ◌*◌, ◌≤◌, ◌≡◌, List, [], ◌∷◌, ◌++◌, get_or}
 use Rattle.sloth_base.specs.declared.config.Config.{Config}
 use Rattle.sloth_base.specs.declared.app.App.{App}
-use Rattle.sloth_base.specs.declared.event.Arrival.{Arrival}
-use Rattle.sloth_base.specs.declared.event.Stamped.{Stamped}
+use Rattle.sloth_base.specs.declared.service.Arrival.{Arrival}
+use Rattle.sloth_base.specs.declared.service.Stamped.{Stamped}
 use Rattle.sloth_base.specs.declared.image.Image.{Image}
 use Rattle.sloth_base.specs.Limits.{item_counts}
 use Rattle.osek_scheduler.specs.State.{System, opening}
 use Rattle.osek_scheduler.specs.Runs.{AreStepsTo}
 use Rattle.osek_blocking.specs.Blocking.{events_up_to_entry, MakesReady}
-use Rattle.raised_sections.specs.Pace.{last_count}
-use Rattle.raised_sections.specs.Spent.{spent_counts}
+use Rattle.osek_blocking.specs.Pace.{last_count}
+use Rattle.osek_blocking.specs.Spent.{spent_counts}
 use Rattle.sim_induction.specs.Sound.{IsSoundRun, events_of}
 use Rattle.bounds_text.specs.Kept.{WaitsForItems}
 use Rattle.bound_rules.specs.declared.bound.Bound.{Bound}

@@ -4,7 +4,7 @@ use Rattle.sloth_base.specs.declared.config.Config.{Config}
 use Rattle.sloth_base.specs.declared.app.App.{App}
 use Rattle.call_graph.specs.Tables.{max_below}
 use Rattle.code_lengths.specs.LongestPaths.{tick_path}
-use Rattle.event_weights.specs.Events.{enter_counts}
+use Rattle.sim_induction.specs.Events.{enter_counts}
 
 -- of any task, that starts anew or goes on behind a wait
 abbrev pub heaviest_entry : Config → App → ℕ

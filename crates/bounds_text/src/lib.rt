@@ -26,7 +26,6 @@ pub mod laws;
 pub mod lower_counts;
 pub mod stretches;
 pub mod task_bound;
-mod way_lines;
 
 use crate::bound::Bound;
 pub use bound::bounds;

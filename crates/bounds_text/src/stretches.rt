@@ -2,7 +2,7 @@
 ghost use Rattle.std.specs.Prelude.{◌≡◌, ◌<◌, ◌≤◌, ◌+◌, ◌*◌, ℕ, false, length, All};
 ghost use Rattle.sloth_base.specs.Limits.{alarm_limit, counter_limit, frame_limit};
 ghost use Rattle.call_graph.specs.Tables.{HasTaskBody};
-ghost use Rattle.event_weights.specs.Events.{enter_counts};
+ghost use Rattle.sim_induction.specs.Events.{enter_counts};
 ghost use Rattle.bounds_text.specs.Stretches.{heaviest_entry, heaviest_tick, running_counts};
 
 use code_lengths::{entry_path, tick_path};

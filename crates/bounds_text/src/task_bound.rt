@@ -1,23 +1,25 @@
-//! The lines of one task's bound, from the texts.
-ghost use Rattle.std.specs.Prelude.{◌≡◌, ◌<◌, length, get_or, IfOk, IfErr};
+//! The lines of one task's bound, from the texts. The lines of ways.
+ghost use Rattle.std.specs.Prelude.{◌≡◌, ◌<◌, length, get_or, IfOk, IfErr, ◌++◌, OnOk};
 ghost use Rattle.call_graph.specs.Ranks.{RanksOf};
 ghost use Rattle.sloth_source.specs.TaskNames.{task_named};
 ghost use Rattle.sloth_source.specs.Texts.{SourcesErrorIs};
 ghost use Rattle.bound_rules.specs.declared.bound.Bound.TheVariants as bound_is;
 ghost use Rattle.bounds_text.specs.Bounds.{AreToldBounds};
 ghost use Rattle.section_ways.specs.ShownWays.{IsShown};
-ghost use Rattle.bounds_text.specs.TaskBound.{way_word, HasBoundLines, HasLinesOf, IsBoundText};
+ghost use Rattle.bounds_text.specs.TaskBound.{way_word, HasBoundLines, HasLinesOf, IsBoundText, point_word, point_words, shown_lines};
+ghost use Rattle.sloth_base.specs.Named.{function, item_of};
 
 use crate::bound::{Bound, walked_bounds};
 use crate::bound_line;
-use crate::way_lines::push_shown;
 use call_graph::Ranks;
 use section_ways::{Way, lower_way};
 use sloth_base::{App, BuildError, Config, List, Result};
 use sloth_source::{read_checked, task_named};
 use std::alloc::Global;
 use task_verify::Verified;
-use walk_sums::{Walks, known_code};
+use text_pieces::line;
+use text_pieces::pieces::Piece::{Number, Word};
+use walk_sums::{Point, Walks, known_code};
 
 fn shown_word(bound: Bound) -> &'static [u8]
     ensures { result.now ≡ way_word bound }
@@ -115,4 +117,53 @@ pub fn task_bound_text(
 {
     let checked = read_checked(alloc, oil, src)?;
     checked_lines(alloc, &checked.verified, &checked.ranks, name)
+}
+
+// The line of the item at a point, 0 where there is none.
+fn point_line(app: &App, point: Point) -> u32
+    ensures { result ≡ (item_of (function app.now point.func) point.item).line }
+{
+    match app.funcs.items().get(point.func) {
+        Some(func) => match func.items.items().get(point.item) {
+            Some(item) => item.line,
+            None => 0,
+        },
+        None => 0,
+    }
+}
+
+fn push_point(text: &mut Vec<u8>, app: &App, point: Point) -> Result<()>
+    ensures { OnOk result (text.new.items ≡ text.old.items ++ point_word app.now point) }
+{
+    line!(text; Word(b" "), Number(point_line(app, point)))
+}
+
+fn push_points(text: &mut Vec<u8>, app: &App, points: &[Point]) -> Result<()>
+    ensures { OnOk result (text.new.items ≡ text.old.items ++ point_words app.now points.now) }
+{
+    for point in points {
+        push_point(text, app, *point)?;
+    }
+    Ok(())
+}
+
+/// The lines of a way, the second with this word, if there is one.
+pub fn push_shown<'x>(
+    text: &mut Vec<u8>,
+    config: &'x Config,
+    app: &App,
+    word: &'x [u8],
+    way: &Option<Way>,
+) -> Result<()>
+    ensures { OnOk result (text.new.items ≡ text.old.items ++ shown_lines config.now app.now word.now way.now) }
+{
+    match way {
+        Some(way) => {
+            let name = config.task_name(way.task);
+            line!(text; Word(b"task "), Word(name), Word(b"\n"), Word(word))?;
+            push_points(text, app, way.points.items())?;
+            line!(text; Word(b"\n"))
+        },
+        None => Ok(()),
+    }
 }

@@ -1,7 +1,7 @@
 -- What is gathered from closed rows, function by function.
 use Rattle.std.specs.Prelude.{ℕ, ◌<◌, ◌≡◌, false, List, length, map, get_or, count_ones}
 use Rattle.sloth_base.specs.declared.app.Func.{Func}
-use Rattle.call_graph.specs.declared.ranking.Ranks.{Ranks}
+use Rattle.call_graph.specs.declared.lists.Ranks.{Ranks}
 use Rattle.call_graph.specs.Bits.{is_member}
 use Rattle.call_graph.specs.Reached.{takes_by, pauses_by, used_by}
 

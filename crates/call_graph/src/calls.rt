@@ -4,7 +4,7 @@ ghost use Rattle.std.specs.List.{list_any};
 ghost use Rattle.call_graph.specs.Bits.{is_member};
 ghost use Rattle.call_graph.specs.Rows.{is_call, is_get, is_taking, is_pause};
 
-use crate::bits::with;
+use crate::rows::with;
 use sloth_base::{Call, Item, Op, Service};
 
 fn with_call(calls: u64, op: Op) -> u64
@@ -61,21 +61,12 @@ pub fn taken(items: &[Item]) -> u64
     resources
 }
 
-fn is_pause(op: Op) -> bool
-    ensures { result ≡ is_pause op }
-{
-    matches!(
-        op,
-        Op::Serve(Call {
-            service: Service::WaitEvent | Service::Schedule,
-            ..
-        })
-    )
-}
-
 /// Whether one of these items waits or calls Schedule.
 pub fn pauses(items: &[Item]) -> bool
     ensures { result ≡ list_any (λ item. is_pause item.op) items.now }
 {
-    items.iter().any(|item| is_pause(item.op))
+    items.iter().any(|item| (match item.op {
+        Op::Serve(call) => matches!(call.service, Service::WaitEvent | Service::Schedule),
+        _ => false,
+    }))
 }

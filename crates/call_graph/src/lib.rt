@@ -11,31 +11,29 @@
 #![tactic(auto)]
 
 ghost use Rattle.std.specs.Prelude.{IfErr, IfOk, OnOk};
-ghost use Rattle.least_fault.specs.Order.{NoFault, ErrorIs};
+ghost use Rattle.sloth_base.specs.Order.{NoFault, ErrorIs};
 ghost use Rattle.code_rules.specs.AppRange.{IsTaskCode};
 ghost use Rattle.code_rules.specs.WellFormed.{CycleFault};
 ghost use Rattle.call_graph.specs.Ranks.{RanksOf};
 
-pub mod bits;
 pub mod called_bytes;
 pub mod calls;
-pub mod cycles;
 pub mod lists;
-pub mod ranking;
 pub mod reached;
 pub mod rows;
 pub mod stack_offsets;
-pub mod word_bits;
 
-use crate::cycles::cycle;
 use crate::lists::{direct_calls, gathered};
-use crate::rows::closed;
+use crate::rows::{closed, cycle};
 pub use called_bytes::bytes_called;
-pub use ranking::Ranks;
-use sloth_base::{App, BuildError};
+pub use lists::Ranks;
+pub use rows::{has, union};
+use sloth_base::{App, BuildError, NoMemory};
 pub use stack_offsets::{bytes_below, offsets_of_tasks};
 use std::alloc::Global;
-pub use word_bits::{has, union};
+
+/// What may fail for want of memory alone, unless another error is named.
+pub type Result<T, E = NoMemory> = std::result::Result<T, E>;
 
 /// What the calls of the task code reach, unless a function calls itself by way of others.
 pub fn ranks(alloc: Global, app: &App) -> Result<Ranks, BuildError>

@@ -1,4 +1,4 @@
-//! Lists with an entry for each function.
+//! Lists with an entry for each function. What is known of the functions of task code from their calls.
 ghost use Rattle.std.specs.Prelude.{◌≡◌, ℕ, ◌<◌, ◌≤◌, false, length, map, get_or, count_ones, IfOk};
 ghost use Rattle.sloth_base.specs.Limits.{body_limit};
 ghost use Rattle.call_graph.specs.Bits.{is_member};
@@ -6,10 +6,10 @@ ghost use Rattle.call_graph.specs.Rows.{row_has};
 ghost use Rattle.call_graph.specs.Reached.{AreFew, func_of, is_direct_call, takes_by, pauses_by, used_by};
 ghost use Rattle.call_graph.specs.Gathered.{AreGathered};
 
-use crate::Ranks;
+use crate::Result;
 use crate::calls::called;
-use crate::reached::{pauses_of, resources_of, users_of};
-use sloth_base::{Func, List, NoMemory, Result};
+use crate::reached::{reached_resources, reaches_pause, reaching_tasks};
+use sloth_base::{Func, List, NoMemory};
 use std::alloc::Global;
 use text_pieces::push;
 
@@ -17,7 +17,8 @@ use text_pieces::push;
 pub fn direct_calls(alloc: Global, funcs: &[Func]) -> Result<Vec<u64>>
     requires { AreFew funcs.now }
     ensures count { IfOk result (λ rows. length rows.items ≡ length funcs.now) }
-    ensures calls { IfOk result (λ rows. (f g : ℕ) → f < length funcs.now → row_has rows.items f g ≡ is_direct_call (func_of funcs.now f) g) }
+    ensures calls { IfOk result (λ rows. (f g : ℕ) → f < length funcs.now
+        → row_has rows.items f g ≡ is_direct_call (func_of funcs.now f) g) }
 {
     let mut rows = Vec::new(alloc);
     for func in funcs {
@@ -46,7 +47,7 @@ fn resource_sets(alloc: Global, funcs: &[Func], rows: &[u64]) -> Result<List<u64
 {
     let mut list = Vec::new(alloc);
     for (number, row) in rows.iter().enumerate() {
-        list.push(resources_of(funcs, number, *row))
+        list.push(reached_resources(funcs, number, *row))
             .map_err(|_| NoMemory)?;
     }
     Ok(List::from_vec(list))
@@ -61,7 +62,7 @@ fn pausing_functions(alloc: Global, funcs: &[Func], rows: &[u64]) -> Result<List
 {
     let mut list = Vec::new(alloc);
     for (number, row) in rows.iter().enumerate() {
-        list.push(pauses_of(funcs, number, *row))
+        list.push(reaches_pause(funcs, number, *row))
             .map_err(|_| NoMemory)?;
     }
     Ok(List::from_vec(list))
@@ -77,7 +78,7 @@ fn user_sets(alloc: Global, funcs: &[Func], rows: &[u64]) -> Result<List<u32>>
 {
     let mut list = Vec::new(alloc);
     for number in 0..funcs.len() {
-        push(&mut list, users_of(funcs, rows, number))?;
+        push(&mut list, reaching_tasks(funcs, rows, number))?;
     }
     Ok(List::from_vec(list))
 }
@@ -94,4 +95,28 @@ pub fn gathered(alloc: Global, funcs: &[Func], rows: &[u64]) -> Result<Ranks>
         pauses: pausing_functions(alloc, funcs, rows)?,
         users: user_sets(alloc, funcs, rows)?,
     })
+}
+
+/// What the calls of task code reach, function by function.
+pub struct Ranks {
+    /// A rank above that of every function that it calls.
+    pub rank: List<u32>,
+    /// The resources that it reaches taking, as bits.
+    pub resources: List<u64>,
+    /// Whether it reaches a WaitEvent or a Schedule.
+    pub pauses: List<bool>,
+    /// The tasks that reach it, as bits.
+    pub users: List<u32>,
+}
+
+// Written out: what is derived is proved anew wherever a value is let go.
+impl Drop for Ranks {
+    fn drop(self) {
+        let Ranks {
+            rank: _,
+            resources: _,
+            pauses: _,
+            users: _,
+        } = self;
+    }
 }

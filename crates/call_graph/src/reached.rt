@@ -3,10 +3,11 @@ ghost use Rattle.std.specs.Prelude.{◌≡◌, ℕ, ◌<◌, ◌≤◌, ◌||◌
 ghost use Rattle.sloth_base.specs.Options.{is_number};
 ghost use Rattle.sloth_base.specs.Limits.{body_limit};
 ghost use Rattle.call_graph.specs.Bits.{is_member};
-ghost use Rattle.call_graph.specs.Reached.{AreFew, TakesFew, IsOfFew, is_direct_taking, is_direct_pause, reaches_by, takes_by, pauses_by, used_by};
+ghost use Rattle.call_graph.specs.Reached.{AreFew, TakesFew, IsOfFew, is_direct_taking, is_direct_pause, reaches_by};
+ghost use Rattle.call_graph.specs.Reached.{takes_by, pauses_by, used_by};
 
-use crate::bits::with_task;
 use crate::calls::{pauses, taken};
+use crate::rows::with_task;
 use crate::{has, union};
 use sloth_base::Func;
 
@@ -30,7 +31,7 @@ fn with_taken(resources: u64, reached: bool, func: &Func) -> u64
 }
 
 /// The resources that the function with this number and this row reaches taking.
-pub fn resources_of(funcs: &[Func], from: usize, row: u64) -> u64
+pub fn reached_resources(funcs: &[Func], from: usize, row: u64) -> u64
     requires { AreFew funcs.now }
     ensures { (r : ℕ) → is_member result r ≡ takes_by funcs.now from row r }
 {
@@ -41,20 +42,20 @@ pub fn resources_of(funcs: &[Func], from: usize, row: u64) -> u64
     resources
 }
 
-fn pauses_with(pausing: bool, reached: bool, func: &Func) -> bool
+fn either_pauses(pausing: bool, reached: bool, func: &Func) -> bool
     ensures { result ≡ (pausing || (reached && is_direct_pause func.now)) }
 {
     pausing || (reached && pauses(func.items.items()))
 }
 
 /// Whether the function with this number and this row reaches a WaitEvent or a Schedule.
-pub fn pauses_of(funcs: &[Func], from: usize, row: u64) -> bool
+pub fn reaches_pause(funcs: &[Func], from: usize, row: u64) -> bool
     requires { length funcs.now ≤ body_limit }
     ensures { result ≡ pauses_by funcs.now from row }
 {
     let mut pausing = false;
     for (number, func) in funcs.iter().enumerate() {
-        pausing = pauses_with(pausing, is_reached(from, row, number), func);
+        pausing = either_pauses(pausing, is_reached(from, row, number), func);
     }
     pausing
 }
@@ -70,7 +71,7 @@ fn with_user(users: u32, reaches: bool, func: &Func) -> u32
 }
 
 /// The tasks whose body is the function, or reaches it by these rows.
-pub fn users_of(funcs: &[Func], rows: &[u64], to: usize) -> u32
+pub fn reaching_tasks(funcs: &[Func], rows: &[u64], to: usize) -> u32
     requires few { AreFew funcs.now }
     requires same { length rows.now ≡ length funcs.now }
     requires known { to < length funcs.now }

@@ -1,9 +1,14 @@
-//! The functions that each function reaches by chains of calls: a row of bits for each.
-ghost use Rattle.std.specs.Prelude.{◌≡◌, ℕ, ◌<◌, ◌≤◌, ◌||◌, ◌&&◌, length, Decides};
+//! The functions that each function reaches by chains of calls: a row of bits for each. Sets of small numbers as bits.
+//! V1: functions that lie on a cycle of calls.
+ghost use Rattle.std.specs.Prelude.{◌≡◌, ℕ, ◌<◌, ◌≤◌, ◌||◌, ◌&&◌, length, Decides, ◌==◌};
 ghost use Rattle.call_graph.specs.Bits.{is_member};
 ghost use Rattle.call_graph.specs.Rows.{row_has, widened_row, IsRowChain};
+ghost use Rattle.sloth_base.specs.Limits.{body_limit};
+ghost use Rattle.sloth_base.specs.Search.{IsSearchResult};
+ghost use Rattle.call_graph.specs.Cycles.{RowCycle};
 
-use crate::{has, union};
+use sloth_base::least_fault::{fault_if, merge};
+use sloth_base::{Code, Func, Part, Refusal};
 
 /// A row that also has what the row of k has, where it has k.
 fn joined(own: u64, row: u64, k: usize) -> u64
@@ -37,9 +42,55 @@ fn close(rows: &mut [u64])
 pub fn closed(direct: Vec<u64>) -> Vec<u64>
     requires { length direct.items ≤ 64 }
     ensures count { length result.items ≡ length direct.items }
-    ensures reach { (i j : ℕ) → Decides (row_has result.items i j) ((between : _) × IsRowChain direct.items i between j) }
+    ensures reach { (i j : ℕ) → Decides (row_has result.items i j)
+        ((between : _) × IsRowChain direct.items i between j) }
 {
     let mut rows = direct;
     close(&mut rows);
     rows
+}
+
+/// The set with one member more.
+pub fn with(set: u64, member: u32) -> u64
+    requires { member < 64 }
+    ensures { (k : ℕ) → is_member result k ≡ (is_member set k || (member == k)) }
+{
+    set | (1 << member)
+}
+
+/// The set of tasks with one more.
+pub fn with_task(set: u32, task: u32) -> u32
+    requires { task < 32 }
+    ensures { (k : ℕ) → is_member result k ≡ (is_member set k || (task == k)) }
+{
+    set | (1 << task)
+}
+
+/// Whether the set has this member.
+pub fn has(set: u64, member: usize) -> bool
+    requires { member < 64 }
+    ensures { result ≡ is_member set member }
+{
+    (set >> member) & 1 == 1
+}
+
+/// The members of both.
+pub fn union(one: u64, other: u64) -> u64
+    ensures { (k : ℕ) → is_member result k ≡ (is_member one k || is_member other k) }
+{
+    one | other
+}
+
+/// The least function that its own row has, by its header's line.
+pub fn cycle(funcs: &[Func], rows: &[u64]) -> Option<Refusal>
+    requires same { length rows.now ≡ length funcs.now }
+    requires few { length funcs.now ≤ body_limit }
+    ensures { IsSearchResult (RowCycle funcs.now rows.now) result }
+{
+    let mut least = None;
+    for (number, func) in funcs.iter().enumerate() {
+        let itself = has(rows[number], number);
+        least = merge(least, fault_if(itself, Part::Src, func.line, Code::V1));
+    }
+    least
 }

@@ -2,7 +2,8 @@
 ghost use Rattle.std.specs.Prelude.{◌≡◌, ◌<◌, ◌≤◌, length, cond, nat_lt, ◌&&◌, IfOk};
 ghost use Rattle.call_graph.specs.Tables.{sum_below, bytes_under, bytes_lower, AreStacks, AreOffsets};
 
-use sloth_base::{Result, TaskDecl};
+use crate::Result;
+use sloth_base::TaskDecl;
 use std::alloc::Global;
 use text_pieces::push;
 

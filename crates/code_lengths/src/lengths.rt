@@ -1,12 +1,12 @@
 //! How many instructions each piece of generated code has.
-ghost use Rattle.std.specs.Prelude.{◌≡◌, ◌<◌, ◌≤◌, ◌*◌, ℕ, All, length};
+ghost use Rattle.std.specs.Prelude.{◌≡◌, ◌<◌, ◌≤◌, ◌*◌, ◌↔◌, ℕ, All, IsTrue, length};
 ghost use Rattle.sloth_base.specs.Blocks.{block_count};
 ghost use Rattle.sloth_base.specs.Limits.{task_limit, counter_limit, frame_limit};
 ghost use Rattle.code_lengths.specs.Bodies.{IsBodyPlace};
-ghost use Rattle.code_lengths.specs.CodeLengths.{lines_length, boot_length, prologue_length, service_counts, service_length, block_length, IsPrologueLength};
+ghost use Rattle.code_lengths.specs.CodeLengths.{lines_length, boot_length, prologue_length, service_counts};
+ghost use Rattle.code_lengths.specs.CodeLengths.{service_length, block_length, IsPrologueLength};
 
-use crate::body_of;
-use sloth_base::{App, Config, Service, TaskDecl, TaskId, block_service};
+use sloth_base::{App, Config, Func, Service, TaskDecl, TaskId, block_service};
 
 /// The instructions of boot without a task.
 const BOOT_ALONE: u32 = 10;
@@ -119,5 +119,28 @@ pub fn block_length(number: usize) -> u32
     match block_service(number) {
         Some(service) => service_length(service),
         None => 0,
+    }
+}
+
+/// The place of the task's body among these functions. There is one.
+pub fn body_of(funcs: &[Func], task: TaskId) -> usize
+    requires { (body : ℕ) × IsBodyPlace funcs.now task body }
+    ensures { IsBodyPlace funcs.now task result }
+{
+    for i in 0..funcs.len() {
+        if is_task_body(&funcs[i], task) {
+            return i;
+        }
+    }
+    0
+}
+
+/// Whether a function is the body of a task.
+fn is_task_body(func: &Func, task: TaskId) -> bool
+    ensures { IsTrue result ↔ (func.now.task ≡ Some task) }
+{
+    match func.task {
+        Some(owner) => owner.0 == task.0,
+        None => false,
     }
 }

@@ -8,12 +8,12 @@
 //! `specs/Bodies`).
 #![tactic(auto)]
 
-mod body;
 mod lengths;
 mod paths;
 mod ticks;
 
-pub use body::body_of;
-pub use lengths::{block_length, boot_length, prologue_length, service_length, start_length};
+pub use lengths::{
+    block_length, body_of, boot_length, prologue_length, service_length, start_length,
+};
 pub use paths::{boot_path, entry_path, going_path, leaving_path, served_path, tick_path};
 pub use ticks::{sets_events_of, tick_length};

@@ -1,7 +1,8 @@
 //! How many instructions generated code executes at most.
 ghost use Rattle.std.specs.Prelude.{◌≡◌, ◌≤◌, ◌+◌, ◌*◌, length};
 ghost use Rattle.sloth_base.specs.Limits.{alarm_limit, counter_limit, task_limit, frame_limit};
-ghost use Rattle.code_lengths.specs.LongestPaths.{going_path, leaving_path, served_path, entry_path, tick_path, boot_path};
+ghost use Rattle.code_lengths.specs.LongestPaths.{going_path, leaving_path, served_path, entry_path, tick_path};
+ghost use Rattle.code_lengths.specs.LongestPaths.{boot_path};
 
 use crate::lengths::service_counts;
 use crate::{boot_length, tick_length};

@@ -4,9 +4,9 @@ use Rattle.std.proofs.lemmas.Bool.{cases_eq}
 use Rattle.std.specs.Bool.{Decides}
 use Rattle.sloth_base.specs.declared.refusal.Code.{Code}
 use Rattle.sloth_base.specs.declared.refusal.Refusal.{Refusal}
-use Rattle.least_fault.specs.Search.{IsSearchResult, merge, fault_if}
-use Rattle.least_fault.proofs.Searching.{KeepsLeast}
-use Rattle.least_fault.proofs.Kept.{kept_start, kept_on, kept_merge, kept_finds, fault_if_found}
+use Rattle.sloth_base.specs.Search.{IsSearchResult, merge, fault_if}
+use Rattle.sloth_base.proofs.Searching.{KeepsLeast}
+use Rattle.sloth_base.proofs.Kept.{kept_start, kept_on, kept_merge, kept_finds, fault_if_found}
 use Rattle.code_rules.specs.WellFormed.{fault_at_line}
 
 module _ (Fault : ℕ → Refusal → Type 0) (count : ℕ) where

@@ -12,7 +12,7 @@ use Rattle.sloth_base.specs.declared.refusal.Part.TheVariants as part
 use Rattle.sloth_base.specs.declared.refusal.Refusal.{Refusal}
 use Rattle.sloth_base.specs.declared.service.Service.{Service}
 use Rattle.sloth_base.specs.declared.service.Service.TheVariants as service
-use Rattle.least_fault.specs.Order.{NoFault}
+use Rattle.sloth_base.specs.Order.{NoFault}
 use Rattle.sloth_base.specs.Named.{declaration, function, item_of, operation, label_of, symbol_size}
 use Rattle.code_rules.specs.AppRange.{AppInRange}
 use Rattle.code_rules.specs.Code.{IsCallChain, TaskReaches, IsPausing, IsEnding, ReachesTaking, ReachesPause, way, IsPathStep, IsPath, is_in, is_last, held_list_at, is_entered, held_list_entering}

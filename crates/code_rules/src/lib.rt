@@ -3,5 +3,5 @@
 //!
 //! Task code in range of a configuration (`specs/AppRange`); items, chains of calls, paths and held resources
 //! (`specs/Code`); V1 to V12 (`specs/WellFormed`). They stand on `sloth_base` (`ConfigRange`, `Named`) and
-//! `least_fault` (`Order`).
+//! `sloth_base` (`Order`).
 #![tactic(auto)]

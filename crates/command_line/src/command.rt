@@ -1,13 +1,13 @@
 //! The words of a command.
 ghost use Rattle.std.specs.Prelude.{◌≡◌, ℕ, List, IfSome, IfNone, length};
-ghost use Rattle.trace_text.specs.declared.printing.Form.{Form as AnyForm};
+ghost use Rattle.trace_text.specs.declared.summary.Form.{Form as AnyForm};
 ghost use Rattle.command_line.specs.Command.{Command, Execution, Executes, IsCommand, NoCommand, ToolAtMost, word_of};
 ghost use Rattle.command_line.specs.Command.{words_of};
 ghost use Rattle.command_line.specs.Words.{command_of, execution_of};
 
 use crate::tool::ToolWords;
 use crate::tool_words::{is_same, tool_command};
-use trace_text::number::number;
+use trace_text::events::number;
 use trace_text::{Form, instructions};
 
 /// How an image is run.

@@ -4,8 +4,8 @@ use Rattle.std.specs.Prelude.{IsTrue, ◌⊎◌}
 use Rattle.std.proofs.Math.Nat.{min-eq_left}
 use Rattle.sloth_base.specs.declared.config.Config.{Config}
 use Rattle.sloth_base.specs.declared.app.App.{App}
-use Rattle.sloth_base.specs.declared.event.Arrival.{Arrival}
-use Rattle.least_fault.specs.Order.{NoFault}
+use Rattle.sloth_base.specs.declared.service.Arrival.{Arrival}
+use Rattle.sloth_base.specs.Order.{NoFault}
 use Rattle.trace_text.specs.ArrivalsText.{arrivals_in, ArrivalsFault}
 use Rattle.sloth_base.specs.declared.image.Image.{Image}
 use Rattle.sloth_base.specs.declared.refusal.Refusal.{Refusal}
@@ -21,8 +21,8 @@ use Rattle.command_line.specs.Command.{Command, Building, Run, Builds, Uses, IsC
 use Rattle.command_line.specs.Tools.{ToolUse}
 use Rattle.run_inputs.specs.Inputs.{AreArrivalsOf}
 use Rattle.core_commands.specs.ImageFiles.{IsNoImage}
-use Rattle.tool_answers.specs.declared.status.Status.{Status}
-use Rattle.tool_answers.specs.declared.status.Status.TheVariants as status
+use Rattle.command_line.specs.declared.status.Status.{Status}
+use Rattle.command_line.specs.declared.status.Status.TheVariants as status
 use Rattle.core_commands.specs.Top.{World, FirstUnread, AreInputs, HoldsArrivals, AreThere, IsFailedRead, IsLongRead}
 use Rattle.core_commands.specs.CommandFiles.{arrivals_named, inputs_of, OverwritesInput, IsUsageCause}
 use Rattle.core_commands.specs.Top.{IsCommandDone, IsCommandRefused, IsCommandUnwritten, IsCommandStopped, done_text, IsRefused, IsAccepted, IsBuiltImage, IsRequired, IsPutAnswer, IsTextTaken, IsTextBrokenOff, IsFullAnswer, IsTopAnswer}

@@ -7,12 +7,12 @@ use Rattle.sloth_base.specs.declared.config.Config.{Config}
 use Rattle.sloth_base.specs.Limits.{task_limit}
 use Rattle.app_gen.specs.Oil.{oil_text, event_object, resource_object, schedule_of, autostart_of, event_attribute, task_object}
 use Rattle.app_gen.specs.Pieces.{number_behind}
-use Rattle.oil_lex.specs.Bytes.{class_of, is_word_byte, is_digit, is_hex_digit, is_quoted, is_not_lf}
-use Rattle.oil_lex.specs.Front.{front_piece, comment_length, comment_piece, text_piece, slash_piece, number_piece, piece_by}
-use Rattle.oil_lex.specs.Pieces.{TextPiece, IsCutInto}
-use Rattle.oil_lex.specs.Tokens.{Lexeme, AreTokens, tokens_of}
-use Rattle.oil_lex.proofs.Fronts.{front_stands}
-use Rattle.oil_lex.proofs.Cuts.{tokens_one}
+use Rattle.oil_parse.specs.Bytes.{class_of, is_word_byte, is_digit, is_hex_digit, is_quoted, is_not_lf}
+use Rattle.oil_parse.specs.Front.{front_piece, comment_length, comment_piece, text_piece, slash_piece, number_piece, piece_by}
+use Rattle.oil_parse.specs.Pieces.{TextPiece, IsCutInto}
+use Rattle.oil_parse.specs.Tokens.{Lexeme, AreTokens, tokens_of}
+use Rattle.oil_parse.proofs.Fronts.{front_stands}
+use Rattle.oil_parse.proofs.Cuts.{tokens_one}
 use Rattle.oil_parse.specs.declared.tree.OilObject.{OilObject}
 use Rattle.oil_parse.specs.declared.tree.OilTree.{OilTree}
 use Rattle.oil_parse.specs.declared.machine.Expect.TheVariants.{Start}
@@ -23,8 +23,8 @@ use Rattle.oil_parse.specs.Shapes.{key_of, sign_of, shape_by}
 use Rattle.oil_parse.proofs.Steps.{build}
 use Rattle.oil_parse.proofs.Complete.{file_takes}
 use Rattle.oil_table.specs.Objects.{is_of_kind}
-use Rattle.oil_model.specs.Clocks.{declared_counter}
-use Rattle.oil_model.specs.Configs.{declared_task, resource_names}
+use Rattle.oil_rules.specs.Clocks.{declared_counter}
+use Rattle.oil_rules.specs.Configs.{declared_task, resource_names}
 use Rattle.oil_table.specs.Events.{events_of}
 use Rattle.sloth_source.specs.OilText.{OilText}
 

@@ -1,12 +1,12 @@
 -- Which answer a command on an image file has, where its inputs are told.
 use Rattle.std.proofs.Common.{◌≡◌, ◌≤◌, ◌∙◌, inl, inr, ℕ, List, [], ◌∷◌, length, refl, sym, ap, subst}
 use Rattle.std.specs.Prelude.{IsTrue, ◌⊎◌}
-use Rattle.sloth_base.specs.declared.event.Arrival.{Arrival}
+use Rattle.sloth_base.specs.declared.service.Arrival.{Arrival}
 use Rattle.sloth_base.specs.declared.image.Image.{Image}
 use Rattle.sloth_base.specs.declared.refusal.Part.TheVariants.{Arr}
 use Rattle.sloth_base.specs.declared.refusal.Refusal.{Refusal}
 use Rattle.sloth_base.specs.Limits.{file_limit}
-use Rattle.least_fault.specs.Order.{IsLeast}
+use Rattle.sloth_base.specs.Order.{IsLeast}
 use Rattle.sloth_io.specs.Store.{Files, Holds, IsMissing, IsTooLong}
 use Rattle.image_file.specs.ImageText.{ImageText}
 use Rattle.image_file.specs.Faults.{IsFirstImageFault}
@@ -18,11 +18,11 @@ use Rattle.trace_text.specs.Listing.{listing}
 use Rattle.sloth_source.proofs.Least.{one_least}
 use Rattle.command_line.specs.Command.{Command, Execution, Builds, Executes, Lists, Samples, Uses, IsCommand}
 use Rattle.command_line.specs.Tools.{ToolUse, file_names}
-use Rattle.tool_answers.specs.declared.answer.ToolAnswer.{ToolAnswer}
-use Rattle.tool_answers.specs.declared.answer.ToolAnswer.TheVariants as tool_answer
-use Rattle.tool_answers.specs.ImageReaders.{HasImage}
+use Rattle.command_line.specs.declared.answer.ToolAnswer.{ToolAnswer}
+use Rattle.command_line.specs.declared.answer.ToolAnswer.TheVariants as tool_answer
+use Rattle.command_line.specs.ImageReaders.{HasImage}
 use Rattle.core_commands.specs.FileInputs.{IsInput}
-use Rattle.tool_answers.specs.Statuses.{tool_status}
+use Rattle.command_line.specs.Statuses.{tool_status}
 use Rattle.core_commands.proofs.ToolReads.{told-inputs, none-unread as no-tool-unread}
 use Rattle.core_commands.proofs.ToolEnds.{AnswersAs, KnowsImage}
 use Rattle.run_inputs.specs.Inputs.{AreArrivalsOf}
@@ -35,8 +35,8 @@ use Rattle.core_commands.specs.CommandFiles.{inputs_of, HasOwnOutput, IsUsageCau
 use Rattle.core_commands.specs.Top.{IsCommandDone, IsCommandRefused, IsCommandUnwritten, IsCommandStopped, IsToolEnd, LacksTask}
 use Rattle.sloth_runner.specs.declared.runner.RunEnd.{RunEnd}
 use Rattle.sloth_runner.specs.declared.runner.RunEnd.TheVariants as ends
-use Rattle.tool_answers.specs.declared.status.Status.{Status}
-use Rattle.tool_answers.specs.declared.status.Status.TheVariants as status
+use Rattle.command_line.specs.declared.status.Status.{Status}
+use Rattle.command_line.specs.declared.status.Status.TheVariants as status
 use Rattle.command_line.proofs.Commands.{one-command}
 use Rattle.core_commands.proofs.OwnOutput.{keeps-inputs, no-usage}
 use Rattle.core_commands.proofs.Complete.{told, not-missing, not-long, counted-put, no-tool, never-usage, stands}

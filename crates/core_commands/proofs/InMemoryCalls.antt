@@ -3,7 +3,7 @@ use Rattle.std.proofs.Common.{inr, ℕ, List, Some, refl, sym, subst}
 use Rattle.std.specs.Prelude.{IsTrue, codes}
 use Rattle.sloth_base.specs.declared.config.Config.{Config}
 use Rattle.sloth_base.specs.declared.app.App.{App}
-use Rattle.sloth_base.specs.declared.event.Arrival.{Arrival}
+use Rattle.sloth_base.specs.declared.service.Arrival.{Arrival}
 use Rattle.sloth_io.specs.Store.{call_files}
 use Rattle.sloth_io.specs.MemStore.{is_sure, shown_files as store_shown}
 use Rattle.sloth_io.specs.MemSink.{taken_by, told_space, shown_output as sink_shown}

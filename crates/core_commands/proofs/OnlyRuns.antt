@@ -3,9 +3,9 @@ use Rattle.std.proofs.Common.{[]}
 use Rattle.std.proofs.lemmas.List.Elements.{All-nil}
 use Rattle.sloth_base.specs.declared.config.Config.{Config}
 use Rattle.sloth_base.specs.declared.app.App.{App}
-use Rattle.sloth_base.specs.declared.event.Arrival.{Arrival}
+use Rattle.sloth_base.specs.declared.service.Arrival.{Arrival}
 use Rattle.sloth_base.specs.declared.image.Image.{Image}
-use Rattle.sloth_base.specs.declared.lines.Owners.{Owners}
+use Rattle.sloth_base.specs.declared.numbers.Owners.{Owners}
 use Rattle.sloth_base.specs.Owners.{IsOwned, owners_in}
 use Rattle.code_rules.specs.WellFormed.{WellFormed}
 use Rattle.osek_blocking.proofs.WithoutArrivals.{only_run}

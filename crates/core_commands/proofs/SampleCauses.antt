@@ -3,7 +3,7 @@ use Rattle.std.proofs.Common.{◌≡◌, ◌∙◌, ℕ, List, length, refl, sym
 use Rattle.sloth_base.specs.declared.config.Config.{Config}
 use Rattle.sloth_base.specs.declared.app.App.{App}
 use Rattle.sloth_base.specs.Arrivals.{AreArrivals}
-use Rattle.sloth_base.specs.declared.event.Arrival.{Arrival}
+use Rattle.sloth_base.specs.declared.service.Arrival.{Arrival}
 use Rattle.sloth_base.specs.declared.image.Image.{Image}
 use Rattle.sloth_base.specs.Owners.{owners_in, owners_named}
 use Rattle.std.proofs.lemmas.List.{length-map}
@@ -18,7 +18,7 @@ use Rattle.sim_induction.proofs.Coming.{arrivals_come}
 use Rattle.core_commands.specs.Samples.{sample_oil, sample_source, sample_arrivals, sample_text}
 use Rattle.core_commands.specs.Top.{World, world, IsBuiltImage, IsWritten, IsSampled, IsTextTaken}
 use Rattle.core_commands.specs.Failures.{IsPerformFailure, IsSampleFailure, IsCommandFailure, IsPerformed}
-use Rattle.tool_answers.specs.declared.status.Status.TheVariants as status
+use Rattle.command_line.specs.declared.status.Status.TheVariants as status
 use Rattle.core_commands.specs.declared.failure.Failure.{Failure}
 use Rattle.core_commands.specs.declared.failure.Failure.TheVariants as failure
 use Rattle.core_commands.specs.ToolTables.{LacksTools}

@@ -5,12 +5,12 @@ use Rattle.image_file.specs.declared.fault.ImageFault.{ImageFault}
 use Rattle.sloth_io.specs.Store.{Files}
 use Rattle.command_line.specs.Command.{Command, Builds, Executes, Lists, Samples, Uses, IsCommand}
 use Rattle.command_line.specs.Tools.{ToolUse, IsToolUse}
-use Rattle.tool_answers.specs.ImageReaders.{HasImage}
-use Rattle.tool_answers.specs.Lines.{tool_text}
-use Rattle.tool_answers.specs.Statuses.{tool_status}
-use Rattle.tool_answers.specs.declared.answer.ToolAnswer.{ToolAnswer}
-use Rattle.tool_answers.specs.declared.answer.ToolAnswer.TheVariants as tool_answer
-use Rattle.tool_answers.specs.declared.status.Status.{Status}
+use Rattle.command_line.specs.ImageReaders.{HasImage}
+use Rattle.command_line.specs.Lines.{tool_text}
+use Rattle.command_line.specs.Statuses.{tool_status}
+use Rattle.command_line.specs.declared.answer.ToolAnswer.{ToolAnswer}
+use Rattle.command_line.specs.declared.answer.ToolAnswer.TheVariants as tool_answer
+use Rattle.command_line.specs.declared.status.Status.{Status}
 use Rattle.core_commands.specs.ImageFiles.{IsNoImage}
 use Rattle.core_commands.specs.ToolTables.{ToolTable}
 use Rattle.core_commands.specs.Top.{FilesAfter, IsRequired, IsToolEnd}

@@ -8,7 +8,7 @@ use Rattle.sloth_io.specs.declared.store.StoreFault.{StoreFault}
 use Rattle.sloth_io.specs.declared.store.StoreFault.TheVariants as fault
 use Rattle.sloth_base.specs.declared.image.Image.{Image}
 use Rattle.sloth_base.specs.Limits.{file_limit}
-use Rattle.least_fault.specs.Order.{IsLeast}
+use Rattle.sloth_base.specs.Order.{IsLeast}
 use Rattle.trace_text.specs.ArrivalsText.{ArrivalsFault}
 use Rattle.image_file.specs.ImageText.{ImageText}
 use Rattle.image_file.specs.Faults.{IsFirstImageFault}
@@ -17,9 +17,9 @@ use Rattle.image_file.specs.declared.fault.FileError.{FileError}
 use Rattle.image_file.specs.declared.fault.FileError.TheVariants as image_error
 use Rattle.sloth_source.specs.Texts.{FirstRefusal}
 use Rattle.command_line.specs.Command.{Command, Builds, Executes, Lists, Samples, Uses}
-use Rattle.tool_answers.specs.Lines.{tool_text}
-use Rattle.tool_answers.specs.declared.answer.ToolAnswer.{ToolAnswer}
-use Rattle.tool_answers.specs.declared.answer.ToolAnswer.TheVariants as tool_answer
+use Rattle.command_line.specs.Lines.{tool_text}
+use Rattle.command_line.specs.declared.answer.ToolAnswer.{ToolAnswer}
+use Rattle.command_line.specs.declared.answer.ToolAnswer.TheVariants as tool_answer
 use Rattle.core_commands.specs.ImageFiles.{IsNoImage}
 use Rattle.command_line.specs.LastLine.{refusal_line, no_image_line}
 use Rattle.core_commands.specs.Samples.{sample_oil, sample_source}
@@ -27,8 +27,8 @@ use Rattle.core_commands.specs.Top.{World, FirstUnread, IsFailedRead, IsLongRead
 use Rattle.core_commands.specs.ToolTables.{ToolTable}
 use Rattle.run_inputs.specs.Inputs.{IsRefusal}
 use Rattle.core_commands.specs.Top.{IsCommandDone, IsCommandRefused, IsCommandUnwritten, IsCommandStopped, FilesAfter, IsToolEnd, IsUnwrittenOutput}
-use Rattle.tool_answers.specs.declared.status.Status.{Status}
-use Rattle.tool_answers.specs.declared.status.Status.TheVariants as status
+use Rattle.command_line.specs.declared.status.Status.{Status}
+use Rattle.command_line.specs.declared.status.Status.TheVariants as status
 use Rattle.core_commands.specs.declared.failure.Failure.{Failure}
 use Rattle.core_commands.specs.declared.failure.Failure.TheVariants as failure
 

@@ -1,9 +1,9 @@
 -- Which answer a command on an image file has.
 use Rattle.std.specs.Prelude.{ℕ, ◌≡◌, ◌⊎◌, List, IsTrue, codes}
-use Rattle.sloth_base.specs.declared.event.Arrival.{Arrival}
+use Rattle.sloth_base.specs.declared.service.Arrival.{Arrival}
 use Rattle.sloth_base.specs.declared.image.Image.{Image}
 use Rattle.sloth_base.specs.declared.refusal.Refusal.{Refusal}
-use Rattle.least_fault.specs.Order.{IsLeast}
+use Rattle.sloth_base.specs.Order.{IsLeast}
 use Rattle.image_file.specs.ImageText.{ImageText}
 use Rattle.image_file.specs.Faults.{IsFirstImageFault}
 use Rattle.image_file.specs.declared.fault.ImageFault.{ImageFault}
@@ -20,8 +20,8 @@ use Rattle.core_commands.specs.ToolTables.{ToolTable}
 use Rattle.core_commands.specs.Top.{World, IsTextTaken, IsFullAnswer, IsBrokenOff, IsRefusalAnswer, ReadsWork, PutsWork}
 use Rattle.sloth_runner.specs.declared.runner.RunEnd.{RunEnd}
 use Rattle.sloth_runner.specs.declared.runner.RunEnd.TheVariants as ends
-use Rattle.tool_answers.specs.declared.status.Status.{Status}
-use Rattle.tool_answers.specs.declared.status.Status.TheVariants as status
+use Rattle.command_line.specs.declared.status.Status.{Status}
+use Rattle.command_line.specs.declared.status.Status.TheVariants as status
 
 -- the answer where a run ends so
 abbrev pub end_status : RunEnd → Status

@@ -1,6 +1,6 @@
 -- What `sample` generates from a seed, and what it shows.
 use Rattle.std.specs.Prelude.{ℕ, List}
-use Rattle.sloth_base.specs.declared.event.Arrival.{Arrival}
+use Rattle.sloth_base.specs.declared.service.Arrival.{Arrival}
 use Rattle.sloth_base.specs.declared.image.Image.{Image}
 use Rattle.sloth_base.specs.Limits.{task_limit, count_limit}
 use Rattle.app_gen.specs.Load.{arrivals}

@@ -2,7 +2,7 @@
 use Rattle.std.specs.Prelude.{ℕ, List, [], ◌∷◌, IsTrue}
 use Rattle.sloth_io.specs.Store.{Files}
 use Rattle.command_line.specs.Tools.{ToolUse, file_names}
-use Rattle.tool_answers.specs.ImageReaders.{reads_image}
+use Rattle.command_line.specs.ImageReaders.{reads_image}
 use Rattle.core_commands.specs.FileInputs.{IsInput}
 
 -- these are the files of these names, where the store tells its files, each of at most 4 MiB

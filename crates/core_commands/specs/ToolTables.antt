@@ -2,8 +2,8 @@
 use Rattle.std.specs.Prelude.{◌≡◌}
 use Rattle.sloth_io.specs.Store.{Files}
 use Rattle.command_line.specs.Tools.{ToolUse}
-use Rattle.tool_answers.specs.declared.answer.ToolAnswer.{ToolAnswer}
-use Rattle.tool_answers.specs.declared.answer.ToolAnswer.TheVariants as tool_answer
+use Rattle.command_line.specs.declared.answer.ToolAnswer.{ToolAnswer}
+use Rattle.command_line.specs.declared.answer.ToolAnswer.TheVariants as tool_answer
 
 -- which answers the words of a tool have to the files
 abbrev pub ToolTable : Type 1

@@ -3,7 +3,7 @@
 use Rattle.std.specs.Prelude.{ℕ, ◌≡◌, ◌+◌, ◌≤◌, ◌⊎◌, List, [], ◌∷◌, Option, Some, None, IsTrue, codes, length}
 use Rattle.sloth_base.specs.declared.config.Config.{Config}
 use Rattle.sloth_base.specs.declared.app.App.{App}
-use Rattle.sloth_base.specs.declared.event.Arrival.{Arrival}
+use Rattle.sloth_base.specs.declared.service.Arrival.{Arrival}
 use Rattle.sloth_base.specs.declared.image.Image.{Image}
 use Rattle.sloth_base.specs.declared.refusal.Refusal.{Refusal}
 use Rattle.sloth_base.specs.Arrivals.{AreArrivals}
@@ -25,20 +25,20 @@ use Rattle.sloth_io.specs.Slots.{is_space_for}
 use Rattle.sloth_build.specs.ImageOf.{HasPlannedMap}
 use Rattle.image_file.specs.ImageText.{image_bytes}
 use Rattle.image_file.specs.declared.fault.ImageFault.{ImageFault}
-use Rattle.rv32_instr.specs.declared.stop.Stop.{Stop}
+use Rattle.rv32_instr.specs.declared.effect.Stop.{Stop}
 use Rattle.sloth_source.specs.Texts.{AreAccepted, FirstRefusal}
 use Rattle.command_line.specs.Command.{Command, Building, Run, Builds, Executes, Lists, Samples, Uses, IsCommand, NoCommand}
 use Rattle.command_line.specs.Tools.{ToolUse}
-use Rattle.image_file.specs.declared.elf_fault.ElfFault.{ElfFault}
-use Rattle.tool_answers.specs.Lines.{no_elf_line, bad_trace_line, tool_text}
-use Rattle.tool_answers.specs.declared.answer.ToolAnswer.{ToolAnswer}
-use Rattle.tool_answers.specs.declared.answer.ToolAnswer.TheVariants as tool_answer
-use Rattle.tool_answers.specs.declared.answer.Outcome.{Outcome}
-use Rattle.tool_answers.specs.declared.answer.TraceFault.{TraceFault}
+use Rattle.image_file.specs.declared.fault.ElfFault.{ElfFault}
+use Rattle.command_line.specs.Lines.{no_elf_line, bad_trace_line, tool_text}
+use Rattle.command_line.specs.declared.answer.ToolAnswer.{ToolAnswer}
+use Rattle.command_line.specs.declared.answer.ToolAnswer.TheVariants as tool_answer
+use Rattle.command_line.specs.declared.answer.Outcome.{Outcome}
+use Rattle.command_line.specs.declared.answer.TraceFault.{TraceFault}
 use Rattle.run_inputs.specs.Inputs.{IsRefusal}
 use Rattle.sloth_base.specs.DeclaredNames.{task_names, counter_names}
 use Rattle.run_inputs.specs.Inputs.{AreArrivalsOf}
-use Rattle.tool_answers.specs.Statuses.{tool_status}
+use Rattle.command_line.specs.Statuses.{tool_status}
 use Rattle.core_commands.specs.CommandFiles.{inputs_of, HasOwnOutput, IsUsageCause}
 use Rattle.core_commands.specs.ToolTables.{ToolTable}
 use Rattle.core_commands.specs.ImageFiles.{IsExecuted, IsExecRefused, IsListed, IsNoImage}
@@ -46,8 +46,8 @@ use Rattle.command_line.specs.LastLine.{refusal_line, built_line, no_image_line}
 use Rattle.sloth_runner.specs.Runner.{run_text, run_end}
 use Rattle.core_commands.specs.Samples.{sample_oil, sample_source, sample_arrivals, sample_text}
 use Rattle.sloth_runner.specs.declared.runner.RunEnd.TheVariants as ends
-use Rattle.tool_answers.specs.declared.status.Status.{Status}
-use Rattle.tool_answers.specs.declared.status.Status.TheVariants as status
+use Rattle.command_line.specs.declared.status.Status.{Status}
+use Rattle.command_line.specs.declared.status.Status.TheVariants as status
 
 -- what the store and the sink show at one moment
 pub record World : Type 0 where

@@ -1,5 +1,5 @@
-//! The commands on image files: `exec` and `list`. They write no file.
-ghost use Rattle.std.specs.Prelude.{◌≡◌, ◌≤◌, IfOk, IfErr, OnOk, OnErr, length};
+//! The commands on image files: `exec` and `list`. They write no file. Puts listings.
+ghost use Rattle.std.specs.Prelude.{◌≡◌, ◌≤◌, IfOk, IfErr, OnOk, OnErr, length, ◌/◌, ◌∷◌, [], ◌++◌};
 ghost use Rattle.sloth_base.specs.Arrivals.{AreArrivals};
 ghost use Rattle.sloth_base.specs.Owners.{owners_named};
 ghost use Rattle.sloth_base.specs.ImageRange.{InFormat};
@@ -16,21 +16,19 @@ ghost use Rattle.sloth_runner.specs.Runner.{IsFresh, image_of, given_arrivals, r
 ghost use Rattle.core_commands.specs.Top.{world, IsTextTaken};
 ghost use Rattle.core_commands.specs.CommandFiles.{AreFirstDelivered, inputs_of};
 ghost use Rattle.core_commands.specs.Failures.{IsReadFailure, IsLoadFailure, IsLinesFailure, IsLineFailure, IsCommandFailure, IsPerformed};
-ghost use Rattle.tool_answers.specs.declared.status.Status.TheVariants.{Done as DoneStatus};
-ghost use Rattle.trace_text.specs.Listing.{listing};
+ghost use Rattle.command_line.specs.declared.status.Status.TheVariants.{Done as DoneStatus};
+ghost use Rattle.trace_text.specs.Listing.{listing, line_at};
 ghost use Rattle.core_commands.specs.ToolTables.{LacksTools};
 
-use crate::listing::put_listing;
 use crate::{Failure, fetch};
-use command_line::ExecWords;
+use command_line::{ExecWords, Status};
 use image_file::read_image;
 use run_inputs::{RunInputs, Unread, read_run};
 use sloth_base::{Arrival, Image};
 use sloth_io::{Sink, SinkFault, Store};
 use sloth_runner::{RunEnd, Runner};
 use std::alloc::Global;
-use tool_answers::Status;
-use trace_text::{Form, stopped_line};
+use trace_text::{Form, listing_line, stopped_line};
 
 // An image file and an arrivals file.
 #[derive(Drop)]
@@ -45,8 +43,10 @@ fn read_inputs<F: Store>(alloc: Global, files: &mut F, e: &ExecWords) -> Result<
     ensures err { IfErr result (λ failure.
         IsReadFailure failure (F.seen files.old) (F.seen files.new) (inputs_of (Executes (execution_of e.now)))) }
     ensures keeps { KeepsFiles (F.seen files.old) (F.seen files.new) }
-    ensures delivered { IfOk result (λ i. AreDelivered (F.seen files.old) (F.seen files.new) (exec_deliveries (execution_of e.now) i.file.items i.arr.items)) }
-    ensures front { IfErr result (λ _. AreFirstDelivered (F.seen files.old) (F.seen files.new) (inputs_of (Executes (execution_of e.now)))) }
+    ensures delivered { IfOk result (λ i. AreDelivered (F.seen files.old) (F.seen files.new)
+        (exec_deliveries (execution_of e.now) i.file.items i.arr.items)) }
+    ensures front { IfErr result
+        (λ _. AreFirstDelivered (F.seen files.old) (F.seen files.new) (inputs_of (Executes (execution_of e.now)))) }
 {
     let file = fetch(alloc, files, e.img)?;
     let arr = fetch(alloc, files, e.arr)?;
@@ -57,7 +57,8 @@ fn read_inputs<F: Store>(alloc: Global, files: &mut F, e: &ExecWords) -> Result<
 fn load(alloc: Global, inputs: ExecInputs) -> Result<RunInputs, Failure>
     requires { length inputs.arr.items ≤ file_limit }
     ensures image { IfOk result (λ loaded. ImageText inputs.file.items loaded.image) }
-    ensures read { IfOk result (λ loaded. AreArrivalsOf loaded.image.tasks loaded.image.counters inputs.arr.items loaded.arrivals.items) }
+    ensures read { IfOk result
+        (λ loaded. AreArrivalsOf loaded.image.tasks loaded.image.counters inputs.arr.items loaded.arrivals.items) }
     ensures in_range { IfOk result (λ loaded. AreArrivals (owners_named loaded.image) loaded.arrivals.items) }
     ensures err { IfErr result (λ failure. IsLoadFailure failure inputs.file.items inputs.arr.items) }
 {
@@ -80,8 +81,8 @@ fn put_end<S: Sink>(end: RunEnd, out: &mut S) -> Result<(), SinkFault>
     }
 }
 
-// The status of a run that ended so.
-fn status_of(end: RunEnd) -> Status
+// How a command ends that runs an image file.
+fn end_status(end: RunEnd) -> Status
     ensures { result ≡ end_status end }
 {
     match end {
@@ -94,14 +95,16 @@ fn status_of(end: RunEnd) -> Status
 fn run_lines<S: Sink>(runner: &mut Runner, n: u32, out: &mut S) -> Result<Status, Failure>
     requires fresh { IsFresh runner.old }
     requires few { n ≤ count_limit }
-    ensures end { IfOk result (λ status. status ≡ end_status (run_end (image_of runner.old) (given_arrivals runner.old) n)) }
-    ensures text { OnOk result (IsTextTaken (S.seen out.old) (S.seen out.new) (exec_text (image_of runner.old) (given_arrivals runner.old) n)) }
-    ensures err { IfErr result (λ failure.
-        IsLinesFailure failure (S.seen out.old) (S.seen out.new) (exec_text (image_of runner.old) (given_arrivals runner.old) n)) }
+    ensures end { IfOk result
+        (λ status. status ≡ end_status (run_end (image_of runner.old) (given_arrivals runner.old) n)) }
+    ensures text { OnOk result (IsTextTaken (S.seen out.old) (S.seen out.new)
+        (exec_text (image_of runner.old) (given_arrivals runner.old) n)) }
+    ensures err { IfErr result (λ failure. IsLinesFailure failure (S.seen out.old) (S.seen out.new)
+        (exec_text (image_of runner.old) (given_arrivals runner.old) n)) }
 {
     let end = runner.run(n, Form::Counted, out)?;
     put_end(end, out)?;
-    Ok(status_of(end))
+    Ok(end_status(end))
 }
 
 // Takes all memory of the run, runs the image, and puts its lines.
@@ -132,13 +135,13 @@ pub fn execute<F: Store, S: Sink>(
     e: &ExecWords,
 ) -> Result<Status, Failure>
     requires { e.now.n ≤ count_limit }
-    ensures done { IfOk result (λ status. IsPerformed LacksTools status
-        (world (call_files (F.seen files.old) (F.seen files.new)) (S.seen out.old)) (world (F.seen files.new) (S.seen out.new))
-        (Executes (execution_of e.now))) }
+    ensures done { IfOk result (λ status. IsPerformed LacksTools status (world (call_files (F.seen files.old) (F.seen
+        files.new)) (S.seen out.old)) (world (F.seen files.new) (S.seen out.new)) (Executes (execution_of e.now))) }
     ensures err { IfErr result (λ failure. IsCommandFailure LacksTools failure
-        (world (call_files (F.seen files.old) (F.seen files.new)) (S.seen out.old)) (world (F.seen files.new) (S.seen out.new))
-        (Executes (execution_of e.now))) }
-    ensures reads { AreFirstDelivered (F.seen files.old) (F.seen files.new) (inputs_of (Executes (execution_of e.now))) }
+        (world (call_files (F.seen files.old) (F.seen files.new)) (S.seen out.old))
+        (world (F.seen files.new) (S.seen out.new)) (Executes (execution_of e.now))) }
+    ensures reads { AreFirstDelivered (F.seen files.old) (F.seen files.new)
+        (inputs_of (Executes (execution_of e.now))) }
 {
     let inputs = read_inputs(alloc, files, e)?;
     let loaded = load(alloc, inputs)?;
@@ -149,7 +152,8 @@ pub fn execute<F: Store, S: Sink>(
 fn put_lines<S: Sink>(image: &Image, out: &mut S) -> Result<(), Failure>
     requires { InFormat image.now }
     ensures ok { OnOk result (IsTextTaken (S.seen out.old) (S.seen out.new) (listing image.now)) }
-    ensures err { IfErr result (λ failure. IsLineFailure failure (S.seen out.old) (S.seen out.new) (listing image.now)) }
+    ensures err { IfErr result
+        (λ failure. IsLineFailure failure (S.seen out.old) (S.seen out.new) (listing image.now)) }
 {
     put_listing(image, out)?;
     Ok(())
@@ -162,10 +166,10 @@ fn list_file<F: Store, S: Sink>(
     out: &mut S,
     img: &str,
 ) -> Result<(), Failure>
-    ensures done { OnOk result (IsPerformed LacksTools DoneStatus
-        (world (call_files (F.seen files.old) (F.seen files.new)) (S.seen out.old)) (world (F.seen files.new) (S.seen out.new)) (Lists img.now)) }
-    ensures err { IfErr result (λ failure. IsCommandFailure LacksTools failure
-        (world (call_files (F.seen files.old) (F.seen files.new)) (S.seen out.old)) (world (F.seen files.new) (S.seen out.new)) (Lists img.now)) }
+    ensures done { OnOk result (IsPerformed LacksTools DoneStatus (world (call_files (F.seen files.old)
+        (F.seen files.new)) (S.seen out.old)) (world (F.seen files.new) (S.seen out.new)) (Lists img.now)) }
+    ensures err { IfErr result (λ failure. IsCommandFailure LacksTools failure (world (call_files (F.seen files.old)
+        (F.seen files.new)) (S.seen out.old)) (world (F.seen files.new) (S.seen out.new)) (Lists img.now)) }
     ensures reads { AreFirstDelivered (F.seen files.old) (F.seen files.new) (inputs_of (Lists img.now)) }
 {
     let file = fetch(alloc, files, img)?;
@@ -180,12 +184,37 @@ pub fn list<F: Store, S: Sink>(
     out: &mut S,
     img: &str,
 ) -> Result<Status, Failure>
-    ensures done { IfOk result (λ status. IsPerformed LacksTools status
-        (world (call_files (F.seen files.old) (F.seen files.new)) (S.seen out.old)) (world (F.seen files.new) (S.seen out.new)) (Lists img.now)) }
-    ensures err { IfErr result (λ failure. IsCommandFailure LacksTools failure
-        (world (call_files (F.seen files.old) (F.seen files.new)) (S.seen out.old)) (world (F.seen files.new) (S.seen out.new)) (Lists img.now)) }
+    ensures done { IfOk result (λ status. IsPerformed LacksTools status (world (call_files (F.seen files.old)
+        (F.seen files.new)) (S.seen out.old)) (world (F.seen files.new) (S.seen out.new)) (Lists img.now)) }
+    ensures err { IfErr result (λ failure. IsCommandFailure LacksTools failure (world (call_files (F.seen files.old)
+        (F.seen files.new)) (S.seen out.old)) (world (F.seen files.new) (S.seen out.new)) (Lists img.now)) }
     ensures reads { AreFirstDelivered (F.seen files.old) (F.seen files.new) (inputs_of (Lists img.now)) }
 {
     list_file(alloc, files, out, img)?;
     Ok(Status::Done)
+}
+
+// Puts line k.
+fn put_line<S: Sink>(image: &Image, k: u32, out: &mut S) -> Result<(), SinkFault>
+    requires format { InFormat image.now }
+    requires in_range { k ≤ length image.now.memory / 4 }
+    ensures ok { OnOk result (S.seen out.new ≡ output_with (S.seen out.old) (line_at image.now k ++ 10 ∷ [])) }
+    ensures err { OnErr result (GainsPart (S.seen out.old) (S.seen out.new) (line_at image.now k ++ 10 ∷ [])) }
+{
+    let mut line = listing_line(image, k);
+    line.push(b"\n");
+    out.put(line.bytes())
+}
+
+/// Puts the listing of an image, a line at a time.
+pub fn put_listing<S: Sink>(image: &Image, out: &mut S) -> Result<(), SinkFault>
+    requires { InFormat image.now }
+    ensures ok { OnOk result (S.seen out.new ≡ output_with (S.seen out.old) (listing image.now)) }
+    ensures err { OnErr result (GainsPart (S.seen out.old) (S.seen out.new) (listing image.now)) }
+{
+    let lines = image.memory.items().len() as u32 / 4 + 1;
+    for k in 0..lines {
+        put_line(image, k, out)?;
+    }
+    Ok(())
 }

@@ -1,6 +1,6 @@
 //! Laws of the definitions.
 ghost use Rattle.std.specs.Prelude.{ℕ, List};
-ghost use Rattle.sloth_base.specs.declared.event.Arrival.{Arrival};
+ghost use Rattle.sloth_base.specs.declared.service.Arrival.{Arrival};
 ghost use Rattle.sloth_base.specs.declared.config.Config.{Config};
 ghost use Rattle.sloth_base.specs.declared.app.App.{App};
 ghost use Rattle.sloth_io.specs.Store.{call_files};
@@ -16,19 +16,20 @@ ghost use Rattle.core_commands.specs.InMemory.{AreEnough, AreEnoughForLines, Are
 
 /// Over a store and a sink in memory with no failing calls and space enough, no call fails, whatever stands afterwards.
 pub fn calls_work_in_memory()
-    ensures { (store : MemStore) (sink : MemSink) (c : Building) (config : Config) (app : App) (arrivals : List Arrival) (new : World) →
-        AreEnough store sink c config app arrivals → CallsWork c config app arrivals (world (call_files (store_shown store) new.files) (sink_shown sink)) new }
+    ensures { (store : MemStore) (sink : MemSink) (c : Building) (config : Config) (app : App) (arrivals : List Arrival)
+        (new : World) → AreEnough store sink c config app arrivals → CallsWork c config app arrivals
+        (world (call_files (store_shown store) new.files) (sink_shown sink)) new }
 {}
 
 /// The same of a command on an image file, `exec` or `list`, that puts this text.
 pub fn lines_work_in_memory()
-    ensures { (store : MemStore) (sink : MemSink) (text : List ℕ) (new : World) →
-        AreEnoughForLines store sink text → LinesWork (world (call_files (store_shown store) new.files) (sink_shown sink)) new text }
+    ensures { (store : MemStore) (sink : MemSink) (text : List ℕ) (new : World) → AreEnoughForLines store sink text
+        → LinesWork (world (call_files (store_shown store) new.files) (sink_shown sink)) new text }
 {}
 
 /// The same of `sample`.
 pub fn sample_works_in_memory()
-    ensures { (store : MemStore) (sink : MemSink) (seed : ℕ) (img : List ℕ) (config : Config) (app : App) (new : World) →
-        AreEnoughForSample store sink seed img config app
-        → SampleWorks seed img config app (world (call_files (store_shown store) new.files) (sink_shown sink)) new }
+    ensures { (store : MemStore) (sink : MemSink) (seed : ℕ) (img : List ℕ) (config : Config) (app : App) (new : World)
+        → AreEnoughForSample store sink seed img config app → SampleWorks seed img config app
+        (world (call_files (store_shown store) new.files) (sink_shown sink)) new }
 {}

@@ -14,22 +14,17 @@
 #![tactic(auto)]
 
 pub mod build_command;
-mod building;
-pub mod ending;
 pub mod failure;
 pub mod image_commands;
-pub mod inputs;
 pub mod laws;
-mod listing;
 pub mod own_output;
 pub mod program;
 pub mod sample_command;
 pub mod sample_laws;
 pub mod top;
 
-pub use ending::{close, finish, say};
-pub use failure::Failure;
-pub use inputs::fetch;
+pub use build_command::fetch;
+pub use failure::{Failure, close, finish, say};
 pub use own_output::is_tool_input;
 pub use program::{run_program, words_given};
 pub use top::core_top;

@@ -2,7 +2,8 @@
 ghost use Rattle.std.specs.Prelude.{◌≡◌, IsTrue, true, false, Some};
 ghost use Rattle.command_line.specs.Command.{Builds, Uses, words_of};
 ghost use Rattle.command_line.specs.Words.{building_of, command_of, run_of, use_of};
-ghost use Rattle.core_commands.specs.CommandFiles.{arrivals_named, HasOwnOutput, IsFileAmong, IsNameApart, IsOnlyAsked, OverwritesInput};
+ghost use Rattle.core_commands.specs.CommandFiles.{arrivals_named, HasOwnOutput, IsFileAmong, IsNameApart, IsOnlyAsked};
+ghost use Rattle.core_commands.specs.CommandFiles.{OverwritesInput};
 
 use command_line::tool::ToolWords;
 use command_line::{BuildWords, CommandWords, RunWords, file_words};
@@ -25,8 +26,10 @@ fn is_among<F: Store>(files: &mut F, name: &str, inputs: &[String]) -> bool
 
 // Whether it is that of the arrivals, if there are any.
 fn is_arrivals<F: Store>(files: &mut F, name: &str, run: &Option<RunWords>) -> bool
-    ensures yes { result ≡ true → IsFileAmong (F.seen files.old) (F.seen files.new) name.now (arrivals_named (run_of run.now)) }
-    ensures no { result ≡ false → IsTrue (F.seen files.old).tells → IsNameApart (Some name.now) (arrivals_named (run_of run.now)) }
+    ensures yes { result ≡ true → IsFileAmong (F.seen files.old) (F.seen files.new) name.now
+        (arrivals_named (run_of run.now)) }
+    ensures no { result ≡ false → IsTrue (F.seen files.old).tells → IsNameApart (Some name.now)
+        (arrivals_named (run_of run.now)) }
     ensures kept { result ≡ false → F.seen files.new ≡ F.seen files.old }
     ensures only { IsOnlyAsked (F.seen files.old) (F.seen files.new) }
 {

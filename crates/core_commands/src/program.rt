@@ -8,6 +8,7 @@ ghost use Rattle.core_commands.specs.ProgramRun.{IsProgramRun, IsProcessEnd, Has
 ghost use Rattle.core_commands.specs.ToolTables.{LacksTools};
 
 use crate::core_top;
+use command_line::Status;
 use sloth_io::{FileStore, OutSink};
 use std::alloc::Global;
 use std::env;
@@ -15,7 +16,6 @@ use std::env::Env;
 use std::io::ErrorKind;
 use std::process::ExitCode;
 use std::rt::Files;
-use tool_answers::Status;
 
 /// The words behind the program's name, or how it ends without them: a word that is not UTF-8 is none of a command's.
 pub fn words_given(rt: &(impl Env + AllocGlobal)) -> Result<Vec<String>, Status>
@@ -45,7 +45,8 @@ pub fn run_over<R: Files, P: Print>(
     requires files { shown_files files.old ≡ untold_files 0 0 0 [] [] [] }
     requires out { accepted_bytes out.old ≡ [] }
     requires faults { (shown_output out.old).faults ≡ 0 }
-    ensures { IsProgramRun LacksTools (words_of words.now) (shown_files files.new) (given_bytes out.new) (shown_output out.new).faults result }
+    ensures { IsProgramRun LacksTools (words_of words.now) (shown_files files.new) (given_bytes out.new)
+        (shown_output out.new).faults result }
 {
     core_top(alloc, words, files, out)
 }

@@ -13,19 +13,19 @@ ghost use Rattle.core_commands.specs.CommandFiles.{inputs_of, AreFirstDelivered}
 ghost use Rattle.core_commands.specs.Samples.{sample_oil, sample_source, sample_arrivals, sample_text};
 ghost use Rattle.core_commands.specs.Top.{world, IsBuiltImage, IsWritten, IsTextTaken};
 ghost use Rattle.core_commands.specs.Failures.{IsSampleFailure, IsPerformFailure, IsCommandFailure, IsPerformed};
-ghost use Rattle.tool_answers.specs.declared.status.Status.TheVariants.{Done as DoneStatus};
+ghost use Rattle.command_line.specs.declared.status.Status.TheVariants.{Done as DoneStatus};
 ghost use Rattle.core_commands.specs.ToolTables.{LacksTools};
 
 use crate::Failure;
-use crate::building::build_image;
+use crate::build_command::build_image;
 use app_gen::{Sample, sample};
+use command_line::Status;
 use image_file::write_image;
 use sloth_base::{Arrival, COUNT_LIMIT, Image, List, TASK_LIMIT};
 use sloth_build::Built;
 use sloth_io::{Sink, SinkFault, Store};
 use sloth_runner::{Runner, put_summary};
 use std::alloc::Global;
-use tool_answers::Status;
 
 // What is built of generated texts, and the arrivals.
 struct Generated {
@@ -45,7 +45,8 @@ impl Drop for Generated {
 
 // Generates an application, and builds its image.
 fn generate(alloc: Global, seed: u32) -> Result<Generated, Failure>
-    ensures accepted { IfOk result (λ made. AreAccepted sample_oil (sample_source seed) made.built.config made.built.app) }
+    ensures accepted { IfOk result
+        (λ made. AreAccepted sample_oil (sample_source seed) made.built.config made.built.app) }
     ensures image { IfOk result (λ made. IsBuiltImage made.built.config made.built.app made.built.image) }
     ensures arrivals { IfOk result (λ made. made.arrivals ≡ sample_arrivals seed) }
     ensures in_range { IfOk result (λ made. AreArrivals (owners_in made.built.config) made.arrivals) }
@@ -60,32 +61,13 @@ fn generate(alloc: Global, seed: u32) -> Result<Generated, Failure>
 #[tactic(auto, unfolding(crate::specs::Samples::sample_text))]
 fn show<S: Sink>(runner: &mut Runner, out: &mut S) -> Result<(), SinkFault>
     requires fresh { IsFresh runner.old }
-    ensures ok { OnOk result (S.seen out.new ≡ output_with (S.seen out.old) (sample_text (image_of runner.old) (given_arrivals runner.old))) }
-    ensures err { OnErr result (GainsPart (S.seen out.old) (S.seen out.new) (sample_text (image_of runner.old) (given_arrivals runner.old))) }
+    ensures ok { OnOk result (S.seen out.new ≡ output_with (S.seen out.old)
+        (sample_text (image_of runner.old) (given_arrivals runner.old))) }
+    ensures err { OnErr result
+        (GainsPart (S.seen out.old) (S.seen out.new) (sample_text (image_of runner.old) (given_arrivals runner.old))) }
 {
     let tally = runner.tally(COUNT_LIMIT);
     put_summary(&tally.counts, out)
-}
-
-// Writes the image's file, runs the image of a runner that has run nothing, and puts the summary.
-fn write_and_show<F: Store, S: Sink>(
-    files: &mut F,
-    out: &mut S,
-    img: &str,
-    bytes: &[u8],
-    runner: &mut Runner,
-) -> Result<(), Failure>
-    requires fresh { IsFresh runner.old }
-    ensures written { OnOk result (IsWritten (F.seen files.old) (F.seen files.new) img.now bytes.now) }
-    ensures text { OnOk result (IsTextTaken (S.seen out.old) (S.seen out.new) (sample_text (image_of runner.old) (given_arrivals runner.old))) }
-    ensures err { IfErr result (λ failure.
-        IsPerformFailure failure (world (F.seen files.old) (S.seen out.old)) (world (F.seen files.new) (S.seen out.new))
-        img.now bytes.now (sample_text (image_of runner.old) (given_arrivals runner.old))) }
-    ensures reads { (F.seen files.new).reads ≡ (F.seen files.old).reads }
-{
-    files.write(img, bytes).map_err(|_| Failure::WriteFile)?;
-    show(runner, out)?;
-    Ok(())
 }
 
 // Takes all memory of the run, writes the image's file, runs the image, and puts the summary.
@@ -108,7 +90,11 @@ fn perform<F: Store, S: Sink>(
 {
     let bytes = write_image(alloc, image)?;
     let mut runner = Runner::new(alloc, image, arrivals)?;
-    write_and_show(files, out, img, bytes.as_slice(), &mut runner)
+    files
+        .write(img, bytes.as_slice())
+        .map_err(|_| Failure::WriteFile)?;
+    show(&mut runner, out)?;
+    Ok(())
 }
 
 // Generates an application, builds and runs its image, and puts the summary, but for the last line of a failure.
@@ -119,10 +105,10 @@ fn attempt<F: Store, S: Sink>(
     seed: u32,
     img: &str,
 ) -> Result<(), Failure>
-    ensures done { OnOk result (IsPerformed LacksTools DoneStatus
-        (world (call_files (F.seen files.old) (F.seen files.new)) (S.seen out.old)) (world (F.seen files.new) (S.seen out.new)) (Samples seed img.now)) }
-    ensures err { IfErr result (λ failure. IsCommandFailure LacksTools failure
-        (world (call_files (F.seen files.old) (F.seen files.new)) (S.seen out.old)) (world (F.seen files.new) (S.seen out.new)) (Samples seed img.now)) }
+    ensures done { OnOk result (IsPerformed LacksTools DoneStatus (world (call_files (F.seen files.old)
+        (F.seen files.new)) (S.seen out.old)) (world (F.seen files.new) (S.seen out.new)) (Samples seed img.now)) }
+    ensures err { IfErr result (λ failure. IsCommandFailure LacksTools failure (world (call_files (F.seen files.old)
+        (F.seen files.new)) (S.seen out.old)) (world (F.seen files.new) (S.seen out.new)) (Samples seed img.now)) }
     ensures reads { AreFirstDelivered (F.seen files.old) (F.seen files.new) (inputs_of (Samples seed img.now)) }
 {
     let made = generate(alloc, seed)?;
@@ -144,10 +130,10 @@ pub fn sample_run<F: Store, S: Sink>(
     seed: u32,
     img: &str,
 ) -> Result<Status, Failure>
-    ensures done { IfOk result (λ status. IsPerformed LacksTools status
-        (world (call_files (F.seen files.old) (F.seen files.new)) (S.seen out.old)) (world (F.seen files.new) (S.seen out.new)) (Samples seed img.now)) }
-    ensures err { IfErr result (λ failure. IsCommandFailure LacksTools failure
-        (world (call_files (F.seen files.old) (F.seen files.new)) (S.seen out.old)) (world (F.seen files.new) (S.seen out.new)) (Samples seed img.now)) }
+    ensures done { IfOk result (λ status. IsPerformed LacksTools status (world (call_files (F.seen files.old)
+        (F.seen files.new)) (S.seen out.old)) (world (F.seen files.new) (S.seen out.new)) (Samples seed img.now)) }
+    ensures err { IfErr result (λ failure. IsCommandFailure LacksTools failure (world (call_files (F.seen files.old)
+        (F.seen files.new)) (S.seen out.old)) (world (F.seen files.new) (S.seen out.new)) (Samples seed img.now)) }
     ensures reads { AreFirstDelivered (F.seen files.old) (F.seen files.new) (inputs_of (Samples seed img.now)) }
 {
     attempt(alloc, files, out, seed, img)?;

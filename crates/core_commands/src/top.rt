@@ -5,13 +5,15 @@ ghost use Rattle.sloth_io.specs.Store.{call_files};
 ghost use Rattle.command_line.specs.Command.{words_of, Builds, IsCommand, IsInLimit, IsNoTool, KeepsLimit};
 ghost use Rattle.command_line.specs.Words.{building_of, command_of, run_of};
 ghost use Rattle.core_commands.specs.CommandFiles.{inputs_of, AreFirstDelivered, ReadsInOrder};
-ghost use Rattle.core_commands.specs.Top.{world, IsTopAnswer, HasUsageAnswer, HasOverwriteAnswer, HasRefusalAnswer, IsComplete};
-ghost use Rattle.core_commands.specs.ImageAnswers.{HasPlainImageFaultAnswer, HasPlainNoImageAnswer, HasExecRefusedAnswer, HasExecutedAnswer, HasListedAnswer};
+ghost use Rattle.core_commands.specs.Top.{world, IsTopAnswer, HasUsageAnswer, HasOverwriteAnswer, HasRefusalAnswer};
+ghost use Rattle.core_commands.specs.Top.{IsComplete};
+ghost use Rattle.core_commands.specs.ImageAnswers.{HasPlainImageFaultAnswer, HasPlainNoImageAnswer};
+ghost use Rattle.core_commands.specs.ImageAnswers.{HasExecRefusedAnswer, HasExecutedAnswer, HasListedAnswer};
 ghost use Rattle.core_commands.specs.SampleAnswers.{HasSampleRefusedAnswer, HasSampledAnswer};
 ghost use Rattle.core_commands.specs.NoTools.{HasNoToolAnswer, NoOwnCommand};
 ghost use Rattle.core_commands.specs.ToolTables.{LacksTools};
 ghost use Rattle.core_commands.specs.Failures.{IsCommandFailure, IsPerformed};
-ghost use Rattle.tool_answers.specs.declared.status.Status.TheVariants.{Done as DoneStatus};
+ghost use Rattle.command_line.specs.declared.status.Status.TheVariants.{Done as DoneStatus};
 
 use crate::build_command::{judge, perform, read_inputs};
 use crate::image_commands::{execute, list};
@@ -19,10 +21,9 @@ use crate::own_output::overwrites_input;
 use crate::sample_command::sample_run;
 use crate::{Failure, close, finish, say};
 use command_line::command::command;
-use command_line::{BuildWords, CommandWords};
+use command_line::{BuildWords, CommandWords, Status};
 use sloth_io::{Sink, Store};
 use std::alloc::Global;
-use tool_answers::Status;
 
 // Builds, and runs what is built where the words say so, but for the last line of a failure.
 fn attempt<F: Store, S: Sink>(
@@ -32,10 +33,11 @@ fn attempt<F: Store, S: Sink>(
     c: &BuildWords,
 ) -> Result<(), Failure>
     requires { IsInLimit (run_of c.now.run) }
-    ensures done { OnOk result (IsPerformed LacksTools DoneStatus
-        (world (call_files (F.seen files.old) (F.seen files.new)) (S.seen out.old)) (world (F.seen files.new) (S.seen out.new)) (Builds (building_of c.now))) }
+    ensures done { OnOk result (IsPerformed LacksTools DoneStatus (world (call_files (F.seen files.old) (F.seen
+        files.new)) (S.seen out.old)) (world (F.seen files.new) (S.seen out.new)) (Builds (building_of c.now))) }
     ensures err { IfErr result (λ failure. IsCommandFailure LacksTools failure
-        (world (call_files (F.seen files.old) (F.seen files.new)) (S.seen out.old)) (world (F.seen files.new) (S.seen out.new)) (Builds (building_of c.now))) }
+        (world (call_files (F.seen files.old) (F.seen files.new)) (S.seen out.old))
+        (world (F.seen files.new) (S.seen out.new)) (Builds (building_of c.now))) }
     ensures reads { AreFirstDelivered (F.seen files.old) (F.seen files.new) (inputs_of (Builds (building_of c.now))) }
 {
     let inputs = read_inputs(alloc, files, c)?;
@@ -77,10 +79,10 @@ fn obey<F: Store, S: Sink>(
 ) -> Result<Status, Failure>
     requires limit { KeepsLimit (command_of c.now) }
     requires plain { IsNoTool (command_of c.now) }
-    ensures done { IfOk result (λ status. IsPerformed LacksTools status
-        (world (call_files (F.seen files.old) (F.seen files.new)) (S.seen out.old)) (world (F.seen files.new) (S.seen out.new)) (command_of c.now)) }
-    ensures err { IfErr result (λ failure. IsCommandFailure LacksTools failure
-        (world (call_files (F.seen files.old) (F.seen files.new)) (S.seen out.old)) (world (F.seen files.new) (S.seen out.new)) (command_of c.now)) }
+    ensures done { IfOk result (λ status. IsPerformed LacksTools status (world (call_files (F.seen files.old)
+        (F.seen files.new)) (S.seen out.old)) (world (F.seen files.new) (S.seen out.new)) (command_of c.now)) }
+    ensures err { IfErr result (λ failure. IsCommandFailure LacksTools failure (world (call_files (F.seen files.old)
+        (F.seen files.new)) (S.seen out.old)) (world (F.seen files.new) (S.seen out.new)) (command_of c.now)) }
     ensures reads { AreFirstDelivered (F.seen files.old) (F.seen files.new) (inputs_of (command_of c.now)) }
 {
     match c {
@@ -98,12 +100,12 @@ fn obey<F: Store, S: Sink>(
 // Does what the words say, and puts the last line of a failure. Its clauses are proved on each of its ways out; from
 // the first one alone those of `core_top` follow, by a law each, but for the others of this call.
 fn answer<F: Store, S: Sink>(alloc: Global, words: &[String], files: &mut F, out: &mut S) -> Status
-    ensures answers { IsTopAnswer LacksTools (words_of words.now)
-        (world (call_files (F.seen files.old) (F.seen files.new)) (S.seen out.old)) (world (F.seen files.new) (S.seen out.new)) result }
-    ensures no_tool { HasNoToolAnswer (words_of words.now)
-        (world (call_files (F.seen files.old) (F.seen files.new)) (S.seen out.old)) (world (F.seen files.new) (S.seen out.new)) result }
-    ensures overwrite { HasOverwriteAnswer (words_of words.now)
-        (world (call_files (F.seen files.old) (F.seen files.new)) (S.seen out.old)) (world (F.seen files.new) (S.seen out.new)) result }
+    ensures answers { IsTopAnswer LacksTools (words_of words.now) (world (call_files (F.seen files.old)
+        (F.seen files.new)) (S.seen out.old)) (world (F.seen files.new) (S.seen out.new)) result }
+    ensures no_tool { HasNoToolAnswer (words_of words.now) (world (call_files (F.seen files.old) (F.seen files.new))
+        (S.seen out.old)) (world (F.seen files.new) (S.seen out.new)) result }
+    ensures overwrite { HasOverwriteAnswer (words_of words.now) (world (call_files (F.seen files.old)
+        (F.seen files.new)) (S.seen out.old)) (world (F.seen files.new) (S.seen out.new)) result }
     ensures passed { result ≢ Status.WriteFault → S.passed_on out.new }
     ensures handed { Stays (S.seen out.old).faults (S.seen out.new).faults → S.passed_on out.new }
     ensures reads { ReadsInOrder (words_of words.now) (F.seen files.old) (F.seen files.new) }
@@ -127,32 +129,32 @@ pub fn core_top<F: Store, S: Sink>(
     files: &mut F,
     out: &mut S,
 ) -> Status
-    ensures answers { IsTopAnswer LacksTools (words_of words.now)
-        (world (call_files (F.seen files.old) (F.seen files.new)) (S.seen out.old)) (world (F.seen files.new) (S.seen out.new)) result }
-    ensures usage { HasUsageAnswer (words_of words.now)
-        (world (call_files (F.seen files.old) (F.seen files.new)) (S.seen out.old)) (world (F.seen files.new) (S.seen out.new)) result }
-    ensures no_tool { HasNoToolAnswer (words_of words.now)
-        (world (call_files (F.seen files.old) (F.seen files.new)) (S.seen out.old)) (world (F.seen files.new) (S.seen out.new)) result }
-    ensures refused { HasRefusalAnswer (words_of words.now)
-        (world (call_files (F.seen files.old) (F.seen files.new)) (S.seen out.old)) (world (F.seen files.new) (S.seen out.new)) result }
-    ensures complete { IsComplete LacksTools (words_of words.now)
-        (world (call_files (F.seen files.old) (F.seen files.new)) (S.seen out.old)) (world (F.seen files.new) (S.seen out.new)) result }
-    ensures fault { HasPlainImageFaultAnswer (words_of words.now)
-        (world (call_files (F.seen files.old) (F.seen files.new)) (S.seen out.old)) (world (F.seen files.new) (S.seen out.new)) result }
-    ensures no_image { HasPlainNoImageAnswer (words_of words.now)
-        (world (call_files (F.seen files.old) (F.seen files.new)) (S.seen out.old)) (world (F.seen files.new) (S.seen out.new)) result }
-    ensures exec_refused { HasExecRefusedAnswer (words_of words.now)
-        (world (call_files (F.seen files.old) (F.seen files.new)) (S.seen out.old)) (world (F.seen files.new) (S.seen out.new)) result }
-    ensures executed { HasExecutedAnswer LacksTools (words_of words.now)
-        (world (call_files (F.seen files.old) (F.seen files.new)) (S.seen out.old)) (world (F.seen files.new) (S.seen out.new)) result }
-    ensures listed { HasListedAnswer LacksTools (words_of words.now)
-        (world (call_files (F.seen files.old) (F.seen files.new)) (S.seen out.old)) (world (F.seen files.new) (S.seen out.new)) result }
-    ensures sample_refused { HasSampleRefusedAnswer (words_of words.now)
-        (world (call_files (F.seen files.old) (F.seen files.new)) (S.seen out.old)) (world (F.seen files.new) (S.seen out.new)) result }
-    ensures sampled { HasSampledAnswer LacksTools (words_of words.now)
-        (world (call_files (F.seen files.old) (F.seen files.new)) (S.seen out.old)) (world (F.seen files.new) (S.seen out.new)) result }
-    ensures overwrite { HasOverwriteAnswer (words_of words.now)
-        (world (call_files (F.seen files.old) (F.seen files.new)) (S.seen out.old)) (world (F.seen files.new) (S.seen out.new)) result }
+    ensures answers { IsTopAnswer LacksTools (words_of words.now) (world (call_files (F.seen files.old)
+        (F.seen files.new)) (S.seen out.old)) (world (F.seen files.new) (S.seen out.new)) result }
+    ensures usage { HasUsageAnswer (words_of words.now) (world (call_files (F.seen files.old) (F.seen files.new))
+        (S.seen out.old)) (world (F.seen files.new) (S.seen out.new)) result }
+    ensures no_tool { HasNoToolAnswer (words_of words.now) (world (call_files (F.seen files.old) (F.seen files.new))
+        (S.seen out.old)) (world (F.seen files.new) (S.seen out.new)) result }
+    ensures refused { HasRefusalAnswer (words_of words.now) (world (call_files (F.seen files.old) (F.seen files.new))
+        (S.seen out.old)) (world (F.seen files.new) (S.seen out.new)) result }
+    ensures complete { IsComplete LacksTools (words_of words.now) (world (call_files (F.seen files.old)
+        (F.seen files.new)) (S.seen out.old)) (world (F.seen files.new) (S.seen out.new)) result }
+    ensures fault { HasPlainImageFaultAnswer (words_of words.now) (world (call_files (F.seen files.old)
+        (F.seen files.new)) (S.seen out.old)) (world (F.seen files.new) (S.seen out.new)) result }
+    ensures no_image { HasPlainNoImageAnswer (words_of words.now) (world (call_files (F.seen files.old)
+        (F.seen files.new)) (S.seen out.old)) (world (F.seen files.new) (S.seen out.new)) result }
+    ensures exec_refused { HasExecRefusedAnswer (words_of words.now) (world (call_files (F.seen files.old)
+        (F.seen files.new)) (S.seen out.old)) (world (F.seen files.new) (S.seen out.new)) result }
+    ensures executed { HasExecutedAnswer LacksTools (words_of words.now) (world (call_files (F.seen files.old)
+        (F.seen files.new)) (S.seen out.old)) (world (F.seen files.new) (S.seen out.new)) result }
+    ensures listed { HasListedAnswer LacksTools (words_of words.now) (world (call_files (F.seen files.old)
+        (F.seen files.new)) (S.seen out.old)) (world (F.seen files.new) (S.seen out.new)) result }
+    ensures sample_refused { HasSampleRefusedAnswer (words_of words.now) (world (call_files (F.seen files.old)
+        (F.seen files.new)) (S.seen out.old)) (world (F.seen files.new) (S.seen out.new)) result }
+    ensures sampled { HasSampledAnswer LacksTools (words_of words.now) (world (call_files (F.seen files.old)
+        (F.seen files.new)) (S.seen out.old)) (world (F.seen files.new) (S.seen out.new)) result }
+    ensures overwrite { HasOverwriteAnswer (words_of words.now) (world (call_files (F.seen files.old)
+        (F.seen files.new)) (S.seen out.old)) (world (F.seen files.new) (S.seen out.new)) result }
     ensures passed { result ≢ Status.WriteFault → S.passed_on out.new }
     ensures handed { Stays (S.seen out.old).faults (S.seen out.new).faults → S.passed_on out.new }
     ensures reads { ReadsInOrder (words_of words.now) (F.seen files.old) (F.seen files.new) }

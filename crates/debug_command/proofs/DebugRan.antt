@@ -4,7 +4,7 @@ use Rattle.sloth_io.specs.Buffered.{IsPrefix}
 use Rattle.sloth_io.specs.FileStore.{untold_files}
 use Rattle.sloth_io.specs.Sink.{Output}
 use Rattle.sloth_io.specs.Store.{Files}
-use Rattle.tool_answers.specs.declared.status.Status.{Status}
+use Rattle.command_line.specs.declared.status.Status.{Status}
 use Rattle.debug_command.specs.DebugAnswers.{Heard, IsUnserved, IsTextsAnswer, IsDebugAnswer}
 use Rattle.debug_command.specs.DebugRun.{IsDebugRun, put_output}
 use Rattle.debug_command.specs.Words.{Debugging}

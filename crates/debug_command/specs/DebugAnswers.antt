@@ -1,6 +1,6 @@
 -- What the command answers, and why.
 use Rattle.std.specs.Prelude.{ℕ, ◌≡◌, ◌≢◌, ◌⊎◌, List, Option, Result, Ok, Err, codes}
-use Rattle.sloth_base.specs.declared.event.Arrival.{Arrival}
+use Rattle.sloth_base.specs.declared.service.Arrival.{Arrival}
 use Rattle.sloth_base.specs.declared.image.Image.{Image}
 use Rattle.sloth_io.specs.Sink.{Output, output_with, GainsPart, FailsToPassOn}
 use Rattle.sloth_io.specs.Store.{Files}
@@ -12,8 +12,8 @@ use Rattle.debug_session.specs.Serving.{IsBrokenOff, IsAllAnswered}
 use Rattle.debug_session.specs.Transcripts.{Act}
 use Rattle.debug_session.specs.declared.serving.SessionFault.{SessionFault}
 use Rattle.debug_session.specs.declared.serving.SessionFault.TheVariants as faults
-use Rattle.tool_answers.specs.declared.status.Status.{Status}
-use Rattle.tool_answers.specs.declared.status.Status.TheVariants as status
+use Rattle.command_line.specs.declared.status.Status.{Status}
+use Rattle.command_line.specs.declared.status.Status.TheVariants as status
 use Rattle.debug_command.specs.Inputs.{AreRead, AreFirstRead, AreUnread, AreMeant, AreNotMeant}
 use Rattle.debug_command.specs.Words.{Debugging}
 use Rattle.debug_command.specs.declared.inputs.Cause.{Cause}

@@ -1,12 +1,12 @@
 -- What the command reads, and why it does not.
 use Rattle.std.specs.Prelude.{ℕ, ◌≡◌, ◌≤◌, ◌⊎◌, List, [], ◌∷◌, length}
-use Rattle.sloth_base.specs.declared.event.Arrival.{Arrival}
+use Rattle.sloth_base.specs.declared.service.Arrival.{Arrival}
 use Rattle.sloth_base.specs.declared.image.Image.{Image}
 use Rattle.sloth_base.specs.declared.refusal.Refusal.{Refusal}
 use Rattle.sloth_base.specs.declared.refusal.BuildError.{BuildError}
 use Rattle.sloth_base.specs.declared.refusal.BuildError.TheVariants as error
 use Rattle.sloth_base.specs.Limits.{file_limit}
-use Rattle.least_fault.specs.Order.{IsLeast, NoFault}
+use Rattle.sloth_base.specs.Order.{IsLeast, NoFault}
 use Rattle.sloth_io.specs.Store.{Files, Holds, IsMissing, IsTooLong, AreDelivered}
 use Rattle.sloth_io.specs.declared.store.StoreFault.{StoreFault}
 use Rattle.sloth_io.specs.declared.store.StoreFault.TheVariants as fault

@@ -7,19 +7,19 @@ ghost use Rattle.sloth_base.specs.Owners.{owners_named};
 ghost use Rattle.sloth_io.specs.Store.{KeepsFiles};
 ghost use Rattle.debug_view.specs.ShownRun.{run_of};
 ghost use Rattle.debug_session.specs.Serving.{HasEnded, IsHandedOn};
-ghost use Rattle.debug_command.specs.DebugAnswers.{IsCloseAnswer, IsLineAnswer, IsSaid, IsSessionEnd, IsTextsAnswer, IsDebugAnswer, end_status, heard};
+ghost use Rattle.debug_command.specs.DebugAnswers.{IsCloseAnswer, IsLineAnswer, IsSaid, IsSessionEnd, IsTextsAnswer};
+ghost use Rattle.debug_command.specs.DebugAnswers.{IsDebugAnswer, end_status, heard};
 ghost use Rattle.debug_command.specs.Words.{debugging_of};
 
 use crate::DebugWords;
 use crate::inputs::{Cause, Meaning, read_meaning, read_texts};
-use command_line::{no_image_line, refusal_line};
+use command_line::{Status, no_image_line, refusal_line};
 use debug_session::{Input, SessionFault, Transcript, serve};
 use debug_view::Place;
 use debug_ways::{Cursor, Machine};
 use sloth_base::{Arrival, Image, Name, NoMemory};
 use sloth_io::{Sink, Store};
 use std::alloc::Global;
-use tool_answers::Status;
 
 // Hands on what the sink holds back. Where it can't be, the status is WriteFault.
 fn close<S: Sink>(out: &mut S, status: Status) -> Status
@@ -93,7 +93,8 @@ fn session<I: Input, S: Sink>(
 ) -> Result<(), SessionFault>
     requires format { InFormat image.now }
     requires arrivals { AreArrivals (owners_named image.now) arrivals.now }
-    ensures ended { HasEnded (run_of image.now arrivals.now) image.now.tasks (I.coming input.old) (I.given input.old) (I.given input.new)
+    ensures ended { HasEnded (run_of image.now arrivals.now) image.now.tasks (I.coming input.old) (I.given input.old)
+        (I.given input.new)
         transcript.old.notes.items transcript.new.notes.items (S.seen out.old) (S.seen out.new) result }
     ensures passed { IsHandedOn result (S.passed_on out.old) (S.passed_on out.new) }
 {
@@ -114,7 +115,8 @@ fn flushed_session<I: Input, S: Sink>(
 ) -> Result<(), SessionFault>
     requires format { InFormat image.now }
     requires arrivals { AreArrivals (owners_named image.now) arrivals.now }
-    ensures ended { HasEnded (run_of image.now arrivals.now) image.now.tasks (I.coming input.old) (I.given input.old) (I.given input.new)
+    ensures ended { HasEnded (run_of image.now arrivals.now) image.now.tasks (I.coming input.old) (I.given input.old)
+        (I.given input.new)
         transcript.old.notes.items transcript.new.notes.items (S.seen out.old) (S.seen out.new) result }
     ensures passed { IsHandedOn result (Unit {0}) (S.passed_on out.new) }
 {
@@ -147,7 +149,8 @@ fn served<I: Input, S: Sink>(
     requires format { InFormat run.now.image }
     requires arrivals { AreArrivals (owners_named run.now.image) run.now.arrivals.items }
     ensures ended { IsSessionEnd (run_of run.now.image run.now.arrivals.items) run.now.image.tasks
-        (heard (I.coming input.old) (I.given input.old) (I.given input.new) transcript.old.notes.items transcript.new.notes.items) (S.seen out.old) (S.seen out.new) result }
+        (heard (I.coming input.old) (I.given input.old) (I.given input.new) transcript.old.notes.items
+        transcript.new.notes.items) (S.seen out.old) (S.seen out.new) result }
     ensures passed { result ≢ Status.WriteFault → S.passed_on out.new }
 {
     let end = flushed_session(
@@ -172,7 +175,8 @@ fn judge<I: Input, S: Sink>(
 ) -> Status
     requires { length arr.now ≤ file_limit }
     ensures { IsTextsAnswer img.now arr.now
-        (heard (I.coming input.old) (I.given input.old) (I.given input.new) transcript.old.notes.items transcript.new.notes.items)
+        (heard (I.coming input.old) (I.given input.old) (I.given input.new) transcript.old.notes.items
+        transcript.new.notes.items)
         (S.seen out.old) (S.seen out.new) (S.passed_on out.new) result }
 {
     match read_meaning(alloc, img, arr) {
@@ -191,7 +195,8 @@ pub fn debug<F: Store, I: Input, S: Sink>(
     words: &DebugWords,
 ) -> Status
     ensures answer { IsDebugAnswer (debugging_of words.now) (F.seen files.old) (F.seen files.new)
-        (heard (I.coming input.old) (I.given input.old) (I.given input.new) transcript.old.notes.items transcript.new.notes.items)
+        (heard (I.coming input.old) (I.given input.old) (I.given input.new) transcript.old.notes.items
+        transcript.new.notes.items)
         (S.seen out.old) (S.seen out.new) (S.passed_on out.new) result }
     ensures keeps { KeepsFiles (F.seen files.old) (F.seen files.new) }
 {

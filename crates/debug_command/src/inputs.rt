@@ -5,7 +5,8 @@ ghost use Rattle.sloth_base.specs.ImageRange.{InFormat};
 ghost use Rattle.sloth_base.specs.Limits.{file_limit};
 ghost use Rattle.sloth_base.specs.Owners.{owners_named};
 ghost use Rattle.sloth_io.specs.Store.{KeepsFiles, AreDelivered};
-ghost use Rattle.debug_command.specs.Inputs.{IsFile, AreRead, AreFirstRead, IsUnreadFile, AreUnread, AreMeant, AreNotMeant, unread_cause, image_cause, arrivals_cause};
+ghost use Rattle.debug_command.specs.Inputs.{IsFile, AreRead, AreFirstRead, IsUnreadFile, AreUnread, AreMeant};
+ghost use Rattle.debug_command.specs.Inputs.{AreNotMeant, unread_cause, image_cause, arrivals_cause};
 ghost use Rattle.debug_command.specs.Words.{debugging_of};
 
 use crate::DebugWords;
@@ -66,7 +67,8 @@ fn fetch<F: Store>(alloc: Global, files: &mut F, name: &str) -> Result<Vec<u8>, 
     ensures err { IfErr result (λ cause. IsUnreadFile cause (F.seen files.old) (F.seen files.new) name.now) }
     ensures keeps { KeepsFiles (F.seen files.old) (F.seen files.new) }
     ensures nothing { IfErr result (λ _. (F.seen files.new).reads ≡ (F.seen files.old).reads) }
-    ensures delivered { IfOk result (λ bytes. AreDelivered (F.seen files.old) (F.seen files.new) ((name.now, bytes.items) ∷ [])) }
+    ensures delivered { IfOk result
+        (λ bytes. AreDelivered (F.seen files.old) (F.seen files.new) ((name.now, bytes.items) ∷ [])) }
 {
     let mut bytes = Vec::new(alloc);
     files.read(name, FILE_LIMIT, &mut bytes)?;
@@ -86,8 +88,11 @@ pub fn read_texts<F: Store>(
     files: &mut F,
     words: &DebugWords,
 ) -> Result<Texts, Cause>
-    ensures ok { IfOk result (λ texts. AreRead (F.seen files.old) (F.seen files.new) (debugging_of words.now) texts.img.items texts.arr.items) }
-    ensures err { IfErr result (λ cause. AreUnread cause (F.seen files.old) (F.seen files.new) (debugging_of words.now)) }
+    ensures ok { IfOk result
+        (λ texts. AreRead (F.seen files.old) (F.seen files.new) (debugging_of words.now) texts.img.items
+        texts.arr.items) }
+    ensures err { IfErr result
+        (λ cause. AreUnread cause (F.seen files.old) (F.seen files.new) (debugging_of words.now)) }
     ensures keeps { KeepsFiles (F.seen files.old) (F.seen files.new) }
     ensures front { IfErr result (λ _. AreFirstRead (F.seen files.old) (F.seen files.new) (debugging_of words.now)) }
 {

@@ -4,9 +4,9 @@ use Rattle.debug_session.specs.Acknowledging.{Sending, acknowledged}
 use Rattle.debug_session.specs.Framing.{framed, all_framed}
 use Rattle.debug_session.specs.Messages.{AllFit, Packet, messages, packets_of}
 use Rattle.debug_session.specs.Reading.{fresh}
-use Rattle.debug_session.specs.Requests.{request_of}
-use Rattle.debug_session.specs.declared.request.Request.{Request}
-use Rattle.debug_session.specs.declared.request.Request.TheVariants as asks
+use Rattle.debug_session.specs.Requests.{packet_request}
+use Rattle.debug_session.specs.declared.replies.Request.{Request}
+use Rattle.debug_session.specs.declared.replies.Request.TheVariants as asks
 use Rattle.debug_session.proofs.RoundTrip.{read_back}
 use Rattle.debug_ways.specs.Runs.{Run}
 use Rattle.debug_session.specs.Exchanges.{packets_with, with_reply, replies_to}
@@ -33,7 +33,7 @@ framed-replies : (run : Run) (names : List (List ℕ)) (session : Session) (cont
     → answers run names session (packets_with contents) ≡ all_framed (replies_to run names session contents)
 framed-replies run names session [] off = refl
 framed-replies run names session (content ∷ contents) off =
-    let request : Request = request_of (length names) content in
+    let request : Request = packet_request (length names) content in
     let reply : Option (List ℕ) = reply_to run names session request in
     let next : Session = behind_message run names session (Packet content) in
     let still : next.sending.acks ≡ false = kept-sent (sending_behind session.sending request) reply (kept-behind session.sending request off) in

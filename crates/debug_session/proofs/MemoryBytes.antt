@@ -1,9 +1,9 @@
 -- Bytes of memory, one by one.
 use Rattle.std.proofs.Common.{◌≡◌, ◌<◌, ◌≤◌, ◌+◌, ◌-◌, ℕ, zero, suc, List, [], ◌∷◌, ◌++◌, Option, Some, None, sym, ◌∙◌, ap, arith, append_assoc, append-nil}
-use Rattle.debug_session.specs.Replies.{bytes_from, byte_in, byte_and}
+use Rattle.debug_session.specs.Replies.{bytes_from, memory_byte, byte_and}
 
 -- the bytes from a place on are the one there and those behind it
-split-at : (byte : ℕ → Option ℕ) (length place address : ℕ) (here : Option ℕ) → place < length → here ≡ byte_in byte (address + place)
+split-at : (byte : ℕ → Option ℕ) (length place address : ℕ) (here : Option ℕ) → place < length → here ≡ memory_byte byte (address + place)
     → bytes_from byte (length - place) (address + place) ≡ byte_and here (bytes_from byte (length - (place + 1)) (address + (place + 1)))
 split-at byte length place address here within is =
     let n : length - place ≡ suc (length - (place + 1)) = omega (arith, within) in
@@ -14,7 +14,7 @@ split-at byte length place address here within is =
 
 -- a byte more
 pub one_byte : (byte : ℕ → Option ℕ) (length place address b : ℕ) (here : Option ℕ) (old new all : List ℕ) → place < length
-    → here ≡ byte_in byte (address + place) → here ≡ Some b → new ≡ old ++ b ∷ [] → old ++ bytes_from byte (length - place) (address + place) ≡ all
+    → here ≡ memory_byte byte (address + place) → here ≡ Some b → new ≡ old ++ b ∷ [] → old ++ bytes_from byte (length - place) (address + place) ≡ all
     → new ++ bytes_from byte (length - (place + 1)) (address + (place + 1)) ≡ all
 one_byte byte length place address b here old new all within is there put before =
     let rest : List ℕ = bytes_from byte (length - (place + 1)) (address + (place + 1)) in
@@ -24,7 +24,7 @@ one_byte byte length place address b here old new all within is there put before
 
 -- no byte is there
 pub no_byte : (byte : ℕ → Option ℕ) (length place address : ℕ) (here : Option ℕ) (old all : List ℕ) → place < length
-    → here ≡ byte_in byte (address + place) → here ≡ None → old ++ bytes_from byte (length - place) (address + place) ≡ all → old ≡ all
+    → here ≡ memory_byte byte (address + place) → here ≡ None → old ++ bytes_from byte (length - place) (address + place) ≡ all → old ≡ all
 no_byte byte length place address here old all within is there before =
     let none : bytes_from byte (length - place) (address + place) ≡ [] =
     split-at byte length place address here within is

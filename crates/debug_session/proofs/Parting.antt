@@ -3,11 +3,11 @@ use Rattle.std.proofs.Common.{◌≡◌, ◌+◌, ◌<◌, ◌≤◌, ◌==◌, 
 use Rattle.std.proofs.lemmas.Bool.{ltb-true, lt-ltb, le-ltb, cases_lt}
 use Rattle.std.proofs.lemmas.List.{length-drop}
 use Rattle.std.specs.List.{position_or_len}
-use Rattle.debug_session.specs.declared.request.Request.{Request}
-use Rattle.debug_session.specs.declared.request.Request.TheVariants as asks
+use Rattle.debug_session.specs.declared.replies.Request.{Request}
+use Rattle.debug_session.specs.declared.replies.Request.TheVariants as asks
 use Rattle.debug_ways.specs.declared.standing.Step.{Step}
 use Rattle.debug_session.specs.Words.{front, has, behind}
-use Rattle.debug_session.specs.Actions.{parts_of, with_byte, step_with, on_step, parts_request, chosen_request}
+use Rattle.debug_session.specs.Actions.{parts_of, with_byte, part_step, on_step, parts_request, chosen_request}
 
 -- the parts behind the first one
 abbrev pub further_parts : ℕ → Option (List ℕ) → List (List ℕ)
@@ -72,22 +72,22 @@ behind_shorter mark text rest is = shorter-by text rest (position_or_len (λ byt
 
 -- what the parts of a text ask by its first part
 by-part : (tasks : ℕ) (only : Bool) (rest part : List ℕ) (chosen : Option Step) (more : Option (List ℕ)) → part ≡ front 59 rest → behind 59 rest ≡ more
-    → parts_request tasks only (parts_of 59 rest) chosen ≡ on_step (step_with tasks part chosen) (λ next. parts_request tasks only (further_parts 59 more) next)
+    → parts_request tasks only (parts_of 59 rest) chosen ≡ on_step (part_step tasks part chosen) (λ next. parts_request tasks only (further_parts 59 more) next)
 by-part tasks only rest part chosen more is follows =
     ap (λ ps. parts_request tasks only ps chosen) (first_part 59 rest)
-    ∙ ap (λ m. on_step (step_with tasks (front 59 rest) chosen) (λ next. parts_request tasks only (further_parts 59 m) next)) follows
-    ∙ sym (ap (λ p. on_step (step_with tasks p chosen) (λ next. parts_request tasks only (further_parts 59 more) next)) is)
+    ∙ ap (λ m. on_step (part_step tasks (front 59 rest) chosen) (λ next. parts_request tasks only (further_parts 59 m) next)) follows
+    ∙ sym (ap (λ p. on_step (part_step tasks p chosen) (λ next. parts_request tasks only (further_parts 59 more) next)) is)
 
 -- the first part is at fault
 pub part_refused : (tasks fault : ℕ) (only : Bool) (rest part : List ℕ) (chosen : Option Step) (told : Result (Option Step) ℕ) (all : Request) → part ≡ front 59 rest
-    → told ≡ step_with tasks part chosen → told ≡ Err fault → parts_request tasks only (parts_of 59 rest) chosen ≡ all → asks.Fault fault ≡ all
+    → told ≡ part_step tasks part chosen → told ≡ Err fault → parts_request tasks only (parts_of 59 rest) chosen ≡ all → asks.Fault fault ≡ all
 part_refused tasks fault only rest part chosen told all is by fails before =
     sym (ap (λ r. on_step r (λ next. parts_request tasks only (further_parts 59 (behind 59 rest)) next)) (sym by ∙ fails))
     ∙ sym (by-part tasks only rest part chosen (behind 59 rest) is refl) ∙ before
 
 -- it is not
 pub part_passed : (tasks : ℕ) (only : Bool) (rest part further : List ℕ) (chosen step : Option Step) (told : Result (Option Step) ℕ) (all : Request) → part ≡ front 59 rest
-    → behind 59 rest ≡ Some further → told ≡ step_with tasks part chosen → told ≡ Ok step → parts_request tasks only (parts_of 59 rest) chosen ≡ all
+    → behind 59 rest ≡ Some further → told ≡ part_step tasks part chosen → told ≡ Ok step → parts_request tasks only (parts_of 59 rest) chosen ≡ all
     → parts_request tasks only (parts_of 59 further) step ≡ all
 part_passed tasks only rest part further chosen step told all is follows by passes before =
     sym (ap (λ r. on_step r (λ next. parts_request tasks only (parts_of 59 further) next)) (sym by ∙ passes))
@@ -95,7 +95,7 @@ part_passed tasks only rest part further chosen step told all is follows by pass
 
 -- it is the last one
 pub part_last : (tasks : ℕ) (only : Bool) (rest part : List ℕ) (chosen step : Option Step) (told : Result (Option Step) ℕ) (all : Request) → part ≡ front 59 rest
-    → behind 59 rest ≡ None → told ≡ step_with tasks part chosen → told ≡ Ok step → parts_request tasks only (parts_of 59 rest) chosen ≡ all
+    → behind 59 rest ≡ None → told ≡ part_step tasks part chosen → told ≡ Ok step → parts_request tasks only (parts_of 59 rest) chosen ≡ all
     → chosen_request only step ≡ all
 part_last tasks only rest part chosen step told all is none by passes before =
     sym (ap (λ r. on_step r (chosen_request only)) (sym by ∙ passes)) ∙ sym (by-part tasks only rest part chosen None is none) ∙ before

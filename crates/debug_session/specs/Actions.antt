@@ -2,12 +2,12 @@
 use Rattle.std.specs.Prelude.{ℕ, ◌==◌, ◌&&◌, List, [], ◌∷◌, length, Option, None, Some, Result, Ok, Err, Bool, ◌||◌, true, false, is_some, not, if◌then◌else◌}
 use Rattle.debug_session.specs.Hex.{number_of}
 use Rattle.debug_ways.specs.declared.standing.Step.{Step}
-use Rattle.debug_session.specs.declared.request.Request.{Request}
-use Rattle.debug_session.specs.declared.request.Request.TheVariants as asks
-use Rattle.debug_session.specs.declared.request.Window.{Window}
+use Rattle.debug_session.specs.declared.replies.Request.{Request}
+use Rattle.debug_session.specs.declared.replies.Request.TheVariants as asks
+use Rattle.debug_session.specs.declared.replies.Window.{Window}
 use Rattle.debug_session.specs.declared.actions.Action.{Action}
 use Rattle.debug_session.specs.declared.actions.Action.TheVariants as actions
-use Rattle.debug_session.specs.Words.{front, has, behind, window_of, thread_in}
+use Rattle.debug_session.specs.Words.{front, has, behind, told_window, thread_number}
 
 -- a range is gone through by a step
 abbrev pub range_action : Option Window → Action
@@ -19,21 +19,21 @@ abbrev pub is_signal : List ℕ → Bool
 is_signal digits = length digits == 2 && is_some (number_of digits)
 
 -- an action: `r` and a range, `c` or `s` with nothing behind it, `C` or `S` and a signal
-abbrev pub action_by : (first : ℕ) → List ℕ → Action
-action_by first rest =
-    if first == 114 then range_action (window_of rest)
+abbrev pub byte_action : (first : ℕ) → List ℕ → Action
+byte_action first rest =
+    if first == 114 then range_action (told_window rest)
     else if (first == 99 && length rest == 0) || (first == 67 && is_signal rest) then actions.Continued
     else if (first == 115 && length rest == 0) || (first == 83 && is_signal rest) then actions.Stepped 0 0
     else actions.NoAction
 
-abbrev pub action_of : List ℕ → Action
-action_of [] = actions.NoAction
-action_of (first ∷ rest) = action_by first rest
+abbrev pub text_action : List ℕ → Action
+text_action [] = actions.NoAction
+text_action (first ∷ rest) = byte_action first rest
 
 -- the thread behind a colon; without one any
 abbrev pub thread_behind : (tasks : ℕ) → Option (List ℕ) → Result ℕ ℕ
 thread_behind tasks None = Ok 0
-thread_behind tasks (Some text) = thread_in tasks text
+thread_behind tasks (Some text) = thread_number tasks text
 
 -- the first step of those in front of a part and of the part's action, or the number of its fault
 abbrev pub with_action : Result ℕ ℕ → Action → Option Step → Result (Option Step) ℕ
@@ -43,8 +43,8 @@ with_action (Ok thread) actions.Continued chosen = Ok chosen
 with_action (Ok thread) (actions.Stepped from to) None = Ok (Some (record { thread = thread; alone = false; backwards = false; from = from; to = to }))
 with_action (Ok thread) (actions.Stepped from to) (Some step) = Ok (Some step)
 
-abbrev pub step_with : (tasks : ℕ) → (part : List ℕ) → Option Step → Result (Option Step) ℕ
-step_with tasks part chosen = with_action (thread_behind tasks (behind 58 part)) (action_of (front 58 part)) chosen
+abbrev pub part_step : (tasks : ℕ) → (part : List ℕ) → Option Step → Result (Option Step) ℕ
+part_step tasks part chosen = with_action (thread_behind tasks (behind 58 part)) (text_action (front 58 part)) chosen
 
 -- what is asked where all parts are read: the first step, alone where it is the only action, or else a continue
 abbrev pub chosen_request : (only : Bool) → Option Step → Request
@@ -59,7 +59,7 @@ on_step (Ok step) next = next step
 -- what parts ask, behind others of which this is the first step
 abbrev pub parts_request : (tasks : ℕ) → (only : Bool) → List (List ℕ) → Option Step → Request
 parts_request tasks only [] chosen = chosen_request only chosen
-parts_request tasks only (part ∷ parts) chosen = on_step (step_with tasks part chosen) (λ next. parts_request tasks only parts next)
+parts_request tasks only (part ∷ parts) chosen = on_step (part_step tasks part chosen) (λ next. parts_request tasks only parts next)
 
 -- a byte in front of the first part
 abbrev pub with_byte : ℕ → List (List ℕ) → List (List ℕ)

@@ -1,7 +1,7 @@
 -- Packets and the replies to them.
 use Rattle.std.specs.Prelude.{ℕ, List, [], ◌∷◌, length, Option, None, Some, if◌then◌else◌}
 use Rattle.debug_session.specs.Messages.{Message, Packet}
-use Rattle.debug_session.specs.Requests.{request_of}
+use Rattle.debug_session.specs.Requests.{packet_request}
 use Rattle.debug_ways.specs.Runs.{Run}
 use Rattle.debug_session.specs.Sessions.{Session, behind_message, reply_to}
 
@@ -20,5 +20,5 @@ abbrev pub replies_to : Run → List (List ℕ) → Session → List (List ℕ) 
 replies_to run names session [] = []
 replies_to run names session (content ∷ contents) =
     if session.standing.over then []
-    else with_reply (reply_to run names session (request_of (length names) content))
+    else with_reply (reply_to run names session (packet_request (length names) content))
     (replies_to run names (behind_message run names session (Packet content)) contents)

@@ -2,21 +2,21 @@
 use Rattle.std.specs.Prelude.{ℕ, zero, suc, ◌+◌, ◌-◌, ◌/◌, ◌%◌, ◌==◌, ◌&&◌, nat_lt, not, List, [], ◌∷◌, ◌++◌, length, get_or, Option, None, Some, Bool, true, false, is_none, if◌then◌else◌, codes, decimal}
 use Rattle.osek_scheduler.specs.declared.state.TaskState.{TaskState}
 use Rattle.osek_scheduler.specs.declared.state.TaskState.TheVariants as mode
-use Rattle.rv32_instr.specs.declared.stop.Stop.{Stop}
-use Rattle.rv32_instr.specs.declared.stop.Stop.TheVariants as stops
+use Rattle.rv32_instr.specs.declared.effect.Stop.{Stop}
+use Rattle.rv32_instr.specs.declared.effect.Stop.TheVariants as stops
 use Rattle.trace_text.specs.StopLine.{stopped_line}
 use Rattle.debug_session.specs.Hex.{hex_of}
 use Rattle.debug_ways.specs.Around.{events_text}
-use Rattle.debug_ways.specs.Shown.{seen_of, view_of, shown_thread, least_of}
+use Rattle.debug_ways.specs.Shown.{last_seen, count_view, shown_thread, lesser}
 use Rattle.debug_ways.specs.Runs.{Run}
-use Rattle.debug_ways.specs.Causes.{thread_of}
+use Rattle.debug_ways.specs.Causes.{running_thread}
 use Rattle.debug_session.specs.Description.{description}
 use Rattle.debug_ways.specs.Points.{is_among}
 use Rattle.debug_session.specs.Texts.{up_to, hex_number, register_digits, window_text, state_text}
 use Rattle.debug_ways.specs.declared.points.Point.{Point}
-use Rattle.debug_session.specs.declared.request.Request.{Request}
-use Rattle.debug_session.specs.declared.request.Request.TheVariants as asks
-use Rattle.debug_session.specs.declared.request.Window.{Window}
+use Rattle.debug_session.specs.declared.replies.Request.{Request}
+use Rattle.debug_session.specs.declared.replies.Request.TheVariants as asks
+use Rattle.debug_session.specs.declared.replies.Window.{Window}
 use Rattle.debug_ways.specs.declared.shown.Seen.{Seen}
 use Rattle.debug_ways.specs.declared.shown.View.{View}
 use Rattle.debug_ways.specs.declared.standing.Standing.{Standing}
@@ -81,13 +81,13 @@ byte_and None further = []
 byte_and (Some byte) further = byte ∷ further
 
 -- the byte at an address; the last one is 4,294,967,295
-abbrev pub byte_in : (ℕ → Option ℕ) → (address : ℕ) → Option ℕ
-byte_in byte address = if nat_lt address 4294967296 then byte address else None
+abbrev pub memory_byte : (ℕ → Option ℕ) → (address : ℕ) → Option ℕ
+memory_byte byte address = if nat_lt address 4294967296 then byte address else None
 
 -- the bytes from an address on, so many at most, up to the first one that is not there
 abbrev pub bytes_from : (ℕ → Option ℕ) → (n address : ℕ) → List ℕ
 bytes_from byte zero address = []
-bytes_from byte (suc n) address = byte_and (byte_in byte address) (bytes_from byte n (address + 1))
+bytes_from byte (suc n) address = byte_and (memory_byte byte address) (bytes_from byte n (address + 1))
 
 -- their digits; it is at fault where bytes are wanted and none is there
 abbrev pub digits_or_fault : (wanted : ℕ) → List ℕ → List ℕ
@@ -99,7 +99,7 @@ byte_limit = 8184
 
 abbrev pub memory_text : Run → Standing → Window → List ℕ
 memory_text run standing window =
-    digits_or_fault window.length (bytes_from (run.byte standing.count) (least_of byte_limit window.length) window.from)
+    digits_or_fault window.length (bytes_from (run.byte standing.count) (lesser byte_limit window.length) window.from)
 
 -- ---- threads
 
@@ -199,11 +199,11 @@ fixed_text points _ = []
 
 -- the text that a reply tells in digits
 abbrev pub plain_text : Run → List (List ℕ) → Standing → Request → List ℕ
-plain_text run names standing (asks.ThreadInfo thread) = words_text (view_of run standing.count) names thread
+plain_text run names standing (asks.ThreadInfo thread) = words_text (count_view run standing.count) names thread
 plain_text run names standing asks.Count = count_text run standing
 plain_text run names standing (asks.Goto count) = count_text run standing
 plain_text run names standing asks.NoGoto = no_goto_text
-plain_text run names standing asks.States = states_text names (seen_of run standing.count)
+plain_text run names standing asks.States = states_text names (last_seen run standing.count)
 plain_text run names standing asks.Events = events_text run standing.count
 plain_text run names standing asks.Help = help_text
 plain_text run names standing _ = []
@@ -215,9 +215,9 @@ reply_text run names points standing (asks.Continue backwards) = stop_text run s
 reply_text run names points standing (asks.Step step) = stop_text run standing
 reply_text run names points standing (asks.PlainStep backwards) = stop_text run standing
 reply_text run names points standing (asks.Description window) = window_text description window
-reply_text run names points standing (asks.Threads window) = window_text (threads_text (view_of run standing.count) names) window
+reply_text run names points standing (asks.Threads window) = window_text (threads_text (count_view run standing.count) names) window
 reply_text run names points standing asks.ThreadList = thread_list (length names)
-reply_text run names points standing asks.CurrentThread = codes "QC" ++ hex_number (thread_of (run.look standing.count))
+reply_text run names points standing asks.CurrentThread = codes "QC" ++ hex_number (running_thread (run.look standing.count))
 reply_text run names points standing asks.Registers = registers_text run standing
 reply_text run names points standing (asks.Register number) = register_text run standing number
 reply_text run names points standing (asks.Memory window) = memory_text run standing window

@@ -3,14 +3,14 @@ use Rattle.std.specs.Prelude.{ℕ, ◌-◌, ◌==◌, ◌&&◌, ◌||◌, nat_le
 use Rattle.std.specs.Str.{bytes_eq, is_utf8}
 use Rattle.debug_session.specs.Hex.{number_of, bytes_of_hex}
 use Rattle.debug_ways.specs.declared.points.Point.{Point}
-use Rattle.debug_session.specs.declared.request.Request.{Request}
-use Rattle.debug_session.specs.declared.request.Request.TheVariants as asks
-use Rattle.debug_session.specs.declared.request.Window.{Window}
-use Rattle.debug_session.specs.declared.forms.Form.{Form}
-use Rattle.debug_session.specs.declared.forms.Form.TheVariants as forms
-use Rattle.debug_session.specs.declared.forms.Row.{Row}
+use Rattle.debug_session.specs.declared.replies.Request.{Request}
+use Rattle.debug_session.specs.declared.replies.Request.TheVariants as asks
+use Rattle.debug_session.specs.declared.replies.Window.{Window}
+use Rattle.debug_session.specs.declared.requests.Form.{Form}
+use Rattle.debug_session.specs.declared.requests.Form.TheVariants as forms
+use Rattle.debug_session.specs.declared.requests.Row.{Row}
 use Rattle.debug_session.specs.Actions.{is_signal, actions_request}
-use Rattle.debug_session.specs.Words.{front, behind, window_of, thread_in, first_word, further_words, count_in}
+use Rattle.debug_session.specs.Words.{front, behind, told_window, thread_number, first_word, further_words, told_count}
 
 -- ---- threads, registers, memory
 
@@ -47,10 +47,10 @@ point_by sets kind None = asks.Fault 1
 point_by sets kind (Some window) = if sets then asks.SetPoint (point_of kind window) else asks.TakePoint (point_of kind window)
 
 -- the kind that a text is, which is one digit of 0 to 4, or else 5
-abbrev pub kind_of : List ℕ → ℕ
-kind_of [] = 5
-kind_of (digit ∷ []) = if nat_le 48 digit && nat_le digit 52 then digit - 48 else 5
-kind_of (digit ∷ more ∷ rest) = 5
+abbrev pub point_kind : List ℕ → ℕ
+point_kind [] = 5
+point_kind (digit ∷ []) = if nat_le 48 digit && nat_le digit 52 then digit - 48 else 5
+point_kind (digit ∷ more ∷ rest) = 5
 
 -- a text stands behind a comma, and there is no other comma in it
 abbrev pub has_one : Option (List ℕ) → Bool
@@ -63,10 +63,10 @@ point_behind sets kind None = asks.Fault 1
 point_behind sets kind (Some rest) =
     if not (has_one (behind 44 rest)) then asks.Fault 1
     else if kind == 5 then asks.Nothing
-    else point_by sets kind (window_of rest)
+    else point_by sets kind (told_window rest)
 
 abbrev pub point_in : (sets : Bool) → List ℕ → Request
-point_in sets text = point_behind sets (kind_of (front 44 text)) (behind 44 text)
+point_in sets text = point_behind sets (point_kind (front 44 text)) (behind 44 text)
 
 -- `Z` and `z`: a kind, an address and a length, with commas between; what follows a `;` is ignored
 abbrev pub points_request : (sets : Bool) → List ℕ → Request
@@ -90,7 +90,7 @@ single_command word =
 -- a command of two words
 abbrev pub double_command : (word argument further : List ℕ) → Request
 double_command word argument further =
-    if bytes_eq word (codes "goto") && length further == 0 then goto_by (count_in argument) else asks.Help
+    if bytes_eq word (codes "goto") && length further == 0 then goto_by (told_count argument) else asks.Help
 
 -- what the text of `monitor` asks, by its words
 unfoldable pub command_request : List ℕ → Request
@@ -102,9 +102,9 @@ command_request text =
 abbrev pub command_of : List ℕ → Request
 command_of text = if is_utf8 text then command_request text else asks.Fault 1
 
-abbrev pub command_by : Option (List ℕ) → Request
-command_by None = asks.Fault 1
-command_by (Some text) = command_of text
+abbrev pub monitor_request : Option (List ℕ) → Request
+monitor_request None = asks.Fault 1
+monitor_request (Some text) = command_of text
 
 -- ---- by a word in front
 
@@ -114,27 +114,27 @@ followed tasks (forms.Bare request) rest = if length rest == 0 then request else
 followed tasks (forms.Alone request) rest = if length rest == 0 then request else asks.Fault 1
 followed tasks (forms.Any request) rest = request
 followed tasks (forms.Signal request) rest = if is_signal rest then request else asks.Fault 1
-followed tasks forms.Shown rest = thread_request forms.Shown (thread_in tasks rest)
-followed tasks forms.Stepped rest = thread_request forms.Stepped (thread_in tasks rest)
-followed tasks forms.Alive rest = thread_request forms.Alive (thread_in tasks rest)
-followed tasks forms.Info rest = thread_request forms.Info (thread_in tasks rest)
+followed tasks forms.Shown rest = thread_request forms.Shown (thread_number tasks rest)
+followed tasks forms.Stepped rest = thread_request forms.Stepped (thread_number tasks rest)
+followed tasks forms.Alive rest = thread_request forms.Alive (thread_number tasks rest)
+followed tasks forms.Info rest = thread_request forms.Info (thread_number tasks rest)
 followed tasks forms.Register rest = register_request (number_of rest)
-followed tasks forms.Memory rest = window_request forms.Memory (window_of rest)
-followed tasks forms.Description rest = window_request forms.Description (window_of rest)
-followed tasks forms.Threads rest = window_request forms.Threads (window_of rest)
+followed tasks forms.Memory rest = window_request forms.Memory (told_window rest)
+followed tasks forms.Description rest = window_request forms.Description (told_window rest)
+followed tasks forms.Threads rest = window_request forms.Threads (told_window rest)
 followed tasks (forms.Points sets) rest = points_request sets rest
 followed tasks forms.Actions rest = actions_request tasks rest
-followed tasks forms.Command rest = command_by (bytes_of_hex rest)
+followed tasks forms.Command rest = monitor_request (bytes_of_hex rest)
 
 -- a text begins the content
 abbrev pub begins : (text content : List ℕ) → Bool
 begins text content = bytes_eq text (take (length text) content)
 
 -- what the first word asks that begins the content
-abbrev pub asked_by : (tasks : ℕ) → List (List ℕ × Form) → List ℕ → Request
-asked_by tasks [] content = asks.Nothing
-asked_by tasks (row ∷ rows) content =
-    if begins row.0 content then followed tasks row.1 (drop (length row.0) content) else asked_by tasks rows content
+abbrev pub word_request : (tasks : ℕ) → List (List ℕ × Form) → List ℕ → Request
+word_request tasks [] content = asks.Nothing
+word_request tasks (row ∷ rows) content =
+    if begins row.0 content then followed tasks row.1 (drop (length row.0) content) else word_request tasks rows content
 
 abbrev pub row_of : Row → List ℕ × Form
 row_of row = (row.0.now, row.1)
@@ -181,9 +181,9 @@ words =
     ∷ []
 
 -- what the data of a packet asks; beyond 16,384 bytes, and where it is no text, it is at fault
-abbrev pub request_of : (tasks : ℕ) → List ℕ → Request
-request_of tasks content =
+abbrev pub packet_request : (tasks : ℕ) → List ℕ → Request
+packet_request tasks content =
     if nat_lt 16384 (length content) then asks.Fault 1
-    else if is_utf8 content then asked_by tasks words content
+    else if is_utf8 content then word_request tasks words content
     else if begins (codes "X") content then asks.Fault 4
     else asks.Fault 1

@@ -6,11 +6,11 @@ use Rattle.debug_session.specs.Messages.{Message, Packet, Wrong, Again, Interrup
 use Rattle.debug_ways.specs.Runs.{Run}
 use Rattle.debug_ways.specs.Points.{with_point, without_point}
 use Rattle.debug_session.specs.Replies.{reply}
-use Rattle.debug_session.specs.Requests.{request_of}
+use Rattle.debug_session.specs.Requests.{packet_request}
 use Rattle.debug_ways.specs.Standing.{begun, selected_in, stepped, continued, moved, shown, stepping, with_interrupt, ended, plain_step}
 use Rattle.debug_ways.specs.declared.points.Point.{Point}
-use Rattle.debug_session.specs.declared.request.Request.{Request}
-use Rattle.debug_session.specs.declared.request.Request.TheVariants as asks
+use Rattle.debug_session.specs.declared.replies.Request.{Request}
+use Rattle.debug_session.specs.declared.replies.Request.TheVariants as asks
 use Rattle.debug_ways.specs.declared.standing.Standing.{Standing}
 
 -- where a session stands: the count and what is selected, its points, and what was sent
@@ -76,7 +76,7 @@ behind_request run names session request = record {
 
 -- a session behind a message
 abbrev pub behind_message : Run → List (List ℕ) → Session → Message → Session
-behind_message run names session (Packet content) = behind_request run names session (request_of (length names) content)
+behind_message run names session (Packet content) = behind_request run names session (packet_request (length names) content)
 behind_message run names session Wrong = session
 behind_message run names session Again = session
 behind_message run names session Interrupt = record session { standing = with_interrupt session.standing }
@@ -84,7 +84,7 @@ behind_message run names session Interrupt = record session { standing = with_in
 -- what is written for a message
 abbrev pub answer : Run → List (List ℕ) → Session → Message → List ℕ
 answer run names session (Packet content) =
-    acknowledged session.sending ++ reply_packet (reply_to run names session (request_of (length names) content))
+    acknowledged session.sending ++ reply_packet (reply_to run names session (packet_request (length names) content))
 answer run names session Wrong = refused session.sending
 answer run names session Again = repeated session.sending
 answer run names session Interrupt = []

@@ -2,9 +2,9 @@
 use Rattle.std.specs.Prelude.{ℕ, zero, suc, ◌+◌, ◌/◌, ◌%◌, ◌==◌, ◌||◌, nat_le, nat_lt, List, [], ◌∷◌, ◌++◌, length, take, drop, Option, None, Some, Bool, if◌then◌else◌, codes, decimal}
 use Rattle.osek_scheduler.specs.declared.state.TaskState.{TaskState}
 use Rattle.osek_scheduler.specs.declared.state.TaskState.TheVariants as mode
-use Rattle.debug_ways.specs.Shown.{least_of}
+use Rattle.debug_ways.specs.Shown.{lesser}
 use Rattle.debug_session.specs.Hex.{hex_digit, hex_of}
-use Rattle.debug_session.specs.declared.request.Window.{Window}
+use Rattle.debug_session.specs.declared.replies.Window.{Window}
 
 -- the texts of the numbers below one, in their order
 abbrev pub up_to : (ℕ → List ℕ) → ℕ → List ℕ
@@ -46,7 +46,7 @@ part_text text from size =
     else codes "m" ++ take size (drop from text)
 
 abbrev pub window_text : List ℕ → Window → List ℕ
-window_text text window = part_text text window.from (least_of part_limit window.length)
+window_text text window = part_text text window.from (lesser part_limit window.length)
 
 -- ---- states
 

@@ -3,7 +3,7 @@ use Rattle.std.specs.Prelude.{ℕ, ◌+◌, ◌-◌, ◌*◌, ◌==◌, ◌&&◌
 use Rattle.std.specs.List.{take_while, before_first, after_first, position_or_len}
 use Rattle.std.specs.Str.{bytes_eq}
 use Rattle.debug_session.specs.Hex.{number_of}
-use Rattle.debug_session.specs.declared.request.Window.{Window}
+use Rattle.debug_session.specs.declared.replies.Window.{Window}
 
 -- what stands in front of the first such byte, or all of it
 abbrev pub front : ℕ → List ℕ → List ℕ
@@ -27,8 +27,8 @@ window_behind from None = None
 window_behind from (Some rest) = window_by from (number_of rest)
 
 -- two numbers with a comma between
-abbrev pub window_of : List ℕ → Option Window
-window_of text = window_behind (number_of (front 44 text)) (behind 44 text)
+abbrev pub told_window : List ℕ → Option Window
+told_window text = window_behind (number_of (front 44 text)) (behind 44 text)
 
 -- a thread of so many tasks: 1 is the machine, the tasks follow; fault 1 is that of no number, and 2 that of no thread
 abbrev pub thread_by : (tasks : ℕ) → Option ℕ → Result ℕ ℕ
@@ -36,8 +36,8 @@ thread_by tasks None = Err 1
 thread_by tasks (Some number) = if nat_le number (tasks + 1) then Ok number else Err 2
 
 -- the thread that a text tells; 0 and -1 are any
-abbrev pub thread_in : (tasks : ℕ) → List ℕ → Result ℕ ℕ
-thread_in tasks text = if bytes_eq text (codes "-1") then Ok 0 else thread_by tasks (number_of text)
+abbrev pub thread_number : (tasks : ℕ) → List ℕ → Result ℕ ℕ
+thread_number tasks text = if bytes_eq text (codes "-1") then Ok 0 else thread_by tasks (number_of text)
 
 -- the bytes without the spaces in front
 abbrev pub trimmed : List ℕ → List ℕ
@@ -67,5 +67,5 @@ abbrev pub count_up_to : Option ℕ → Option ℕ
 count_up_to None = None
 count_up_to (Some count) = if nat_le count 1000000 then Some count else None
 
-abbrev pub count_in : List ℕ → Option ℕ
-count_in text = if nat_lt 0 (length text) then count_up_to (count_from 0 text) else None
+abbrev pub told_count : List ℕ → Option ℕ
+told_count text = if nat_lt 0 (length text) then count_up_to (count_from 0 text) else None

@@ -1,11 +1,12 @@
 //! `vCont`: actions of threads.
 ghost use Rattle.std.specs.Prelude.{◌≡◌, ◌==◌, ◌&&◌, length, is_some};
 ghost use Rattle.debug_session.specs.Hex.{number_of};
-ghost use Rattle.debug_session.specs.Actions.{action_by, action_of, step_with, chosen_request, actions_request};
+ghost use Rattle.debug_session.specs.Actions.{byte_action, text_action, part_step, chosen_request};
+ghost use Rattle.debug_session.specs.Actions.{actions_request};
 
 use crate::hex::number;
-use crate::request::Request;
-use crate::words::{behind, thread_in, window_of};
+use crate::replies::Request;
+use crate::words::{behind, thread_number, told_window};
 use debug_ways::Step;
 use text_pieces::before;
 
@@ -25,12 +26,11 @@ pub fn is_signal(digits: &[u8]) -> bool
     digits.len() == 2 && number(digits).is_some()
 }
 
-// An action by its first byte.
-fn action_by(first: u8, rest: &[u8]) -> Action
-    ensures { result ≡ action_by first rest.now }
+fn byte_action(first: u8, rest: &[u8]) -> Action
+    ensures { result ≡ byte_action first rest.now }
 {
     if first == b'r' {
-        return match window_of(rest) {
+        return match told_window(rest) {
             Some(window) => Action::Stepped(window.from, window.length),
             None => Action::NoAction,
         };
@@ -44,11 +44,11 @@ fn action_by(first: u8, rest: &[u8]) -> Action
     Action::NoAction
 }
 
-fn action_of(text: &[u8]) -> Action
-    ensures { result ≡ action_of text.now }
+fn text_action(text: &[u8]) -> Action
+    ensures { result ≡ text_action text.now }
 {
     match text.split_first() {
-        Some((first, rest)) => action_by(*first, rest),
+        Some((first, rest)) => byte_action(*first, rest),
         None => Action::NoAction,
     }
 }
@@ -68,18 +68,18 @@ fn chosen_request(only: bool, chosen: &Option<Step>) -> Request
 }
 
 // The first step of those before a part and of the part, or the number of its fault.
-fn step_with(tasks: u32, part: &[u8], chosen: &Option<Step>) -> Result<Option<Step>, u8>
-    ensures { result ≡ step_with tasks part.now chosen.now }
+fn part_step(tasks: u32, part: &[u8], chosen: &Option<Step>) -> Result<Option<Step>, u8>
+    ensures { result ≡ part_step tasks part.now chosen.now }
 {
     let told = match behind(part, b':') {
-        Some(text) => thread_in(tasks, text),
+        Some(text) => thread_number(tasks, text),
         None => Ok(0),
     };
     let thread = match told {
         Ok(thread) => thread,
         Err(fault) => return Err(fault),
     };
-    match action_of(before(part, b':')) {
+    match text_action(before(part, b':')) {
         Action::Continued => Ok(*chosen),
         Action::Stepped(from, to) => match chosen {
             Some(step) => Ok(Some(*step)),
@@ -104,14 +104,14 @@ pub fn actions_request(tasks: u32, text: &[u8]) -> Request
     let mut rest = text;
     while let Some(further) = behind(rest, b';') {
         let part = before(rest, b';');
-        match step_with(tasks, part, &chosen) {
+        match part_step(tasks, part, &chosen) {
             Ok(step) => chosen = step,
             Err(fault) => return Request::Fault(fault),
         }
         rest = further;
     }
     let last = before(rest, b';');
-    match step_with(tasks, last, &chosen) {
+    match part_step(tasks, last, &chosen) {
         Ok(step) => chosen_request(only, &step),
         Err(fault) => Request::Fault(fault),
     }

@@ -1,5 +1,6 @@
 //! The bytes of any reader.
-ghost use Rattle.std.specs.Prelude.{◌≡◌, ◌≤◌, ◌<◌, ◌++◌, option_to_list, IsTrue, [], ◌∷◌, None, OnErr, IfOk, IfSome, IfNone, true, false};
+ghost use Rattle.std.specs.Prelude.{◌≡◌, ◌≤◌, ◌<◌, ◌++◌, option_to_list, IsTrue, [], ◌∷◌, None, OnErr, IfOk, IfSome};
+ghost use Rattle.std.specs.Prelude.{IfNone, true, false};
 ghost use Rattle.std.specs.Io.KnownBytes.{Consumes, IsAtEnd, Keeps};
 ghost use Rattle.debug_session.specs.Input.{Gives, Ends};
 
@@ -56,7 +57,6 @@ impl<R: Read> ByteReader<R> {
         Ok(count > 0)
     }
 
-    // Gives a byte that was read.
     fn give(&mut self) -> u8
         requires { self.old.start < self.old.end }
         ensures consumes { Consumes (left_bytes R.remaining self.old) (left_bytes R.remaining self.new) (result ∷ []) }

@@ -2,16 +2,15 @@
 ghost use Rattle.std.specs.Prelude.{◌≡◌, IfOk};
 ghost use Rattle.std.specs.Str.{is_utf8};
 ghost use Rattle.debug_session.specs.Hex.{bytes_of_hex};
-ghost use Rattle.debug_session.specs.Requests.{single_command, double_command, command_request, command_by};
+ghost use Rattle.debug_session.specs.Requests.{single_command, double_command, command_request, monitor_request};
 
 use crate::hex::bytes_of_hex;
-use crate::request::Request;
-use crate::words::{count_in, first_word, further_words};
+use crate::replies::Request;
+use crate::words::{first_word, further_words, told_count};
 use sloth_base::Result;
 use std::alloc::Global;
 use text_pieces::same;
 
-// A command of one word.
 #[tactic(auto, unfolding(crate::specs::Requests::single_command))]
 fn single_command(word: &[u8]) -> Request
     ensures { result ≡ single_command word.now }
@@ -28,14 +27,13 @@ fn single_command(word: &[u8]) -> Request
     Request::Help
 }
 
-// A command of two words.
 fn double_command(word: &[u8], argument: &[u8], further: &[u8]) -> Request
     ensures { result ≡ double_command word.now argument.now further.now }
 {
     if !same(word, b"goto") || !further.is_empty() {
         return Request::Help;
     }
-    match count_in(argument) {
+    match told_count(argument) {
         Some(count) => Request::Goto(count),
         None => Request::NoGoto,
     }
@@ -68,8 +66,8 @@ pub fn is_text(bytes: &[u8]) -> bool
 }
 
 /// `qRcmd`.
-pub fn command_by(alloc: Global, digits: &[u8]) -> Result<Request>
-    ensures { IfOk result (λ request. request ≡ command_by (bytes_of_hex digits.now)) }
+pub fn monitor_request(alloc: Global, digits: &[u8]) -> Result<Request>
+    ensures { IfOk result (λ request. request ≡ monitor_request (bytes_of_hex digits.now)) }
 {
     match bytes_of_hex(alloc, digits)? {
         Some(text) => {

@@ -1,5 +1,6 @@
 //! Where the bytes of a session come from.
-ghost use Rattle.std.specs.Prelude.{◌≡◌, ◌∷◌, ◌++◌, [], ℕ, List, Option, option_to_list, OnErr, IfOk, IfSome, IfNone, true, false};
+ghost use Rattle.std.specs.Prelude.{◌≡◌, ◌∷◌, ◌++◌, [], ℕ, List, Option, option_to_list, OnErr, IfOk, IfSome, IfNone};
+ghost use Rattle.std.specs.Prelude.{true, false};
 ghost use Rattle.debug_session.specs.Input.{Coming, Gives, Ends};
 
 /// Why there is no next byte, and no end.
@@ -19,7 +20,8 @@ pub trait Input {
 
     /// The next byte, or none at the end.
     fn next(&mut self) -> Result<Option<u8>, InputFault>
-        ensures byte { IfOk result (λ next. IfSome next (λ byte. Gives (coming self.old) (coming self.new) (byte ∷ []))) }
+        ensures byte { IfOk result (λ next. IfSome next (λ byte. Gives (coming self.old) (coming self.new) (byte
+            ∷ []))) }
         ensures end { IfOk result (λ next. IfNone next (Ends (coming self.old) (coming self.new) false)) }
         ensures err { OnErr result (Ends (coming self.old) (coming self.new) true) }
         ensures given { IfOk result (λ next. given self.new ≡ given self.old ++ option_to_list next) }

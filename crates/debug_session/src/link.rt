@@ -4,7 +4,7 @@ ghost use Rattle.debug_session.specs.Framing.{framed};
 ghost use Rattle.debug_session.specs.Acknowledging.{first_sending, sent, acknowledged, refused, repeated};
 ghost use Rattle.debug_session.specs.Sessions.{sending_behind};
 
-use crate::request::Request;
+use crate::replies::Request;
 use crate::writing::push_packet;
 use sloth_base::Result;
 use std::alloc::Global;

@@ -1,12 +1,12 @@
 //! What is looked at of a run for a reply: registers and memory.
 ghost use Rattle.std.specs.Prelude.{◌≡◌, ◌≤◌, ◌+◌, ◌++◌, OnOk};
 ghost use Rattle.debug_ways.specs.Cursor.{cursor_run};
-ghost use Rattle.debug_session.specs.Replies.{registers_text, byte_in, bytes_from, memory_text};
+ghost use Rattle.debug_session.specs.Replies.{registers_text, memory_byte, bytes_from, memory_text};
 
 use crate::hex::push_hex;
-use crate::request::Window;
+use crate::replies::Window;
 use crate::texts::{push, push_register};
-use debug_ways::shown::{least_of, shown_thread};
+use debug_ways::shown::{lesser, shown_thread};
 use debug_ways::{Cursor, Machine, Standing};
 use sloth_base::Result;
 use std::alloc::Global;
@@ -21,7 +21,8 @@ pub fn push_registers<M: Machine>(
     standing: &Standing,
 ) -> Result<()>
     requires { standing.now.count ≤ (cursor_run M.run cursor.old).end }
-    ensures text { OnOk result (out.new.items ≡ out.old.items ++ registers_text (cursor_run M.run cursor.old) standing.now) }
+    ensures text { OnOk result (out.new.items
+        ≡ out.old.items ++ registers_text (cursor_run M.run cursor.old) standing.now) }
     ensures run { cursor_run M.run cursor.new ≡ cursor_run M.run cursor.old }
 {
     let thread = shown_thread(cursor, standing);
@@ -32,9 +33,14 @@ pub fn push_registers<M: Machine>(
 }
 
 // The byte so many places behind an address.
-fn byte_in<M: Machine>(cursor: &mut Cursor<M>, count: u32, address: u32, place: u32) -> Option<u8>
+fn memory_byte<M: Machine>(
+    cursor: &mut Cursor<M>,
+    count: u32,
+    address: u32,
+    place: u32,
+) -> Option<u8>
     requires { count ≤ (cursor_run M.run cursor.old).end }
-    ensures byte { result ≡ byte_in ((cursor_run M.run cursor.old).byte count) (address + place) }
+    ensures byte { result ≡ memory_byte ((cursor_run M.run cursor.old).byte count) (address + place) }
     ensures run { cursor_run M.run cursor.new ≡ cursor_run M.run cursor.old }
 {
     match address.checked_add(place) {
@@ -52,11 +58,12 @@ fn push_bytes<M: Machine>(
     address: u32,
 ) -> Result<()>
     requires { count ≤ (cursor_run M.run cursor.old).end }
-    ensures bytes { OnOk result (out.new.items ≡ out.old.items ++ bytes_from ((cursor_run M.run cursor.old).byte count) length address) }
+    ensures bytes { OnOk result (out.new.items
+        ≡ out.old.items ++ bytes_from ((cursor_run M.run cursor.old).byte count) length address) }
     ensures run { cursor_run M.run cursor.new ≡ cursor_run M.run cursor.old }
 {
     for place in 0..length {
-        match byte_in(cursor, count, address, place) {
+        match memory_byte(cursor, count, address, place) {
             Some(byte) => push(out, &[byte])?,
             None => return Ok(()),
         }
@@ -73,11 +80,12 @@ pub fn push_memory<M: Machine>(
     window: &Window,
 ) -> Result<()>
     requires { standing.now.count ≤ (cursor_run M.run cursor.old).end }
-    ensures text { OnOk result (out.new.items ≡ out.old.items ++ memory_text (cursor_run M.run cursor.old) standing.now window.now) }
+    ensures text { OnOk result (out.new.items
+        ≡ out.old.items ++ memory_text (cursor_run M.run cursor.old) standing.now window.now) }
     ensures run { cursor_run M.run cursor.new ≡ cursor_run M.run cursor.old }
 {
     let mut bytes = Vec::new(alloc);
-    let length = least_of(BYTE_LIMIT, window.length);
+    let length = lesser(BYTE_LIMIT, window.length);
     push_bytes(&mut bytes, cursor, standing.count, length, window.from)?;
     if bytes.is_empty() && window.length != 0 {
         push(out, b"E03")

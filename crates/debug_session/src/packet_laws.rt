@@ -10,7 +10,8 @@ ghost use Rattle.debug_session.specs.declared.reading.Event.TheVariants as event
 /// The messages of packets that stand behind one another are these packets, whatever bytes they are of.
 #[tactic(auto, using(crate::proofs::RoundTrip::read_back))]
 pub fn packets_are_read_back()
-    ensures { (contents : List (List ℕ)) → AllFit contents → messages fresh (all_framed contents) ≡ packets_of contents }
+    ensures { (contents : List (List ℕ)) → AllFit contents → messages fresh (all_framed contents)
+        ≡ packets_of contents }
 {}
 
 /// Data with its escapes stands for itself.
@@ -34,13 +35,15 @@ pub fn digits_are_told()
 /// Behind any bytes, a packet that a byte completes stands at the end of these bytes, with its sum.
 #[tactic(auto, using(crate::proofs::PacketStanding::packet_stands))]
 pub fn packets_stand_among_bytes()
-    ensures { (bytes : List ℕ) (byte : ℕ) → event_after (reading_of fresh bytes) byte ≡ events.Packet → length (reading_of fresh bytes).content ≤ 16384
+    ensures { (bytes : List ℕ) (byte : ℕ) → event_after (reading_of fresh bytes) byte ≡ events.Packet
+        → length (reading_of fresh bytes).content ≤ 16384
         → EndSo (bytes ++ byte ∷ []) (reading_of fresh bytes).content true }
 {}
 
 /// A packet that a byte completes as wrong stands there with another sum.
 #[tactic(auto, using(crate::proofs::PacketStanding::wrong_stands))]
 pub fn wrong_packets_stand_among_bytes()
-    ensures { (bytes : List ℕ) (byte : ℕ) → event_after (reading_of fresh bytes) byte ≡ events.Wrong → length (reading_of fresh bytes).content ≤ 16384
+    ensures { (bytes : List ℕ) (byte : ℕ) → event_after (reading_of fresh bytes) byte ≡ events.Wrong
+        → length (reading_of fresh bytes).content ≤ 16384
         → EndSo (bytes ++ byte ∷ []) (reading_of fresh bytes).content false }
 {}

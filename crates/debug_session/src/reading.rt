@@ -2,7 +2,7 @@
 ghost use Rattle.std.specs.Prelude.{◌≡◌, IfOk};
 ghost use Rattle.debug_session.specs.Reading.{fresh, opened, event_after, reading_after};
 
-use crate::hex::value_of;
+use crate::hex::digit_value;
 use sloth_base::Result;
 use std::alloc::Global;
 use std::marker::Model;
@@ -101,7 +101,7 @@ impl PacketReader {
             }
             Place::Half(first) => {
                 self.place = Place::Outside;
-                let told = u32::from(value_of(first)) * 16 + u32::from(value_of(byte));
+                let told = u32::from(digit_value(first)) * 16 + u32::from(digit_value(byte));
                 if told == u32::from(self.sum) {
                     Event::Packet
                 } else {
@@ -111,7 +111,6 @@ impl PacketReader {
         }
     }
 
-    // Begins a packet.
     fn begin(&mut self)
         ensures { self.new ≡ opened }
     {

@@ -1,23 +1,23 @@
 //! Replies to requests: what a run shows is looked at here, and told by what is looked at.
+//! The text that describes the registers. What a packet asks.
 ghost use Rattle.std.specs.Prelude.{◌≡◌, ◌≤◌, ◌++◌, OnOk, length};
 ghost use Rattle.sloth_base.specs.Limits.{task_limit};
 ghost use Rattle.debug_session.specs.Hex.{hex_of};
 ghost use Rattle.debug_session.specs.Texts.{window_text};
 ghost use Rattle.debug_ways.specs.Cursor.{cursor_run};
 ghost use Rattle.debug_session.specs.Replies.{reply_text, has_reply, fixed_text, plain_text, place_text, help_text, no_goto_text, threads_text};
+ghost use Rattle.debug_session.specs.Description.{description};
 
-use crate::description::description;
 use crate::hex::push_hex;
 use crate::looks::{push_memory, push_registers};
-use crate::request::{Request, Window};
 use crate::stops::push_stop;
 use crate::texts::{push, push_number, push_register, push_window};
 use crate::threads::{push_states, push_thread_list, push_threads, push_words};
 use debug_ways::events::push_events;
 use debug_ways::points::is_among;
-use debug_ways::shown::{View, seen_of, shown_thread, view_of};
-use debug_ways::standing::thread_of;
-use debug_ways::{Cursor, Machine, Point, Standing};
+use debug_ways::shown::{View, count_view, last_seen, shown_thread};
+use debug_ways::standing::running_thread;
+use debug_ways::{Cursor, Machine, Point, Standing, Step};
 use rv32_instr::Stop;
 use sloth_base::{Name, Result};
 use std::alloc::Global;
@@ -71,7 +71,6 @@ fn fixed_text(points: &[Point], request: &Request) -> &'static [u8]
     }
 }
 
-// Puts a part of the list of threads.
 fn push_threads_part(
     alloc: Global,
     out: &mut Vec<u8>,
@@ -112,12 +111,13 @@ fn push_plain<M: Machine>(
 ) -> Result<()>
     requires there { standing.now.count ≤ (cursor_run M.run cursor.old).end }
     requires few { length names.now ≤ task_limit }
-    ensures text { OnOk result (out.new.items ≡ out.old.items ++ plain_text (cursor_run M.run cursor.old) names.now standing.now request.now) }
+    ensures text { OnOk result (out.new.items
+        ≡ out.old.items ++ plain_text (cursor_run M.run cursor.old) names.now standing.now request.now) }
     ensures run { cursor_run M.run cursor.new ≡ cursor_run M.run cursor.old }
 {
     match request {
         Request::ThreadInfo(thread) => {
-            let view = view_of(cursor, standing.count);
+            let view = count_view(cursor, standing.count);
             push_words(out, &view, names, *thread)
         }
         Request::Count | Request::Goto(_) => {
@@ -126,7 +126,7 @@ fn push_plain<M: Machine>(
         }
         Request::NoGoto => push(out, no_goto_text()),
         Request::States => {
-            let seen = seen_of(cursor, standing.count);
+            let seen = last_seen(cursor, standing.count);
             push_states(out, names, &seen)
         }
         Request::Events => push_events(alloc, out, cursor, standing.count),
@@ -146,7 +146,8 @@ fn push_plain_digits<M: Machine>(
 ) -> Result<()>
     requires there { standing.now.count ≤ (cursor_run M.run cursor.old).end }
     requires few { length names.now ≤ task_limit }
-    ensures text { OnOk result (out.new.items ≡ out.old.items ++ hex_of (plain_text (cursor_run M.run cursor.old) names.now standing.now request.now)) }
+    ensures text { OnOk result (out.new.items
+        ≡ out.old.items ++ hex_of (plain_text (cursor_run M.run cursor.old) names.now standing.now request.now)) }
     ensures run { cursor_run M.run cursor.new ≡ cursor_run M.run cursor.old }
 {
     let mut text = Vec::new(alloc);
@@ -187,14 +188,14 @@ pub fn push_text<M: Machine>(
         }
         Request::Description(window) => push_window(out, description(), window),
         Request::Threads(window) => {
-            let view = view_of(cursor, standing.count);
+            let view = count_view(cursor, standing.count);
             push_threads_part(alloc, out, &view, names, window)
         }
         Request::ThreadList => push_thread_list(out, names.len() as u32),
         Request::CurrentThread => {
             let look = cursor.look(standing.count);
             push(out, b"QC")?;
-            push_number(out, thread_of(&look))
+            push_number(out, running_thread(&look))
         }
         Request::Registers => push_registers(out, cursor, standing),
         Request::Register(number) => {
@@ -223,4 +224,60 @@ pub fn push_text<M: Machine>(
         | Request::TakePoint(_)
         | Request::Detach => push(out, fixed_text(points, request)),
     }
+}
+
+/// The description of the registers: x0 to x31 and pc, and five CSRs, by the numbers 0 to 37, each of 32 bits.
+#[tactic(auto, unfolding(crate::specs::Description::description))]
+pub fn description() -> &'static [u8]
+    ensures { result.now ≡ description }
+{
+    b"<?xml version=\"1.0\"?>\n<!DOCTYPE target SYSTEM \"gdb-target.dtd\">\n<target version=\"1.0\">\n<architecture>riscv:rv32</architecture>\n<osabi>none</osabi>\n<feature name=\"org.gnu.gdb.riscv.cpu\">\n<reg name=\"zero\" bitsize=\"32\" regnum=\"0\" type=\"int\"/>\n<reg name=\"ra\" bitsize=\"32\" regnum=\"1\" type=\"code_ptr\"/>\n<reg name=\"sp\" bitsize=\"32\" regnum=\"2\" type=\"data_ptr\"/>\n<reg name=\"gp\" bitsize=\"32\" regnum=\"3\" type=\"int\"/>\n<reg name=\"tp\" bitsize=\"32\" regnum=\"4\" type=\"int\"/>\n<reg name=\"t0\" bitsize=\"32\" regnum=\"5\" type=\"int\"/>\n<reg name=\"t1\" bitsize=\"32\" regnum=\"6\" type=\"int\"/>\n<reg name=\"t2\" bitsize=\"32\" regnum=\"7\" type=\"int\"/>\n<reg name=\"s0\" bitsize=\"32\" regnum=\"8\" type=\"int\"/>\n<reg name=\"s1\" bitsize=\"32\" regnum=\"9\" type=\"int\"/>\n<reg name=\"a0\" bitsize=\"32\" regnum=\"10\" type=\"int\"/>\n<reg name=\"a1\" bitsize=\"32\" regnum=\"11\" type=\"int\"/>\n<reg name=\"a2\" bitsize=\"32\" regnum=\"12\" type=\"int\"/>\n<reg name=\"a3\" bitsize=\"32\" regnum=\"13\" type=\"int\"/>\n<reg name=\"a4\" bitsize=\"32\" regnum=\"14\" type=\"int\"/>\n<reg name=\"a5\" bitsize=\"32\" regnum=\"15\" type=\"int\"/>\n<reg name=\"a6\" bitsize=\"32\" regnum=\"16\" type=\"int\"/>\n<reg name=\"a7\" bitsize=\"32\" regnum=\"17\" type=\"int\"/>\n<reg name=\"s2\" bitsize=\"32\" regnum=\"18\" type=\"int\"/>\n<reg name=\"s3\" bitsize=\"32\" regnum=\"19\" type=\"int\"/>\n<reg name=\"s4\" bitsize=\"32\" regnum=\"20\" type=\"int\"/>\n<reg name=\"s5\" bitsize=\"32\" regnum=\"21\" type=\"int\"/>\n<reg name=\"s6\" bitsize=\"32\" regnum=\"22\" type=\"int\"/>\n<reg name=\"s7\" bitsize=\"32\" regnum=\"23\" type=\"int\"/>\n<reg name=\"s8\" bitsize=\"32\" regnum=\"24\" type=\"int\"/>\n<reg name=\"s9\" bitsize=\"32\" regnum=\"25\" type=\"int\"/>\n<reg name=\"s10\" bitsize=\"32\" regnum=\"26\" type=\"int\"/>\n<reg name=\"s11\" bitsize=\"32\" regnum=\"27\" type=\"int\"/>\n<reg name=\"t3\" bitsize=\"32\" regnum=\"28\" type=\"int\"/>\n<reg name=\"t4\" bitsize=\"32\" regnum=\"29\" type=\"int\"/>\n<reg name=\"t5\" bitsize=\"32\" regnum=\"30\" type=\"int\"/>\n<reg name=\"t6\" bitsize=\"32\" regnum=\"31\" type=\"int\"/>\n<reg name=\"pc\" bitsize=\"32\" regnum=\"32\" type=\"code_ptr\"/>\n</feature>\n<feature name=\"org.gnu.gdb.riscv.csr\">\n<reg name=\"mstatus\" bitsize=\"32\" regnum=\"33\" type=\"int\" group=\"csr\"/>\n<reg name=\"mscratch\" bitsize=\"32\" regnum=\"34\" type=\"int\" group=\"csr\"/>\n<reg name=\"mepc\" bitsize=\"32\" regnum=\"35\" type=\"int\" group=\"csr\"/>\n<reg name=\"ilevel\" bitsize=\"32\" regnum=\"36\" type=\"int\" group=\"csr\"/>\n<reg name=\"plevel\" bitsize=\"32\" regnum=\"37\" type=\"int\" group=\"csr\"/>\n</feature>\n</target>\n"
+}
+
+/// A part of a text: from a place on, so many bytes at most.
+#[derive(Clone, Copy)]
+pub struct Window {
+    pub from: u32,
+    pub length: u32,
+}
+
+/// What a packet asks. A form that is at fault, and one that is not known, ask too.
+#[derive(Clone, Copy)]
+pub enum Request {
+    /// Nothing that is known.
+    Nothing,
+    /// A fault: 1 of the form, 2 no such thread, 4 nothing is written.
+    Fault(u8),
+    /// What is confirmed, and changes nothing.
+    Confirmed,
+    Supported,
+    NoAcks,
+    LastStop,
+    Description(Window),
+    NoAnnex,
+    Threads(Window),
+    ThreadList,
+    ThreadListEnd,
+    ThreadInfo(u32),
+    CurrentThread,
+    Attached,
+    SelectShown(u32),
+    SelectStepped(u32),
+    Registers,
+    Register(u32),
+    Memory(Window),
+    SetPoint(Point),
+    TakePoint(Point),
+    Actions,
+    Continue(bool),
+    Step(Step),
+    PlainStep(bool),
+    Count,
+    Goto(u32),
+    NoGoto,
+    States,
+    Events,
+    Help,
+    Detach,
+    Kill,
 }

@@ -1,15 +1,15 @@
 //! What the data of a packet asks: a table of words.
+//! What may follow the word that begins the data of a packet, and what is then asked.
 ghost use Rattle.std.specs.Prelude.{◌≡◌, IfOk, map, if◌then◌else◌};
-ghost use Rattle.debug_session.specs.Requests.{followed, asked_by, row_of, words, request_of};
+ghost use Rattle.debug_session.specs.Requests.{followed, word_request, row_of, words, packet_request};
 
 use crate::actions::{actions_request, is_signal};
-use crate::commands::{command_by, is_text};
-use crate::forms::{Form, Row};
+use crate::commands::{is_text, monitor_request};
 use crate::hex::number;
 use crate::reading::LONGEST;
-use crate::request::Request;
+use crate::replies::Request;
 use crate::selecting::{points_request, thread_request, window_request};
-use crate::words::{thread_in, window_of};
+use crate::words::{thread_number, told_window};
 use sloth_base::Result;
 use std::alloc::Global;
 
@@ -30,24 +30,24 @@ fn followed(alloc: Global, tasks: u32, form: &Form, rest: &[u8]) -> Result<Reque
         Form::Any(request) => Ok(*request),
         Form::Signal(request) => Ok(either(is_signal(rest), *request, Request::Fault(1))),
         Form::Shown | Form::Stepped | Form::Alive | Form::Info => {
-            Ok(thread_request(form, thread_in(tasks, rest)))
+            Ok(thread_request(form, thread_number(tasks, rest)))
         }
         Form::Register => match number(rest) {
             Some(number) => Ok(either(number < 38, Request::Register(number), Request::Fault(1))),
             None => Ok(Request::Fault(1)),
         },
         Form::Memory | Form::Description | Form::Threads => {
-            Ok(window_request(form, &window_of(rest)))
+            Ok(window_request(form, &told_window(rest)))
         }
         Form::Points(sets) => Ok(points_request(*sets, rest)),
         Form::Actions => Ok(actions_request(tasks, rest)),
-        Form::Command => command_by(alloc, rest),
+        Form::Command => monitor_request(alloc, rest),
     }
 }
 
 // What the first word asks that begins the content.
-fn asked_by(alloc: Global, tasks: u32, rows: &[Row], content: &[u8]) -> Result<Request>
-    ensures { IfOk result (λ request. request ≡ asked_by tasks (map row_of rows.now) content.now) }
+fn word_request(alloc: Global, tasks: u32, rows: &[Row], content: &[u8]) -> Result<Request>
+    ensures { IfOk result (λ request. request ≡ word_request tasks (map row_of rows.now) content.now) }
 {
     for row in rows {
         if content.starts_with(row.0) {
@@ -97,17 +97,17 @@ const WORDS: [Row; 36] = [
     Row(b"QStartNoAckMode", Form::Bare(Request::NoAcks)),
 ];
 
-// What data asks that is a text.
+// What a text asks.
 #[tactic(auto, unfolding(crate::specs::Requests::words))]
-fn text_request(alloc: Global, tasks: u32, content: &[u8]) -> Result<Request>
-    ensures { IfOk result (λ request. request ≡ asked_by tasks words content.now) }
+fn text_request(alloc: Global, tasks: u32, text: &[u8]) -> Result<Request>
+    ensures { IfOk result (λ request. request ≡ word_request tasks words text.now) }
 {
-    asked_by(alloc, tasks, &WORDS, content)
+    word_request(alloc, tasks, &WORDS, text)
 }
 
 /// What the data of a packet asks, of a run of so many tasks.
-pub fn request_of(alloc: Global, tasks: u32, content: &[u8]) -> Result<Request>
-    ensures { IfOk result (λ request. request ≡ request_of tasks content.now) }
+pub fn packet_request(alloc: Global, tasks: u32, content: &[u8]) -> Result<Request>
+    ensures { IfOk result (λ request. request ≡ packet_request tasks content.now) }
 {
     if content.len() > LONGEST {
         return Ok(Request::Fault(1));
@@ -121,3 +121,34 @@ pub fn request_of(alloc: Global, tasks: u32, content: &[u8]) -> Result<Request>
         Request::Fault(1),
     ))
 }
+
+/// What may follow a word.
+#[derive(Clone, Copy)]
+pub enum Form {
+    /// Nothing; else nothing is asked.
+    Bare(Request),
+    /// Nothing; else it is at fault.
+    Alone(Request),
+    Any(Request),
+    /// The two digits of a signal.
+    Signal(Request),
+    /// A thread: that is shown, that plain steps step, of which is asked whether it is there, or what it is.
+    Shown,
+    Stepped,
+    Alive,
+    Info,
+    /// The number of a register.
+    Register,
+    /// A part of memory, of the description, or of the list of threads.
+    Memory,
+    Description,
+    Threads,
+    /// A point that is set, or else taken away.
+    Points(bool),
+    Actions,
+    Command,
+}
+
+/// A word, and what may follow it.
+#[derive(Clone, Copy)]
+pub struct Row<'a>(pub &'a [u8], pub Form);

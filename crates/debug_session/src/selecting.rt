@@ -1,11 +1,11 @@
 //! What packets ask of threads, registers, memory and points.
 ghost use Rattle.std.specs.Prelude.{◌≡◌};
-ghost use Rattle.debug_session.specs.Requests.{thread_request, window_request, kind_of, has_one, points_request};
+ghost use Rattle.debug_session.specs.Requests.{thread_request, window_request, point_kind, has_one, points_request};
 ghost use Rattle.debug_session.specs.Words.{behind};
 
-use crate::forms::Form;
-use crate::request::{Request, Window};
-use crate::words::{behind, window_of};
+use crate::replies::{Request, Window};
+use crate::requests::Form;
+use crate::words::{behind, told_window};
 use debug_ways::Point;
 use text_pieces::before;
 
@@ -53,8 +53,8 @@ pub fn window_request(form: &Form, window: &Option<Window>) -> Request
 }
 
 // The kind that a text is, or else 5.
-fn kind_of(text: &[u8]) -> u8
-    ensures { result ≡ kind_of text.now }
+fn point_kind(text: &[u8]) -> u8
+    ensures { result ≡ point_kind text.now }
 {
     if text.len() == 1 && text[0] >= b'0' && text[0] <= b'4' {
         text[0] - b'0'
@@ -63,7 +63,6 @@ fn kind_of(text: &[u8]) -> u8
     }
 }
 
-// Whether one comma stands in a text.
 fn has_one(text: &[u8]) -> bool
     ensures { result ≡ has_one (behind 44 text.now) }
 {
@@ -78,7 +77,7 @@ pub fn points_request(sets: bool, text: &[u8]) -> Request
     ensures { result ≡ points_request sets text.now }
 {
     let point = before(text, b';');
-    let kind = kind_of(before(point, b','));
+    let kind = point_kind(before(point, b','));
     let Some(rest) = behind(point, b',') else {
         return Request::Fault(1);
     };
@@ -88,7 +87,7 @@ pub fn points_request(sets: bool, text: &[u8]) -> Request
     if kind == 5 {
         return Request::Nothing;
     }
-    match window_of(rest) {
+    match told_window(rest) {
         Some(window) => {
             let length = if kind < 2 { 4 } else { window.length };
             let point = Point {

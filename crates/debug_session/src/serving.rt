@@ -35,8 +35,10 @@ fn due_text<M: Machine>(
 ) -> Result<Vec<u8>>
     requires there { session.old.standing.count ≤ (cursor_run M.run cursor.old).end }
     requires few { length names.now ≤ task_limit }
-    ensures session { OnOk result (session.new ≡ behind_event (cursor_run M.run cursor.old) names.now session.old event content.now) }
-    ensures text { IfOk result (λ due. due.items ≡ event_answer (cursor_run M.run cursor.old) names.now session.old event content.now) }
+    ensures session { OnOk result (session.new
+        ≡ behind_event (cursor_run M.run cursor.old) names.now session.old event content.now) }
+    ensures text { IfOk result (λ due. due.items
+        ≡ event_answer (cursor_run M.run cursor.old) names.now session.old event content.now) }
     ensures within { OnOk result (session.new.standing.count ≤ (cursor_run M.run cursor.old).end) }
     ensures run { cursor_run M.run cursor.new ≡ cursor_run M.run cursor.old }
 {
@@ -46,7 +48,7 @@ fn due_text<M: Machine>(
 }
 
 // Answers what comes behind the bytes that were read: up to 2^64 - 1 further bytes, so that it ends.
-fn serve_on<I: Input, S: Sink, M: Machine>(
+fn serve_bytes<I: Input, S: Sink, M: Machine>(
     alloc: Global,
     input: &mut I,
     out: &mut S,
@@ -57,7 +59,8 @@ fn serve_on<I: Input, S: Sink, M: Machine>(
 ) -> Result<(), SessionFault>
     requires fresh { reader.old ≡ fresh }
     requires few { length names.now ≤ task_limit }
-    ensures ended { HasEnded (cursor_run M.run cursor.old) names.now (I.coming input.old) (I.given input.old) (I.given input.new)
+    ensures ended { HasEnded (cursor_run M.run cursor.old) names.now (I.coming input.old) (I.given input.old)
+        (I.given input.new)
         transcript.old.notes.items transcript.new.notes.items (S.seen out.old) (S.seen out.new) result }
     ensures passed { IsHandedOn result (S.passed_on out.old) (S.passed_on out.new) }
     ensures run { cursor_run M.run cursor.new ≡ cursor_run M.run cursor.old }
@@ -77,7 +80,7 @@ fn serve_on<I: Input, S: Sink, M: Machine>(
             Ok(due) => due,
             Err(NoMemory) => return Err(SessionFault::NoMemory),
         };
-        match transcript.hand_on(out, due.as_slice()) {
+        match transcript.deliver(out, due.as_slice()) {
             Ok(()) => {}
             Err(_) => return Err(SessionFault::Write),
         }
@@ -95,7 +98,8 @@ pub fn serve<I: Input, S: Sink, M: Machine>(
     names: &[Name],
 ) -> Result<(), SessionFault>
     requires few { length names.now ≤ task_limit }
-    ensures ended { HasEnded (cursor_run M.run cursor.old) names.now (I.coming input.old) (I.given input.old) (I.given input.new)
+    ensures ended { HasEnded (cursor_run M.run cursor.old) names.now (I.coming input.old) (I.given input.old)
+        (I.given input.new)
         transcript.old.notes.items transcript.new.notes.items (S.seen out.old) (S.seen out.new) result }
     ensures passed { IsHandedOn result (S.passed_on out.old) (S.passed_on out.new) }
     ensures run { cursor_run M.run cursor.new ≡ cursor_run M.run cursor.old }
@@ -103,7 +107,7 @@ pub fn serve<I: Input, S: Sink, M: Machine>(
     match PacketReader::new(alloc) {
         Ok(reader) => {
             let mut reader = reader;
-            serve_on(alloc, input, out, transcript, cursor, names, &mut reader)
+            serve_bytes(alloc, input, out, transcript, cursor, names, &mut reader)
         }
         Err(_) => Err(SessionFault::NoMemory),
     }

@@ -2,14 +2,14 @@
 ghost use Rattle.std.specs.Prelude.{◌≡◌, ◌≤◌, ◌++◌, OnOk, length};
 ghost use Rattle.sloth_base.specs.Limits.{task_limit};
 ghost use Rattle.debug_ways.specs.Cursor.{cursor_run};
-ghost use Rattle.debug_session.specs.Sessions.{first_session, standing_behind, points_behind, reply_to, reply_packet, behind_request};
+ghost use Rattle.debug_session.specs.Sessions.{first_session, standing_behind, points_behind, reply_to, reply_packet};
+ghost use Rattle.debug_session.specs.Sessions.{behind_request};
 ghost use Rattle.debug_session.specs.Serving.{behind_event, event_answer};
 
 use crate::link::Link;
 use crate::reading::Event;
-use crate::replies::{has_reply, push_text};
-use crate::request::Request;
-use crate::requests::request_of;
+use crate::replies::{Request, has_reply, push_text};
+use crate::requests::packet_request;
 use debug_ways::points::{set_point, take_point};
 use debug_ways::standing::{plain_step, plain_told, selected};
 use debug_ways::stepping::{continued, moved, stepped};
@@ -31,10 +31,13 @@ impl Model for Session {
 
     ghost Value = { AnySession };
 
-    ghost view = { λ session. record { standing = session.standing; points = session.points.items; sending = session.link } };
+    ghost view = { λ session. record {
+      standing = session.standing;
+      points = session.points.items;
+      sending = session.link;
+    } };
 }
 
-// Where a session stands behind a request.
 fn standing_behind<M: Machine>(
     cursor: &mut Cursor<M>,
     points: &[Point],
@@ -71,7 +74,6 @@ fn standing_behind<M: Machine>(
     }
 }
 
-// Its points behind a request.
 fn points_behind(points: &mut Vec<Point>, request: &Request) -> Result<()>
     ensures { OnOk result (points.new.items ≡ points_behind points.old.items request.now) }
 {
@@ -125,8 +127,10 @@ impl Session {
     ) -> Result<()>
         requires there { self.old.standing.count ≤ (cursor_run M.run cursor.old).end }
         requires few { length names.now ≤ task_limit }
-        ensures session { OnOk result (self.new ≡ behind_request (cursor_run M.run cursor.old) names.now self.old request.now) }
-        ensures text { OnOk result (out.new.items ≡ out.old.items ++ reply_packet (reply_to (cursor_run M.run cursor.old) names.now self.old request.now)) }
+        ensures session { OnOk result (self.new
+            ≡ behind_request (cursor_run M.run cursor.old) names.now self.old request.now) }
+        ensures text { OnOk result (out.new.items
+            ≡ out.old.items ++ reply_packet (reply_to (cursor_run M.run cursor.old) names.now self.old request.now)) }
         ensures within { OnOk result (self.new.standing.count ≤ (cursor_run M.run cursor.old).end) }
         ensures run { cursor_run M.run cursor.new ≡ cursor_run M.run cursor.old }
     {
@@ -162,8 +166,10 @@ impl Session {
     ) -> Result<()>
         requires there { self.old.standing.count ≤ (cursor_run M.run cursor.old).end }
         requires few { length names.now ≤ task_limit }
-        ensures session { OnOk result (self.new ≡ behind_event (cursor_run M.run cursor.old) names.now self.old event content.now) }
-        ensures text { OnOk result (out.new.items ≡ out.old.items ++ event_answer (cursor_run M.run cursor.old) names.now self.old event content.now) }
+        ensures session { OnOk result (self.new
+            ≡ behind_event (cursor_run M.run cursor.old) names.now self.old event content.now) }
+        ensures text { OnOk result (out.new.items
+            ≡ out.old.items ++ event_answer (cursor_run M.run cursor.old) names.now self.old event content.now) }
         ensures within { OnOk result (self.new.standing.count ≤ (cursor_run M.run cursor.old).end) }
         ensures run { cursor_run M.run cursor.new ≡ cursor_run M.run cursor.old }
     {
@@ -176,7 +182,7 @@ impl Session {
             Event::Again => self.link.repeat(out),
             Event::Wrong => self.link.refuse(alloc, out),
             Event::Packet => {
-                let request = request_of(alloc, names.len() as u32, content)?;
+                let request = packet_request(alloc, names.len() as u32, content)?;
                 self.link.acknowledge(out)?;
                 self.perform(alloc, out, cursor, names, &request)
             }

@@ -1,6 +1,6 @@
 //! What is told of a stop.
 ghost use Rattle.std.specs.Prelude.{◌≡◌, ◌++◌, OnOk};
-ghost use Rattle.debug_session.specs.Replies.{end_signal, cause_signal, watch_word, cause_reason, told_text};
+ghost use Rattle.debug_session.specs.Replies.{cause_signal, watch_word, cause_reason, told_text};
 
 use crate::texts::{push, push_number};
 use debug_ways::{Cause, Standing};
@@ -9,21 +9,6 @@ use sloth_base::Result;
 use text_pieces::line;
 use text_pieces::pieces::Piece::Word;
 
-// The signal of the end of a run.
-fn end_signal(stop: &Option<Stop>) -> &'static [u8]
-    ensures { result.now ≡ end_signal stop.now }
-{
-    match stop {
-        None => b"05",
-        Some(Stop::Illegal(_)) => b"04",
-        Some(Stop::Fetch(_)) => b"0b",
-        Some(Stop::Access(_)) => b"0b",
-        Some(Stop::Misaligned(_)) => b"0a",
-        Some(Stop::Environment) => b"05",
-    }
-}
-
-// The signal of a cause.
 fn cause_signal(stop: &Option<Stop>, other: bool, cause: Cause) -> &'static [u8]
     ensures { result.now ≡ cause_signal stop.now other cause }
 {
@@ -31,11 +16,15 @@ fn cause_signal(stop: &Option<Stop>, other: bool, cause: Cause) -> &'static [u8]
         Cause::Interrupt => b"02",
         Cause::Step => { if other { b"00" } else { b"05" } }
         Cause::Break(_) | Cause::Watch(_, _) | Cause::Begin => b"05",
-        Cause::End => end_signal(stop),
+        Cause::End => match stop {
+            Some(Stop::Illegal(_)) => b"04",
+            Some(Stop::Fetch(_) | Stop::Access(_)) => b"0b",
+            Some(Stop::Misaligned(_)) => b"0a",
+            None | Some(Stop::Environment) => b"05",
+        },
     }
 }
 
-// The word of a watchpoint's kind.
 fn watch_word(kind: u8) -> &'static [u8]
     ensures { result.now ≡ watch_word kind }
 {
@@ -46,7 +35,6 @@ fn watch_word(kind: u8) -> &'static [u8]
     }
 }
 
-// Puts the reason of a cause.
 fn push_reason(out: &mut Vec<u8>, stop: &Option<Stop>, cause: Cause) -> Result<()>
     ensures { OnOk result (out.new.items ≡ out.old.items ++ cause_reason stop.now cause) }
 {

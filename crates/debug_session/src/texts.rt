@@ -2,9 +2,9 @@
 ghost use Rattle.std.specs.Prelude.{◌≡◌, ◌<◌, ◌++◌, OnOk};
 ghost use Rattle.debug_session.specs.Texts.{digit_at, hex_number, register_digits, window_text, state_text};
 
-use crate::hex::{digit_of, push_hex};
-use crate::request::Window;
-use debug_ways::shown::least_of;
+use crate::hex::{hex_digit, push_hex};
+use crate::replies::Window;
+use debug_ways::shown::lesser;
 use osek_scheduler::TaskState;
 use sloth_base::Result;
 use text_pieces::line;
@@ -27,7 +27,7 @@ fn push_digit(out: &mut Vec<u8>, place: u32, number: u32) -> Result<()>
     ensures { OnOk result (out.new.items ≡ out.old.items ++ digit_at place number) }
 {
     if place <= number || place == 1 {
-        push(out, &[digit_of((number / place % 16) as u8)])?;
+        push(out, &[hex_digit((number / place % 16) as u8)])?;
     }
     Ok(())
 }
@@ -64,7 +64,7 @@ pub fn push_window(out: &mut Vec<u8>, text: &[u8], window: &Window) -> Result<()
     ensures { OnOk result (out.new.items ≡ out.old.items ++ window_text text.now window.now) }
 {
     let from = window.from as usize;
-    let end = from + least_of(PART_LIMIT, window.length) as usize;
+    let end = from + lesser(PART_LIMIT, window.length) as usize;
     if text.len() <= from {
         return push(out, b"l");
     }

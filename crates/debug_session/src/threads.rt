@@ -3,7 +3,9 @@ ghost use Rattle.std.specs.Prelude.{◌≡◌, ◌≤◌, ◌<◌, ◌+◌, ◌+
 ghost use Rattle.osek_scheduler.specs.declared.state.TaskState.TheVariants as mode;
 ghost use Rattle.sloth_base.specs.Limits.{task_limit};
 ghost use Rattle.debug_session.specs.Texts.{up_to, hex_number};
-ghost use Rattle.debug_session.specs.Replies.{machine_text, task_text, thread_text, thread_name, words_text, thread_element, threads_head, threads_text, number_text, thread_list, task_line, states_text};
+ghost use Rattle.debug_session.specs.Replies.{machine_text, task_text, thread_text, thread_name, words_text};
+ghost use Rattle.debug_session.specs.Replies.{thread_element, threads_head, threads_text, number_text, thread_list};
+ghost use Rattle.debug_session.specs.Replies.{task_line, states_text};
 
 use crate::texts::{push, push_number, push_state};
 use debug_ways::shown::{Seen, View};
@@ -12,7 +14,6 @@ use sloth_base::{Name, Result, TASK_LIMIT};
 use text_pieces::line;
 use text_pieces::pieces::Piece::{Number, Word};
 
-// Puts what the machine is.
 #[tactic(auto, unfolding(crate::specs::Replies::machine_text))]
 fn push_machine(out: &mut Vec<u8>, view: &View) -> Result<()>
     ensures { OnOk result (out.new.items ≡ out.old.items ++ machine_text view.now) }
@@ -25,7 +26,7 @@ fn push_machine(out: &mut Vec<u8>, view: &View) -> Result<()>
 }
 
 // The state of a task; an unused place has Suspended.
-fn state_at(states: &[TaskState; TASK_LIMIT], task: usize) -> TaskState
+fn task_state(states: &[TaskState; TASK_LIMIT], task: usize) -> TaskState
     ensures { result ≡ get_or states.now task mode.Suspended }
 {
     if task < TASK_LIMIT {
@@ -35,14 +36,13 @@ fn state_at(states: &[TaskState; TASK_LIMIT], task: usize) -> TaskState
     }
 }
 
-// Puts what a task is.
 #[tactic(auto, unfolding(crate::specs::Replies::task_text))]
 fn push_task(out: &mut Vec<u8>, seen: &Option<Seen>, task: u32) -> Result<()>
     ensures { OnOk result (out.new.items ≡ out.old.items ++ task_text seen.now task) }
 {
     match seen {
         Some(seen) => {
-            let state = state_at(&seen.states, task as usize);
+            let state = task_state(&seen.states, task as usize);
             if u64::from(seen.running) == u64::from(task) + 1 {
                 push_state(out, b"running", state)
             } else {
@@ -53,7 +53,6 @@ fn push_task(out: &mut Vec<u8>, seen: &Option<Seen>, task: u32) -> Result<()>
     }
 }
 
-// Puts what a thread is.
 fn push_thread(out: &mut Vec<u8>, view: &View, thread: u32) -> Result<()>
     ensures { OnOk result (out.new.items ≡ out.old.items ++ thread_text view.now thread) }
 {
@@ -64,7 +63,6 @@ fn push_thread(out: &mut Vec<u8>, view: &View, thread: u32) -> Result<()>
     }
 }
 
-// The name of a thread.
 fn thread_name<'a>(names: &'a [Name], thread: u32) -> &'a [u8]
     ensures { result.now ≡ thread_name names.now thread }
 {
@@ -89,7 +87,8 @@ pub fn push_words(out: &mut Vec<u8>, view: &View, names: &[Name], thread: u32) -
 // Puts an element of the list of threads in front of its state.
 fn push_head(out: &mut Vec<u8>, names: &[Name], thread: u32) -> Result<()>
     ensures { OnOk result (out.new.items
-        ≡ out.old.items ++ (codes "<thread id=\"" ++ hex_number thread ++ codes "\" name=\"" ++ thread_name names.now thread ++ codes "\">")) }
+        ≡ out.old.items ++ (codes "<thread id=\"" ++ hex_number thread ++ codes "\" name=\""
+        ++ thread_name names.now thread ++ codes "\">")) }
 {
     push(out, b"<thread id=\"")?;
     push_number(out, thread)?;
@@ -97,7 +96,6 @@ fn push_head(out: &mut Vec<u8>, names: &[Name], thread: u32) -> Result<()>
     Ok(())
 }
 
-// Puts an element of the list of threads.
 #[tactic(auto, unfolding(crate::specs::Replies::thread_element))]
 fn push_element(out: &mut Vec<u8>, view: &View, names: &[Name], thread: u32) -> Result<()>
     ensures { OnOk result (out.new.items ≡ out.old.items ++ thread_element view.now names.now thread) }
@@ -107,9 +105,9 @@ fn push_element(out: &mut Vec<u8>, view: &View, names: &[Name], thread: u32) -> 
     push(out, b"</thread>\n")
 }
 
-// Puts the elements of so many threads.
 fn push_elements(out: &mut Vec<u8>, view: &View, names: &[Name], threads: u32) -> Result<()>
-    ensures { OnOk result (out.new.items ≡ out.old.items ++ up_to (λ place. thread_element view.now names.now (place + 1)) threads) }
+    ensures { OnOk result (out.new.items
+        ≡ out.old.items ++ up_to (λ place. thread_element view.now names.now (place + 1)) threads) }
 {
     for place in 0..threads {
         push_element(out, view, names, place + 1)?;
@@ -117,7 +115,6 @@ fn push_elements(out: &mut Vec<u8>, view: &View, names: &[Name], threads: u32) -
     Ok(())
 }
 
-// What stands in front of the list of threads.
 #[tactic(auto, unfolding(crate::specs::Replies::threads_head))]
 fn threads_head() -> &'static [u8]
     ensures { result.now ≡ threads_head }
@@ -156,7 +153,6 @@ pub fn push_thread_list(out: &mut Vec<u8>, tasks: u32) -> Result<()>
     push_numbers(out, tasks)
 }
 
-// Puts the line of a task's state.
 #[tactic(auto, unfolding(crate::specs::Replies::task_line))]
 fn push_task_line(
     out: &mut Vec<u8>,
@@ -173,7 +169,6 @@ fn push_task_line(
     push(out, b"\n")
 }
 
-// Puts the lines of all tasks' states.
 fn push_task_lines(
     out: &mut Vec<u8>,
     names: &[Name],

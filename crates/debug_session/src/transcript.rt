@@ -27,12 +27,14 @@ impl Transcript {
 
     /// The next byte of an input, or none at its end.
     pub fn next<I: Input>(&mut self, input: &mut I) -> Result<Option<u8>, InputFault>
-        ensures byte { IfOk result (λ next. IfSome next (λ byte. Gives (I.coming input.old) (I.coming input.new) (byte ∷ []))) }
+        ensures byte { IfOk result (λ next. IfSome next (λ byte. Gives (I.coming input.old) (I.coming input.new) (byte
+            ∷ []))) }
         ensures end { IfOk result (λ next. IfNone next (Ends (I.coming input.old) (I.coming input.new) false)) }
         ensures err { OnErr result (Ends (I.coming input.old) (I.coming input.new) true) }
         ensures given { IfOk result (λ next. I.given input.new ≡ I.given input.old ++ option_to_list next) }
         ensures kept_given { OnErr result (I.given input.new ≡ I.given input.old) }
-        ensures noted { IfOk result (λ next. self.new.notes.items ≡ self.old.notes.items ++ Read (option_to_list next) ∷ []) }
+        ensures noted { IfOk result (λ next. self.new.notes.items
+            ≡ self.old.notes.items ++ Read (option_to_list next) ∷ []) }
         ensures noted_fault { OnErr result (self.new.notes.items ≡ self.old.notes.items ++ Read [] ∷ []) }
     {
         let next = input.next();
@@ -45,7 +47,7 @@ impl Transcript {
     }
 
     /// Puts what is due, and hands it on.
-    pub fn hand_on<S: Sink>(&mut self, out: &mut S, due: &[u8]) -> Result<(), SinkFault>
+    pub fn deliver<S: Sink>(&mut self, out: &mut S, due: &[u8]) -> Result<(), SinkFault>
         ensures whole { OnOk result (S.seen out.new ≡ output_with (S.seen out.old) due.now) }
         ensures part { OnErr result (GainsPart (S.seen out.old) (S.seen out.new) due.now) }
         ensures passed { OnOk result (S.passed_on out.old → S.passed_on out.new) }
@@ -56,16 +58,9 @@ impl Transcript {
             self.notes = self.notes.with_write(due);
             return Ok(());
         }
-        match out.put(due) {
-            Ok(()) => {}
-            Err(fault) => return Err(fault),
-        }
-        match out.flush() {
-            Ok(()) => {
-                self.notes = self.notes.with_write(due);
-                Ok(())
-            }
-            Err(fault) => Err(fault),
-        }
+        out.put(due)?;
+        out.flush()?;
+        self.notes = self.notes.with_write(due);
+        Ok(())
     }
 }

@@ -1,15 +1,16 @@
 //! Parts of the data of packets.
 ghost use Rattle.std.specs.Prelude.{◌≡◌, ◌==◌, IfSome, IfNone, Some, None, length};
 ghost use Rattle.std.specs.List.{take_while, position_or_len};
-ghost use Rattle.debug_session.specs.Words.{behind, window_of, thread_in, trimmed, first_word, further_words, count_from, count_in};
+ghost use Rattle.debug_session.specs.Words.{behind, told_window, thread_number, trimmed, first_word, further_words};
+ghost use Rattle.debug_session.specs.Words.{count_from, told_count};
 
 use crate::hex::number;
-use crate::request::Window;
+use crate::replies::Window;
 use sloth_base::COUNT_LIMIT;
 use text_pieces::{after, before, same};
 
 // How many bytes stand in front of the first such byte, or all.
-fn place_of(text: &[u8], mark: u8) -> usize
+fn mark_place(text: &[u8], mark: u8) -> usize
     ensures { result ≡ position_or_len (λ byte. byte == mark) text.now }
 {
     text.iter().take_while(|byte| **byte != mark).count()
@@ -20,7 +21,7 @@ pub fn behind(text: &[u8], mark: u8) -> Option<&[u8]>
     ensures some { IfSome result (λ rest. behind mark text.now ≡ Some rest.now) }
     ensures none { IfNone result (behind mark text.now ≡ None) }
 {
-    let place = place_of(text, mark);
+    let place = mark_place(text, mark);
     if place < text.len() {
         Some(after(text, place + 1))
     } else {
@@ -29,8 +30,8 @@ pub fn behind(text: &[u8], mark: u8) -> Option<&[u8]>
 }
 
 /// Two numbers with a comma between, if the text is such.
-pub fn window_of(text: &[u8]) -> Option<Window>
-    ensures { result ≡ window_of text.now }
+pub fn told_window(text: &[u8]) -> Option<Window>
+    ensures { result ≡ told_window text.now }
 {
     let from = number(before(text, b','));
     match behind(text, b',') {
@@ -43,8 +44,8 @@ pub fn window_of(text: &[u8]) -> Option<Window>
 }
 
 /// The thread that a text tells, of so many tasks, or 0 for any. Errors: 1 where it is no number, 2 where no thread's.
-pub fn thread_in(tasks: u32, text: &[u8]) -> Result<u32, u8>
-    ensures { result ≡ thread_in tasks text.now }
+pub fn thread_number(tasks: u32, text: &[u8]) -> Result<u32, u8>
+    ensures { result ≡ thread_number tasks text.now }
 {
     if same(text, b"-1") {
         return Ok(0);
@@ -61,14 +62,12 @@ pub fn thread_in(tasks: u32, text: &[u8]) -> Result<u32, u8>
     }
 }
 
-// How many spaces stand in front.
 fn spaces(text: &[u8]) -> usize
     ensures { result ≡ length (take_while (λ byte. byte == 32) text.now) }
 {
     text.iter().take_while(|byte| **byte == b' ').count()
 }
 
-// The bytes without the spaces in front.
 fn trimmed(text: &[u8]) -> &[u8]
     ensures { result.now ≡ trimmed text.now }
 {
@@ -90,7 +89,7 @@ pub fn further_words(text: &[u8]) -> &[u8]
 }
 
 // The number of decimal digits; beyond 1,000,000 it stays.
-fn count_of(text: &[u8]) -> Option<u32>
+fn capped_count(text: &[u8]) -> Option<u32>
     ensures { result ≡ count_from 0 text.now }
 {
     let mut value = 0u32;
@@ -108,13 +107,13 @@ fn count_of(text: &[u8]) -> Option<u32>
 }
 
 /// The count that a word tells, if it is one up to 1,000,000.
-pub fn count_in(text: &[u8]) -> Option<u32>
-    ensures { result ≡ count_in text.now }
+pub fn told_count(text: &[u8]) -> Option<u32>
+    ensures { result ≡ told_count text.now }
 {
     if text.is_empty() {
         return None;
     }
-    match count_of(text) {
+    match capped_count(text) {
         Some(count) => {
             if count <= COUNT_LIMIT {
                 Some(count)

@@ -2,13 +2,11 @@
 ghost use Rattle.std.specs.Prelude.{◌≡◌, ◌++◌, OnOk};
 ghost use Rattle.debug_session.specs.Framing.{checksum, packet_of, framed};
 
-use crate::escapes::push_escaped;
-use crate::hex::digit_of;
+use crate::hex::{hex_digit, push_escaped};
 use sloth_base::Result;
 use std::alloc::Global;
 
-// The sum of bytes, modulo 256.
-fn sum_of(bytes: &[u8]) -> u8
+fn checksum(bytes: &[u8]) -> u8
     ensures { result ≡ checksum bytes.now }
 {
     let mut sum = 0u8;
@@ -22,10 +20,10 @@ fn sum_of(bytes: &[u8]) -> u8
 fn push_between(out: &mut Vec<u8>, bytes: &[u8]) -> Result<()>
     ensures { OnOk result (out.new.items ≡ out.old.items ++ packet_of bytes.now) }
 {
-    let sum = sum_of(bytes);
+    let sum = checksum(bytes);
     out.extend_from_slice(b"$")?;
     out.extend_from_slice(bytes)?;
-    out.extend_from_slice(&[b'#', digit_of(sum / 16), digit_of(sum % 16)])?;
+    out.extend_from_slice(&[b'#', hex_digit(sum / 16), hex_digit(sum % 16)])?;
     Ok(())
 }
 

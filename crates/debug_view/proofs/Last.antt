@@ -5,7 +5,7 @@ use Rattle.std.specs.Option.{option_or}
 use Rattle.sloth_base.specs.Owners.{owners_in}
 use Rattle.sloth_base.specs.declared.app.App.{App}
 use Rattle.sloth_base.specs.declared.config.Config.{Config}
-use Rattle.sloth_base.specs.declared.event.Arrival.{Arrival}
+use Rattle.sloth_base.specs.declared.service.Arrival.{Arrival}
 use Rattle.sloth_base.specs.declared.image.Image.{Image}
 use Rattle.rv32_instr.specs.Memory.{memory_of}
 use Rattle.rv32_machine.specs.Run.{state_with_arrivals}
@@ -16,7 +16,7 @@ use Rattle.sim_induction.specs.Sound.{AreComing, events_of, stands_before}
 use Rattle.sim_laws.specs.TaskStates.{HasTaskStates}
 use Rattle.sloth_inspect.proofs.Places.{state_at_place}
 use Rattle.sloth_runner.specs.TaskStates.{AreLastStates, IsLast, image_states, task_states, running_task}
-use Rattle.sloth_runner.specs.declared.machine_states.Seen.{Seen}
+use Rattle.sloth_runner.specs.declared.task_states.Seen.{Seen}
 use Rattle.sloth_runner.proofs.RunStates.{last-behind}
 use Rattle.debug_view.specs.ShownRun.{run_of}
 use Rattle.debug_view.specs.States.{state_at, open_at}

@@ -3,3 +3,12 @@ pub mod Running
 pub mod Standing
 pub mod SinkTexts
 pub mod Last
+pub mod Values
+pub mod Open
+pub mod RightNumbers
+pub mod Table
+pub mod Images
+pub mod ContextChains
+pub mod Places
+pub mod TaskRegisters
+pub mod RegisterImages

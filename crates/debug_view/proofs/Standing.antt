@@ -8,9 +8,9 @@ use Rattle.sloth_base.specs.Machine.{State}
 use Rattle.sloth_base.specs.Arrivals.{moments, AreRisingMoments, AreArrivals}
 use Rattle.sloth_base.specs.Arrive.{state_arrive}
 use Rattle.sloth_base.specs.declared.image.Image.{Image}
-use Rattle.sloth_base.specs.declared.event.Arrival.{Arrival}
-use Rattle.sloth_base.specs.declared.step.Step.{Step}
-use Rattle.sloth_base.specs.declared.lines.Owners.{Owners}
+use Rattle.sloth_base.specs.declared.service.Arrival.{Arrival}
+use Rattle.sloth_base.specs.declared.numbers.Step.{Step}
+use Rattle.sloth_base.specs.declared.numbers.Owners.{Owners}
 use Rattle.sloth_base.specs.ImageRange.{InFormat}
 use Rattle.sloth_base.specs.Owners.{owners_named, IsOwned}
 use Rattle.sloth_base.specs.Limits.{task_limit, counter_limit, count_limit}
@@ -18,7 +18,7 @@ use Rattle.sloth_base.specs.MemoryMap.{line_count}
 use Rattle.sloth_base.proofs.Owners.{owned_below}
 use Rattle.observe.specs.Progress.{arrivals_from, arrivals_due, arrivals_behind}
 use Rattle.observe.proofs.Moments.{here-from, behind-from, from-later, moments-later}
-use Rattle.rv32_instr.specs.declared.stop.Stop.{Stop}
+use Rattle.rv32_instr.specs.declared.effect.Stop.{Stop}
 use Rattle.rv32_instr.specs.Memory.{memory_of}
 use Rattle.rv32_machine.specs.Start.{start}
 use Rattle.rv32_machine.specs.Advance.{Goes, Halts, advance}

@@ -5,3 +5,6 @@ pub mod ShownRun
 pub mod Standing
 pub mod States
 pub mod ShownStates
+pub mod RightValues
+pub mod RightFiles
+pub mod TaskRegisters

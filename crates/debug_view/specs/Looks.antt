@@ -6,7 +6,7 @@ use Rattle.sloth_base.specs.Take.{line_to_take, execution_state}
 use Rattle.sloth_base.specs.Arithmetic.{size_of}
 use Rattle.sloth_base.specs.declared.app.Width.TheVariants as width
 use Rattle.rv32_instr.specs.declared.csr.TheConstants.{MSTATUS}
-use Rattle.rv32_instr.specs.declared.stop.Bad.{Bad}
+use Rattle.rv32_instr.specs.declared.effect.Bad.{Bad}
 use Rattle.rv32_instr.specs.declared.effect.Change.{Change}
 use Rattle.rv32_instr.specs.declared.effect.Change.TheVariants.{Keep, Replace, Set, Clear}
 use Rattle.rv32_instr.specs.declared.effect.Effect.{Effect}
@@ -16,8 +16,8 @@ use Rattle.rv32_instr.specs.Effect.{effect}
 use Rattle.rv32_instr.specs.Table.{Decode}
 use Rattle.rv32_instr.specs.Memory.{Memory, memory_of, refusal, loaded_number}
 use Rattle.sloth_inspect.specs.States.{running_number_in}
-use Rattle.debug_ways.specs.declared.look.Access.{Access}
-use Rattle.debug_ways.specs.declared.look.Look.{Look}
+use Rattle.debug_ways.specs.declared.wanted.Access.{Access}
+use Rattle.debug_ways.specs.declared.wanted.Look.{Look}
 
 -- ---- the instruction
 
@@ -31,20 +31,20 @@ abbrev pub fetched_instr : Memory → ℕ → Option InstrKind
 fetched_instr memory address = unless_refused (refusal memory address width.Word) (Decode (loaded_number memory address width.Word))
 
 -- what an instruction does, if it is one
-abbrev pub effect_by : Option InstrKind → (pc : ℕ) → (registers : List ℕ) → Option Effect
-effect_by None pc registers = None
-effect_by (Some kind) pc registers = Some (effect kind pc registers)
+abbrev pub instr_effect : Option InstrKind → (pc : ℕ) → (registers : List ℕ) → Option Effect
+instr_effect None pc registers = None
+instr_effect (Some kind) pc registers = Some (effect kind pc registers)
 
 -- what the next instruction does, which is a vector word where a line is taken before it
 abbrev pub effect_of : State → Option Effect
 effect_of state =
-    effect_by (fetched_instr (memory_of state.core) (execution_state state).pc) (execution_state state).pc state.core.registers
+    instr_effect (fetched_instr (memory_of state.core) (execution_state state).pc) (execution_state state).pc state.core.registers
 
 -- the load or store that an effect is
-abbrev pub access_of : Option Effect → Option Access
-access_of (Some (Load width rd address)) = Some (record { address = address; length = size_of width; stores = false })
-access_of (Some (Store width address value)) = Some (record { address = address; length = size_of width; stores = true })
-access_of _ = None
+abbrev pub effect_access : Option Effect → Option Access
+effect_access (Some (Load width rd address)) = Some (record { address = address; length = size_of width; stores = false })
+effect_access (Some (Store width address value)) = Some (record { address = address; length = size_of width; stores = true })
+effect_access _ = None
 
 -- MIE, which is 1, stays so behind a change of mstatus
 abbrev pub change_keeps_open : Change → Bool
@@ -76,17 +76,17 @@ abbrev pub named : (tasks number : ℕ) → ℕ
 named tasks number = if nat_le number tasks then number else 0
 
 -- that of the one that runs; in a stretch that began before this count the number that stood at its beginning
-abbrev pub running_in : (tasks : ℕ) → (began : Option ℕ) → State → ℕ
-running_in tasks began state = named tasks (unwrap_or began (running_number_in (memory_of state.core)))
+abbrev pub running_code : (tasks : ℕ) → (began : Option ℕ) → State → ℕ
+running_code tasks began state = named tasks (unwrap_or began (running_number_in (memory_of state.core)))
 
 -- ---- all of it
 
-abbrev pub look_of : (tasks : ℕ) → (began open_count : Option ℕ) → State → Look
-look_of tasks began open_count state = record {
+abbrev pub machine_look : (tasks : ℕ) → (began open_count : Option ℕ) → State → Look
+machine_look tasks began open_count state = record {
   pc = (execution_state state).pc;
-  running = running_in tasks began state;
+  running = running_code tasks began state;
   masked = not (is_plain state);
   serves = is_opening state;
-  access = access_of (effect_of state);
+  access = effect_access (effect_of state);
   open_count = open_count;
 }

@@ -10,7 +10,7 @@ use Rattle.rv32_instr.specs.Execute.{csr_value}
 use Rattle.rv32_instr.specs.Memory.{memory_of, refusal, loaded_number}
 use Rattle.sloth_inspect.specs.States.{running_number_in}
 use Rattle.debug_view.specs.Contexts.{unless_bad, kept_register}
-use Rattle.debug_view.specs.Looks.{named, running_in}
+use Rattle.debug_view.specs.Looks.{named, running_code}
 
 -- the CSR of a register's number: 33 to 37
 abbrev pub csr_number : ℕ → ℕ
@@ -39,7 +39,7 @@ machine_register state number = executed_register (execution_state state) number
 -- the registers of a thread are those of the machine: it is the machine itself, or what runs, or the task that stands as the running one in memory
 abbrev pub is_live : (tasks : ℕ) → (began : Option ℕ) → State → (thread : ℕ) → Bool
 is_live tasks began state thread =
-    thread == 1 || (named tasks (running_number_in (memory_of state.core)) + 1 == thread || running_in tasks began state + 1 == thread)
+    thread == 1 || (named tasks (running_number_in (memory_of state.core)) + 1 == thread || running_code tasks began state + 1 == thread)
 
 -- a register of a thread, where it is known
 abbrev pub thread_register : (tasks : ℕ) → (began : Option ℕ) → State → (thread number : ℕ) → Option ℕ

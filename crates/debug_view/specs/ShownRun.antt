@@ -1,24 +1,24 @@
 -- A run of an image, as it is shown.
 use Rattle.std.specs.Prelude.{ℕ, List, length, Option}
 use Rattle.std.specs.Option.{option_map}
-use Rattle.sloth_base.specs.declared.event.Arrival.{Arrival}
+use Rattle.sloth_base.specs.declared.service.Arrival.{Arrival}
 use Rattle.sloth_base.specs.declared.image.Image.{Image}
 use Rattle.sloth_base.specs.Take.{execution_state}
 use Rattle.rv32_instr.specs.Memory.{memory_of}
 use Rattle.rv32_machine.specs.Run.{Stopping}
 use Rattle.sloth_inspect.specs.States.{states_in}
-use Rattle.trace_text.specs.declared.printing.Form.TheVariants as form
+use Rattle.trace_text.specs.declared.summary.Form.TheVariants as form
 use Rattle.sloth_runner.specs.Runner.{run_text}
 use Rattle.debug_ways.specs.Runs.{Run}
 use Rattle.debug_view.specs.States.{state_at, stop_at, stop_within, end_at, end_stop, began_at, open_at}
-use Rattle.debug_view.specs.Looks.{look_of}
+use Rattle.debug_view.specs.Looks.{machine_look}
 use Rattle.debug_view.specs.Registers.{thread_register, shown_byte}
 
 abbrev pub run_of : Image → List Arrival → Run
 run_of image arrivals = record {
   end = end_at image arrivals;
   stop = end_stop image arrivals;
-  look = λ count. look_of (length image.tasks) (began_at image arrivals count) (open_at image arrivals count) (state_at image arrivals count);
+  look = λ count. machine_look (length image.tasks) (began_at image arrivals count) (open_at image arrivals count) (state_at image arrivals count);
   states = λ count. states_in (memory_of (state_at image arrivals count).core) (length image.tasks);
   register = λ count thread number. thread_register (length image.tasks) (began_at image arrivals count) (state_at image arrivals count) thread number;
   byte = λ count address. shown_byte (state_at image arrivals count) address;

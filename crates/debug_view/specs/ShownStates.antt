@@ -1,11 +1,11 @@
 -- What a run shows last of its tasks.
 use Rattle.std.specs.Prelude.{ℕ, List, Option}
 use Rattle.std.specs.Option.{option_map}
-use Rattle.sloth_base.specs.declared.event.Arrival.{Arrival}
+use Rattle.sloth_base.specs.declared.service.Arrival.{Arrival}
 use Rattle.sloth_base.specs.declared.image.Image.{Image}
 use Rattle.rv32_instr.specs.Memory.{memory_of}
 use Rattle.sloth_inspect.specs.States.{running_number_in}
-use Rattle.sloth_runner.specs.declared.machine_states.Seen.{Seen}
+use Rattle.sloth_runner.specs.declared.task_states.Seen.{Seen}
 use Rattle.debug_view.specs.ShownRun.{run_of}
 use Rattle.debug_view.specs.States.{state_at}
 

@@ -1,6 +1,6 @@
 -- A machine that stands at a count of a run.
 use Rattle.std.specs.Prelude.{ℕ, ◌≡◌, ◌≤◌, ◌<◌, ◌+◌, List, All, Option, None}
-use Rattle.sloth_base.specs.declared.event.Arrival.{Arrival}
+use Rattle.sloth_base.specs.declared.service.Arrival.{Arrival}
 use Rattle.sloth_base.specs.declared.image.Image.{Image}
 use Rattle.sloth_base.specs.ImageRange.{InFormat}
 use Rattle.sloth_base.specs.Arrivals.{AreArrivals}

@@ -1,11 +1,11 @@
 -- The state of a run at each of its counts.
 use Rattle.std.specs.Prelude.{ℕ, zero, suc, ◌+◌, nat_lt, Option, None, Some, List, if◌then◌else◌}
 use Rattle.std.specs.Option.{unwrap_or}
-use Rattle.sloth_base.specs.declared.event.Arrival.{Arrival}
+use Rattle.sloth_base.specs.declared.service.Arrival.{Arrival}
 use Rattle.sloth_base.specs.declared.image.Image.{Image}
 use Rattle.sloth_base.specs.Machine.{State}
 use Rattle.sloth_base.specs.Limits.{count_limit}
-use Rattle.rv32_instr.specs.declared.stop.Stop.{Stop}
+use Rattle.rv32_instr.specs.declared.effect.Stop.{Stop}
 use Rattle.rv32_instr.specs.Memory.{memory_of}
 use Rattle.rv32_machine.specs.Start.{start}
 use Rattle.rv32_machine.specs.Advance.{StepOutcome, Goes, Halts, advance}

@@ -13,7 +13,8 @@ use sloth_base::Arrival;
 // The lines of these arrivals become pending.
 fn arrive_all(machine: &mut Machine<SlothBus>, arrivals: &[Arrival])
     requires { AreLines arrivals.now }
-    ensures state { state (λ bus. bus) machine.new ≡ state_arrive (map (λ arrival. arrival.line) arrivals.now) (state (λ bus. bus) machine.old) }
+    ensures state { state (λ bus. bus) machine.new
+        ≡ state_arrive (map (λ arrival. arrival.line) arrivals.now) (state (λ bus. bus) machine.old) }
     ensures count { machine.new.count ≡ machine.old.count }
 {
     for arrival in arrivals {
@@ -25,7 +26,8 @@ fn arrive_all(machine: &mut Machine<SlothBus>, arrivals: &[Arrival])
 pub fn arrive<'a>(machine: &mut Machine<SlothBus>, coming: &'a [Arrival]) -> &'a [Arrival]
     requires lines { AreLines coming.now }
     ensures state { state (λ bus. bus) machine.new
-        ≡ state_arrive (map (λ arrival. arrival.line) (arrivals_due machine.old.count coming.now)) (state (λ bus. bus) machine.old) }
+        ≡ state_arrive (map (λ arrival. arrival.line) (arrivals_due machine.old.count coming.now))
+        (state (λ bus. bus) machine.old) }
     ensures count { machine.new.count ≡ machine.old.count }
     ensures behind { result.now ≡ arrivals_behind machine.old.count coming.now }
 {

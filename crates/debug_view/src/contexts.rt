@@ -1,7 +1,9 @@
 //! Where the registers of a task stand that does not run.
 ghost use Rattle.std.specs.Prelude.{◌≡◌, ◌<◌, ◌≤◌};
 ghost use Rattle.sloth_base.specs.Limits.{task_limit};
-ghost use Rattle.debug_view.specs.Contexts.{word_in, is_word, is_link, word_or_zero, link_in, is_whole, whole, preempted, waiting, context_in, context_register, fresh_register, kept_register};
+ghost use Rattle.debug_view.specs.Contexts.{loaded_word, is_word, is_link, word_or_zero, chain_context};
+ghost use Rattle.debug_view.specs.Contexts.{whole, preempted, waiting, task_context, context_register, fresh_register};
+ghost use Rattle.debug_view.specs.Contexts.{kept_register};
 
 use rv32_machine::{Bus, SlothBus};
 use sloth_base::{MEMORY_BASE, TASK_LIMIT, VECTORS_BASE, Width};
@@ -11,8 +13,8 @@ use sloth_region::{BELOW_WORD, CONTEXT_BELOW, CONTEXT_BYTES, CONTEXT_CUR, RESUME
 const LAST_WORD: u32 = CONTEXT_BYTES as u32 - 4;
 
 // The word at an address, where one is. The bus keeps its contents.
-fn word_in(bus: &mut SlothBus, address: u32) -> Option<u32>
-    ensures word { result ≡ word_in bus.old address }
+fn loaded_word(bus: &mut SlothBus, address: u32) -> Option<u32>
+    ensures word { result ≡ loaded_word bus.old address }
     ensures same { bus.new ≡ bus.old }
 {
     match bus.load(address, Width::Word) {
@@ -26,7 +28,7 @@ fn is_word(bus: &mut SlothBus, address: u32) -> bool
     ensures is { result ≡ is_word bus.old address }
     ensures same { bus.new ≡ bus.old }
 {
-    word_in(bus, address).is_some()
+    loaded_word(bus, address).is_some()
 }
 
 // Whether the first and the fourth word of a context stand at an address.
@@ -42,13 +44,13 @@ fn word_or_zero(bus: &mut SlothBus, address: u32) -> u32
     ensures word { result ≡ word_or_zero bus.old address }
     ensures same { bus.new ≡ bus.old }
 {
-    word_in(bus, address).unwrap_or(0)
+    loaded_word(bus, address).unwrap_or(0)
 }
 
 // The context of a task in the chain of those below, of at most so many links.
-fn link_in(bus: &mut SlothBus, links: u32, first: u32, task: u32) -> Option<u32>
+fn chain_context(bus: &mut SlothBus, links: u32, first: u32, task: u32) -> Option<u32>
     requires { task < 4294967295 }
-    ensures link { result ≡ link_in bus.old links first task }
+    ensures link { result ≡ chain_context bus.old links first task }
     ensures same { bus.new ≡ bus.old }
 {
     let mut address = first;
@@ -63,20 +65,12 @@ fn link_in(bus: &mut SlothBus, links: u32, first: u32, task: u32) -> Option<u32>
     None
 }
 
-// Whether the first and the last word of a context stand at an address.
-fn is_whole(bus: &mut SlothBus, address: u32) -> bool
-    ensures is { result ≡ is_whole bus.old address }
-    ensures same { bus.new ≡ bus.old }
-{
-    is_word(bus, address) && is_word(bus, address.wrapping_add(LAST_WORD))
-}
-
-// A context, where its words are there.
+// A context, where its first and its last word are there.
 fn whole(bus: &mut SlothBus, address: u32) -> Option<u32>
     ensures whole { result ≡ whole bus.old address }
     ensures same { bus.new ≡ bus.old }
 {
-    if is_whole(bus, address) {
+    if is_word(bus, address) && is_word(bus, address.wrapping_add(LAST_WORD)) {
         Some(address)
     } else {
         None
@@ -91,7 +85,7 @@ fn preempted(bus: &mut SlothBus, tasks: u32, task: u32) -> Option<u32>
     ensures same { bus.new ≡ bus.old }
 {
     let first = word_or_zero(bus, MEMORY_BASE + BELOW_WORD as u32);
-    match link_in(bus, tasks + 1, first, task) {
+    match chain_context(bus, tasks + 1, first, task) {
         Some(address) => whole(bus, address),
         None => None,
     }
@@ -111,10 +105,10 @@ fn waiting(bus: &mut SlothBus, task: u32) -> Option<u32>
 }
 
 // Where a task's registers stand, if they do: an Active one's below what runs, another's where it goes on from a wait.
-fn context_in(bus: &mut SlothBus, tasks: u32, task: u32) -> Option<u32>
+fn task_context(bus: &mut SlothBus, tasks: u32, task: u32) -> Option<u32>
     requires task { task < task_limit }
     requires tasks { tasks ≤ task_limit }
-    ensures context { result ≡ context_in bus.old tasks task }
+    ensures context { result ≡ task_context bus.old tasks task }
     ensures same { bus.new ≡ bus.old }
 {
     if word_or_zero(bus, MEMORY_BASE + active(task as u8) as u32) == 1 {
@@ -132,8 +126,8 @@ fn context_register(bus: &mut SlothBus, context: u32, number: u32) -> Option<u32
     match number {
         0 => Some(0),
         2 => Some(context.wrapping_add(CONTEXT_BYTES as u32)),
-        5..=31 => word_in(bus, context.wrapping_add(4 * number)),
-        32 => word_in(bus, context),
+        5..=31 => loaded_word(bus, context.wrapping_add(4 * number)),
+        32 => loaded_word(bus, context),
         _ => None,
     }
 }
@@ -159,7 +153,7 @@ pub fn kept_register(bus: &mut SlothBus, tasks: u32, task: u32, number: u32) -> 
     if task >= TASK_LIMIT as u32 {
         return None;
     }
-    match context_in(bus, tasks, task) {
+    match task_context(bus, tasks, task) {
         Some(context) => context_register(bus, context, number),
         None => fresh_register(task, number),
     }

@@ -1,10 +1,12 @@
-//! What the instruction of a count is.
-ghost use Rattle.std.specs.Prelude.{◌≡◌};
+//! What the instruction of a count is. What decides where a way through a run ends.
+ghost use Rattle.std.specs.Prelude.{◌≡◌, ◌≤◌};
 ghost use Rattle.sloth_base.specs.Arithmetic.{size_of};
 ghost use Rattle.rv32_machine.specs.State.{state};
-ghost use Rattle.debug_view.specs.Looks.{fetched_instr, effect_by, effect_of, keeps_open, change_keeps_open, access_of, is_plain};
+ghost use Rattle.debug_view.specs.Looks.{fetched_instr, instr_effect, effect_of, keeps_open, change_keeps_open, effect_access, is_plain, running_code, machine_look};
+ghost use Rattle.sloth_base.specs.Limits.{task_limit};
 
-use debug_ways::Access;
+use crate::registers::{named, running_number};
+use debug_ways::{Access, Look};
 use rv32_instr::{Change, Effect, Instr, MSTATUS};
 use rv32_machine::effect::effect;
 use rv32_machine::{Bus, Machine, SlothBus};
@@ -22,8 +24,8 @@ fn fetched_instr(bus: &mut SlothBus, address: u32) -> Option<Instr>
 }
 
 // What an instruction does, if it is one.
-fn effect_by(instr: &Option<Instr>, pc: u32, registers: &[u32; 32]) -> Option<Effect>
-    ensures { result ≡ effect_by instr.now pc registers.now }
+fn instr_effect(instr: &Option<Instr>, pc: u32, registers: &[u32; 32]) -> Option<Effect>
+    ensures { result ≡ instr_effect instr.now pc registers.now }
 {
     match instr {
         Some(instr) => Some(effect(instr.kind(), pc, registers)),
@@ -32,13 +34,13 @@ fn effect_by(instr: &Option<Instr>, pc: u32, registers: &[u32; 32]) -> Option<Ef
 }
 
 /// What the instruction of the machine's count does, if its word is one's.
-pub fn effect_at(machine: &mut Machine<SlothBus>) -> Option<Effect>
+pub fn next_effect(machine: &mut Machine<SlothBus>) -> Option<Effect>
     ensures effect { result ≡ effect_of (state (λ bus. bus) machine.old) }
     ensures same { machine.new ≡ machine.old }
 {
     let pc = machine.next_pc();
     let instr = fetched_instr(machine.bus_mut(), pc);
-    effect_by(&instr, pc, machine.registers())
+    instr_effect(&instr, pc, machine.registers())
 }
 
 // Whether MIE stays 1 behind a change of mstatus.
@@ -90,8 +92,8 @@ fn width_bytes(width: Width) -> u32
 }
 
 /// The load or store that an effect is.
-pub fn access_of(effect: &Option<Effect>) -> Option<Access>
-    ensures { result ≡ access_of effect.now }
+pub fn effect_access(effect: &Option<Effect>) -> Option<Access>
+    ensures { result ≡ effect_access effect.now }
 {
     match effect {
         Some(Effect::Load { width, address, .. }) => Some(Access {
@@ -125,4 +127,38 @@ pub fn is_plain(machine: &Machine<SlothBus>, effect: &Option<Effect>) -> bool
     machine.enabled()
         && machine.line_to_take().is_none()
         && keeps_open(effect, machine.enabled_behind_return())
+}
+
+// The number of the task that runs and 1 more, or 0.
+fn running_code(machine: &mut Machine<SlothBus>, tasks: u32, began: Option<u32>) -> u8
+    requires { tasks ≤ task_limit }
+    ensures running { result ≡ running_code tasks began (state (λ bus. bus) machine.old) }
+    ensures same { machine.new ≡ machine.old }
+{
+    let number = running_number(machine);
+    named(tasks, began.unwrap_or(number)) as u8
+}
+
+/// What is looked at of a machine of so many tasks, with what is carried along.
+pub fn machine_look(
+    machine: &mut Machine<SlothBus>,
+    tasks: u32,
+    began: Option<u32>,
+    open_count: Option<u32>,
+) -> Look
+    requires { tasks ≤ task_limit }
+    ensures look { result ≡ machine_look tasks began open_count (state (λ bus. bus) machine.old) }
+    ensures same { machine.new ≡ machine.old }
+{
+    let running = running_code(machine, tasks, began);
+    let effect = next_effect(machine);
+    let plain = is_plain(machine, &effect);
+    Look {
+        pc: machine.next_pc(),
+        running,
+        masked: !plain,
+        serves: machine.enabled() && machine.line_to_take().is_none() && !plain,
+        access: effect_access(&effect),
+        open_count,
+    }
 }

@@ -6,7 +6,7 @@ ghost use Rattle.sloth_base.specs.Arrivals.{AreArrivals};
 ghost use Rattle.sloth_base.specs.Owners.{owners_named};
 
 use crate::arriving::{arrive, began_behind, open_behind};
-use crate::looking::look_of;
+use crate::instructions::machine_look;
 use crate::registers::{running_number, shown_byte, thread_register};
 use crate::tracing::put_run_text;
 use debug_ways::{Look, Machine};
@@ -36,7 +36,11 @@ impl<'a> Model for Place<'a> {
 
     ghost Value = { Standing };
 
-    ghost view = { λ place. record { image = place.image.now; arrivals = place.arrivals.now; count = place.machine.count } };
+    ghost view = { λ place. record {
+      image = place.image.now;
+      arrivals = place.arrivals.now;
+      count = place.machine.count;
+    } };
 
     ghost invariant = { λ place. StandsAt place.image.now place.arrivals.now place.coming.now
         (state (λ bus. bus) place.machine) place.machine.count place.began place.open_count };
@@ -131,7 +135,7 @@ impl<'a> Machine for Place<'a> {
 
     fn look(&mut self) -> Look {
         let tasks = self.tasks();
-        look_of(&mut self.machine, tasks, self.began, self.open_count)
+        machine_look(&mut self.machine, tasks, self.began, self.open_count)
     }
 
     fn states(&mut self) -> [TaskState; TASK_LIMIT] {

@@ -7,7 +7,8 @@ ghost use Rattle.rv32_machine.specs.State.{state};
 ghost use Rattle.rv32_instr.specs.Memory.{memory_of};
 ghost use Rattle.sloth_inspect.specs.States.{running_number_in};
 ghost use Rattle.debug_view.specs.Looks.{named};
-ghost use Rattle.debug_view.specs.Registers.{csr_number, executed_csr, machine_register, is_live, thread_register, is_pending_byte, shown_byte};
+ghost use Rattle.debug_view.specs.Registers.{csr_number, executed_csr, machine_register, is_live, thread_register};
+ghost use Rattle.debug_view.specs.Registers.{is_pending_byte, shown_byte};
 
 use crate::contexts::kept_register;
 use rv32_instr::{ILEVEL, MEPC, MSCRATCH, MSTATUS, PLEVEL};

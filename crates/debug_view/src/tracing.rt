@@ -6,7 +6,7 @@ ghost use Rattle.sloth_base.specs.Limits.{count_limit};
 ghost use Rattle.sloth_base.specs.Owners.{owners_named};
 ghost use Rattle.sloth_io.specs.MemSink.{taken_by};
 ghost use Rattle.sloth_runner.specs.Runner.{run_text};
-ghost use Rattle.trace_text.specs.declared.printing.Form.TheVariants as form;
+ghost use Rattle.trace_text.specs.declared.summary.Form.TheVariants as form;
 
 use sloth_base::{Arrival, Image, NoMemory, Result};
 use sloth_io::MemSink;

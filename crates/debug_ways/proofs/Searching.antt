@@ -3,9 +3,9 @@ use Rattle.std.proofs.Common.{ℕ, zero, suc, ◌≡◌, ◌<◌, ◌≤◌, ◌
 use Rattle.std.proofs.Math.Dec.{leb, eqb}
 use Rattle.std.proofs.lemmas.Bool.Decides.{leb_tells, eqb_tells}
 use Rattle.std.specs.Prelude.{Option, Some, IfSome, ◌||◌, if◌then◌else◌, unwrap_or}
-use Rattle.debug_ways.specs.declared.look.Look.{Look}
+use Rattle.debug_ways.specs.declared.wanted.Look.{Look}
 use Rattle.debug_ways.specs.Runs.{Run}
-use Rattle.debug_ways.specs.Ways.{Tests, ends_ahead, ends_back, guards_before, least_behind, greatest_below, last_of, IsLeast, IsGreatest}
+use Rattle.debug_ways.specs.Ways.{Tests, ends_ahead, ends_back, guards_before, least_behind, greatest_below, last_hit, IsLeast, IsGreatest}
 
 -- ---- forward
 
@@ -31,13 +31,13 @@ if-some true k o d g e = refl
 if-some false k o d g e = e
 
 -- the greatest below the end of a window is the last in it, or the greatest below it
-pub window : (hit : ℕ → Bool) (n from : ℕ) → greatest_below hit (from + n) ≡ unwrap_or (last_of hit n from) (greatest_below hit from)
+pub window : (hit : ℕ → Bool) (n from : ℕ) → greatest_below hit (from + n) ≡ unwrap_or (last_hit hit n from) (greatest_below hit from)
 window hit zero from = ap (greatest_below hit) (add-zero from)
 window hit (suc n) from =
     ap (greatest_below hit) (add-suc from n)
-    ∙ if-some (hit (from + n)) (from + n) (last_of hit n from) (greatest_below hit from) (greatest_below hit (from + n)) (window hit n from)
+    ∙ if-some (hit (from + n)) (from + n) (last_hit hit n from) (greatest_below hit from) (greatest_below hit (from + n)) (window hit n from)
 
-pub window-of : (hit : ℕ → Bool) (from to : ℕ) (last : Option ℕ) → from ≤ to → last ≡ last_of hit (to - from) from
+pub window-of : (hit : ℕ → Bool) (from to : ℕ) (last : Option ℕ) → from ≤ to → last ≡ last_hit hit (to - from) from
     → greatest_below hit to ≡ unwrap_or last (greatest_below hit from)
 window-of hit from to last ordered is =
     let e : to ≡ from + (to - from) = omega (arith, ordered) in
@@ -163,14 +163,14 @@ least_passed r x t end from first ends is same passed below on =
     least-on (ends_ahead r t) from end below none ∙ on
 
 -- one more count of a window
-pub last_more : (hit : ℕ → Bool) (from count : ℕ) (found : Bool) (last next : Option ℕ) → from ≤ count → found ≡ hit count → last ≡ last_of hit (count - from) from
-    → next ≡ (if found then Some count else last) → next ≡ last_of hit (count + 1 - from) from
+pub last_more : (hit : ℕ → Bool) (from count : ℕ) (found : Bool) (last next : Option ℕ) → from ≤ count → found ≡ hit count → last ≡ last_hit hit (count - from) from
+    → next ≡ (if found then Some count else last) → next ≡ last_hit hit (count + 1 - from) from
 last_more hit from count found last next ordered is before e =
     let n = count - from in
     let more : count + 1 - from ≡ suc n = omega (arith, ordered) in
     let at : from + n ≡ count = omega (arith, ordered) in
     e ∙ ap (λ b. if b then Some count else last) is ∙ ap (λ (o : Option ℕ). if hit count then Some count else o) before
-    ∙ ap (λ k. if hit k then Some k else last_of hit n from) (sym at) ∙ ap (λ m. last_of hit m from) (sym more)
+    ∙ ap (λ k. if hit k then Some k else last_hit hit n from) (sym at) ∙ ap (λ m. last_hit hit m from) (sym more)
 
 pub below_more : (found : Bool) (count to : ℕ) (last next : Option ℕ) → next ≡ (if found then Some count else last) → count < to
     → IfSome last (λ k. k < to) → IfSome next (λ k. k < to)

@@ -3,7 +3,7 @@ use Rattle.std.specs.Prelude.{ℕ, ◌+◌, ◌-◌, ◌==◌, ◌&&◌, List, [
 use Rattle.std.specs.List.{slice_split, before_first, after_first}
 use Rattle.sloth_base.specs.Limits.{count_limit}
 use Rattle.debug_ways.specs.Runs.{Run}
-use Rattle.debug_ways.specs.Shown.{least_of}
+use Rattle.debug_ways.specs.Shown.{lesser}
 use Rattle.text_pieces.specs.Digits.{capped_value, value_from}
 
 -- the lines of a text; behind the last LF stands none
@@ -24,21 +24,21 @@ abbrev pub merged : List ℕ → List (List ℕ)
 merged text = merged_from false (whole_lines text)
 
 -- lines, each with its LF
-abbrev pub text_of : List (List ℕ) → List ℕ
-text_of [] = []
-text_of (line ∷ lines) = (line ++ 10 ∷ []) ++ text_of lines
+abbrev pub lines_text : List (List ℕ) → List ℕ
+lines_text [] = []
+lines_text (line ∷ lines) = (line ++ 10 ∷ []) ++ lines_text lines
 
 -- the lines on each side
 abbrev pub side : ℕ
 side = 8
 
 -- the count at which the event of a line ends, which is its second one
-abbrev pub end_of : List ℕ → ℕ
-end_of line = capped_value (value_from 10 0 (before_first (λ b. b == 32) (after_first (λ b. b == 32) line)))
+abbrev pub end_count : List ℕ → ℕ
+end_count line = capped_value (value_from 10 0 (before_first (λ b. b == 32) (after_first (λ b. b == 32) line)))
 
 -- the event of a line ends before a count, or does not, where the other lines are asked for
 abbrev pub is_aside : (before : Bool) → (count : ℕ) → List ℕ → Bool
-is_aside before count line = if before then not (nat_lt (end_of line) count) else nat_lt (end_of line) count
+is_aside before count line = if before then not (nat_lt (end_count line) count) else nat_lt (end_count line) count
 
 -- the lines of events that end before a count, or those of the others
 abbrev pub sided : (before : Bool) → (count : ℕ) → List (List ℕ) → List (List ℕ)
@@ -47,10 +47,10 @@ sided before count (line ∷ lines) = if is_aside before count line then sided b
 
 -- the last of those that end before a count, and the first of the others
 abbrev pub front_text : ℕ → List (List ℕ) → List ℕ
-front_text count lines = text_of (drop (length (sided true count lines) - side) (sided true count lines))
+front_text count lines = lines_text (drop (length (sided true count lines) - side) (sided true count lines))
 
 abbrev pub rest_text : ℕ → List (List ℕ) → List ℕ
-rest_text count lines = text_of (take side (sided false count lines))
+rest_text count lines = lines_text (take side (sided false count lines))
 
 -- of a text the last lines of events that end before a count, the count, and the first lines of the others
 abbrev pub around : (text : List ℕ) → (count : ℕ) → List ℕ
@@ -62,4 +62,4 @@ trace_counts = 1000
 
 -- the lines of the events around a count
 abbrev pub events_text : Run → ℕ → List ℕ
-events_text run count = around (run.trace (least_of count_limit (count + trace_counts))) count
+events_text run count = around (run.trace (lesser count_limit (count + trace_counts))) count

@@ -1,6 +1,6 @@
 -- Breakpoints and watchpoints.
 use Rattle.std.specs.Prelude.{ℕ, ◌+◌, ◌==◌, ◌&&◌, ◌||◌, nat_lt, List, filter, [], ◌∷◌, ◌++◌, Option, None, Some, Bool, false, not, length, if◌then◌else◌}
-use Rattle.debug_ways.specs.declared.look.Access.{Access}
+use Rattle.debug_ways.specs.declared.wanted.Access.{Access}
 use Rattle.debug_ways.specs.declared.points.Point.{Point}
 use Rattle.debug_ways.specs.declared.points.Watch.{Watch}
 
@@ -14,9 +14,9 @@ is_among point [] = false
 is_among point (other ∷ points) = is_point point other || is_among point points
 
 -- the kind of the first breakpoint at an address
-abbrev pub break_at : List Point → ℕ → Option ℕ
-break_at [] pc = None
-break_at (point ∷ points) pc = if nat_lt point.kind 2 && point.address == pc then Some point.kind else break_at points pc
+abbrev pub breakpoint_kind : List Point → ℕ → Option ℕ
+breakpoint_kind [] pc = None
+breakpoint_kind (point ∷ points) pc = if nat_lt point.kind 2 && point.address == pc then Some point.kind else breakpoint_kind points pc
 
 -- a watchpoint is for such an access: 2 for stores, 3 for loads, 4 for both
 abbrev pub is_for : Point → Access → Bool
@@ -28,19 +28,19 @@ meets point access =
     is_for point access && (nat_lt access.address (point.address + point.length) && nat_lt point.address (access.address + access.length))
 
 -- the greater one
-abbrev pub later_of : ℕ → ℕ → ℕ
-later_of one other = if nat_lt one other then other else one
+abbrev pub greater : ℕ → ℕ → ℕ
+greater one other = if nat_lt one other then other else one
 
 -- the first watchpoint that an access meets, with the first address that they have in common
-abbrev pub watch_at : List Point → Access → Option Watch
-watch_at [] access = None
-watch_at (point ∷ points) access =
-    if meets point access then Some (record { kind = point.kind; address = later_of point.address access.address }) else watch_at points access
+abbrev pub first_watch : List Point → Access → Option Watch
+first_watch [] access = None
+first_watch (point ∷ points) access =
+    if meets point access then Some (record { kind = point.kind; address = greater point.address access.address }) else first_watch points access
 
 -- that of an instruction, which may be no access
 abbrev pub watched : List Point → Option Access → Option Watch
 watched points None = None
-watched points (Some access) = watch_at points access
+watched points (Some access) = first_watch points access
 
 -- the most points that there may be
 abbrev pub point_limit : ℕ

@@ -1,6 +1,6 @@
 -- Where a session stands but for its points, and what steps and continues make of it.
 use Rattle.std.specs.Prelude.{ℕ, ◌==◌, ◌&&◌, ◌||◌, nat_le, nat_lt, not, List, Bool, true, false, is_some, is_none, if◌then◌else◌}
-use Rattle.debug_ways.specs.declared.look.Look.{Look}
+use Rattle.debug_ways.specs.declared.wanted.Look.{Look}
 use Rattle.debug_ways.specs.Runs.{Run}
 use Rattle.debug_ways.specs.Ways.{ahead}
 use Rattle.debug_ways.specs.declared.points.Point.{Point}
@@ -12,8 +12,8 @@ use Rattle.debug_ways.specs.declared.wanted.Target.TheVariants as targets
 use Rattle.debug_ways.specs.declared.wanted.Cause.{Cause}
 use Rattle.debug_ways.specs.declared.wanted.Cause.TheVariants as causes
 use Rattle.debug_ways.specs.declared.wanted.Passage.{Passage}
-use Rattle.debug_ways.specs.Points.{break_at}
-use Rattle.debug_ways.specs.Causes.{Wish, thread_of, is_own, tests_of, passage}
+use Rattle.debug_ways.specs.Points.{breakpoint_kind}
+use Rattle.debug_ways.specs.Causes.{Wish, running_thread, is_own, wish_tests, passage}
 
 -- a session that has begun
 abbrev pub begun : Standing
@@ -30,7 +30,7 @@ begun = record {
 
 -- the thread that a stop reply names, where this is seen of the count
 abbrev pub told_thread : Told → Look → ℕ
-told_thread told look = if told.thread == 0 then thread_of look else told.thread
+told_thread told look = if told.thread == 0 then running_thread look else told.thread
 
 -- it becomes the one that is shown and the one that stopped
 abbrev pub selected : Standing → Look → Standing
@@ -48,14 +48,14 @@ interrupted standing thread = record standing { told = record { cause = causes.I
 
 -- a step that is alone stays where it is: its thread is a task that does not run
 abbrev pub stays : Step → Look → Bool
-stays step look = step.alone && (nat_le 2 step.thread && not (thread_of look == step.thread))
+stays step look = step.alone && (nat_le 2 step.thread && not (running_thread look == step.thread))
 
 -- What a step goes to. A task is stepped by its own instructions, but for one in whose service the kernel works; the idle loop is one step.
 abbrev pub step_target : Step → Look → Target
 step_target step look =
     if step.alone || step.thread == 0 then targets.Each
     else if step.thread == 1 then (if is_own 1 look then targets.Busy else targets.Each)
-    else if is_own step.thread look || not (thread_of look == step.thread) then targets.Own step.thread
+    else if is_own step.thread look || not (running_thread look == step.thread) then targets.Own step.thread
     else targets.Each
 
 abbrev pub is_told_anywhere : Cause → Bool
@@ -87,15 +87,15 @@ abbrev pub is_elsewhere : Step → ℕ → Bool
 is_elsewhere step thread = not (step.thread == 0) && not (thread == step.thread)
 
 -- what is told of a step that ended so on this thread
-abbrev pub told_by : Step → ℕ → Cause → Told
-told_by step thread cause =
+abbrev pub step_told : Step → ℕ → Cause → Told
+step_told step thread cause =
     if step.alone && (is_elsewhere step thread && not (is_told_anywhere cause)) then record { cause = causes.Step; thread = step.thread; other = false }
     else if is_step cause then record { cause = cause; thread = 0; other = not step.alone && is_elsewhere step thread }
     else record { cause = cause; thread = if step.alone then step.thread else 0; other = false }
 
 -- the points and the target of a step; one that is alone or goes back goes through no addresses
-abbrev pub wish_of_step : List Point → Step → Look → Wish
-wish_of_step points step look = record {
+abbrev pub step_wish : List Point → Step → Look → Wish
+step_wish points step look = record {
   points = points;
   target = step_target step look;
   from = if step.alone || step.backwards then 0 else step.from;
@@ -124,11 +124,11 @@ service_wish points thread pc = record { points = points; target = targets.Behin
 -- a way from the first count of a service on leads to where the thread goes on, and no point and not the address lies between
 abbrev pub service_end : Run → List Point → (thread start found : ℕ) → ℕ
 service_end run points thread start found =
-    if not (found == start) && (is_none (break_at points (run.look found).pc) && is_own thread (run.look found)) then found else start
+    if not (found == start) && (is_none (breakpoint_kind points (run.look found).pc) && is_own thread (run.look found)) then found else start
 
 abbrev pub service_count : Run → List Point → (thread pc start : ℕ) → ℕ
 service_count run points thread pc start =
-    service_end run points thread start (ahead run (tests_of (service_wish points thread pc)) start)
+    service_end run points thread start (ahead run (wish_tests (service_wish points thread pc)) start)
 
 -- the count that a step leads to
 abbrev pub stepped_count : Run → List Point → Step → (first : Look) → Passage → ℕ
@@ -141,7 +141,7 @@ stepped_count run points step first there =
 abbrev pub arrived : Run → List Point → Step → Standing → (first : Look) → Passage → Standing
 arrived run points step standing first there = record standing {
   count = stepped_count run points step first there;
-  told = told_by step (thread_of (run.look (stepped_count run points step first there))) (told_cause (is_some run.stop) step there.cause);
+  told = step_told step (running_thread (run.look (stepped_count run points step first there))) (told_cause (is_some run.stop) step there.cause);
   met = has_met (is_some run.stop) standing step.backwards there.cause;
 }
 
@@ -151,7 +151,7 @@ stepped_on run points step standing =
     if stays step (run.look standing.count)
     then record standing { told = record { cause = causes.Step; thread = step.thread; other = false } }
     else arrived run points step standing (run.look standing.count)
-    (passage step.backwards (wish_of_step points step (run.look standing.count)) run standing.count)
+    (passage step.backwards (step_wish points step (run.look standing.count)) run standing.count)
 
 -- behind a step, but for the thread that is shown
 abbrev pub stepped : Run → List Point → Step → Standing → Standing
@@ -159,8 +159,8 @@ stepped run points step standing =
     if standing.interrupted then interrupted standing (if step.alone then step.thread else 0) else stepped_on run points step standing
 
 -- points alone
-abbrev pub wish_of_points : List Point → Wish
-wish_of_points points = record { points = points; target = targets.Nothing; from = 0; to = 0 }
+abbrev pub points_wish : List Point → Wish
+points_wish points = record { points = points; target = targets.Nothing; from = 0; to = 0 }
 
 -- behind the way of a continue
 abbrev pub passed : Run → (backwards : Bool) → Standing → Passage → Standing
@@ -174,7 +174,7 @@ passed run backwards standing there = record standing {
 abbrev pub continued : Run → List Point → (backwards : Bool) → Standing → Standing
 continued run points backwards standing =
     if standing.interrupted then interrupted standing 0
-    else passed run backwards standing (passage backwards (wish_of_points points) run standing.count)
+    else passed run backwards standing (passage backwards (points_wish points) run standing.count)
 
 -- at a count, or at the end of the run where that comes before
 abbrev pub moved : Run → ℕ → Standing → Standing

@@ -1,6 +1,6 @@
 -- Where ways through a run end.
 use Rattle.std.specs.Prelude.{ℕ, zero, suc, ◌≡◌, ◌<◌, ◌≤◌, ◌+◌, ◌-◌, ◌⊎◌, Option, None, Some, Bool, true, false, ◌||◌, if◌then◌else◌}
-use Rattle.debug_ways.specs.declared.look.Look.{Look}
+use Rattle.debug_ways.specs.declared.wanted.Look.{Look}
 use Rattle.debug_ways.specs.Runs.{Run}
 
 -- what ends a way: a count at which it stops, or an access that it does not cross
@@ -57,6 +57,6 @@ pub record IsGreatest (hit : ℕ → Bool) (to count : ℕ) : Type 0 where
 -- ---- on the way
 
 -- the last of n counts at which a way ends
-abbrev pub last_of : (ℕ → Bool) → (n from : ℕ) → Option ℕ
-last_of hit zero from = None
-last_of hit (suc n) from = if hit (from + n) then Some (from + n) else last_of hit n from
+abbrev pub last_hit : (ℕ → Bool) → (n from : ℕ) → Option ℕ
+last_hit hit zero from = None
+last_hit hit (suc n) from = if hit (from + n) then Some (from + n) else last_hit hit n from

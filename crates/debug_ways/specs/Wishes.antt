@@ -2,5 +2,5 @@
 use Rattle.debug_ways.specs.Causes.{Wish}
 use Rattle.debug_ways.specs.declared.wanted.Wanted.{Wanted}
 
-abbrev pub wish_of : Wanted → Wish
-wish_of wanted = record { points = wanted.points.now; target = wanted.target; from = wanted.from; to = wanted.to }
+abbrev pub wanted_wish : Wanted → Wish
+wanted_wish wanted = record { points = wanted.points.now; target = wanted.target; from = wanted.from; to = wanted.to }

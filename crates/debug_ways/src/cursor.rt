@@ -3,7 +3,7 @@ ghost use Rattle.std.specs.Prelude.{◌≡◌, ◌≤◌, ◌<◌, ◌+◌, ◌+
 ghost use Rattle.sloth_base.specs.Limits.{count_limit};
 ghost use Rattle.debug_ways.specs.Marks.{AreMarks};
 
-use crate::marks::{STRIDE, mark_at, marks_of};
+use crate::marks::{STRIDE, kept_machine, run_marks};
 use crate::{Look, Machine};
 use osek_scheduler::TaskState;
 use rv32_instr::Stop;
@@ -37,7 +37,7 @@ impl<M: Machine> Cursor<M> {
     {
         let mut here = machine;
         let mut marks = Vec::new(alloc);
-        let end = marks_of(alloc, &mut marks, &mut here)?;
+        let end = run_marks(alloc, &mut marks, &mut here)?;
         let stop = here.stop();
         Ok(Cursor {
             here,
@@ -75,12 +75,12 @@ impl<M: Machine> Cursor<M> {
     {
         let place = count / STRIDE;
         self.here
-            .set_to(mark_at(self.marks.as_slice(), place as usize));
+            .set_to(kept_machine(self.marks.as_slice(), place as usize));
         self.count = place * STRIDE;
     }
 
     /// Goes to a count.
-    pub fn go_to(&mut self, count: u32)
+    pub fn reach(&mut self, count: u32)
         requires { count ≤ (cursor_run M.run self.old).end }
         ensures count { cursor_count self.new ≡ count }
         ensures run { cursor_run M.run self.new ≡ cursor_run M.run self.old }
@@ -107,7 +107,7 @@ impl<M: Machine> Cursor<M> {
         ensures look { result ≡ (cursor_run M.run self.old).look count }
         ensures run { cursor_run M.run self.new ≡ cursor_run M.run self.old }
     {
-        self.go_to(count);
+        self.reach(count);
         self.here.look()
     }
 
@@ -117,7 +117,7 @@ impl<M: Machine> Cursor<M> {
         ensures states { result ≡ (cursor_run M.run self.old).states count }
         ensures run { cursor_run M.run self.new ≡ cursor_run M.run self.old }
     {
-        self.go_to(count);
+        self.reach(count);
         self.here.states()
     }
 
@@ -142,7 +142,7 @@ impl<M: Machine> Cursor<M> {
         ensures register { result ≡ (cursor_run M.run self.old).register count thread number }
         ensures run { cursor_run M.run self.new ≡ cursor_run M.run self.old }
     {
-        self.go_to(count);
+        self.reach(count);
         self.here.register(thread, number)
     }
 
@@ -152,7 +152,7 @@ impl<M: Machine> Cursor<M> {
         ensures byte { result ≡ (cursor_run M.run self.old).byte count address }
         ensures run { cursor_run M.run self.new ≡ cursor_run M.run self.old }
     {
-        self.go_to(count);
+        self.reach(count);
         self.here.byte(address)
     }
 }

@@ -2,10 +2,10 @@
 ghost use Rattle.std.specs.Prelude.{◌≡◌, ◌++◌, ◌-◌, map, OnOk, length, take, drop};
 ghost use Rattle.text_pieces.specs.Names.{referent};
 ghost use Rattle.debug_ways.specs.Cursor.{cursor_run};
-ghost use Rattle.debug_ways.specs.Around.{text_of, side, front_text, rest_text, around, events_text};
+ghost use Rattle.debug_ways.specs.Around.{lines_text, side, front_text, rest_text, around, events_text};
 
 use crate::merging::{merged, sided};
-use crate::shown::least_of;
+use crate::shown::lesser;
 use crate::{Cursor, Machine};
 use sloth_base::{COUNT_LIMIT, Result};
 use std::alloc::Global;
@@ -20,7 +20,7 @@ const TRACE_COUNTS: u32 = 1_000;
 
 // Puts lines.
 fn push_lines(out: &mut Vec<u8>, lines: &[&[u8]]) -> Result<()>
-    ensures { OnOk result (out.new.items ≡ out.old.items ++ text_of (map referent lines.now)) }
+    ensures { OnOk result (out.new.items ≡ out.old.items ++ lines_text (map referent lines.now)) }
 {
     for line in lines {
         line!(out; Word(*line), Word(b"\n"))?;
@@ -84,7 +84,7 @@ pub fn push_events<M: Machine>(
     cursor.put_trace(
         alloc,
         &mut text,
-        least_of(COUNT_LIMIT, count.saturating_add(TRACE_COUNTS)),
+        lesser(COUNT_LIMIT, count.saturating_add(TRACE_COUNTS)),
     )?;
     push_around(alloc, out, text.as_slice(), count)
 }

@@ -11,7 +11,6 @@
 pub mod cursor;
 pub mod events;
 pub mod laws;
-pub mod look;
 pub mod machine;
 mod marks;
 mod merging;
@@ -24,10 +23,9 @@ pub mod wanted;
 pub mod ways;
 
 pub use cursor::Cursor;
-pub use look::{Access, Look};
 pub use machine::Machine;
 pub use passages::passage;
 pub use points::Point;
 pub use standing::{Standing, Step};
-pub use wanted::{Cause, Passage, Target, Wanted, is_own};
+pub use wanted::{Access, Cause, Look, Passage, Target, Wanted, is_own};
 pub use ways::{Hits, go_ahead, go_back};

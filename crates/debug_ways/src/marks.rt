@@ -1,25 +1,16 @@
 //! Machines that are kept of a run.
-ghost use Rattle.std.specs.Prelude.{◌≡◌, ◌≤◌, ◌<◌, ◌+◌, ◌*◌, ◌/◌, ◌++◌, ◌∷◌, [], IfOk, OnOk, IfSome, IfNone, length};
+ghost use Rattle.std.specs.Prelude.{◌≡◌, ◌≤◌, ◌<◌, ◌+◌, ◌*◌, ◌/◌, [], IfOk, OnOk, IfSome, IfNone, length};
 ghost use Rattle.sloth_base.specs.Limits.{count_limit};
 ghost use Rattle.debug_ways.specs.Marks.{AreMarks};
 ghost use Rattle.debug_ways.specs.Runs.{Run};
 
 use crate::Machine;
 use sloth_base::Result;
-use std::alloc::{AllocError, Global};
+use std::alloc::Global;
+use text_pieces::push;
 
 /// The counts between two machines that are kept.
 pub const STRIDE: u32 = 65_536;
-
-// One more machine.
-fn push<M: Machine>(marks: &mut Vec<M>, mark: M) -> Result<()>
-    ensures { OnOk result (marks.new.items ≡ marks.old.items ++ mark ∷ []) }
-{
-    match marks.push(mark) {
-        Ok(()) => Ok(()),
-        Err(failed) => Err(AllocError::from(failed).into()),
-    }
-}
 
 // Keeps a machine behind those of a run.
 #[tactic(auto, using(crate::proofs::Keeping::marks_longer, crate::proofs::Keeping::one_longer))]
@@ -34,7 +25,7 @@ fn keep<M: Machine>(alloc: Global, marks: &mut Vec<M>, machine: &M) -> Result<()
 }
 
 // Executes so many instructions, or those up to the end, and says how many where there are fewer.
-fn run_on<M: Machine>(machine: &mut M, counts: u32) -> Option<u32>
+fn execute<M: Machine>(machine: &mut M, counts: u32) -> Option<u32>
     requires { M.count machine.old ≤ (M.run machine.old).end }
     ensures run { M.run machine.new ≡ M.run machine.old }
     ensures went { IfNone result (M.count machine.new ≡ M.count machine.old + counts) }
@@ -52,7 +43,7 @@ fn run_on<M: Machine>(machine: &mut M, counts: u32) -> Option<u32>
 }
 
 /// Executes a run from its start to its end, keeps machines of it, and gives its last count.
-pub fn marks_of<M: Machine>(alloc: Global, marks: &mut Vec<M>, machine: &mut M) -> Result<u32>
+pub fn run_marks<M: Machine>(alloc: Global, marks: &mut Vec<M>, machine: &mut M) -> Result<u32>
     requires start { M.count machine.old ≡ 0 }
     requires none { marks.old.items ≡ [] }
     requires few { (M.run machine.old).end ≤ count_limit }
@@ -64,7 +55,7 @@ pub fn marks_of<M: Machine>(alloc: Global, marks: &mut Vec<M>, machine: &mut M) 
 {
     for place in 0..16u32 {
         keep(alloc, marks, machine)?;
-        if let Some(done) = run_on(machine, STRIDE) {
+        if let Some(done) = execute(machine, STRIDE) {
             return Ok(place * STRIDE + done);
         }
     }
@@ -72,9 +63,10 @@ pub fn marks_of<M: Machine>(alloc: Global, marks: &mut Vec<M>, machine: &mut M) 
 }
 
 /// The machine that was kept at a place.
-pub fn mark_at<M: Machine>(marks: &[M], place: usize) -> &M
+pub fn kept_machine<M: Machine>(marks: &[M], place: usize) -> &M
     requires { place < length marks.now }
-    ensures { (run : Run) → AreMarks M.run M.count run marks.now → (M.run result.now ≡ run) × (M.count result.now ≡ place * 65536) }
+    ensures { (run : Run) → AreMarks M.run M.count run marks.now → (M.run result.now ≡ run)
+        × (M.count result.now ≡ place * 65536) }
 {
     &marks[place]
 }

@@ -16,7 +16,8 @@ fn is_idle(line: &[u8]) -> bool
 
 // Puts a line, unless it is left out.
 fn keep<'a>(lines: &mut Vec<&'a [u8]>, line: &'a [u8], left_out: bool) -> Result<()>
-    ensures { OnOk result (map referent lines.new.items ≡ (if left_out then map referent lines.old.items else map referent lines.old.items ++ line.now ∷ [])) }
+    ensures { OnOk result (map referent lines.new.items
+        ≡ (if left_out then map referent lines.old.items else map referent lines.old.items ++ line.now ∷ [])) }
 {
     if left_out {
         return Ok(());
@@ -26,7 +27,8 @@ fn keep<'a>(lines: &mut Vec<&'a [u8]>, line: &'a [u8], left_out: bool) -> Result
 
 // The lines of parts but the last.
 fn merged_parts<'a>(alloc: Global, parts: &[&'a [u8]]) -> Result<Vec<&'a [u8]>>
-    ensures { IfOk result (λ lines. map referent lines.items ≡ merged_from false (map referent (take (length parts.now - 1) parts.now))) }
+    ensures { IfOk result (λ lines. map referent lines.items
+        ≡ merged_from false (map referent (take (length parts.now - 1) parts.now))) }
 {
     let mut lines = Vec::new(alloc);
     let mut after_idle = false;

@@ -1,10 +1,11 @@
 //! Where ways end, and why.
 ghost use Rattle.std.specs.Prelude.{◌≡◌, ◌≤◌};
 ghost use Rattle.debug_ways.specs.Cursor.{cursor_run};
-ghost use Rattle.debug_ways.specs.Causes.{cause_by_watch, cause_at, watched_before, passage_ahead, passage_back, passage};
-ghost use Rattle.debug_ways.specs.Wishes.{wish_of};
+ghost use Rattle.debug_ways.specs.Causes.{cause_by_watch, stop_cause, watched_before, passage_ahead, passage_back};
+ghost use Rattle.debug_ways.specs.Causes.{passage};
+ghost use Rattle.debug_ways.specs.Wishes.{wanted_wish};
 
-use crate::points::{Watch, break_at, watched};
+use crate::points::{Watch, breakpoint_kind, watched};
 use crate::wanted::{Cause, Passage, Wanted};
 use crate::{Cursor, Look, Machine, go_ahead, go_back};
 
@@ -19,10 +20,10 @@ fn cause_by_watch(watch: &Option<Watch>, cause: Cause) -> Cause
 }
 
 // Why a way ends at a count but for watchpoints, if it does.
-fn cause_at(wanted: &Wanted, look: &Look) -> Option<Cause>
-    ensures { result ≡ cause_at (wish_of wanted.now) look.now }
+fn stop_cause(wanted: &Wanted, look: &Look) -> Option<Cause>
+    ensures { result ≡ stop_cause (wanted_wish wanted.now) look.now }
 {
-    match break_at(wanted.points, look.pc) {
+    match breakpoint_kind(wanted.points, look.pc) {
         Some(kind) => Some(Cause::Break(kind)),
         None => wanted.is_reached(look).then_some(Cause::Step),
     }
@@ -31,7 +32,7 @@ fn cause_at(wanted: &Wanted, look: &Look) -> Option<Cause>
 // The watchpoint that the access of the count before meets.
 fn watched_before<M: Machine>(cursor: &mut Cursor<M>, wanted: &Wanted, count: u32) -> Option<Watch>
     requires { count ≤ (cursor_run M.run cursor.old).end }
-    ensures watch { result ≡ watched_before (wish_of wanted.now) (cursor_run M.run cursor.old) count }
+    ensures watch { result ≡ watched_before (wanted_wish wanted.now) (cursor_run M.run cursor.old) count }
     ensures run { cursor_run M.run cursor.new ≡ cursor_run M.run cursor.old }
 {
     if count == 0 {
@@ -43,7 +44,7 @@ fn watched_before<M: Machine>(cursor: &mut Cursor<M>, wanted: &Wanted, count: u3
 // The way forward from a count.
 fn passage_ahead<M: Machine>(cursor: &mut Cursor<M>, wanted: &Wanted, from: u32) -> Passage
     requires { from ≤ (cursor_run M.run cursor.old).end }
-    ensures passage { result ≡ passage_ahead (wish_of wanted.now) (cursor_run M.run cursor.old) from }
+    ensures passage { result ≡ passage_ahead (wanted_wish wanted.now) (cursor_run M.run cursor.old) from }
     ensures within { result.count ≤ (cursor_run M.run cursor.old).end }
     ensures run { cursor_run M.run cursor.new ≡ cursor_run M.run cursor.old }
 {
@@ -53,7 +54,7 @@ fn passage_ahead<M: Machine>(cursor: &mut Cursor<M>, wanted: &Wanted, from: u32)
     let cause = if count == from {
         Cause::End
     } else {
-        match cause_at(wanted, &last) {
+        match stop_cause(wanted, &last) {
             Some(cause) => cause,
             None => cause_by_watch(&watched(wanted.points, &last.access), Cause::End),
         }
@@ -67,7 +68,7 @@ fn passage_ahead<M: Machine>(cursor: &mut Cursor<M>, wanted: &Wanted, from: u32)
 // The way back from a count. A machine goes back for an access alone where nothing else ends the way.
 fn passage_back<M: Machine>(cursor: &mut Cursor<M>, wanted: &Wanted, from: u32) -> Passage
     requires { from ≤ (cursor_run M.run cursor.old).end }
-    ensures passage { result ≡ passage_back (wish_of wanted.now) (cursor_run M.run cursor.old) from }
+    ensures passage { result ≡ passage_back (wanted_wish wanted.now) (cursor_run M.run cursor.old) from }
     ensures within { result.count ≤ (cursor_run M.run cursor.old).end }
     ensures run { cursor_run M.run cursor.new ≡ cursor_run M.run cursor.old }
 {
@@ -77,7 +78,7 @@ fn passage_back<M: Machine>(cursor: &mut Cursor<M>, wanted: &Wanted, from: u32) 
     let cause = if from == 0 {
         Cause::Begin
     } else {
-        match cause_at(wanted, &last) {
+        match stop_cause(wanted, &last) {
             Some(cause) => cause,
             None => cause_by_watch(&watched_before(cursor, wanted, count), Cause::Begin),
         }
@@ -96,7 +97,7 @@ pub fn passage<M: Machine>(
     from: u32,
 ) -> Passage
     requires { from ≤ (cursor_run M.run cursor.old).end }
-    ensures passage { result ≡ passage backwards (wish_of wanted.now) (cursor_run M.run cursor.old) from }
+    ensures passage { result ≡ passage backwards (wanted_wish wanted.now) (cursor_run M.run cursor.old) from }
     ensures within { result.count ≤ (cursor_run M.run cursor.old).end }
     ensures run { cursor_run M.run cursor.new ≡ cursor_run M.run cursor.old }
 {

@@ -1,6 +1,7 @@
 //! Breakpoints and watchpoints.
 ghost use Rattle.std.specs.Prelude.{◌≡◌, OnOk};
-ghost use Rattle.debug_ways.specs.Points.{is_point, is_among, break_at, meets, watch_at, watched, with_point, without_point};
+ghost use Rattle.debug_ways.specs.Points.{is_point, is_among, breakpoint_kind, meets, first_watch, watched, with_point};
+ghost use Rattle.debug_ways.specs.Points.{without_point};
 
 use crate::Access;
 use sloth_base::{NoMemory, Result};
@@ -43,8 +44,8 @@ pub fn is_among(point: &Point, points: &[Point]) -> bool
 }
 
 /// The kind of the first breakpoint at an address.
-pub fn break_at(points: &[Point], pc: u32) -> Option<u8>
-    ensures { result ≡ break_at points.now pc }
+pub fn breakpoint_kind(points: &[Point], pc: u32) -> Option<u8>
+    ensures { result ≡ breakpoint_kind points.now pc }
 {
     for point in points {
         if point.kind < 2 && point.address == pc {
@@ -64,8 +65,8 @@ fn meets(point: &Point, access: &Access) -> bool
 }
 
 // The first watchpoint that an access meets.
-fn watch_at(points: &[Point], access: &Access) -> Option<Watch>
-    ensures { result ≡ watch_at points.now access.now }
+fn first_watch(points: &[Point], access: &Access) -> Option<Watch>
+    ensures { result ≡ first_watch points.now access.now }
 {
     for point in points {
         if meets(point, access) {
@@ -88,7 +89,7 @@ pub fn watched(points: &[Point], access: &Option<Access>) -> Option<Watch>
     ensures { result ≡ watched points.now access.now }
 {
     match access {
-        Some(access) => watch_at(points, access),
+        Some(access) => first_watch(points, access),
         None => None,
     }
 }

@@ -1,9 +1,9 @@
 //! What a count of a run shows of threads.
 ghost use Rattle.std.specs.Prelude.{◌≡◌, ◌≤◌};
 ghost use Rattle.debug_ways.specs.Cursor.{cursor_run};
-ghost use Rattle.debug_ways.specs.Shown.{least_of, seen_of, view_of, shown_thread};
+ghost use Rattle.debug_ways.specs.Shown.{lesser, last_seen, count_view, shown_thread};
 
-use crate::standing::{Standing, thread_of};
+use crate::standing::{Standing, running_thread};
 use crate::{Cursor, Machine};
 use osek_scheduler::TaskState;
 use sloth_base::TASK_LIMIT;
@@ -27,16 +27,16 @@ pub struct View {
 }
 
 /// The lesser one.
-pub fn least_of(one: u32, other: u32) -> u32
-    ensures { result ≡ least_of one other }
+pub fn lesser(one: u32, other: u32) -> u32
+    ensures { result ≡ lesser one other }
 {
     if other < one { other } else { one }
 }
 
 /// What the last count shows of tasks that finds interrupts open, if one does.
-pub fn seen_of<M: Machine>(cursor: &mut Cursor<M>, count: u32) -> Option<Seen>
+pub fn last_seen<M: Machine>(cursor: &mut Cursor<M>, count: u32) -> Option<Seen>
     requires { count ≤ (cursor_run M.run cursor.old).end }
-    ensures seen { result ≡ seen_of (cursor_run M.run cursor.old) count }
+    ensures seen { result ≡ last_seen (cursor_run M.run cursor.old) count }
     ensures run { cursor_run M.run cursor.new ≡ cursor_run M.run cursor.old }
 {
     match cursor.look(count).open_count {
@@ -57,14 +57,14 @@ pub fn seen_of<M: Machine>(cursor: &mut Cursor<M>, count: u32) -> Option<Seen>
 }
 
 /// What a count shows of threads.
-pub fn view_of<M: Machine>(cursor: &mut Cursor<M>, count: u32) -> View
+pub fn count_view<M: Machine>(cursor: &mut Cursor<M>, count: u32) -> View
     requires { count ≤ (cursor_run M.run cursor.old).end }
-    ensures view { result ≡ view_of (cursor_run M.run cursor.old) count }
+    ensures view { result ≡ count_view (cursor_run M.run cursor.old) count }
     ensures run { cursor_run M.run cursor.new ≡ cursor_run M.run cursor.old }
 {
     let level = cursor.register(count, 1, 36).unwrap_or(0);
     let mstatus = cursor.register(count, 1, 33).unwrap_or(0);
-    let seen = seen_of(cursor, count);
+    let seen = last_seen(cursor, count);
     View {
         count,
         level,
@@ -80,7 +80,7 @@ pub fn shown_thread<M: Machine>(cursor: &mut Cursor<M>, standing: &Standing) -> 
     ensures run { cursor_run M.run cursor.new ≡ cursor_run M.run cursor.old }
 {
     if standing.general == 0 {
-        thread_of(&cursor.look(standing.count))
+        running_thread(&cursor.look(standing.count))
     } else {
         standing.general
     }

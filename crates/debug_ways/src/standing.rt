@@ -1,7 +1,8 @@
 //! Where a session stands but for its points, and what a step of it goes to and tells.
 ghost use Rattle.std.specs.Prelude.{◌≡◌, false};
-ghost use Rattle.debug_ways.specs.Causes.{thread_of};
-ghost use Rattle.debug_ways.specs.Standing.{selected, interrupted, step_target, is_told_anywhere, is_step, is_end, told_by, plain_step};
+ghost use Rattle.debug_ways.specs.Causes.{running_thread};
+ghost use Rattle.debug_ways.specs.Standing.{selected, interrupted, step_target, is_step, is_end};
+ghost use Rattle.debug_ways.specs.Standing.{step_told, plain_step};
 
 use crate::{Cause, Look, Target, is_own};
 
@@ -53,8 +54,8 @@ pub fn plain_told(cause: Cause, thread: u32) -> Told
 }
 
 /// The thread that runs.
-pub fn thread_of(look: &Look) -> u32
-    ensures { result ≡ thread_of look.now }
+pub fn running_thread(look: &Look) -> u32
+    ensures { result ≡ running_thread look.now }
 {
     u32::from(look.running) + 1
 }
@@ -64,7 +65,11 @@ pub fn selected(standing: &Standing, look: &Look) -> Standing
     ensures { result ≡ selected standing.now look.now }
 {
     let told = standing.told.thread;
-    let thread = if told == 0 { thread_of(look) } else { told };
+    let thread = if told == 0 {
+        running_thread(look)
+    } else {
+        told
+    };
     let mut next = *standing;
     next.general = thread;
     next.stopped = thread;
@@ -95,18 +100,11 @@ pub fn step_target(step: &Step, look: &Look) -> Target
             Target::Each
         };
     }
-    if is_own(step.thread, look) || thread_of(look) != step.thread {
+    if is_own(step.thread, look) || running_thread(look) != step.thread {
         Target::Own(step.thread)
     } else {
         Target::Each
     }
-}
-
-// Whether a cause is told with the thread that runs, whichever was stepped.
-fn is_told_anywhere(cause: Cause) -> bool
-    ensures { result ≡ is_told_anywhere cause }
-{
-    matches!(cause, Cause::Watch(_, _) | Cause::Begin | Cause::End)
 }
 
 /// Whether a way reached its target.
@@ -124,11 +122,12 @@ pub fn is_end(cause: Cause) -> bool
 }
 
 /// What is told of a step that ended so on this thread.
-pub fn told_by(step: &Step, thread: u32, cause: Cause) -> Told
-    ensures { result ≡ told_by step.now thread cause }
+pub fn step_told(step: &Step, thread: u32, cause: Cause) -> Told
+    ensures { result ≡ step_told step.now thread cause }
 {
     let elsewhere = step.thread != 0 && thread != step.thread;
-    if step.alone && elsewhere && !is_told_anywhere(cause) {
+    let anywhere = matches!(cause, Cause::Watch(_, _) | Cause::Begin | Cause::End);
+    if step.alone && elsewhere && !anywhere {
         return plain_told(Cause::Step, step.thread);
     }
     if is_step(cause) {

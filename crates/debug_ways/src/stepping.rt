@@ -1,21 +1,22 @@
 //! What steps and continues make of a session.
 ghost use Rattle.std.specs.Prelude.{◌≡◌, ◌≤◌};
 ghost use Rattle.debug_ways.specs.Cursor.{cursor_run};
-ghost use Rattle.debug_ways.specs.Wishes.{wish_of};
-ghost use Rattle.debug_ways.specs.Standing.{selected_in, wish_of_step, has_met, stepped_count, arrived, stepped, continued, moved};
+ghost use Rattle.debug_ways.specs.Wishes.{wanted_wish};
+ghost use Rattle.debug_ways.specs.Standing.{selected_in, step_wish, has_met, stepped_count, arrived, stepped};
+ghost use Rattle.debug_ways.specs.Standing.{continued, moved};
 
-use crate::points::break_at;
+use crate::points::breakpoint_kind;
 use crate::standing::{
-    Standing, Step, interrupted, is_end, is_step, plain_told, selected, step_target, thread_of,
-    told_by,
+    Standing, Step, interrupted, is_end, is_step, plain_told, running_thread, selected,
+    step_target, step_told,
 };
 use crate::{
     Cause, Cursor, Look, Machine, Passage, Point, Target, Wanted, go_ahead, is_own, passage,
 };
 
 // The points and the target of a step.
-fn wanted_by<'a>(points: &'a [Point], step: &Step, look: &Look) -> Wanted<'a>
-    ensures { wish_of result ≡ wish_of_step points.now step.now look.now }
+fn step_wanted<'a>(points: &'a [Point], step: &Step, look: &Look) -> Wanted<'a>
+    ensures { wanted_wish result ≡ step_wish points.now step.now look.now }
 {
     let none = step.alone || step.backwards;
     Wanted {
@@ -67,7 +68,7 @@ fn stepped_count<M: Machine>(
     };
     let found = go_ahead(cursor, &wanted, start);
     let last = cursor.look(found);
-    if found != start && break_at(points, last.pc).is_none() && is_own(step.thread, &last) {
+    if found != start && breakpoint_kind(points, last.pc).is_none() && is_own(step.thread, &last) {
         found
     } else {
         start
@@ -84,7 +85,9 @@ fn arrived<M: Machine>(
     there: &Passage,
 ) -> Standing
     requires { there.now.count ≤ (cursor_run M.run cursor.old).end }
-    ensures arrived { result ≡ selected_in (cursor_run M.run cursor.old) (arrived (cursor_run M.run cursor.old) points.now step.now standing.now look.now there.now) }
+    ensures arrived { result
+        ≡ selected_in (cursor_run M.run cursor.old)
+        (arrived (cursor_run M.run cursor.old) points.now step.now standing.now look.now there.now) }
     ensures within { result.count ≤ (cursor_run M.run cursor.old).end }
     ensures run { cursor_run M.run cursor.new ≡ cursor_run M.run cursor.old }
 {
@@ -98,7 +101,7 @@ fn arrived<M: Machine>(
     };
     let mut next = *standing;
     next.count = count;
-    next.told = told_by(step, thread_of(&last), cause);
+    next.told = step_told(step, running_thread(&last), cause);
     next.met = has_met(stops, standing, step.backwards, there.cause);
     selected(&next, &last)
 }
@@ -111,7 +114,9 @@ pub fn stepped<M: Machine>(
     standing: &Standing,
 ) -> Standing
     requires { standing.now.count ≤ (cursor_run M.run cursor.old).end }
-    ensures stepped { result ≡ selected_in (cursor_run M.run cursor.old) (stepped (cursor_run M.run cursor.old) points.now step.now standing.now) }
+    ensures stepped { result
+        ≡ selected_in (cursor_run M.run cursor.old)
+        (stepped (cursor_run M.run cursor.old) points.now step.now standing.now) }
     ensures within { result.count ≤ (cursor_run M.run cursor.old).end }
     ensures run { cursor_run M.run cursor.new ≡ cursor_run M.run cursor.old }
 {
@@ -120,12 +125,12 @@ pub fn stepped<M: Machine>(
         let thread = if step.alone { step.thread } else { 0 };
         return selected(&interrupted(standing, thread), &look);
     }
-    if step.alone && step.thread >= 2 && thread_of(&look) != step.thread {
+    if step.alone && step.thread >= 2 && running_thread(&look) != step.thread {
         let mut next = *standing;
         next.told = plain_told(Cause::Step, step.thread);
         return selected(&next, &look);
     }
-    let wanted = wanted_by(points, step, &look);
+    let wanted = step_wanted(points, step, &look);
     let there = passage(cursor, step.backwards, &wanted, standing.count);
     arrived(cursor, points, step, standing, &look, &there)
 }
@@ -138,7 +143,9 @@ pub fn continued<M: Machine>(
     standing: &Standing,
 ) -> Standing
     requires { standing.now.count ≤ (cursor_run M.run cursor.old).end }
-    ensures continued { result ≡ selected_in (cursor_run M.run cursor.old) (continued (cursor_run M.run cursor.old) points.now backwards standing.now) }
+    ensures continued { result
+        ≡ selected_in (cursor_run M.run cursor.old)
+        (continued (cursor_run M.run cursor.old) points.now backwards standing.now) }
     ensures within { result.count ≤ (cursor_run M.run cursor.old).end }
     ensures run { cursor_run M.run cursor.new ≡ cursor_run M.run cursor.old }
 {

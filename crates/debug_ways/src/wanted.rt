@@ -1,10 +1,10 @@
-//! What a way through a run stops at.
+//! What a way through a run stops at. What is looked at at a count of a run.
 ghost use Rattle.std.specs.Prelude.{◌≡◌};
-ghost use Rattle.debug_ways.specs.Causes.{is_own, is_reached, tests_of};
-ghost use Rattle.debug_ways.specs.Wishes.{wish_of};
+ghost use Rattle.debug_ways.specs.Causes.{is_own, is_reached, wish_tests};
+ghost use Rattle.debug_ways.specs.Wishes.{wanted_wish};
 
-use crate::points::{Point, break_at, watched};
-use crate::{Hits, Look};
+use crate::Hits;
+use crate::points::{Point, breakpoint_kind, watched};
 
 /// A count that a way goes to.
 #[derive(Clone, Copy)]
@@ -58,7 +58,7 @@ pub fn is_own(thread: u32, look: &Look) -> bool
 impl<'a> Wanted<'a> {
     /// Whether a way reaches its target.
     pub fn is_reached(&self, look: &Look) -> bool
-        ensures { result ≡ is_reached (wish_of self.now) look.now }
+        ensures { result ≡ is_reached (wanted_wish self.now) look.now }
     {
         let target = match self.target {
             Target::Nothing => false,
@@ -72,13 +72,39 @@ impl<'a> Wanted<'a> {
 }
 
 impl<'a> Hits for Wanted<'a> {
-    ghost tests = { λ wanted. tests_of (wish_of wanted) };
+    ghost tests = { λ wanted. wish_tests (wanted_wish wanted) };
 
     fn stops(&self, look: &Look) -> bool {
-        break_at(self.points, look.pc).is_some() || self.is_reached(look)
+        breakpoint_kind(self.points, look.pc).is_some() || self.is_reached(look)
     }
 
     fn guards(&self, look: &Look) -> bool {
         watched(self.points, &look.access).is_some()
     }
+}
+
+/// The load or store that an instruction is.
+#[derive(Clone, Copy)]
+pub struct Access {
+    pub address: u32,
+    /// The bytes, 1, 2 or 4.
+    pub length: u32,
+    pub stores: bool,
+}
+
+/// What decides where a way ends.
+#[derive(Clone, Copy)]
+pub struct Look {
+    /// The address of the count's instruction.
+    pub pc: u32,
+    /// The number of the task that runs and 1 more, or 0: in a stretch the one that ran where it began.
+    pub running: u8,
+    /// Whether the instruction is one of a stretch.
+    pub masked: bool,
+    /// Whether it begins the stretch of a service.
+    pub serves: bool,
+    /// Its access, if it is one.
+    pub access: Option<Access>,
+    /// The last count up to this one that finds interrupts open, if one does.
+    pub open_count: Option<u32>,
 }

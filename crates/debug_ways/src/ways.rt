@@ -1,7 +1,8 @@
 //! Where ways through a run end.
 ghost use Rattle.std.specs.Prelude.{◌≡◌, ◌≤◌, ◌<◌, ◌-◌, ◌||◌, IfSome, if◌then◌else◌};
 ghost use Rattle.debug_ways.specs.Cursor.{cursor_run};
-ghost use Rattle.debug_ways.specs.Ways.{Tests, ahead, back, ends_ahead, ends_back, guards_before, least_behind, greatest_below, last_of};
+ghost use Rattle.debug_ways.specs.Ways.{Tests, ahead, back, ends_ahead, ends_back, guards_before, least_behind};
+ghost use Rattle.debug_ways.specs.Ways.{greatest_below, last_hit};
 
 use crate::{Cursor, Look, Machine};
 
@@ -40,7 +41,9 @@ pub fn go_ahead<M: Machine, H: Hits>(cursor: &mut Cursor<M>, hits: &H, from: u32
 fn least<M: Machine, H: Hits>(cursor: &mut Cursor<M>, hits: &H, from: u32) -> u32
     requires { from ≤ (cursor_run M.run cursor.old).end }
     ensures within { result ≤ (cursor_run M.run cursor.old).end }
-    ensures count { result ≡ least_behind (ends_ahead (cursor_run M.run cursor.old) (H.tests hits.now)) ((cursor_run M.run cursor.old).end - from) from }
+    ensures count { result
+        ≡ least_behind (ends_ahead (cursor_run M.run cursor.old) (H.tests hits.now))
+        ((cursor_run M.run cursor.old).end - from) from }
     ensures run { cursor_run M.run cursor.new ≡ cursor_run M.run cursor.old }
 {
     let end = cursor.end();
@@ -120,13 +123,13 @@ fn last_between<M: Machine, H: Hits>(
     requires ordered { from ≤ to }
     requires within { to ≤ (cursor_run M.run cursor.old).end }
     ensures below { IfSome result (λ last. last < to) }
-    ensures last { result ≡ last_of (ends_back (cursor_run M.run cursor.old) (H.tests hits.now)) (to - from) from }
+    ensures last { result ≡ last_hit (ends_back (cursor_run M.run cursor.old) (H.tests hits.now)) (to - from) from }
     ensures run { cursor_run M.run cursor.new ≡ cursor_run M.run cursor.old }
 {
     let mut last = None;
     let mut guarded = guarded_before(cursor, hits, from);
     for count in from..to {
-        let found = found_at(cursor, hits, count);
+        let found = count_tests(cursor, hits, count);
         last = later(last, found.0, guarded, count);
         guarded = found.1;
     }
@@ -134,7 +137,7 @@ fn last_between<M: Machine, H: Hits>(
 }
 
 // Whether a way stops at a count, and whether it does not cross the access of it.
-fn found_at<M: Machine, H: Hits>(cursor: &mut Cursor<M>, hits: &H, count: u32) -> (bool, bool)
+fn count_tests<M: Machine, H: Hits>(cursor: &mut Cursor<M>, hits: &H, count: u32) -> (bool, bool)
     requires { count ≤ (cursor_run M.run cursor.old).end }
     ensures stops { result.0 ≡ (H.tests hits.now).stops ((cursor_run M.run cursor.old).look count) }
     ensures guards { result.1 ≡ (H.tests hits.now).guards ((cursor_run M.run cursor.old).look count) }

@@ -13,7 +13,7 @@ use Rattle.image_file.specs.ImageText.{mark_bytes, name_bytes}
 use Rattle.image_file.specs.Limits.{SizesFit}
 use Rattle.image_file.specs.Parts.{Parts, PartsStand, body_bytes}
 use Rattle.image_file.specs.Reading.{MarksStand, NamedPartsStand, parts_at}
-use Rattle.image_file.specs.declared.sizes.Sizes.{Sizes}
+use Rattle.image_file.specs.declared.header.Sizes.{Sizes}
 use Rattle.image_file.proofs.Headers.{FitWords, same_with, words_fit}
 use Rattle.image_file.proofs.Unique.{Splits, four, lists, mark, mark_fits}
 use Rattle.image_file.proofs.Faulted.{one_body}

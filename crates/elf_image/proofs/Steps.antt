@@ -3,12 +3,12 @@ use Rattle.std.proofs.Common.{◌≡◌, ◌<◌, ◌+◌, ◌*◌, ◌^◌, ℕ
 use Rattle.std.specs.Prelude.{Result, Ok, Err, IfOk}
 use Rattle.sloth_base.specs.ImageRange.{service_limit}
 use Rattle.sloth_base.specs.declared.image.Image.{Image}
-use Rattle.image_file.specs.declared.sizes.Sizes.{Sizes}
+use Rattle.image_file.specs.declared.header.Sizes.{Sizes}
 use Rattle.elf_image.specs.ElfText.{ElfText, note_bytes}
 use Rattle.elf_image.specs.Faults.{Description, IsElfErrorOf, HasNote, IsFramed, described_bytes}
 use Rattle.elf_image.specs.Reading.{AreNamesAndMarks, HasDescriptionSizes, IsContentsError, IsDescriptionError, IsDescription, IsNote, IsElfMarksError, IsNoteError, IsElfPartsError, description_at}
-use Rattle.image_file.specs.declared.elf_fault.ElfFault.TheVariants as fault
-use Rattle.image_file.specs.declared.elf_fault.ElfFault.{ElfFault}
+use Rattle.image_file.specs.declared.fault.ElfFault.TheVariants as fault
+use Rattle.image_file.specs.declared.fault.ElfFault.{ElfFault}
 use Rattle.image_file.specs.declared.fault.FileError.{FileError}
 use Rattle.image_file.specs.declared.fault.FileError.TheVariants as failure
 use Rattle.elf_image.proofs.Faulted.{short-note}

@@ -8,11 +8,11 @@ use Rattle.image_file.specs.Fields.{four_bytes}
 use Rattle.image_file.specs.Limits.{SizesFit}
 use Rattle.image_file.specs.Parts.{AreRightNames, Parts, PartsStand}
 use Rattle.image_file.specs.Reading.{MarksStand, NoMarks}
-use Rattle.image_file.specs.declared.sizes.Sizes.{Sizes}
+use Rattle.image_file.specs.declared.header.Sizes.{Sizes}
 use Rattle.elf_image.specs.ElfText.{note_bytes}
 use Rattle.elf_image.specs.Faults.{Description, IsFramed, IsWithin, described_bytes}
-use Rattle.image_file.specs.declared.elf_fault.ElfFault.TheVariants as fault
-use Rattle.image_file.specs.declared.elf_fault.ElfFault.{ElfFault}
+use Rattle.image_file.specs.declared.fault.ElfFault.TheVariants as fault
+use Rattle.image_file.specs.declared.fault.ElfFault.{ElfFault}
 use Rattle.image_file.specs.declared.fault.FileError.{FileError}
 use Rattle.image_file.specs.declared.fault.FileError.TheVariants as failure
 

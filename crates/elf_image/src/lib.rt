@@ -13,9 +13,7 @@
 
 pub mod headers;
 pub mod laws;
-pub mod names;
 pub mod note;
-pub mod padding;
 pub mod read;
 pub mod reading;
 pub mod write;

@@ -1,8 +1,7 @@
-//! The note of an ELF file.
+//! The note of an ELF file. The zeros with which the note of an ELF file ends.
 ghost use Rattle.std.specs.Prelude.{◌≡◌, ◌≤◌, ◌<◌, ◌++◌, OnOk, length};
-ghost use Rattle.elf_image.specs.ElfText.{note_bytes};
+ghost use Rattle.elf_image.specs.ElfText.{note_bytes, padding};
 
-pub use crate::padding::padding_size;
 use crate::put_words;
 use sloth_base::Result;
 
@@ -27,4 +26,12 @@ pub fn put_note(file: &mut Vec<u8>, description: &[u8]) -> Result<()>
     file.extend_from_slice(description)?;
     file.extend_from_slice(&[0; 3][..padding_size(description.len())])?;
     Ok(())
+}
+
+/// How many zeros follow a description of so many bytes.
+pub fn padding_size(description: usize) -> usize
+    ensures short { result ≤ 3 }
+    ensures is { length (padding description) ≡ result }
+{
+    (4 - description % 4) % 4
 }

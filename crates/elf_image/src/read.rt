@@ -1,23 +1,23 @@
-//! Reading an ELF file.
+//! Reading an ELF file. The names of an image.
 ghost use Rattle.std.specs.Prelude.{◌⊎◌, ◌≡◌, ◌<◌, ◌≤◌, ◌+◌, IfOk, IfErr, IfSome, IfNone, Decides, drop, length, take};
 ghost use Rattle.image_file.specs.Reading.{MarksStand, NamedPartsStand};
-ghost use Rattle.image_file.specs.declared.sizes.Sizes.{Sizes as AnySizes};
+ghost use Rattle.image_file.specs.declared.header.Sizes.{Sizes as AnySizes};
 ghost use Rattle.sloth_base.specs.ImageRange.{service_limit};
 ghost use Rattle.sloth_base.specs.declared.image.Image.{Image as ImageOf};
 ghost use Rattle.sloth_base.specs.MemoryMap.{memory_bytes};
 ghost use Rattle.elf_image.specs.ElfText.{ElfText, note_bytes};
 ghost use Rattle.elf_image.specs.Faults.{IsElfErrorOf, IsFirstElfFault};
 ghost use Rattle.elf_image.specs.Reading.{IsFramedAt, IsElfPartsError, IsElfMarksError, IsNote, IsNoteError, HasDescriptionSizes, IsDescription, IsDescriptionError, AreNamesAndMarks, AreRightMarks, IsContentsError};
-ghost use Rattle.image_file.specs.declared.elf_fault.ElfFault.{ElfFault as FaultOf};
+ghost use Rattle.image_file.specs.declared.fault.ElfFault.{ElfFault as FaultOf};
 ghost use Rattle.image_file.specs.declared.fault.FileError.TheVariants as failed_by;
+ghost use Rattle.image_file.specs.Parts.{AreRightNames};
 
 use crate::headers::HEADERS;
-use crate::names::has_right_names;
 use crate::note::{NOTE_HEAD, padding_size, put_note};
 use crate::reading::{judge_header, read_load_header, read_note_header};
 use image_file::{
-    ElfError, ElfFault, ImageError, Outline, Sizes, are_ascending, read_marks, read_parts,
-    service_limit, u32_at,
+    ElfError, ElfFault, ImageError, Outline, Sizes, are_ascending, are_right_names, read_marks,
+    read_parts, service_limit, u32_at,
 };
 use sloth_base::{Image, List, Mark, Result};
 use std::alloc::Global;
@@ -244,4 +244,11 @@ fn read_contents(
         memory: List::from_vec(memory),
         marks: List::from_vec(marks),
     })
+}
+
+/// Whether the names of tasks, of functions and of counters are right.
+pub fn has_right_names(outline: &Outline) -> bool
+    ensures { Decides result (AreRightNames outline.now.tasks.items outline.now.funcs.items outline.now.counters.items) }
+{
+    are_right_names(&outline.tasks, &outline.funcs, &outline.counters)
 }

@@ -12,7 +12,7 @@ use Rattle.code_rules.specs.WellFormed.{IsBreach, is_access_past, is_uneven, is_
 use Rattle.task_verify.specs.Ways.{HasBodyLabel}
 use Rattle.task_verify.specs.Uses.{OperandsOf}
 use Rattle.task_verify.specs.Labels.{ArePlaced}
-use Rattle.call_graph.specs.declared.ranking.Ranks.{Ranks}
+use Rattle.call_graph.specs.declared.lists.Ranks.{Ranks}
 use Rattle.call_graph.specs.Ranks.{RanksOf}
 use Rattle.task_verify.specs.Cases.{AreUsers}
 use Rattle.task_verify.proofs.Tests.{Decides-is_access_past, Decides-is_uneven, Decides-is_mask_past, Decides-is_run_out, Decides-is_wrong_leave, Decides-is_wrong_release, Decides-is_second_take, Decides-is_leave_with_resource, leads, operands}

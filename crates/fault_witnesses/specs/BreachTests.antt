@@ -6,7 +6,7 @@ use Rattle.sloth_base.specs.declared.app.Func.{Func}
 use Rattle.sloth_base.specs.declared.refusal.Code.{Code}
 use Rattle.sloth_base.specs.declared.refusal.Code.TheVariants as code
 use Rattle.sloth_base.specs.Named.{item_of}
-use Rattle.call_graph.specs.declared.ranking.Ranks.{Ranks}
+use Rattle.call_graph.specs.declared.lists.Ranks.{Ranks}
 use Rattle.task_verify.specs.Tests.{is_access_past, is_uneven, is_mask_past, is_run_out, is_wrong_leave, is_wrong_release, is_second_take, is_leave_with_resource}
 use Rattle.task_verify.specs.Uses.{is_undeclared_use}
 

@@ -31,16 +31,11 @@ fn kept_list(alloc: Global, held: &[u32]) -> Result<KeptList>
     ensures { IfOk result (λ row. row.kept ≡ true → row.list ≡ held.now) }
 {
     if held.len() >= LONG {
-        return Ok(KeptList {
-            kept: false,
-            list: List::from_vec(Vec::new(alloc)),
-        });
+        let list = List::from_vec(Vec::new(alloc));
+        return Ok(KeptList { kept: false, list });
     }
-    let copy = held.to_vec(alloc)?;
-    Ok(KeptList {
-        kept: true,
-        list: List::from_vec(copy),
-    })
+    let list = List::from_vec(held.to_vec(alloc)?);
+    Ok(KeptList { kept: true, list })
 }
 
 // By the last label at each place.

@@ -44,7 +44,8 @@ fn is_culprit_item(app: &App, code: Code, held: &[u32], body: usize, item: usize
 fn reaches_culprit(app: &App, code: Code, held: &[u32], callee: usize, calls: &Calls) -> bool
     ensures chain { result ≡ true → IsChain app.now callee calls.now.links }
     ensures known { result ≡ true → chain_end callee calls.now.links < length app.now.funcs }
-    ensures inside { result ≡ true → calls.now.item < length (function app.now (chain_end callee calls.now.links)).items }
+    ensures inside { result ≡ true → calls.now.item < length
+        (function app.now (chain_end callee calls.now.links)).items }
     ensures culprit { result ≡ true
         → is_culprit code held.now (operation app.now (chain_end callee calls.now.links) calls.now.item) ≡ true }
 {

@@ -41,46 +41,40 @@ pub fn is_pause(op: Op) -> bool
     }
 }
 
-fn is_aim(aim: Aim, op: Op) -> bool {
-    match aim {
-        Aim::CallOf(func) => is_call(op, func),
-        Aim::Taking(held) => is_own_second_take(held, op),
-        Aim::Pause => is_pause(op),
-        Aim::Function(_) => false,
+// The first item of the function with this number that is looked for.
+fn aimed_item(aim: Aim, number: usize, func: &Func) -> Option<usize> {
+    if let Aim::Function(wanted) = aim {
+        return if wanted == number { Some(0) } else { None };
     }
-}
-
-// The first item of a function that is looked for.
-fn aimed_item(aim: Aim, func: &Func) -> Option<usize> {
-    for (number, item) in func.items.items().iter().enumerate() {
-        if is_aim(aim, item.op) {
-            return Some(number);
+    for (place, item) in func.items.items().iter().enumerate() {
+        let is_aim = match aim {
+            Aim::CallOf(func) => is_call(item.op, func),
+            Aim::Taking(held) => is_own_second_take(held, item.op),
+            Aim::Pause => is_pause(item.op),
+            Aim::Function(_) => false,
+        };
+        if is_aim {
+            return Some(place);
         }
     }
     None
 }
 
-fn hit(aim: Aim, number: usize, func: &Func) -> Option<usize> {
-    match aim {
-        Aim::Function(wanted) => { if wanted == number { Some(0) } else { None } },
-        _ => aimed_item(aim, func),
-    }
-}
-
-// What an item calls, if it was not reached.
-fn reach(reached: &mut Vec<Reached>, before: usize, line: u32, op: Op) -> Result<()> {
-    let Some(func) = op.callee() else {
-        return Ok(());
-    };
-    if reached.as_slice().iter().any(|one| one.func == func) {
-        return Ok(());
-    }
-    push(reached, Reached { func, line, before })
-}
-
+// What the items of a function call, if it was not reached.
 fn reach_all(reached: &mut Vec<Reached>, before: usize, func: &Func) -> Result<()> {
     for item in func.items.items() {
-        reach(reached, before, item.line, item.op)?;
+        if let Some(func) = item.op.callee() {
+            if !reached.as_slice().iter().any(|one| one.func == func) {
+                push(
+                    reached,
+                    Reached {
+                        func,
+                        line: item.line,
+                        before,
+                    },
+                )?;
+            }
+        }
     }
     Ok(())
 }
@@ -113,7 +107,7 @@ fn found_chain(
         }
         let number = reached[turn].func;
         let func = app.function(number);
-        if let Some(item) = hit(aim, number, func) {
+        if let Some(item) = aimed_item(aim, number, func) {
             let links = reached_links(alloc, reached, turn)?;
             return Ok(Some(Calls { links, item }));
         }
@@ -125,14 +119,12 @@ fn found_chain(
 /// The shortest chain of calls from a function to what is looked for, if there is one.
 pub fn shortest_chain(alloc: Global, app: &App, start: usize, aim: Aim) -> Result<Option<Calls>> {
     let mut reached = Vec::new(alloc);
-    push(
-        &mut reached,
-        Reached {
-            func: start,
-            line: 0,
-            before: 0,
-        },
-    )?;
+    let first = Reached {
+        func: start,
+        line: 0,
+        before: 0,
+    };
+    push(&mut reached, first)?;
     found_chain(alloc, app, &mut reached, aim)
 }
 
@@ -146,8 +138,8 @@ pub fn calls_between(
     ensures { IfOk result (λ found.
         IfSome found (λ links. IsChain app.now start links × (chain_end start links ≡ end))) }
 {
-    let Some(Calls { links, item: _ }) = shortest_chain(alloc, app, start, Aim::Function(end))?
-    else {
+    let aim = Aim::Function(end);
+    let Some(Calls { links, item: _ }) = shortest_chain(alloc, app, start, aim)? else {
         return Ok(None);
     };
     if !leads(app, start, links.items(), end) {

@@ -1,12 +1,15 @@
-//! Chains of calls.
-ghost use Rattle.std.specs.Prelude.{◌≡◌, ◌&&◌, ◌==◌, ◌<◌, true};
+//! Chains of calls. The calls by which a function calls itself (V1).
+ghost use Rattle.std.specs.Prelude.{◌≡◌, ◌&&◌, ◌==◌, ◌<◌, true, length, IfOk, IfSome};
 ghost use Rattle.std.specs.List.{list_any};
 ghost use Rattle.sloth_base.specs.Named.{function};
 ghost use Rattle.sloth_base.specs.declared.app.Item.{Item};
 ghost use Rattle.call_graph.specs.Rows.{is_call};
-ghost use Rattle.fault_witnesses.specs.CallChains.{IsCallOn, IsChain, chain_end};
+ghost use Rattle.fault_witnesses.specs.CallChains.{IsCallOn, IsChain, chain_end, IsCycle};
 
-use sloth_base::{App, Func, Item, List, Op};
+use crate::chain_search::{Aim, shortest_chain};
+use sloth_base::{App, Func, List, Op, Result};
+use std::alloc::Global;
+use text_pieces::push;
 
 /// A call: the number of the function that is called, and the line of the item that calls it.
 #[derive(Clone, Copy)]
@@ -32,21 +35,14 @@ pub fn is_call(op: Op, func: usize) -> bool
     }
 }
 
-fn is_line_call(item: &Item, func: usize, line: u32) -> bool
-    ensures { result ≡ (is_call func item.now.op && (item.now.line == line)) }
-{
-    is_call(item.op, func) && item.line == line
-}
-
 // Whether an item on this line calls the function.
 fn has_line_call(caller: &Func, func: usize, line: u32) -> bool
     ensures { result ≡ list_any (λ (item : Item). is_call func item.op && (item.line == line)) caller.now.items }
 {
-    caller
-        .items
-        .items()
+    let items = caller.items.items();
+    items
         .iter()
-        .any(|item| is_line_call(item, func, line))
+        .any(|item| is_call(item.op, func) && item.line == line)
 }
 
 // Whether the body with this number makes the call.
@@ -90,4 +86,48 @@ pub fn leads(app: &App, start: usize, links: &[Link], end: usize) -> bool
     ensures ends { result ≡ true → chain_end start links.now ≡ end }
 {
     is_chain(app, start, links) && chain_end(start, links) == end
+}
+
+// The line of an item of a function, 0 where there is none.
+fn item_line(app: &App, func: usize, item: usize) -> u32 {
+    if func >= app.funcs.items().len() {
+        return 0;
+    }
+    match app.function(func).items.items().get(item) {
+        Some(item) => item.line,
+        None => 0,
+    }
+}
+
+// Whether the calls lead from a function back to it.
+fn closes(app: &App, body: usize, links: &[Link]) -> bool
+    ensures some { result ≡ true → 0 < length links.now }
+    ensures chain { result ≡ true → IsChain app.now body links.now }
+    ensures ends { result ≡ true → chain_end body links.now ≡ body }
+{
+    !links.is_empty() && leads(app, body, links, body)
+}
+
+// The calls to a body that calls the function, and that call, if they lead back to the function.
+fn closed_cycle(alloc: Global, app: &App, body: usize, calls: &Calls) -> Result<Option<List<Link>>>
+    ensures { IfOk result (λ found. IfSome found (λ links. IsCycle app.now body links)) }
+{
+    let links = calls.links.items();
+    let line = item_line(app, chain_end(body, links), calls.item);
+    let mut longer = links.to_vec(alloc)?;
+    push(&mut longer, Link { func: body, line })?;
+    if !closes(app, body, &longer) {
+        return Ok(None);
+    }
+    Ok(Some(List::from_vec(longer)))
+}
+
+/// The shortest chain of calls by which a function calls itself, if there is one: its last call is of the function.
+pub fn cycle_calls(alloc: Global, app: &App, body: usize) -> Result<Option<List<Link>>>
+    ensures { IfOk result (λ found. IfSome found (λ links. IsCycle app.now body links)) }
+{
+    match shortest_chain(alloc, app, body, Aim::CallOf(body))? {
+        Some(calls) => closed_cycle(alloc, app, body, &calls),
+        None => Ok(None),
+    }
 }

@@ -1,8 +1,7 @@
 //! Steps from item to item that keep the rules on resources.
-ghost use Rattle.std.specs.Prelude.{◌≡◌, ◌==◌, ◌<◌, ◌+◌, ◌&&◌, ℕ, length, true, Decides, IfOk};
+ghost use Rattle.std.specs.Prelude.{◌≡◌, ◌<◌, ◌+◌, ℕ, length, true, Decides, IfOk};
 ghost use Rattle.sloth_base.specs.Named.{item_of};
-ghost use Rattle.std.specs.List.{list_any};
-ghost use Rattle.code_rules.specs.Code.{IsPathStep, held_after, is_in};
+ghost use Rattle.code_rules.specs.Code.{IsPathStep, held_after};
 ghost use Rattle.task_verify.specs.Ways.{HasBodyLabel};
 ghost use Rattle.fault_witnesses.specs.BodyLists.{AreBodyLists, AreLed};
 ghost use Rattle.fault_witnesses.specs.CleanWays.{is_own_second_take, is_orderly, IsCleanStep, way_item};
@@ -11,19 +10,8 @@ use crate::KeptList;
 use crate::body_lists::BodyLists;
 use sloth_base::{Func, Op, Result, Service};
 use std::alloc::Global;
+use task_verify::held_resources::is_taken;
 use task_verify::{held_after, is_wrong_release, jump_of, next_of};
-
-fn has_number(held: &[u32], resource: u32) -> bool
-    ensures { result ≡ list_any (λ taken. taken == resource) held.now }
-{
-    held.iter().any(|taken| *taken == resource)
-}
-
-fn is_taken(held: &[u32], resource: u32) -> bool
-    ensures { result ≡ is_in resource held.now }
-{
-    has_number(held, resource)
-}
 
 /// Whether it is a service that takes one of these.
 pub fn is_own_second_take(held: &[u32], op: Op) -> bool

@@ -1,14 +1,16 @@
 //! What is held before an item and behind a label, and V7 at a label.
-ghost use Rattle.std.specs.Prelude.{◌≡◌, ◌<◌, ◌≤◌, ◌+◌, ◌||◌, ◌≢◌, cond, length, true, Some, None, [], is_some, IfOk};
+ghost use Rattle.std.specs.Prelude.{◌≡◌, ◌<◌, ◌≤◌, ◌+◌, ◌||◌, ◌≢◌, cond, length, true, Some, None, is_some, IfOk};
 ghost use Rattle.sloth_base.specs.Named.{label_of};
-ghost use Rattle.code_rules.specs.Code.{held_list_at, held_list_fallen_into, held_list_entering, is_entered, is_fallen_into};
+ghost use Rattle.code_rules.specs.Code.{held_list_at, held_list_fallen_into, held_list_entering, is_entered};
+ghost use Rattle.code_rules.specs.Code.{is_fallen_into};
 ghost use Rattle.code_rules.specs.WellFormed.{HasOtherList};
 ghost use Rattle.task_verify.specs.Labels.{last_label_below, ArePlaced};
 ghost use Rattle.fault_witnesses.specs.BodyLists.{AreLastLabels};
 
-use sloth_base::{Func, Label, Result};
+use sloth_base::{Func, Result};
 use std::alloc::Global;
-use task_verify::{falls, held_after, held_at_label, is_held, last_labels};
+use task_verify::labels::is_start_with_resource;
+use task_verify::{held_after, held_at_label, is_fallen_into, is_held, last_labels};
 
 // By the last label at each place.
 fn fallen_list(alloc: Global, func: &Func, last: &[Option<usize>], place: usize) -> Result<Vec<u32>>
@@ -72,16 +74,6 @@ pub fn label_before(func: &Func, label: usize) -> Option<usize>
     found
 }
 
-fn is_fallen_into(func: &Func, place: usize) -> bool
-    requires { place ≤ length func.now.items }
-    ensures { result ≡ is_fallen_into func.now place }
-{
-    if place == 0 {
-        return true;
-    }
-    falls(func.items.items()[place - 1].op)
-}
-
 fn enters(func: &Func, label: usize, before: Option<usize>) -> bool
     requires placed { ArePlaced func.now }
     requires inside { label < length func.now.labels }
@@ -108,12 +100,6 @@ fn is_entered(func: &Func, label: usize) -> bool
     ensures { result ≡ is_entered func.now label }
 {
     enters(func, label, label_before(func, label))
-}
-
-fn is_start_with_resource(label: &Label) -> bool
-    ensures { result ≡ true → (label.now.item ≡ 0) × (label.now.holds ≢ []) }
-{
-    label.item == 0 && !label.holds.items().is_empty()
 }
 
 // Whether it is fallen into with another list.

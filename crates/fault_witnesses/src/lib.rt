@@ -13,7 +13,6 @@ mod calls_behind;
 mod chain_search;
 pub mod chains;
 pub mod clean_steps;
-pub mod cycles;
 pub mod label_rules;
 pub mod laws;
 pub mod places;
@@ -24,9 +23,8 @@ pub mod ways;
 pub mod witnesses;
 
 pub use body_lists::KeptList;
-pub use chains::{Calls, Link, chain_end};
+pub use chains::{Calls, Link, chain_end, cycle_calls};
 pub use clean_steps::is_orderly;
-pub use cycles::cycle_calls;
 pub use label_rules::{held_entering, held_list, label_before};
 pub use places::Place;
 pub use users::User;

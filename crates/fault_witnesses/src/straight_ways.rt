@@ -107,7 +107,8 @@ fn stands_last(func: &Func, last: &[Option<usize>], label: usize, goal: usize) -
     requires inside { goal < length func.now.items }
     ensures known { result ≡ true → label < length func.now.labels }
     ensures before { result ≡ true → (label_of func.now label).item ≤ goal }
-    ensures behind { result ≡ true → last_label_below func.now.labels (label_of func.now label).item (length func.now.labels) ≡ Some label }
+    ensures behind { result ≡ true → last_label_below func.now.labels (label_of func.now label).item
+        (length func.now.labels) ≡ Some label }
 {
     if label >= func.labels.items().len() {
         return false;

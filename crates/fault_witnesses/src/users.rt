@@ -1,15 +1,13 @@
 //! The task that lacks what an item uses (V12).
-ghost use Rattle.std.specs.Prelude.{◌≡◌, ◌<◌, ◌==◌, ◌⊎◌, ◌&&◌, length, true, false, Some, IfOk, IfSome};
-ghost use Rattle.std.specs.List.{list_any};
+ghost use Rattle.std.specs.Prelude.{◌≡◌, ◌<◌, ◌⊎◌, length, true, IfOk, IfSome};
 ghost use Rattle.sloth_base.specs.Named.{function, IsBodyOf};
-ghost use Rattle.code_rules.specs.Code.{is_in};
-ghost use Rattle.task_verify.specs.Uses.{lacks};
-ghost use Rattle.fault_witnesses.specs.Witnesses.{lacks_used, is_lacking, names_task, IsLackedEvent, IsUser};
+ghost use Rattle.fault_witnesses.specs.Witnesses.{is_lacking, names_task, IsLackedEvent, IsUser};
 
 use crate::Link;
 use crate::chain_search::calls_between;
-use sloth_base::{App, Call, Code, Config, Func, List, Op, ResId, Result, Service, TaskDecl};
+use sloth_base::{App, Code, Config, List, Op, Result, Service};
 use std::alloc::Global;
+use task_verify::tasks::{is_task_body, lacks, lists};
 
 /// A task that lacks what an item uses, with an event that it lacks; and the calls from its body to that of the item.
 #[derive(Drop)]
@@ -21,47 +19,21 @@ pub struct User {
     pub links: List<Link>,
 }
 
-fn is_listed(resources: &[ResId], resource: u32) -> bool
-    ensures { result ≡ list_any (λ listed. listed == resource) resources.now }
-{
-    resources.iter().any(|listed| listed.0 == resource)
-}
-
-fn lists(task: &TaskDecl, resource: u32) -> bool
-    ensures { result ≡ is_in resource task.now.resources }
-{
-    is_listed(task.resources.items(), resource)
-}
-
-fn lacks(config: &Config, task: usize, mask: u32) -> bool
-    requires { task < length config.now.tasks }
-    ensures { result ≡ lacks config.now task mask }
-{
-    mask & config.tasks.items()[task].events != mask
-}
-
-fn lacks_used(config: &Config, task: usize, call: Call) -> bool
-    requires { task < length config.now.tasks }
-    ensures { result ≡ lacks_used config.now task call.service call.object call.mask }
-{
-    let named = call.object as usize;
-    match call.service {
-        Service::GetResource | Service::ReleaseResource => {
-            !lists(&config.tasks.items()[task], call.object)
-        },
-        Service::ClearEvent | Service::WaitEvent => lacks(config, task, call.mask),
-        Service::SetEvent => task == named && lacks(config, task, call.mask),
-        Service::GetEvent => task == named && !config.tasks.items()[task].extended,
-        _ => false,
-    }
-}
-
 fn is_lacking(config: &Config, task: usize, op: Op) -> bool
     requires { task < length config.now.tasks }
     ensures { result ≡ is_lacking config.now task op }
 {
     match op {
-        Op::Serve(call) => lacks_used(config, task, call),
+        Op::Serve(call) => match call.service {
+            Service::GetResource | Service::ReleaseResource => {
+                !lists(&config.tasks.items()[task], call.object)
+            },
+            Service::ClearEvent | Service::WaitEvent => lacks(config, task, call.mask),
+            Service::SetEvent => task == call.object as usize && lacks(config, task, call.mask),
+            Service::GetEvent => task == call.object as usize
+                && !config.tasks.items()[task].extended,
+            _ => false,
+        },
         _ => false,
     }
 }
@@ -93,15 +65,6 @@ fn event_lacked(config: &Config, task: usize, events: &[usize]) -> Option<usize>
         }
     }
     None
-}
-
-fn is_task_body(func: &Func, task: usize) -> bool
-    ensures { result ≡ true → func.now.task ≡ Some task }
-{
-    match func.task {
-        Some(owner) => owner.0 as usize == task,
-        None => false,
-    }
 }
 
 // The body of a task.
@@ -138,12 +101,13 @@ fn one_user(
     let event = event_lacked(config, task, events);
     if names_task(func.op(item)) {
         let links = List::from_vec(Vec::new(alloc));
-        return Ok(Some(User {
+        let user = User {
             task,
             body,
             event,
             links,
-        }));
+        };
+        return Ok(Some(user));
     }
     let Some(start) = task_body(app, task) else {
         return Ok(None);

@@ -32,14 +32,6 @@ pub struct Witness {
     pub user: Option<User>,
 }
 
-// Whether the way to an item is shown.
-fn shows_way(code: Code) -> bool {
-    matches!(
-        code,
-        Code::V5 | Code::V7 | Code::V8 | Code::V9 | Code::V10 | Code::V11 | Code::V12
-    )
-}
-
 // The way to the item in front of a label, unless another label stands between.
 fn way_to_label(
     alloc: Global,
@@ -103,7 +95,10 @@ fn item_way(
             return Ok(ItemWay { way: None, behind });
         }
     }
-    if !shows_way(code) {
+    if !matches!(
+        code,
+        Code::V5 | Code::V7 | Code::V8 | Code::V9 | Code::V10 | Code::V11 | Code::V12
+    ) {
         return Ok(ItemWay {
             way: None,
             behind: None,

@@ -16,9 +16,9 @@ use Rattle.sloth_base.specs.declared.app.Func.{Func}
 use Rattle.sloth_base.specs.declared.app.Label.{Label}
 use Rattle.sloth_base.specs.declared.refusal.Code.TheVariants as code
 use Rattle.sloth_base.specs.declared.refusal.Part.TheVariants.{Src}
-use Rattle.least_fault.specs.Order.{NoFault}
-use Rattle.least_fault.specs.Search.{SomeFrom}
-use Rattle.least_fault.proofs.Nowhere.{case_false}
+use Rattle.sloth_base.specs.Order.{NoFault}
+use Rattle.sloth_base.specs.Search.{SomeFrom}
+use Rattle.sloth_base.proofs.Nowhere.{case_false}
 use Rattle.std.proofs.lemmas.List.Elements.{All-append, All-map}
 use Rattle.sloth_base.specs.Named.{no_function}
 use Rattle.sloth_base.specs.Limits.{name_limit}
@@ -29,7 +29,7 @@ use Rattle.asm_lines.specs.declared.operands.Operand.{Operand}
 use Rattle.asm_lines.specs.declared.operands.Operand.TheVariants.{Name}
 use Rattle.asm_lines.specs.declared.source_line.SourceLine.{SourceLine}
 use Rattle.asm_lines.specs.declared.source_line.SourceLine.TheVariants.{Statement}
-use Rattle.asm_forms.specs.declared.forms.Mnemonic.TheVariants as m
+use Rattle.asm_lines.specs.declared.forms.Mnemonic.TheVariants as m
 use Rattle.asm_lines.specs.Faults.{is_a1, after_line, is_end_inside, FaultAt, SourceFault, SourceLinesFault, source_lines}
 use Rattle.asm_scopes.specs.declared.scope.Scope.{Scope}
 use Rattle.asm_scopes.specs.declared.scope.Kind.TheVariants as kind
@@ -37,7 +37,7 @@ use Rattle.asm_scopes.specs.Statements.{is_label, name_of, written_name}
 use Rattle.asm_scopes.specs.Bodies.{bodies_of}
 use Rattle.asm_scopes.specs.Scopes.{any_unknown, is_scheduler, is_lacking, kind_of, scope_of}
 use Rattle.asm_parse.specs.NameFaults.{has_long_name, NameFault}
-use Rattle.asm_items.specs.Apps.{app_of}
+use Rattle.asm_parse.specs.Apps.{app_of}
 use Rattle.asm_parse.specs.AppTexts.{AppText, SourceTextFault}
 use Rattle.asm_parse.proofs.Fit.{FitsName}
 use Rattle.asm_parse.proofs.Read.{IsRead}

@@ -10,10 +10,10 @@ use Rattle.sloth_base.specs.declared.app.Item.{Item}
 use Rattle.sloth_base.specs.declared.app.Label.{Label}
 use Rattle.sloth_base.specs.Named.{no_function, function, no_label, no_item, label_of, item_of}
 use Rattle.sloth_base.specs.declared.refusal.Refusal.{Refusal}
-use Rattle.least_fault.specs.Order.{NoFault}
+use Rattle.sloth_base.specs.Order.{NoFault}
 use Rattle.code_rules.specs.AppRange.{IsResource, AppInRange}
 use Rattle.code_rules.specs.WellFormed.{RuleFault}
-use Rattle.call_graph.specs.declared.ranking.Ranks.{Ranks}
+use Rattle.call_graph.specs.declared.lists.Ranks.{Ranks}
 use Rattle.call_graph.specs.Ranks.{RanksOf}
 use Rattle.task_verify.specs.Cases.{AreOps}
 use Rattle.task_verify.proofs.Acyclic.{no_cycle}

@@ -16,7 +16,7 @@ use Rattle.sloth_base.specs.Named.{no_function, function, no_label, label_of, it
 use Rattle.sloth_base.specs.Limits.{body_limit, item_limit, symbol_limit, data_limit, frame_limit}
 use Rattle.code_rules.specs.AppRange.{AppInRange, IsBody, IsOp}
 use Rattle.code_rules.specs.Code.{IsItem, HasCall, IsCallChain, Reaches, TaskReaches, ReachesTaking, ReachesPause}
-use Rattle.call_graph.specs.declared.ranking.Ranks.{Ranks}
+use Rattle.call_graph.specs.declared.lists.Ranks.{Ranks}
 use Rattle.call_graph.specs.Ranks.{RanksOf}
 use Rattle.holds_infer.specs.Filling.{bare_label, bare_func, SameButLists}
 use Rattle.holds_infer.specs.BodyFilling.{HasResourceLists}

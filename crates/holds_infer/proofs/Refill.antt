@@ -17,14 +17,14 @@ use Rattle.code_rules.specs.AppRange.{IsResource}
 use Rattle.asm_lines.specs.declared.operands.Operand.TheVariants.{Name}
 use Rattle.asm_lines.specs.declared.source_line.SourceLine.{SourceLine}
 use Rattle.asm_lines.specs.declared.source_line.SourceLine.TheVariants.{Statement}
-use Rattle.asm_forms.specs.declared.forms.Mnemonic.TheVariants as m
+use Rattle.asm_lines.specs.declared.forms.Mnemonic.TheVariants as m
 use Rattle.asm_lines.specs.Faults.{is_a1, after_line}
 use Rattle.asm_scopes.specs.declared.scope.Scope.{Scope}
 use Rattle.asm_scopes.specs.Statements.{is_label, name_of}
 use Rattle.asm_scopes.specs.Bodies.{bodies_of}
 use Rattle.asm_scopes.specs.Scopes.{scope_of, is_scheduler}
-use Rattle.asm_items.specs.Operations.{number_of, resource_number}
-use Rattle.asm_items.specs.Apps.{holds_of, label_holds, app_of}
+use Rattle.asm_parse.specs.Operations.{number_of, resource_number}
+use Rattle.asm_parse.specs.Apps.{holds_of, label_holds, app_of}
 use Rattle.holds_infer.specs.Filling.{bare_func, bare_app}
 use Rattle.holds_infer.specs.LabelLines.{resource_name, resource_names}
 use Rattle.holds_infer.specs.Relabel.{func_holds, all_holds, label_statement, first_list, other_lists, relabeled_lines}

@@ -12,13 +12,13 @@ use Rattle.sloth_base.specs.declared.app.Label.{Label}
 use Rattle.asm_lines.specs.declared.operands.Operand.TheVariants.{Name}
 use Rattle.asm_lines.specs.declared.source_line.SourceLine.{SourceLine}
 use Rattle.asm_lines.specs.declared.source_line.SourceLine.TheVariants.{Empty, Shapeless, Unknown, Statement}
-use Rattle.asm_forms.specs.declared.forms.Mnemonic.TheVariants as m
+use Rattle.asm_lines.specs.declared.forms.Mnemonic.TheVariants as m
 use Rattle.asm_scopes.specs.declared.scope.Scope.{Scope}
 use Rattle.asm_scopes.specs.Statements.{is_data, is_label, opens_body, closes_body, first_name, name_of, number_of, label_names}
 use Rattle.asm_scopes.specs.Bodies.{BodyText, bodies_from, bodies_of, body_name, is_called_body, function_names, called_names}
 use Rattle.asm_scopes.specs.Scopes.{scope_of}
-use Rattle.asm_items.specs.Operations.{op_of}
-use Rattle.asm_items.specs.Apps.{item_by, item_of, items_from, label_of, label_holds, labels_from, count_op, body_task, func_of, symbol_of, app_of}
+use Rattle.asm_parse.specs.Operations.{op_of}
+use Rattle.asm_parse.specs.Apps.{item_by, item_of, items_from, label_of, label_holds, labels_from, count_op, body_task, func_of, symbol_of, app_of}
 use Rattle.holds_infer.specs.Filling.{bare_label, bare_func, bare_app}
 use Rattle.holds_infer.specs.LabelLines.{resource_names}
 use Rattle.holds_infer.specs.Relabel.{func_holds, all_holds, label_statement, first_list, other_lists, relabeled_lines}

@@ -15,7 +15,7 @@ use Rattle.sloth_base.specs.Named.{no_function, no_item, no_label, function, ite
 use Rattle.holds_infer.specs.Places.{PlaceLists, list_or}
 use Rattle.code_rules.specs.AppRange.{AppInRange, IsResource, IsOp}
 use Rattle.code_rules.specs.Code.{held_after, held_behind}
-use Rattle.call_graph.specs.declared.ranking.Ranks.{Ranks}
+use Rattle.call_graph.specs.declared.lists.Ranks.{Ranks}
 use Rattle.call_graph.specs.Ranks.{RanksOf}
 use Rattle.task_verify.specs.Cases.{AreOps}
 use Rattle.holds_infer.specs.Filling.{bare_func, SameButLists}

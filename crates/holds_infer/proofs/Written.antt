@@ -9,7 +9,7 @@ use Rattle.text_pieces.specs.Bytes.{is_name, is_byte_of}
 use Rattle.sloth_base.specs.ServiceCodes.{service_named}
 use Rattle.asm_lines.specs.declared.operands.Operand.TheVariants.{Name, Wrong}
 use Rattle.asm_lines.specs.declared.source_line.SourceLine.TheVariants.{Empty, Statement}
-use Rattle.asm_forms.specs.declared.forms.Mnemonic.TheVariants as m
+use Rattle.asm_lines.specs.declared.forms.Mnemonic.TheVariants as m
 use Rattle.asm_lines.specs.Bytes.{is_shown, trim}
 use Rattle.asm_lines.specs.Table.{mnemonic_of, alu_of, imm_of, shift_of, load_of, store_of, branch_of, plain_of}
 use Rattle.text_pieces.specs.Bytes.{before}

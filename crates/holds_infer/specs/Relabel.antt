@@ -7,7 +7,7 @@ use Rattle.sloth_base.specs.declared.app.Func.{Func}
 use Rattle.asm_lines.specs.declared.operands.Operand.TheVariants.{Name}
 use Rattle.asm_lines.specs.declared.source_line.SourceLine.{SourceLine}
 use Rattle.asm_lines.specs.declared.source_line.SourceLine.TheVariants.{Statement}
-use Rattle.asm_forms.specs.declared.forms.Mnemonic.TheVariants as mnemonic
+use Rattle.asm_lines.specs.declared.forms.Mnemonic.TheVariants as mnemonic
 use Rattle.asm_scopes.specs.Statements.{is_label, name_of}
 use Rattle.holds_infer.specs.LabelLines.{resource_names}
 

@@ -9,9 +9,9 @@ ghost use Rattle.holds_infer.specs.declared.inference.InferError.TheVariants.{Me
 
 use crate::bodies::body_fillings;
 use call_graph::Ranks;
-use sloth_base::{App, BuildError, Config, List, NoMemory, Result};
+use sloth_base::{App, Config, List, NoMemory, Result};
 use std::alloc::Global;
-use task_verify::verify;
+use task_verify::bodies::judge;
 
 /// Why no lists were found.
 #[derive(Drop)]
@@ -52,9 +52,9 @@ pub fn infer(alloc: Global, config: &Config, app: &App, ranks: &Ranks) -> Result
     ensures none { IfErr result (InferErrorIs config.now app.now) }
 {
     let other = candidate(alloc, app)?;
-    match verify(alloc, config, &other, ranks) {
-        Ok(_) => Ok(other),
-        Err(BuildError::Refused(_)) => Err(InferError::NoHolds),
-        Err(BuildError::Memory) => Err(InferError::Memory),
+    let fault = judge(alloc, config, &other, ranks)?;
+    match fault {
+        None => Ok(other),
+        Some(_) => Err(InferError::NoHolds),
     }
 }

@@ -1,18 +1,24 @@
 //! What the lists of labels can be, or why no lists keep the rules.
+//! Task code whose labels have the lists that the first ways to them hold.
 ghost use Rattle.std.specs.Prelude.{◌≡◌, ◌<◌, ◌⊎◌, [], length, IfOk, IfSome};
 ghost use Rattle.code_rules.specs.AppRange.{AppInRange};
 ghost use Rattle.call_graph.specs.Ranks.{RanksOf};
 ghost use Rattle.holds_infer.specs.LabelAnswers.{is_list_rule, TellsWays, TellsBrokenRule, TellsRule, TellsReason, HasReason, IsNoListsText, IsLabelAnswer};
+ghost use Rattle.holds_infer.specs.RightLists.{HasItsLabels};
+ghost use Rattle.holds_infer.specs.BodyFilling.{HaveTheirLabels};
+ghost use Rattle.holds_infer.specs.WayLists.{IsWayFilling, AreWayFillings, IsWayFilled};
 
+use crate::bodies::relisted_func;
+use crate::body_ways::body_ways;
 use crate::other_rules::other_rule;
 use crate::other_ways::other_ways;
 use crate::reason_lines::{other_ways_lines, rule_lines};
-use crate::way_fillings::way_filled;
 use crate::{FillError, fill_source};
 use call_graph::Ranks;
-use sloth_base::{App, Code, Config, List, NoMemory, Result};
+use sloth_base::{App, Code, Config, Func, List, NoMemory, Result};
 use sloth_source::Ranked;
 use std::alloc::Global;
+use text_pieces::push;
 use why_text::{ranked_texts, told_fault};
 
 /// What is said of the lists of labels.
@@ -168,4 +174,38 @@ pub fn labels_text(alloc: Global, oil: &[u8], src: &[u8]) -> Result<LabelAnswer>
         Err(FillError::NoHolds) => Ok(LabelAnswer::NoLists(no_lists_text(alloc, oil, src)?)),
         Err(FillError::Memory) => Err(NoMemory),
     }
+}
+
+fn way_filling(alloc: Global, func: &Func) -> Result<Func>
+    requires { HasItsLabels func.now }
+    ensures { IfOk result (IsWayFilling func.now) }
+{
+    let ways = body_ways(alloc, func)?;
+    let made = relisted_func(alloc, ways.lists.items(), func)?;
+    Ok(made)
+}
+
+fn way_fillings(alloc: Global, funcs: &[Func]) -> Result<Vec<Func>>
+    requires { HaveTheirLabels funcs.now }
+    ensures { IfOk result (λ made. AreWayFillings funcs.now made.items) }
+{
+    let mut made = Vec::new(alloc);
+    for func in funcs {
+        let func = way_filling(alloc, func)?;
+        push(&mut made, func)?;
+    }
+    Ok(made)
+}
+
+/// The task code with what the first way to each label holds at it; nothing at a label to which no way was found.
+pub fn way_filled(alloc: Global, app: &App) -> Result<App>
+    requires { HaveTheirLabels app.now.funcs }
+    ensures { IfOk result (IsWayFilled app.now) }
+{
+    let funcs = way_fillings(alloc, app.funcs.items())?;
+    let symbols = app.symbols_copy(alloc)?;
+    Ok(App {
+        funcs: List::from_vec(funcs),
+        symbols,
+    })
 }

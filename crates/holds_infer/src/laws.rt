@@ -4,7 +4,7 @@ ghost use Rattle.sloth_base.specs.declared.config.Config.{Config};
 ghost use Rattle.sloth_base.specs.declared.app.App.{App};
 ghost use Rattle.code_rules.specs.WellFormed.{WellFormed};
 ghost use Rattle.asm_lines.specs.declared.source_line.SourceLine.{SourceLine};
-ghost use Rattle.asm_items.specs.Apps.{app_of};
+ghost use Rattle.asm_parse.specs.Apps.{app_of};
 ghost use Rattle.sloth_source.specs.SourceText.{HasApp, SourceText};
 ghost use Rattle.holds_infer.specs.Filling.{IsFilling, SameButLists};
 ghost use Rattle.holds_infer.specs.Relabel.{relabeled_lines};

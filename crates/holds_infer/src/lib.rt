@@ -23,7 +23,6 @@ mod other_ways;
 mod reason_lines;
 pub mod sources;
 mod spread;
-mod way_fillings;
 
 pub use filling::fill;
 pub use inference::{InferError, infer};

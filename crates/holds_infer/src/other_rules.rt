@@ -7,7 +7,7 @@ ghost use Rattle.call_graph.specs.Ranks.{RanksOf};
 use call_graph::Ranks;
 use fault_witnesses::KeptList;
 use fault_witnesses::body_lists::body_lists;
-use least_fault::{fault_if, merge};
+use sloth_base::least_fault::{fault_if, merge};
 use sloth_base::{App, Code, Config, Func, Item, Part, Refusal, Result};
 use std::alloc::Global;
 use task_verify::{is_leave_with_resource, is_second_take, is_wrong_release, item_faults};

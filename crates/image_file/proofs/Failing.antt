@@ -7,7 +7,7 @@ use Rattle.image_file.specs.Limits.{header_size}
 use Rattle.image_file.specs.Parts.{Parts, PartsStand}
 use Rattle.image_file.specs.Faults.{IsImageErrorOf, HasMagic}
 use Rattle.image_file.specs.Reading.{HasSizes, IsNamesError, NoNames, IsPartsError}
-use Rattle.image_file.specs.declared.sizes.Sizes.{Sizes}
+use Rattle.image_file.specs.declared.header.Sizes.{Sizes}
 use Rattle.image_file.proofs.Parted.{body_of}
 use Rattle.image_file.specs.declared.fault.ImageFault.{ImageFault}
 use Rattle.image_file.specs.declared.fault.ImageFault.TheVariants as fault

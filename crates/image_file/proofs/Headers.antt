@@ -6,7 +6,7 @@ use Rattle.image_file.specs.Limits.{SizesFit, header_size}
 use Rattle.image_file.specs.Parts.{header_before}
 use Rattle.image_file.specs.Faults.{HasMagic}
 use Rattle.image_file.specs.Reading.{HasSizes, NoSizes}
-use Rattle.image_file.specs.declared.sizes.Sizes.{Sizes}
+use Rattle.image_file.specs.declared.header.Sizes.{Sizes}
 use Rattle.image_file.proofs.Unique.{Splits, four}
 
 -- numbers that fit their four bytes

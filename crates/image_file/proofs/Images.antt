@@ -5,7 +5,7 @@ use Rattle.image_file.specs.Fields.{four_bytes, magic_bytes}
 use Rattle.image_file.specs.ImageText.{ImageText, counter_bytes, image_bytes, mark_bytes, name_bytes}
 use Rattle.image_file.specs.Limits.{SizesFit}
 use Rattle.image_file.specs.Parts.{header_before}
-use Rattle.image_file.specs.declared.sizes.Sizes.{Sizes}
+use Rattle.image_file.specs.declared.header.Sizes.{Sizes}
 use Rattle.sloth_base.specs.ImageRange.{InFormat, service_limit}
 use Rattle.sloth_base.specs.declared.image.Image.{Image}
 use Rattle.sloth_base.specs.declared.image.Mark.{Mark}

@@ -2,7 +2,7 @@
 use Rattle.std.specs.Prelude.{◌≡◌, ◌≤◌, ◌%◌, ℕ, zero, suc}
 use Rattle.sloth_base.specs.Limits.{task_limit, counter_limit, body_limit, mark_limit}
 use Rattle.sloth_base.specs.MemoryMap.{memory_bytes}
-use Rattle.image_file.specs.declared.sizes.Sizes.{Sizes}
+use Rattle.image_file.specs.declared.header.Sizes.{Sizes}
 
 -- these numbers are within the limits
 pub record SizesFit (sizes : Sizes) : Type 0 where

@@ -6,7 +6,7 @@ use Rattle.sloth_base.specs.ImageRange.{IsMark, AreAscending}
 use Rattle.image_file.specs.ImageText.{mark_bytes, name_bytes}
 use Rattle.image_file.specs.Limits.{SizesFit, header_size}
 use Rattle.image_file.specs.Parts.{Parts, HasParts, PartsStand, AreRight, header_before}
-use Rattle.image_file.specs.declared.sizes.Sizes.{Sizes}
+use Rattle.image_file.specs.declared.header.Sizes.{Sizes}
 use Rattle.image_file.specs.declared.fault.ImageFault.TheVariants as fault
 use Rattle.image_file.specs.declared.fault.ImageFault.{ImageFault}
 use Rattle.image_file.specs.declared.fault.FileError.{FileError}

@@ -1,10 +1,12 @@
-//! The header of a file: the magic, and the numbers of its parts.
-ghost use Rattle.std.specs.Prelude.{◌≡◌, IfSome, IfNone, Decides, codes, take};
+//! The header of a file: the magic, and the numbers of its parts. Little-endian numbers at a place of a file.
+//! The numbers of a header, and their limits.
+ghost use Rattle.std.specs.Prelude.{◌≡◌, IfSome, IfNone, Decides, codes, take, ◌≤◌, ◌+◌, ◌++◌, length, drop};
 ghost use Rattle.image_file.specs.Faults.{HasMagic};
 ghost use Rattle.image_file.specs.Reading.{HasSizes, NoSizes};
+ghost use Rattle.image_file.specs.Fields.{four_bytes, two_bytes};
+ghost use Rattle.image_file.specs.Limits.{SizesFit, header_size};
 
-pub use crate::Sizes;
-use crate::u32_at;
+use sloth_base::{BODY_LIMIT, COUNTER_LIMIT, MARK_LIMIT, MEMORY_BYTES, TASK_LIMIT};
 
 // Whether the file begins as an image file without counters does.
 fn has_plain_magic(bytes: &[u8]) -> bool
@@ -85,4 +87,51 @@ fn read_counted_sizes(bytes: &[u8]) -> Option<Sizes>
         return None;
     }
     Some(sizes)
+}
+
+/// The number in the four bytes at `at`.
+pub fn u32_at(bytes: &[u8], at: usize) -> u32
+    requires { at + 4 ≤ length bytes.now }
+    ensures stands { drop at bytes.now ≡ four_bytes result ++ drop (at + 4) bytes.now }
+{
+    u32::from_le_bytes([bytes[at], bytes[at + 1], bytes[at + 2], bytes[at + 3]])
+}
+
+/// The number in the two bytes at `at`.
+pub fn u16_at(bytes: &[u8], at: usize) -> u16
+    requires { at + 2 ≤ length bytes.now }
+    ensures stands { drop at bytes.now ≡ two_bytes result ++ drop (at + 2) bytes.now }
+{
+    u16::from_le_bytes([bytes[at], bytes[at + 1]])
+}
+
+/// The numbers of tasks, functions, counters, bytes of memory and marks.
+#[derive(Clone, Copy)]
+pub struct Sizes {
+    pub tasks: usize,
+    pub funcs: usize,
+    pub counters: usize,
+    pub memory: usize,
+    pub marks: usize,
+}
+
+impl Sizes {
+    /// The length of a header with these numbers, in bytes.
+    pub fn header(&self) -> usize
+        ensures { result ≡ header_size self.now.counters }
+    {
+        if self.counters == 0 { 24 } else { 28 }
+    }
+
+    /// The numbers are within the limits.
+    pub fn are_within(&self) -> bool
+        ensures { Decides result (SizesFit self.now) }
+    {
+        self.tasks <= TASK_LIMIT
+            && self.funcs <= BODY_LIMIT
+            && self.counters <= COUNTER_LIMIT
+            && self.memory <= MEMORY_BYTES
+            && self.memory % 4 == 0
+            && self.marks <= MARK_LIMIT
+    }
 }

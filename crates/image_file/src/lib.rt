@@ -11,28 +11,17 @@
 //! an ELF file of an image stands here as plain data (`elf_fault`); its reader: `elf_image`.
 #![tactic(auto)]
 
-pub mod elf_fault;
 pub mod fault;
-pub mod file_end;
 pub mod header;
 pub mod laws;
-pub mod magic;
-pub mod mark_services;
 pub mod marks;
 pub mod names;
-pub mod number_fields;
-pub mod numbers;
 pub mod read;
-pub mod sizes;
 pub mod write;
 
-pub use elf_fault::{ElfError, ElfFault};
-pub use fault::{ImageError, ImageFault};
-pub use mark_services::service_limit;
+pub use fault::{ElfError, ElfFault, ImageError, ImageFault};
+pub use header::{Sizes, u32_at};
 pub use marks::{are_ascending, read_marks};
 pub use names::are_right_names;
-pub use number_fields::{put_u16, put_u32};
-pub use numbers::u32_at;
-pub use read::{Outline, read_image, read_parts};
-pub use sizes::Sizes;
-pub use write::{put_marks, put_names, write_image};
+pub use read::{Outline, read_image, read_parts, service_limit};
+pub use write::{put_marks, put_names, put_u16, put_u32, write_image};

@@ -7,7 +7,7 @@ ghost use Rattle.sloth_base.specs.declared.image.MarkKind.{MarkKind as KindOfMar
 ghost use Rattle.sloth_base.specs.Limits.{body_limit, mark_limit};
 ghost use Rattle.sloth_base.specs.MemoryMap.{memory_bytes};
 
-use crate::numbers::u16_at;
+use crate::header::u16_at;
 pub use crate::service_limit;
 use crate::{ImageError, ImageFault, u32_at};
 use sloth_base::{MEMORY_BASE, Mark, MarkKind};

@@ -1,5 +1,5 @@
-//! Reading an image.
-ghost use Rattle.std.specs.Prelude.{◌⊎◌, ◌≡◌, ◌≤◌, IfOk, IfErr, length};
+//! Reading an image. Where a file ends. The services that marks may name.
+ghost use Rattle.std.specs.Prelude.{◌⊎◌, ◌≡◌, ◌≤◌, IfOk, IfErr, length, ◌<◌, true, false};
 ghost use Rattle.image_file.specs.ImageText.{ImageText};
 ghost use Rattle.image_file.specs.Faults.{IsImageErrorOf, IsFirstImageFault, HasMagic};
 ghost use Rattle.image_file.specs.Limits.{SizesFit};
@@ -7,13 +7,11 @@ ghost use Rattle.image_file.specs.Reading.{AreLastMarks, HasOutline, HasSizes, N
 ghost use Rattle.sloth_base.specs.declared.image.Image.{Image as ImageOf};
 ghost use Rattle.image_file.specs.declared.fault.ImageFault.{ImageFault as FaultOf};
 ghost use Rattle.image_file.specs.declared.fault.FileError.TheVariants as failed_by;
+ghost use Rattle.sloth_base.specs.ImageRange.{service_limit};
 
-use crate::file_end::is_followed;
 use crate::header::{has_magic, read_sizes};
 use crate::names::read_names;
-use crate::{
-    ImageError, ImageFault, Sizes, are_ascending, are_right_names, read_marks, service_limit,
-};
+use crate::{ImageError, ImageFault, Sizes, are_ascending, are_right_names, read_marks};
 use sloth_base::{Image, List, Mark, Name};
 use std::alloc::Global;
 
@@ -152,4 +150,19 @@ fn read_contents(alloc: Global, bytes: &[u8], outline: Outline) -> Result<Image,
         memory: List::from_vec(memory),
         marks: List::from_vec(marks),
     })
+}
+
+/// Whether bytes follow the first `end`.
+pub fn is_followed(bytes: &[u8], end: usize) -> bool
+    ensures follows { result ≡ true → end < length bytes.now }
+    ensures ends { result ≡ false → length bytes.now ≤ end }
+{
+    bytes.len() > end
+}
+
+/// How many services the marks of an image with so many counters may name: those on alarms need a counter.
+pub fn service_limit(counters: usize) -> u8
+    ensures { result ≡ service_limit counters }
+{
+    if counters == 0 { 12 } else { 16 }
 }

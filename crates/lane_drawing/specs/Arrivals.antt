@@ -1,6 +1,6 @@
 -- The line of an arrival in a picture: SVG 1.1.
 use Rattle.std.specs.Prelude.{ℕ, ◌-◌, Bool, cond, List, [], ◌++◌, codes, decimal}
-use Rattle.sloth_base.specs.declared.event.Arrival.{Arrival}
+use Rattle.sloth_base.specs.declared.service.Arrival.{Arrival}
 use Rattle.lane_drawing.specs.declared.scale.Scale.{Scale}
 use Rattle.lane_drawing.specs.Scale.{place, pixels}
 

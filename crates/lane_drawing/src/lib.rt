@@ -7,7 +7,6 @@
 //! `specs/TaskLooks`, `specs/Signs`.
 #![tactic(auto)]
 
-pub mod arrivals;
 pub mod bars;
 mod drawing;
 mod frame;
@@ -15,14 +14,11 @@ pub mod marks;
 pub mod scale;
 pub mod signs;
 pub mod strip;
-pub mod task_looks;
 
-pub use arrivals::arrival_line;
-pub use bars::{Bar, Look};
+pub use bars::{Bar, Look, task_look};
 pub use drawing::{push_bar, push_lane, push_name};
 pub use frame::{push_axis, push_head, push_legend};
 pub use marks::{arrow_line, expiry_line};
-pub use scale::Scale;
+pub use scale::{Scale, arrival_line};
 pub use signs::{is_activated, is_over, is_woken};
 pub use strip::Strip;
-pub use task_looks::task_look;

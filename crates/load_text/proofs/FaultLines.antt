@@ -1,7 +1,7 @@
 -- The faults of a load's lines, for what reads line after line.
 use Rattle.std.proofs.Common.{◌≡◌, ℕ, List, inl, inr, ap}
 use Rattle.sloth_base.specs.declared.refusal.Refusal.{Refusal}
-use Rattle.load_text.specs.declared.entry.Entry.{Entry}
+use Rattle.load_text.specs.declared.load_line.Entry.{Entry}
 use Rattle.load_text.specs.LoadText.{LineFault}
 
 -- the line of a fault is that where it stands

@@ -8,14 +8,14 @@ use Rattle.std.proofs.lemmas.List.Elements.{All-nil, All-cons, All-append}
 use Rattle.sloth_base.specs.declared.refusal.Part.TheVariants.{Load}
 use Rattle.sloth_base.specs.declared.refusal.Code.TheVariants.{L2, L3, L4}
 use Rattle.sloth_base.specs.Owners.{IsOwned}
-use Rattle.least_fault.specs.Order.{NoFault}
-use Rattle.least_fault.proofs.Nowhere.{case_false}
+use Rattle.sloth_base.specs.Order.{NoFault}
+use Rattle.sloth_base.proofs.Nowhere.{case_false}
 use Rattle.sloth_base.proofs.Owners.{task_owned}
 use Rattle.trace_text.specs.ArrivalsText.{owners_read, named_among}
 use Rattle.trace_text.proofs.Kept.{found-below, line-owned, some-of, without}
-use Rattle.load_text.specs.declared.entry.Entry.{Entry}
-use Rattle.load_text.specs.declared.entry.Form.{Form}
-use Rattle.load_text.specs.declared.entry.Form.TheVariants as form
+use Rattle.load_text.specs.declared.load_line.Entry.{Entry}
+use Rattle.load_text.specs.declared.load_line.Form.{Form}
+use Rattle.load_text.specs.declared.load_line.Form.TheVariants as form
 use Rattle.load_text.specs.LoadText.{load_limit, is_entry, form_of, number_of, owner_text, owner_by, owner_of, entry_of, is_of, is_form, is_said, is_outside, is_l2, is_l3, is_l4, LineFault}
 use Rattle.load_text.specs.Loads.{said, IsNumber, AreApart, IsLoad}
 

@@ -5,15 +5,15 @@ use Rattle.std.specs.List.{list_any, before_first, after_first}
 use Rattle.sloth_base.specs.declared.refusal.Part.TheVariants.{Load}
 use Rattle.sloth_base.specs.declared.refusal.Code.TheVariants as code
 use Rattle.sloth_base.specs.declared.refusal.Refusal.{Refusal}
-use Rattle.least_fault.specs.Search.{Somewhere}
-use Rattle.least_fault.specs.Cases.{CaseOf}
+use Rattle.sloth_base.specs.Search.{Somewhere}
+use Rattle.sloth_base.specs.Cases.{CaseOf}
 use Rattle.text_pieces.specs.Bytes.{is_name}
 use Rattle.text_pieces.specs.Digits.{value_from}
 use Rattle.text_pieces.specs.Lines.{lines}
 use Rattle.trace_text.specs.ArrivalsText.{is_comment, are_digits, named_among, owner_line}
-use Rattle.load_text.specs.declared.entry.Entry.{Entry}
-use Rattle.load_text.specs.declared.entry.Form.{Form}
-use Rattle.load_text.specs.declared.entry.Form.TheVariants as form
+use Rattle.load_text.specs.declared.load_line.Entry.{Entry}
+use Rattle.load_text.specs.declared.load_line.Form.{Form}
+use Rattle.load_text.specs.declared.load_line.Form.TheVariants as form
 
 -- the greatest number of a line: counts of 31 bits
 abbrev pub load_limit : ℕ

@@ -5,11 +5,8 @@
 //! says, and which arrivals keep it: `specs/Loads`. Names and lines: `trace_text` (`ArrivalsText`).
 #![tactic(auto)]
 
-pub mod entry;
 pub mod load_line;
-pub mod loads;
 pub mod reading;
 
-pub use entry::{Entry, Form};
-pub use loads::{deadline_of, distance_of, work_of};
+pub use load_line::{Entry, Form, deadline_of, distance_of, work_of};
 pub use reading::read_load;

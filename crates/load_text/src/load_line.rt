@@ -1,15 +1,12 @@
-//! A line of a load, and its faults: L1 to L4.
+//! A line of a load, and its faults: L1 to L4. What one line of a load says. What a load says of a line or a task.
 ghost use Rattle.std.specs.Prelude.{◌≡◌, ◌≤◌};
 ghost use Rattle.std.specs.List.{list_any};
-ghost use Rattle.least_fault.specs.Search.{IsSearchResult};
+ghost use Rattle.sloth_base.specs.Search.{IsSearchResult};
 ghost use Rattle.text_pieces.specs.Digits.{capped_value};
-ghost use Rattle.load_text.specs.LoadText.{load_limit, form_named, is_entry, form_of, number_of, owner_by};
-ghost use Rattle.load_text.specs.LoadText.{owner_of, entry_of, is_of, is_said, is_outside};
-ghost use Rattle.load_text.specs.LoadText.{is_l1, is_l2, is_l3, is_l4, LineFault, owner_text, number_text, form_text};
+ghost use Rattle.load_text.specs.LoadText.{load_limit, form_named, is_entry, form_of, number_of, owner_by, owner_of, entry_of, is_of, is_said, is_outside, is_l1, is_l2, is_l3, is_l4, LineFault, owner_text, number_text, form_text};
+ghost use Rattle.load_text.specs.Loads.{said, distance, work, deadline};
 
-use crate::entry::LOAD_LIMIT;
-use crate::{Entry, Form};
-use least_fault::{fault_if, merge};
+use sloth_base::least_fault::{fault_if, merge};
 use sloth_base::{Code, Line, Name, Part, Refusal};
 use text_pieces::{before, behind, is_name, same, value};
 use trace_text::{are_digits, is_comment, owner_line, task_line};
@@ -183,4 +180,59 @@ pub fn line_fault(
     let l3 = fault_if(l3, Part::Load, number, Code::L3);
     let l4 = fault_if(is_l4(line), Part::Load, number, Code::L4);
     merge(l1, merge(l2, merge(l3, l4)))
+}
+
+/// The greatest number of a line: counts of 31 bits.
+pub const LOAD_LIMIT: u32 = 2_147_483_647;
+
+/// What is said of an owner.
+#[derive(Clone, Copy)]
+pub enum Form {
+    /// Two of its arrivals are at least so many counts apart.
+    Every,
+    /// A round of it takes at most so many counts of its own.
+    Work,
+    /// Its response is wanted within so many counts.
+    Deadline,
+}
+
+/// A number of counts, 1 to `LOAD_LIMIT`, that is said of the task or the counter of a line.
+#[derive(Clone, Copy)]
+pub struct Entry {
+    pub form: Form,
+    pub owner: Line,
+    pub number: u32,
+}
+
+// The number of the first entry of a form and an owner.
+fn said(form: Form, owner: u8, load: &[Entry]) -> Option<u32>
+    ensures { result ≡ said form owner load.now }
+{
+    for entry in load {
+        if concerns(form, owner, entry) {
+            return Some(entry.number);
+        }
+    }
+    None
+}
+
+/// How many counts two arrivals of a line are apart at least; none where the line never arrives.
+pub fn distance_of(load: &[Entry], line: u8) -> Option<u32>
+    ensures { result ≡ distance load.now line }
+{
+    said(Form::Every, line, load)
+}
+
+/// How many counts of its own a round of a task takes at most, where the load says so.
+pub fn work_of(load: &[Entry], task: u8) -> Option<u32>
+    ensures { result ≡ work load.now task }
+{
+    said(Form::Work, task, load)
+}
+
+/// Within how many counts the response of a task is wanted, where the load says so.
+pub fn deadline_of(load: &[Entry], task: u8) -> Option<u32>
+    ensures { result ≡ deadline load.now task }
+{
+    said(Form::Deadline, task, load)
 }

@@ -1,6 +1,6 @@
 //! Reads loads.
 ghost use Rattle.std.specs.Prelude.{◌≡◌, ◌<◌, ◌^◌, ◌∷◌, [], ◌++◌, length, map, IfOk, IfErr, OnOk};
-ghost use Rattle.least_fault.specs.Order.{ErrorIs, NoFault};
+ghost use Rattle.sloth_base.specs.Order.{ErrorIs, NoFault};
 ghost use Rattle.text_pieces.specs.Names.{referent};
 ghost use Rattle.trace_text.specs.ArrivalsText.{owners_read};
 ghost use Rattle.load_text.specs.LoadText.{entries_of, load_in, LineFault, LinesFault, LoadFault};

@@ -4,7 +4,7 @@ use Rattle.std.proofs.lemmas.List.{get_or_past, length-append}
 use Rattle.std.proofs.lemmas.List.Elements.{filter-append}
 use Rattle.sloth_base.specs.declared.app.App.{App}
 use Rattle.sloth_base.specs.declared.config.Config.{Config}
-use Rattle.sloth_base.specs.declared.event.Stamped.{Stamped}
+use Rattle.sloth_base.specs.declared.service.Stamped.{Stamped}
 use Rattle.osek_machine.specs.Steps.{Machine}
 use Rattle.osek_scheduler.proofs.Leading.{follows_leads, one_step}
 use Rattle.osek_scheduler.specs.Runs.{AreStepsTo, OsekRun}

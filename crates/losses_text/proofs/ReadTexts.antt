@@ -8,12 +8,12 @@ use Rattle.sloth_base.specs.declared.app.App.{App}
 use Rattle.sloth_base.specs.declared.config.Config.{Config}
 use Rattle.sloth_base.specs.declared.config.CounterDecl.{CounterDecl}
 use Rattle.sloth_base.specs.declared.config.TaskDecl.{TaskDecl}
-use Rattle.sloth_base.specs.declared.event.Arrival.{Arrival}
+use Rattle.sloth_base.specs.declared.service.Arrival.{Arrival}
 use Rattle.sloth_base.specs.declared.image.Image.{Image}
-use Rattle.sloth_base.specs.declared.lines.Owners.{Owners}
+use Rattle.sloth_base.specs.declared.numbers.Owners.{Owners}
 use Rattle.sloth_base.specs.declared.refusal.BuildError.{BuildError}
 use Rattle.sloth_base.specs.declared.refusal.BuildError.TheVariants as error
-use Rattle.least_fault.specs.Order.{ErrorIs, IsLeast, NoFault}
+use Rattle.sloth_base.specs.Order.{ErrorIs, IsLeast, NoFault}
 use Rattle.osek_scheduler.specs.State.{opening}
 use Rattle.run_inputs.specs.Inputs.{AreArrivalsOf, InputsErrorIs}
 use Rattle.sim_induction.specs.Sound.{AreComing, events_of}

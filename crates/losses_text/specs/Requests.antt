@@ -9,9 +9,9 @@ use Rattle.sloth_base.specs.declared.config.Action.{Action}
 use Rattle.sloth_base.specs.declared.config.Action.TheVariants as action
 use Rattle.sloth_base.specs.declared.config.AlarmDecl.{AlarmDecl}
 use Rattle.sloth_base.specs.declared.config.Config.{Config}
-use Rattle.sloth_base.specs.declared.event.Event.{Event}
-use Rattle.sloth_base.specs.declared.event.Event.TheVariants as event
-use Rattle.sloth_base.specs.declared.event.Stamped.{Stamped}
+use Rattle.sloth_base.specs.declared.service.Event.{Event}
+use Rattle.sloth_base.specs.declared.service.Event.TheVariants as event
+use Rattle.sloth_base.specs.declared.service.Stamped.{Stamped}
 use Rattle.sloth_base.specs.declared.service.Service.{Service}
 use Rattle.sloth_base.specs.declared.service.Service.TheVariants as service
 use Rattle.osek_scheduler.specs.Meaning.{on_some}

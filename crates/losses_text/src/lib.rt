@@ -9,7 +9,6 @@
 //! its events is (`laws`, `specs/NothingLost`).
 #![tactic(auto)]
 
-pub mod counting;
 pub mod laws;
 mod lines;
 pub mod request;

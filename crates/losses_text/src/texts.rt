@@ -9,10 +9,10 @@ ghost use Rattle.sloth_base.specs.Limits.{count_limit, file_limit};
 ghost use Rattle.sloth_base.specs.Owners.{owners_in, owners_named};
 ghost use Rattle.losses_text.specs.Losses.{IsLossesText, IsRunText};
 
-use crate::counting::requests_along;
 use crate::lines::requests_text;
+use crate::request::requests_along;
 use sloth_base::{App, Arrival, BuildError, Config, Image, Result};
-use sloth_build::image::image;
+use sloth_build::building::image;
 use sloth_runner::run_events;
 use sloth_source::{Source, read};
 use std::alloc::Global;

@@ -9,7 +9,7 @@ use Rattle.sloth_base.specs.declared.config.Config.{Config}
 use Rattle.sloth_base.specs.declared.places.Bounds.{Bounds}
 use Rattle.sloth_base.specs.MemoryMap.{memory_base, vectors_base, boot_base}
 use Rattle.sloth_base.specs.Owners.{first_counter_line}
-use Rattle.sloth_region.specs.declared.map.Map.{Map}
+use Rattle.sloth_region.specs.declared.region.Map.{Map}
 use Rattle.code_rules.specs.WellFormed.{WellFormed}
 use Rattle.rv32_expand.specs.Sizes.{items_before}
 use Rattle.mem_map.specs.declared.all_lengths.CodeLengths.{CodeLengths}

@@ -1,8 +1,8 @@
 -- Where the zones of an image begin and end.
 use Rattle.std.specs.Prelude.{ℕ, ◌+◌, ◌%◌, ◌≤◌, ◌≡◌, List, [], ◌∷◌, All, length}
 use Rattle.sloth_base.specs.MemoryMap.{memory_base, memory_bytes, memory_end, vectors_base}
-use Rattle.sloth_region.specs.declared.extent.Extent.{Extent}
-use Rattle.sloth_region.specs.declared.map.Map.{Map}
+use Rattle.sloth_region.specs.declared.region.Extent.{Extent}
+use Rattle.sloth_region.specs.declared.region.Map.{Map}
 use Rattle.mem_map.specs.Stacks.{address_behind_data}
 use Rattle.mem_map.specs.Zones.{all_stacks, data_zone}
 use Rattle.map_text.specs.declared.borders.Borders.{Borders}

@@ -6,7 +6,7 @@ use Rattle.sloth_base.specs.declared.app.Func.{Func}
 use Rattle.sloth_base.specs.declared.config.Config.{Config}
 use Rattle.sloth_base.specs.declared.places.Bounds.{Bounds}
 use Rattle.sloth_base.specs.MemoryMap.{memory_base, vectors_base, boot_base}
-use Rattle.sloth_region.specs.declared.map.Map.{Map}
+use Rattle.sloth_region.specs.declared.region.Map.{Map}
 use Rattle.code_rules.specs.WellFormed.{WellFormed}
 use Rattle.mem_map.specs.declared.all_lengths.CodeLengths.{CodeLengths}
 use Rattle.mem_map.specs.Starts.{code_byte_count}

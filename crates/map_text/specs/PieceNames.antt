@@ -1,16 +1,12 @@
 -- The names of objects and of pieces of code.
-use Rattle.std.specs.Prelude.{ℕ, ◌==◌, cond, List, [], ◌++◌, codes, get_or, Option, Some, None}
-use Rattle.sloth_base.specs.ConfigRange.{scheduler_number}
+use Rattle.std.specs.Prelude.{ℕ, List, ◌++◌, codes, Option, Some, None}
+use Rattle.sloth_base.specs.ConfigRange.{resource_name}
 use Rattle.sloth_base.specs.Named.{alarm_declaration, declaration}
 use Rattle.sloth_base.specs.ServiceCodes.{object_kind, service_name}
 use Rattle.sloth_base.specs.declared.config.Config.{Config}
 use Rattle.sloth_base.specs.declared.service.ObjectKind.{ObjectKind}
 use Rattle.sloth_base.specs.declared.service.ObjectKind.TheVariants as object
 use Rattle.sloth_base.specs.declared.service.Service.{Service}
-
--- the name of a resource
-abbrev pub resource_name : Config → ℕ → List ℕ
-resource_name config r = cond (r == scheduler_number) (codes "RES_SCHEDULER") (get_or config.resources r [])
 
 -- two names, joined by `$`, which no name of a text has
 abbrev pub joined : (one other : List ℕ) → List ℕ

@@ -6,8 +6,8 @@ use Rattle.sloth_base.specs.declared.config.Config.{Config}
 use Rattle.sloth_base.specs.declared.config.TaskDecl.{TaskDecl}
 use Rattle.sloth_base.specs.MemoryMap.{memory_base, vectors_base, boot_base}
 use Rattle.sloth_base.specs.Owners.{first_counter_line}
-use Rattle.sloth_region.specs.declared.extent.Extent.{Extent}
-use Rattle.sloth_region.specs.declared.map.Map.{Map}
+use Rattle.sloth_region.specs.declared.region.Extent.{Extent}
+use Rattle.sloth_region.specs.declared.region.Map.{Map}
 use Rattle.mem_map.specs.Stacks.{address_behind_data}
 use Rattle.mem_map.specs.StackParts.{is_extended}
 use Rattle.mem_map.specs.Zones.{code_zone, stack_of}

@@ -14,7 +14,6 @@ pub mod borders;
 pub mod laws;
 pub mod line_rows;
 mod lines;
-pub mod object_names;
 pub mod piece_names;
 pub mod piece_rows;
 mod piece_starts;
@@ -25,7 +24,6 @@ pub mod totals;
 
 pub use borders::{Borders, Range, code_range, image_borders};
 pub use line_rows::{LineRow, body_end, item_address};
-pub use object_names::{counter_name, function_name, symbol_name};
 pub use piece_names::{block_symbol, copied, joined};
 pub use piece_rows::{Kind, Row};
 pub use rows::map_rows;

@@ -4,9 +4,8 @@ ghost use Rattle.sloth_base.specs.Blocks.{block_object, block_service};
 ghost use Rattle.map_text.specs.MapText.{behind_part, need_line, object_text, part_text, piece_name, piece_text};
 ghost use Rattle.map_text.specs.MapText.{piece_word, row_line, service_text, sum_line, total_line};
 
-use crate::object_names::{alarm_name, resource_name};
 use crate::totals::part_sum;
-use crate::{Kind, Part, Row, counter_name, function_name, symbol_name};
+use crate::{Kind, Part, Row};
 use sloth_base::{
     App, BLOCK_COUNT, Bounds, Config, NoMemory, ObjectKind, Result, Service, block_object,
     block_service,
@@ -23,8 +22,9 @@ fn push_object(text: &mut Vec<u8>, config: &Config, kind: ObjectKind, number: u3
     match kind {
         ObjectKind::Nothing => Ok(()),
         ObjectKind::Task => line!(text; Word(b" "), Word(config.task_name(number as usize))),
-        ObjectKind::Resource => line!(text; Word(b" "), Word(resource_name(config, number))),
-        ObjectKind::Alarm => line!(text; Word(b" "), Word(alarm_name(config, number as usize))),
+        ObjectKind::Resource =>
+            line!(text; Word(b" "), Word(config.resource_name(number as usize))),
+        ObjectKind::Alarm => line!(text; Word(b" "), Word(config.alarm_name(number as usize))),
     }
 }
 
@@ -83,9 +83,9 @@ fn piece_name<'a>(config: &'a Config, app: &'a App, kind: Kind, number: usize) -
 {
     match kind {
         Kind::Prologue | Kind::Stack => config.task_name(number),
-        Kind::Tick => counter_name(config, number),
-        Kind::Code => function_name(app, number),
-        Kind::Data => symbol_name(app, number),
+        Kind::Tick => config.counter_name(number),
+        Kind::Code => app.function_name(number),
+        Kind::Data => app.symbol_name(number),
         _ => b"",
     }
 }

@@ -4,7 +4,6 @@ ghost use Rattle.sloth_base.specs.Blocks.{block_object, block_service};
 ghost use Rattle.sloth_base.specs.ServiceCodes.{object_kind, service_name};
 ghost use Rattle.map_text.specs.PieceNames.{block_symbol, joined, service_symbol};
 
-use crate::object_names::{alarm_name, resource_name};
 use sloth_base::{
     BLOCK_COUNT, Config, List, NoMemory, ObjectKind, Result, Service, block_object, block_service,
 };
@@ -37,8 +36,8 @@ fn service_symbol(alloc: Global, config: &Config, service: Service, number: u32)
     match service.object_kind() {
         ObjectKind::Nothing => joined(alloc, b"kernel", name),
         ObjectKind::Task => joined(alloc, name, config.task_name(number as usize)),
-        ObjectKind::Resource => joined(alloc, name, resource_name(config, number)),
-        ObjectKind::Alarm => joined(alloc, name, alarm_name(config, number as usize)),
+        ObjectKind::Resource => joined(alloc, name, config.resource_name(number as usize)),
+        ObjectKind::Alarm => joined(alloc, name, config.alarm_name(number as usize)),
     }
 }
 

@@ -116,6 +116,5 @@ pub fn map_text(alloc: Global, oil: &[u8], src: &[u8]) -> Result<Vec<u8>, BuildE
         app,
         bounds,
     } = read(alloc, oil, src)?;
-    let text = planned_text(alloc, &config, &app, &bounds)?;
-    Ok(text)
+    Ok(planned_text(alloc, &config, &app, &bounds)?)
 }

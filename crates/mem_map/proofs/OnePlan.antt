@@ -14,8 +14,8 @@ use Rattle.sloth_base.specs.declared.config.TaskDecl.{TaskDecl}
 use Rattle.sloth_base.specs.declared.places.Bounds.{Bounds}
 use Rattle.sloth_base.specs.declared.places.Places.{Places}
 use Rattle.sloth_base.specs.MemoryMap.{line_count}
-use Rattle.sloth_region.specs.declared.extent.Extent.{Extent}
-use Rattle.sloth_region.specs.declared.map.Map.{Map}
+use Rattle.sloth_region.specs.declared.region.Extent.{Extent}
+use Rattle.sloth_region.specs.declared.region.Map.{Map}
 use Rattle.code_lengths.specs.CodeLengths.{IsPrologueLength, prologue_length}
 use Rattle.code_rules.specs.AppRange.{AppInRange}
 use Rattle.rv32_expand.proofs.Least.{sizes_are_one}

@@ -3,7 +3,7 @@ use Rattle.std.proofs.Common.{◌≡◌, ◌≤◌, ◌<◌, ◌+◌, ◌*◌, �
 use Rattle.std.specs.Prelude.{All, map}
 use Rattle.std.proofs.lemmas.List.{drop_more}
 use Rattle.std.proofs.lemmas.List.Elements.{All-cons}
-use Rattle.sloth_region.specs.declared.extent.Extent.{Extent}
+use Rattle.sloth_region.specs.declared.region.Extent.{Extent}
 use Rattle.sloth_region.specs.Region.{FollowWithin}
 pub use Rattle.mem_map.proofs.Ends.{end_above}
 use Rattle.mem_map.specs.Starts.{starts, end_of}

@@ -9,8 +9,8 @@ use Rattle.sloth_base.specs.Blocks.{block_count}
 use Rattle.sloth_base.specs.Owners.{first_counter_line, counter_line}
 use Rattle.sloth_base.specs.MemoryMap.{vectors_base, boot_base, line_count}
 use Rattle.mem_map.specs.Wanted.{IsServicePlace}
-use Rattle.sloth_region.specs.declared.extent.Extent.{Extent}
-use Rattle.sloth_region.specs.declared.map.Map.{Map}
+use Rattle.sloth_region.specs.declared.region.Extent.{Extent}
+use Rattle.sloth_region.specs.declared.region.Map.{Map}
 use Rattle.sloth_region.specs.Region.{aligned}
 use Rattle.code_rules.specs.AppRange.{AppInRange}
 use Rattle.mem_map.specs.Starts.{code_byte_count}

@@ -5,7 +5,7 @@ use Rattle.sloth_base.specs.declared.app.App.{App}
 use Rattle.sloth_base.specs.declared.config.Config.{Config}
 use Rattle.sloth_base.specs.declared.places.Bounds.{Bounds}
 use Rattle.sloth_base.specs.MemoryMap.{vectors_base, line_count}
-use Rattle.sloth_region.specs.declared.map.Map.{Map}
+use Rattle.sloth_region.specs.declared.region.Map.{Map}
 use Rattle.sloth_region.specs.Region.{FollowWithin}
 use Rattle.rv32_expand.specs.Sizes.{AgreeWithSizes, HasWordAddresses}
 use Rattle.mem_map.specs.declared.all_lengths.CodeLengths.{CodeLengths}

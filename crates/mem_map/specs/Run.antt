@@ -1,6 +1,6 @@
 -- Pieces one behind the other: their addresses, and the extents that hold them.
 use Rattle.std.specs.Prelude.{ℕ, ◌+◌, ◌-◌, ◌%◌, ◌≡◌, List, [], ◌∷◌, map, All}
-use Rattle.sloth_region.specs.declared.extent.Extent.{Extent}
+use Rattle.sloth_region.specs.declared.region.Extent.{Extent}
 use Rattle.sloth_region.specs.Region.{aligned, AreApartWithin}
 
 -- ---- each right behind the one before it

@@ -3,8 +3,8 @@ use Rattle.std.specs.Prelude.{ℕ, ◌%◌, ◌≤◌, ◌≡◌, List, ◌∷�
 use Rattle.sloth_base.specs.declared.config.Config.{Config}
 use Rattle.sloth_base.specs.MemoryMap.{memory_end, words_base}
 use Rattle.sloth_base.specs.Limits.{task_limit}
-use Rattle.sloth_region.specs.declared.extent.Extent.{Extent}
-use Rattle.sloth_region.specs.declared.map.Map.{Map}
+use Rattle.sloth_region.specs.declared.region.Extent.{Extent}
+use Rattle.sloth_region.specs.declared.region.Map.{Map}
 use Rattle.sloth_region.specs.Region.{AreApartWithin}
 use Rattle.mem_map.specs.StackParts.{no_extent}
 

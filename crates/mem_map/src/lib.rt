@@ -14,19 +14,16 @@
 
 mod addresses;
 pub mod all_lengths;
-mod called_blocks;
-mod lengths;
 mod marking;
-mod pieces;
-mod placing;
 mod planning;
 mod stack_parts;
 mod stacks;
 mod writing;
 mod zones;
 
-pub use called_blocks::wanted_blocks;
+pub use all_lengths::wanted_blocks;
 pub use marking::{mark, marks};
 pub use planning::plan;
+pub use stack_parts::{first_own, stack_number};
 pub use writing::{write, write_blocks};
 pub use zones::data_zone;

@@ -1,12 +1,12 @@
-//! The map of an image.
+//! The map of an image. Addresses of pieces, each right behind the one before it.
+//! The lengths of code and symbols in bytes.
 ghost use Rattle.std.specs.Prelude.{ℕ, ◌≡◌, ◌≤◌, ◌<◌, ◌⊎◌, IfOk, All, length, map, get_or, slice_index, take};
 ghost use Rattle.code_rules.specs.WellFormed.{WellFormed};
 ghost use Rattle.stack_bounds.specs.Bounds.{AreBounds};
-ghost use Rattle.mem_map.specs.Starts.{starts, end_of};
+ghost use Rattle.mem_map.specs.Starts.{starts, end_of, code_byte_count};
 ghost use Rattle.mem_map.specs.Zones.{HasZones};
 ghost use Rattle.mem_map.specs.Stacks.{HasStacks};
 ghost use Rattle.mem_map.specs.Plan.{MayPlan, HasAddresses, idle_at, prologues_at, ticks_at, tick_starts, services_at, items_at, code_end, symbol_bytes};
-ghost use Rattle.mem_map.specs.Starts.{code_byte_count};
 ghost use Rattle.sloth_base.specs.Owners.{first_counter_line, counter_line};
 ghost use Rattle.sloth_base.specs.Limits.{task_limit, counter_limit, item_limit, data_limit};
 ghost use Rattle.sloth_base.specs.MemoryMap.{line_count};
@@ -14,13 +14,11 @@ ghost use Rattle.mem_map.specs.Planned.{IsPlanned};
 
 use crate::addresses::{handlers, place_services};
 use crate::all_lengths::{CodeLengths, all_lengths};
-use crate::lengths::{code_in_bytes, item_counts, symbol_lengths};
-use crate::pieces::{Pieces, place_pieces};
 use crate::stacks::{stack_lengths, task_parts};
 use crate::zones::plan_zones;
 use sloth_base::{
-    App, BLOCK_COUNT, BOOT_BASE, Bounds, Config, LINE_COUNT, List, NoMemory, Places, Result,
-    VECTORS_BASE, WORD,
+    App, BLOCK_COUNT, BOOT_BASE, Bounds, Config, Func, LINE_COUNT, List, NoMemory, Places, Result,
+    Symbol, VECTORS_BASE, WORD,
 };
 use sloth_region::Map;
 use stack_bounds::offsets;
@@ -160,4 +158,66 @@ pub fn plan(alloc: Global, app: &App, config: &Config, bounds: &Bounds) -> Resul
     let offsets = offsets(alloc, config, app, bounds)?;
     let map = make_map(alloc, config, app, &lengths, bounds, &offsets)?;
     Ok(map)
+}
+
+/// The address of each piece, and the address behind the last one.
+#[derive(Drop)]
+pub struct Pieces {
+    pub starts: List<u32>,
+    pub end: u32,
+}
+
+/// The addresses of pieces of these lengths, the first at `from`.
+pub fn place_pieces(alloc: Global, from: u32, lengths: &[u32]) -> Result<Pieces, AllocError>
+    requires { end_of from lengths.now < 4294967296 }
+    ensures starts { IfOk result (λ pieces. pieces.starts ≡ starts from lengths.now) }
+    ensures end { IfOk result (λ pieces. pieces.end ≡ end_of from lengths.now) }
+{
+    let mut starts = Vec::new(alloc);
+    let mut end = from;
+    for len in lengths {
+        starts.push(end)?;
+        end += *len;
+    }
+    Ok(Pieces {
+        starts: List::from_vec(starts),
+        end,
+    })
+}
+
+/// The bytes of pieces of code with so many instructions, at most 2,048 each.
+pub fn code_in_bytes(alloc: Global, sizes: &[u32]) -> Result<Vec<u32>, AllocError>
+    requires { All (λ size. size ≤ 2048) sizes.now }
+    ensures { IfOk result (λ lengths. lengths.items ≡ map code_byte_count sizes.now) }
+{
+    let mut lengths = Vec::new(alloc);
+    for size in sizes {
+        lengths.push(WORD * *size)?;
+    }
+    Ok(lengths)
+}
+
+/// The number of items of each function, at most `ITEM_LIMIT`.
+pub fn item_counts(alloc: Global, funcs: &[Func]) -> Result<Vec<u32>, AllocError>
+    requires { All (λ f. length f.items ≤ item_limit) funcs.now }
+    ensures { IfOk result (λ counts. counts.items ≡ map (λ f. length f.items) funcs.now) }
+{
+    let mut counts = Vec::new(alloc);
+    for func in funcs {
+        counts.push(func.items.items().len() as u32)?;
+    }
+    Ok(counts)
+}
+
+/// The bytes of each symbol, at most `DATA_LIMIT`, to the next multiple of 4.
+pub fn symbol_lengths(alloc: Global, symbols: &[Symbol]) -> Result<Vec<u32>, AllocError>
+    requires { All (λ y. length y.bytes ≤ data_limit) symbols.now }
+    ensures { IfOk result (λ lengths. lengths.items ≡ map symbol_bytes symbols.now) }
+{
+    let mut lengths = Vec::new(alloc);
+    for symbol in symbols {
+        let len = symbol.bytes.items().len() as u32;
+        lengths.push((len + (WORD - 1)) / WORD * WORD)?;
+    }
+    Ok(lengths)
 }

@@ -34,10 +34,11 @@ pub fn first_own(tasks: &[TaskDecl]) -> usize
 }
 
 /// The place of a task's stack among the stacks.
-fn stack_number(tasks: &[TaskDecl], task: usize) -> usize
+pub fn stack_number(tasks: &[TaskDecl], task: usize) -> usize
     requires few { length tasks.now ≤ task_limit }
     requires known { task < length tasks.now }
-    ensures { result ≡ stack_number tasks.now task }
+    ensures is { result ≡ stack_number tasks.now task }
+    ensures few { result ≤ task_limit }
 {
     if tasks[task].extended {
         first_own(tasks) + own_before(tasks, task)

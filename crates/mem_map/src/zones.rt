@@ -1,15 +1,14 @@
-//! The zones of an image, placed in one region.
-ghost use Rattle.std.specs.Prelude.{◌≡◌, ◌<◌, ◌≤◌, ◌+◌, ◌%◌, ◌∷◌, IfOk, All, length, map};
+//! The zones of an image, placed in one region. Extents of given lengths, placed in a region one behind the other.
+ghost use Rattle.std.specs.Prelude.{◌≡◌, ◌<◌, ◌≤◌, ◌+◌, ◌%◌, ◌∷◌, IfOk, All, length, map, ◌-◌, ◌⊎◌, ◌++◌, []};
 ghost use Rattle.sloth_base.specs.MemoryMap.{memory_end, vectors_base, memory_bytes, words_base};
 ghost use Rattle.sloth_base.specs.Limits.{task_limit};
-ghost use Rattle.sloth_region.specs.Region.{AreApartWithin};
-ghost use Rattle.mem_map.specs.Run.{room_for, run};
+ghost use Rattle.sloth_region.specs.Region.{AreApartWithin, aligned, first_free_address};
+ghost use Rattle.mem_map.specs.Run.{room_for, run, AreRun};
 ghost use Rattle.mem_map.specs.Zones.{data_zone};
 
-use crate::placing::{place_all, put};
 use sloth_base::{List, MEMORY_END, Result, WORD, WORDS_BASE};
-use sloth_region::{Extent, Map, Region};
-use std::alloc::Global;
+use sloth_region::{Extent, Full, Map, Region};
+use std::alloc::{AllocError, Global};
 
 /// The bytes behind the first word of RAM.
 const RAM_LEN: u32 = MEMORY_END - WORDS_BASE;
@@ -69,4 +68,41 @@ pub fn plan_zones(alloc: Global, code_len: u32, data_len: u32, stack_lens: &[u32
         stacks: List::from_vec(stacks),
         extents: List::from_vec(extents),
     })
+}
+
+/// Places the next `len` bytes in a region that has room for them.
+pub fn put(region: &mut Region, len: u32, align: u32) -> Extent
+    requires some { 1 ≤ len }
+    requires word { (align ≡ 4) ⊎ (align ≡ 16) }
+    requires few { length region.old.placed < 96 }
+    requires room { first_free_address region.old.base region.old.placed + ((align - 1) + len) ≤ region.old.end }
+    ensures is { result ≡ record { base = aligned (first_free_address region.old.base region.old.placed) align; len = len } }
+    ensures placed { region.new ≡ record region.old { placed = region.old.placed ++ result ∷ [] } }
+{
+    match region.place(len, align) {
+        Ok(extent) => extent,
+        Err(Full) => Extent { base: 0, len: 0 },
+    }
+}
+
+/// Places extents of these lengths in a region that has room for them.
+pub fn place_all(
+    alloc: Global,
+    region: &mut Region,
+    lengths: &[u32],
+    align: u32,
+) -> Result<Vec<Extent>, AllocError>
+    requires some { All (λ len. 1 ≤ len) lengths.now }
+    requires word { (align ≡ 4) ⊎ (align ≡ 16) }
+    requires few { length region.old.placed + length lengths.now ≤ 96 }
+    requires room { first_free_address region.old.base region.old.placed + room_for align lengths.now ≤ region.old.end }
+    ensures is { IfOk result (λ extents. extents.items ≡ run align (first_free_address region.old.base region.old.placed) lengths.now) }
+    ensures run { IfOk result (λ extents. AreRun align (first_free_address region.old.base region.old.placed) region.old.end lengths.now extents.items) }
+    ensures placed { IfOk result (λ extents. region.new ≡ record region.old { placed = region.old.placed ++ extents.items }) }
+{
+    let mut extents = Vec::new(alloc);
+    for len in lengths {
+        extents.push(put(region, *len, align))?;
+    }
+    Ok(extents)
 }

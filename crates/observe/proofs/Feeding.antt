@@ -1,8 +1,8 @@
 -- The relation of an observer, its steps and its events goes on.
 use Rattle.std.proofs.Common.{◌≡◌, ◌↔◌, ◌+◌, true, suc, arith, List, [], ◌∷◌, ◌++◌, Option, Some, None, IsNone, IfNone, IfSome, length, refl, sym, ◌∙◌, ap, append-nil, length-append}
-use Rattle.sloth_base.specs.declared.event.Arrival.{Arrival}
-use Rattle.sloth_base.specs.declared.event.Stamped.{Stamped}
-use Rattle.sloth_base.specs.declared.step.Step.{Step}
+use Rattle.sloth_base.specs.declared.service.Arrival.{Arrival}
+use Rattle.sloth_base.specs.declared.service.Stamped.{Stamped}
+use Rattle.sloth_base.specs.declared.numbers.Step.{Step}
 use Rattle.observe.specs.Pieces.{begins, cut_off_steps}
 use Rattle.observe.specs.Observe.{View, observe}
 use Rattle.observe.specs.Touches.{HasPlace}

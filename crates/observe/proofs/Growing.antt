@@ -3,9 +3,9 @@ use Rattle.std.proofs.Common.{◌≡◌, Bool, true, false, List, [], ◌∷◌,
 use Rattle.std.specs.Bool.{if◌then◌else◌}
 use Rattle.std.specs.List.{flat_map}
 use Rattle.std.proofs.lemmas.Grind.{flat_map-append}
-use Rattle.sloth_base.specs.declared.event.Arrival.{Arrival}
-use Rattle.sloth_base.specs.declared.event.Stamped.{Stamped}
-use Rattle.sloth_base.specs.declared.step.Step.{Step}
+use Rattle.sloth_base.specs.declared.service.Arrival.{Arrival}
+use Rattle.sloth_base.specs.declared.service.Stamped.{Stamped}
+use Rattle.sloth_base.specs.declared.numbers.Step.{Step}
 use Rattle.observe.specs.Pieces.{RunPiece, Stretch, pieces, cut_off_steps}
 use Rattle.observe.specs.Observe.{View, observe, piece_events, found_admits, stretch_events}
 use Rattle.observe.proofs.Cutting.{pieces-append, cut_off-append}

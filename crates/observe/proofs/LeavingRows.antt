@@ -1,7 +1,7 @@
 -- Small runs of ticks, and of tasks that leave and come back, and their events, computed from the definition.
 use Rattle.std.proofs.Common.{◌≡◌, true, false, [], ◌∷◌, None, refl}
 use Rattle.sloth_base.specs.declared.service.Service.TheVariants as service
-use Rattle.sloth_base.specs.declared.event.Event.TheVariants as event
+use Rattle.sloth_base.specs.declared.service.Event.TheVariants as event
 use Rattle.observe.specs.Observe.{stamp, observe}
 use Rattle.observe.proofs.Rows.{rows, went, took, arrives}
 

@@ -6,18 +6,18 @@ use Rattle.sloth_base.specs.declared.image.Image.{Image}
 use Rattle.sloth_base.specs.declared.image.Mark.{Mark}
 use Rattle.sloth_base.specs.declared.image.MarkKind.{MarkKind}
 use Rattle.sloth_base.specs.declared.image.MarkKind.TheVariants as kind
-use Rattle.sloth_base.specs.declared.event.Arrival.{Arrival}
-use Rattle.sloth_base.specs.declared.event.Event.{Event}
-use Rattle.sloth_base.specs.declared.event.Event.TheVariants as event
-use Rattle.sloth_base.specs.declared.event.Stamped.{Stamped}
-use Rattle.sloth_base.specs.declared.step.Step.{Step}
+use Rattle.sloth_base.specs.declared.service.Arrival.{Arrival}
+use Rattle.sloth_base.specs.declared.service.Event.{Event}
+use Rattle.sloth_base.specs.declared.service.Event.TheVariants as event
+use Rattle.sloth_base.specs.declared.service.Stamped.{Stamped}
+use Rattle.sloth_base.specs.declared.numbers.Step.{Step}
 use Rattle.sloth_base.specs.Arrivals.{moments}
 use Rattle.sloth_base.specs.ServiceCodes.{service_of}
 use Rattle.sloth_base.specs.Options.{is_number}
 use Rattle.sloth_base.specs.Owners.{first_counter_line, line_kind, owners_named}
-use Rattle.sloth_base.specs.declared.lines.Owners.{Owners}
-use Rattle.sloth_base.specs.declared.lines.LineKind.{LineKind}
-use Rattle.sloth_base.specs.declared.lines.LineKind.TheVariants as line_of
+use Rattle.sloth_base.specs.declared.numbers.Owners.{Owners}
+use Rattle.sloth_base.specs.declared.numbers.LineKind.{LineKind}
+use Rattle.sloth_base.specs.declared.numbers.LineKind.TheVariants as line_of
 use Rattle.observe.specs.Pieces.{RunPiece, Outside, Stretch, pieces, cut_off_steps}
 
 -- what a run is observed by: the marks of the image, and the owners of lines

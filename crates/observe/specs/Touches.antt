@@ -1,8 +1,8 @@
 -- The lines that the steps of an open stretch touch.
 use Rattle.std.specs.Prelude.{ℕ, ◌≡◌, ◌+◌, ◌≤◌, ◌<◌, nat_lt, Bool, List, length, Option, Some, None, IfSome, slice_index, slice_set}
 use Rattle.std.specs.List.{list_any}
-use Rattle.sloth_base.specs.declared.event.Arrival.{Arrival}
-use Rattle.sloth_base.specs.declared.step.Step.{Step}
+use Rattle.sloth_base.specs.declared.service.Arrival.{Arrival}
+use Rattle.sloth_base.specs.declared.numbers.Step.{Step}
 use Rattle.observe.specs.Observe.{is_touch}
 
 -- Of each line there is the count after the last step of the stretch that touched it, or 0: the arrival's line was touched at

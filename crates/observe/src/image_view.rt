@@ -1,7 +1,7 @@
 //! What a run is observed by, and the event of a part of a run.
 
 use crate::mark_table::MarkTable;
-use sloth_base::lines::Owners;
+use sloth_base::numbers::Owners;
 use sloth_base::{
     Event, FIRST_COUNTER_LINE, Line, LineKind, Mark, MarkKind, Service, Stamp, Stamped, Step,
 };

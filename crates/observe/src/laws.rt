@@ -1,6 +1,6 @@
 //! Laws of the definitions.
 ghost use Rattle.std.specs.Prelude.{List, [], Bool};
-ghost use Rattle.sloth_base.specs.declared.step.Step.{Step};
+ghost use Rattle.sloth_base.specs.declared.numbers.Step.{Step};
 ghost use Rattle.observe.specs.Pieces.{IsCut, pieces, cut_off_steps, IsContinuous, StartsAtZero, FindsEnabled, RestFindsMasked};
 ghost use Rattle.std.specs.List.{AllByRecursion};
 

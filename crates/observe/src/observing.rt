@@ -8,7 +8,7 @@ ghost use Rattle.sloth_base.specs.ImageRange.{AreAscending};
 use crate::image_view::ImageView;
 use crate::mark_table::MarkTable;
 use crate::touches::{Touches, skip_early, skip_late};
-use sloth_base::lines::Owners;
+use sloth_base::numbers::Owners;
 use sloth_base::{Arrival, Image, Line, NoMemory, Stamp, Stamped, Step};
 use std::alloc::Global;
 
@@ -34,8 +34,8 @@ pub struct Observer<'a> {
 }
 
 impl<'a> Observer<'a> {
-    ghost use Rattle.sloth_base.specs.declared.step.Step.{Step as AnyStep};
-    ghost use Rattle.sloth_base.specs.declared.event.Stamped.{Stamped as AnyStamped};
+    ghost use Rattle.sloth_base.specs.declared.numbers.Step.{Step as AnyStep};
+    ghost use Rattle.sloth_base.specs.declared.service.Stamped.{Stamped as AnyStamped};
     ghost use Rattle.sloth_base.specs.Arrivals.{AreRisingMoments};
     ghost use Rattle.observe.specs.MarkTable.{IsMarkTable};
     ghost use Rattle.observe.specs.Touches.{HasPlace, noted_touches};

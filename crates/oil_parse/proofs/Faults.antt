@@ -4,7 +4,7 @@ use Rattle.std.proofs.lemmas.List.{append-nil}
 use Rattle.sloth_base.specs.declared.refusal.Refusal.{Refusal}
 use Rattle.sloth_base.specs.declared.refusal.Part.TheVariants.{Oil}
 use Rattle.sloth_base.specs.declared.refusal.Code.TheVariants as code
-use Rattle.oil_lex.specs.Tokens.{Lexeme}
+use Rattle.oil_parse.specs.Tokens.{Lexeme}
 use Rattle.oil_parse.specs.declared.machine.Key.TheVariants.{Cpu}
 use Rattle.oil_parse.specs.declared.machine.Shape.{Shape}
 use Rattle.oil_parse.specs.declared.machine.Shape.TheVariants.{Word, Number, Text, Open, Close, Equals, Semicolon, Colon}

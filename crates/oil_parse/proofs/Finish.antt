@@ -1,7 +1,7 @@
 -- From each state the tokens can go on to the end of a file.
 use Rattle.std.proofs.Common.{◌≡◌, ℕ, List, [], ◌∷◌, Some, refl, suc, zero}
-use Rattle.oil_lex.specs.Tokens.{Lexeme}
-use Rattle.oil_lex.specs.declared.kinds.TokenKind.TheVariants as token
+use Rattle.oil_parse.specs.Tokens.{Lexeme}
+use Rattle.oil_parse.specs.declared.tree.TokenKind.TheVariants as token
 use Rattle.oil_parse.specs.declared.machine.Construct.{Construct}
 use Rattle.oil_parse.specs.declared.machine.Construct.TheVariants.{Head, Section, Object, Attr, File}
 use Rattle.oil_parse.specs.declared.machine.Expect.{Expect}

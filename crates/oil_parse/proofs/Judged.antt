@@ -3,9 +3,9 @@ use Rattle.std.proofs.Common.{◌≡◌, ℕ, Bool, true, false, List, [], ◌�
 use Rattle.sloth_base.specs.declared.refusal.Refusal.{Refusal}
 use Rattle.sloth_base.specs.declared.refusal.Part.TheVariants.{Oil}
 use Rattle.sloth_base.specs.declared.refusal.Code.TheVariants as code
-use Rattle.least_fault.specs.Order.{NoFault}
-use Rattle.oil_lex.specs.Tokens.{Lexeme, TextFault}
-use Rattle.oil_lex.proofs.Cuts.{text_judged, tokens_some}
+use Rattle.sloth_base.specs.Order.{NoFault}
+use Rattle.oil_parse.specs.Tokens.{Lexeme, TextFault}
+use Rattle.oil_parse.proofs.Cuts.{text_judged, tokens_some}
 use Rattle.oil_parse.specs.declared.machine.Expect.{Expect}
 use Rattle.oil_parse.specs.declared.machine.Expect.TheVariants.{Start, Done}
 use Rattle.oil_parse.specs.declared.tree.OilTree.{OilTree}

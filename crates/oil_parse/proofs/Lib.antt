@@ -1,3 +1,7 @@
+pub mod Lengths
+pub mod Fronts
+pub mod Cuts
+pub mod TokenWords
 pub mod Steps
 pub mod Sound
 pub mod Complete

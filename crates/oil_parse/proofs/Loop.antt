@@ -8,14 +8,14 @@ use Rattle.sloth_base.specs.declared.refusal.BuildError.{BuildError}
 use Rattle.sloth_base.specs.declared.refusal.BuildError.TheVariants.{Refused, Memory}
 use Rattle.sloth_base.specs.declared.refusal.Part.TheVariants.{Oil}
 use Rattle.sloth_base.specs.declared.refusal.Code.TheVariants as code
-use Rattle.least_fault.specs.Order.{IsLeast, NoFault, ErrorIs}
-use Rattle.least_fault.specs.Search.{lesser}
-use Rattle.least_fault.proofs.Searching.{KeepsLeast}
-use Rattle.least_fault.proofs.Kept.{kept_on, kept_found, kept_none, kept_least, least_same}
-use Rattle.oil_lex.specs.declared.kinds.TokenKind.{TokenKind}
-use Rattle.oil_lex.specs.declared.kinds.TokenKind.TheVariants as token
-use Rattle.oil_lex.specs.declared.kinds.Token.{Token}
-use Rattle.oil_lex.specs.Tokens.{Lexeme, lexeme}
+use Rattle.sloth_base.specs.Order.{IsLeast, NoFault, ErrorIs}
+use Rattle.sloth_base.specs.Search.{lesser}
+use Rattle.sloth_base.proofs.Searching.{KeepsLeast}
+use Rattle.sloth_base.proofs.Kept.{kept_on, kept_found, kept_none, kept_least, least_same}
+use Rattle.oil_parse.specs.declared.tree.TokenKind.{TokenKind}
+use Rattle.oil_parse.specs.declared.tree.TokenKind.TheVariants as token
+use Rattle.oil_parse.specs.declared.tree.Token.{Token}
+use Rattle.oil_parse.specs.Tokens.{Lexeme, lexeme}
 use Rattle.oil_parse.specs.declared.machine.Key.TheVariants.{Version, Cpu}
 use Rattle.oil_parse.specs.declared.machine.Shape.{Shape}
 use Rattle.oil_parse.specs.declared.machine.Shape.TheVariants.{Word, Number, Text, Open, Close, Equals, Semicolon}

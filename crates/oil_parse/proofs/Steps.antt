@@ -3,7 +3,7 @@ use Rattle.std.proofs.Common.{◌≡◌, ℕ, ◌<◌, List, [], ◌∷◌, ◌+
 use Rattle.sloth_base.specs.declared.refusal.Part.TheVariants.{Oil}
 use Rattle.sloth_base.specs.declared.refusal.Code.TheVariants as code
 use Rattle.sloth_base.specs.declared.refusal.Refusal.{Refusal}
-use Rattle.oil_lex.specs.Tokens.{Lexeme}
+use Rattle.oil_parse.specs.Tokens.{Lexeme}
 use Rattle.oil_parse.specs.declared.machine.Shape.{Shape}
 use Rattle.oil_parse.specs.declared.machine.Shape.TheVariants.{Number}
 use Rattle.oil_parse.specs.declared.machine.Expect.{Expect}

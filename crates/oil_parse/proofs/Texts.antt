@@ -1,9 +1,9 @@
 -- A text has one tree, or faults of its grammar, and never both.
 use Rattle.std.proofs.Common.{◌≡◌, ℕ, List, subst, ◌↔◌}
 use Rattle.sloth_base.specs.declared.refusal.Refusal.{Refusal}
-use Rattle.least_fault.specs.Order.{NoFault}
-use Rattle.oil_lex.specs.Tokens.{Lexeme, AreTokens, TextFault}
-use Rattle.oil_lex.proofs.Cuts.{tokens_one}
+use Rattle.sloth_base.specs.Order.{NoFault}
+use Rattle.oil_parse.specs.Tokens.{Lexeme, AreTokens, TextFault}
+use Rattle.oil_parse.proofs.Cuts.{tokens_one}
 use Rattle.oil_parse.specs.declared.tree.OilTree.{OilTree}
 use Rattle.oil_parse.specs.Grammar.{IsFile}
 use Rattle.oil_parse.specs.Faults.{GrammarFault}

@@ -4,10 +4,10 @@ use Rattle.std.specs.Prelude.{◌==◌, All}
 use Rattle.std.specs.List.{AllByRecursion}
 use Rattle.std.proofs.lemmas.List.Elements.{All-from_recursion}
 use Rattle.sloth_base.specs.ImageRange.{IsWord}
-use Rattle.oil_lex.specs.declared.kinds.TokenKind.{TokenKind}
-use Rattle.oil_lex.specs.declared.kinds.TokenKind.TheVariants as token
-use Rattle.oil_lex.specs.Tokens.{Lexeme}
-use Rattle.oil_lex.proofs.Words.{Spelled, tokens_spelled}
+use Rattle.oil_parse.specs.declared.tree.TokenKind.{TokenKind}
+use Rattle.oil_parse.specs.declared.tree.TokenKind.TheVariants as token
+use Rattle.oil_parse.specs.Tokens.{Lexeme}
+use Rattle.oil_parse.proofs.TokenWords.{Spelled, tokens_spelled}
 use Rattle.oil_parse.specs.declared.machine.Key.{Key}
 use Rattle.oil_parse.specs.declared.machine.Shape.TheVariants.{Word, Open, Close, Equals, Semicolon, Colon, Other}
 use Rattle.oil_parse.specs.declared.tree.OilAttr.{OilAttr}

@@ -1,8 +1,8 @@
 -- The grammar of OIL text, over tokens (OIL 2.5, section 5).
 use Rattle.std.specs.Prelude.{◌≡◌, ℕ, ◌<◌, List, [], ◌∷◌, ◌++◌, ◌⊎◌, suc}
-use Rattle.oil_lex.specs.declared.kinds.TokenKind.{TokenKind}
-use Rattle.oil_lex.specs.declared.kinds.TokenKind.TheVariants as token
-use Rattle.oil_lex.specs.Tokens.{Lexeme}
+use Rattle.oil_parse.specs.declared.tree.TokenKind.{TokenKind}
+use Rattle.oil_parse.specs.declared.tree.TokenKind.TheVariants as token
+use Rattle.oil_parse.specs.Tokens.{Lexeme}
 use Rattle.oil_parse.specs.declared.machine.Key.TheVariants.{Version, Implementation, Cpu}
 use Rattle.oil_parse.specs.declared.machine.Shape.TheVariants.{Word, Number, Text, Open, Close, Equals, Semicolon, Colon}
 use Rattle.oil_parse.specs.declared.tree.OilValue.{OilValue}

@@ -1,3 +1,8 @@
+pub mod Bytes
+pub mod Pieces
+pub mod Tokens
+pub mod Front
+pub mod Cutting
 pub mod Grammar
 pub mod Faults
 pub mod Text

@@ -4,10 +4,10 @@ use Rattle.std.specs.Prelude.{ℕ, Bool, false, if◌then◌else◌, nat_lt, ◌
 use Rattle.sloth_base.specs.declared.refusal.Part.TheVariants.{Oil}
 use Rattle.sloth_base.specs.declared.refusal.Code.TheVariants as code
 use Rattle.sloth_base.specs.declared.refusal.Refusal.{Refusal}
-use Rattle.least_fault.specs.Search.{lesser}
-use Rattle.oil_lex.specs.declared.kinds.TokenKind.{TokenKind}
-use Rattle.oil_lex.specs.declared.kinds.TokenKind.TheVariants as token
-use Rattle.oil_lex.specs.Tokens.{Lexeme}
+use Rattle.sloth_base.specs.Search.{lesser}
+use Rattle.oil_parse.specs.declared.tree.TokenKind.{TokenKind}
+use Rattle.oil_parse.specs.declared.tree.TokenKind.TheVariants as token
+use Rattle.oil_parse.specs.Tokens.{Lexeme}
 use Rattle.oil_parse.specs.declared.machine.Shape.{Shape}
 use Rattle.oil_parse.specs.declared.machine.Shape.TheVariants.{Word, Number, Semicolon}
 use Rattle.oil_parse.specs.declared.machine.Construct.{Construct}

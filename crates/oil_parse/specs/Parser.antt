@@ -4,9 +4,9 @@ use Rattle.sloth_base.specs.declared.refusal.Part.TheVariants.{Oil}
 use Rattle.sloth_base.specs.declared.refusal.Code.TheVariants as code
 use Rattle.sloth_base.specs.declared.refusal.BuildError.{BuildError}
 use Rattle.sloth_base.specs.declared.refusal.BuildError.TheVariants.{Refused, Memory}
-use Rattle.least_fault.specs.Search.{lesser}
-use Rattle.oil_lex.specs.Tokens.{Lexeme}
-use Rattle.oil_parse.specs.declared.draft.Draft.{Draft}
+use Rattle.sloth_base.specs.Search.{lesser}
+use Rattle.oil_parse.specs.Tokens.{Lexeme}
+use Rattle.oil_parse.specs.declared.tree.Draft.{Draft}
 use Rattle.oil_parse.specs.declared.parser.Parser.{Parser}
 use Rattle.oil_parse.specs.Shapes.{shape}
 use Rattle.oil_parse.specs.Steps.{next}

@@ -1,9 +1,9 @@
 -- What the grammar sees of a token.
 use Rattle.std.specs.Prelude.{◌≡◌, ℕ, if◌then◌else◌, ◌==◌, List, [], ◌∷◌, slice_index}
 use Rattle.std.specs.Str.{bytes_eq}
-use Rattle.oil_lex.specs.declared.kinds.TokenKind.{TokenKind}
-use Rattle.oil_lex.specs.declared.kinds.TokenKind.TheVariants as token
-use Rattle.oil_lex.specs.Tokens.{Lexeme}
+use Rattle.oil_parse.specs.declared.tree.TokenKind.{TokenKind}
+use Rattle.oil_parse.specs.declared.tree.TokenKind.TheVariants as token
+use Rattle.oil_parse.specs.Tokens.{Lexeme}
 use Rattle.oil_parse.specs.declared.machine.Key.{Key}
 use Rattle.oil_parse.specs.declared.machine.Key.TheVariants.{Version, Implementation, Cpu, Plain}
 use Rattle.oil_parse.specs.declared.machine.Shape.{Shape}

@@ -1,8 +1,8 @@
 -- What an OIL text says before its meaning is judged: the tree, or a fault of the grammar.
 use Rattle.std.specs.Prelude.{ℕ, List}
 use Rattle.sloth_base.specs.declared.refusal.Refusal.{Refusal}
-use Rattle.least_fault.specs.Order.{NoFault}
-use Rattle.oil_lex.specs.Tokens.{Lexeme, AreTokens, TextFault}
+use Rattle.sloth_base.specs.Order.{NoFault}
+use Rattle.oil_parse.specs.Tokens.{Lexeme, AreTokens, TextFault}
 use Rattle.oil_parse.specs.declared.tree.OilTree.{OilTree}
 use Rattle.oil_parse.specs.Grammar.{IsFile}
 use Rattle.oil_parse.specs.Faults.{GrammarFault}

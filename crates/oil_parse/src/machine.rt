@@ -1,11 +1,11 @@
 //! What may come next: a machine that goes over the tokens one by one.
 
 ghost use Rattle.std.specs.Prelude.{◌≡◌, ◌↔◌, IsTrue};
-ghost use Rattle.oil_lex.specs.Tokens.{lexeme};
+ghost use Rattle.oil_parse.specs.Tokens.{lexeme};
 ghost use Rattle.oil_parse.specs.Shapes.{shape, key_of, sign_of};
 ghost use Rattle.oil_parse.specs.Steps.{next, behind, closed_construct, expectation_behind, IsShallow};
 
-use oil_lex::{Token, TokenKind};
+use crate::{Token, TokenKind};
 
 /// The words that the grammar names.
 #[derive(Clone, Copy)]
@@ -69,7 +69,7 @@ pub enum Expect {
 
 /// Which of the grammar's words this is.
 #[tactic(auto, unfolding(crate::specs::Shapes::key_of))]
-fn key_of(word: &[u8]) -> Key
+fn word_key(word: &[u8]) -> Key
     ensures { result ≡ key_of word.now }
 {
     if word == b"OIL_VERSION".as_slice() {
@@ -85,7 +85,7 @@ fn key_of(word: &[u8]) -> Key
 
 /// Which of the grammar's signs this is.
 #[tactic(auto, unfolding(crate::specs::Shapes::sign_of))]
-fn sign_of(sign: &[u8]) -> Shape
+fn sign_shape(sign: &[u8]) -> Shape
     ensures { result ≡ sign_of sign.now }
 {
     let first = if sign.is_empty() { 0 } else { sign[0] };
@@ -101,14 +101,14 @@ fn sign_of(sign: &[u8]) -> Shape
 
 /// What the grammar sees of this token.
 #[tactic(auto, unfolding(crate::specs::Shapes::shape_by))]
-pub fn shape_of(token: &Token) -> Shape
+pub fn token_shape(token: &Token) -> Shape
     ensures { result ≡ shape (lexeme token.now) }
 {
     match token.kind {
-        TokenKind::Word => Shape::Word(key_of(token.span)),
+        TokenKind::Word => Shape::Word(word_key(token.span)),
         TokenKind::Number(value) => Shape::Number(value),
         TokenKind::Text => Shape::Text,
-        TokenKind::Sign => sign_of(token.span),
+        TokenKind::Sign => sign_shape(token.span),
     }
 }
 

@@ -1,8 +1,8 @@
 //! Reads tokens into a tree.
 
 ghost use Rattle.std.specs.Prelude.{List, ℕ, ◌≡◌, ◌↔◌, ◌⊎◌, All, map, IfOk, IfErr, OnOk};
-ghost use Rattle.least_fault.specs.Order.{ErrorIs, NoFault};
-ghost use Rattle.oil_lex.specs.Tokens.{lexeme, Lexeme, AreTokens, TextFault};
+ghost use Rattle.sloth_base.specs.Order.{ErrorIs, NoFault};
+ghost use Rattle.oil_parse.specs.Tokens.{lexeme, Lexeme, AreTokens, TextFault};
 ghost use Rattle.sloth_base.specs.declared.refusal.Refusal.{Refusal};
 ghost use Rattle.oil_parse.specs.declared.tree.OilTree.{OilTree};
 ghost use Rattle.oil_parse.specs.Grammar.{IsFile};
@@ -13,11 +13,10 @@ ghost use Rattle.oil_parse.specs.Steps.{IsShallow};
 ghost use Rattle.oil_parse.specs.Machine.{too_big};
 ghost use Rattle.oil_parse.specs.Parser.{IsTokenStep, StopsWith};
 
-use crate::OilTree;
-use crate::draft::Draft;
-use crate::machine::{Expect, Shape, next, shape_of};
-use least_fault::lesser;
-use oil_lex::Token;
+use crate::machine::{Expect, Shape, next, token_shape};
+use crate::tree::Draft;
+use crate::{OilTree, Token};
+use sloth_base::least_fault::lesser;
 use sloth_base::{BuildError, Code, List, Part, Refusal};
 use std::alloc::Global;
 
@@ -57,7 +56,7 @@ impl<'a> Parser<'a> {
         ensures moved { OnOk result (IsTokenStep self.old self.new (lexeme token.now)) }
         ensures stopped { IfErr result (λ error. StopsWith self.old (lexeme token.now) error) }
     {
-        let shape = shape_of(token);
+        let shape = token_shape(token);
         let line = token.line;
         let after = match next(self.expect, shape) {
             Some(after) => after,
@@ -109,13 +108,15 @@ pub fn parse(alloc: Global, tokens: &[Token]) -> Result<OilTree, BuildError>
 /// Tokens have at most one tree, and so has a text. The faults of a text's grammar are those of its tokens. Each text
 /// has a fault of its own, breaks the grammar, or has a tree, and never both of the last two.
 pub fn one_tree()
-    ensures file { (tokens : List Lexeme) (tree other : OilTree) → IsFile tokens tree → IsFile tokens other → tree ≡ other }
+    ensures file { (tokens : List Lexeme) (tree other : OilTree) → IsFile tokens tree → IsFile tokens other → tree
+        ≡ other }
     ensures text { (text : List ℕ) (tree other : OilTree) → HasTree text tree → HasTree text other → tree ≡ other }
-    ensures faults { (text : List ℕ) (tokens : List Lexeme) → AreTokens text tokens → NoFault (TextFault text) → (refusal : Refusal)
-        → HasGrammarFault text refusal ↔ GrammarFault tokens refusal }
+    ensures faults { (text : List ℕ) (tokens : List Lexeme) → AreTokens text tokens → NoFault (TextFault text)
+        → (refusal : Refusal) → HasGrammarFault text refusal ↔ GrammarFault tokens refusal }
     ensures each { (text : List ℕ) → ((refusal : Refusal) × TextFault text refusal)
         ⊎ (((refusal : Refusal) × HasGrammarFault text refusal) ⊎ ((tree : OilTree) × HasTree text tree)) }
-    ensures one { (text : List ℕ) (tree : OilTree) (refusal : Refusal) → HasTree text tree → HasGrammarFault text refusal → ⊥ }
+    ensures one { (text : List ℕ) (tree : OilTree) (refusal : Refusal) → HasTree text tree → HasGrammarFault text
+        refusal → ⊥ }
 {}
 
 /// The kinds, names and words of a text's tree are words.

@@ -3,7 +3,7 @@ use Rattle.std.specs.Prelude.{◌≡◌, ℕ, Bool, true, false, ◌⊎◌, not,
 use Rattle.std.specs.List.{list_any}
 use Rattle.sloth_base.specs.declared.refusal.Code.TheVariants.{O9, O10, O11, O12}
 use Rattle.sloth_base.specs.declared.refusal.Refusal.{Refusal}
-use Rattle.least_fault.specs.Search.{Somewhere}
+use Rattle.sloth_base.specs.Search.{Somewhere}
 use Rattle.oil_parse.specs.declared.tree.OilValue.{OilValue}
 use Rattle.oil_parse.specs.declared.tree.OilValue.TheVariants.{Word}
 use Rattle.oil_parse.specs.declared.tree.OilAttr.{OilAttr}
@@ -15,7 +15,7 @@ use Rattle.oil_table.specs.Cases.{OilCase}
 use Rattle.oil_table.specs.Table.{attribute_of, block_place}
 use Rattle.oil_table.specs.Objects.{is_of_kind, is_use, object_named}
 use Rattle.oil_table.specs.Uses.{is_second}
-use Rattle.oil_table.specs.declared.alarm_limits.Limits.{Limits}
+use Rattle.oil_table.specs.declared.counter_limits.Limits.{Limits}
 use Rattle.oil_table.specs.Beyond.{is_beyond}
 use Rattle.oil_table.specs.ListedEvents.{lists_event}
 use Rattle.oil_table.specs.AlarmCounters.{limits_of}

@@ -8,3 +8,6 @@ pub mod TreeFaults
 pub mod Blocks
 pub mod AlarmFaults
 pub mod ModelFaults
+pub mod Clocks
+pub mod Configs
+pub mod Trees

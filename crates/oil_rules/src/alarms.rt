@@ -1,15 +1,15 @@
 //! The faults in the blocks of alarms.
 ghost use Rattle.std.specs.Prelude.{◌≡◌, [], IfOk};
-ghost use Rattle.least_fault.specs.Search.{IsSearchResult, Somewhere};
+ghost use Rattle.sloth_base.specs.Search.{IsSearchResult, Somewhere};
 ghost use Rattle.oil_rules.specs.Blocks.{blocks_of};
 ghost use Rattle.oil_table.specs.AlarmCounters.{limits_of};
 ghost use Rattle.oil_rules.specs.AlarmFaults.{BlockFault, AlarmFault};
 
 use crate::block_faults::block_faults;
 use crate::{blocks_of, lacks_part};
-use least_fault::{fault_if, merge};
 use oil_parse::OilObject;
 use oil_table::{CounterLimits, TaskEvents, is_of_kind};
+use sloth_base::least_fault::{fault_if, merge};
 use sloth_base::{Code, Part, Refusal, Result};
 use std::alloc::Global;
 

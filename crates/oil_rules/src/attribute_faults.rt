@@ -1,13 +1,13 @@
 //! The faults of an attribute by the attribute table.
 ghost use Rattle.std.specs.Prelude.{◌≡◌, IfOk, is_none};
-ghost use Rattle.least_fault.specs.Search.{IsSearchResult, Somewhere};
+ghost use Rattle.sloth_base.specs.Search.{IsSearchResult, Somewhere};
 ghost use Rattle.oil_rules.specs.AttributeFaults.{opened_place, place_by, refers_to_none, is_refused, RowFault};
 ghost use Rattle.oil_rules.specs.AttributeFaults.{AttributeFault};
 
 use crate::Front;
-use least_fault::{fault_if, merge};
 use oil_parse::{OilAttr, OilValue};
 use oil_table::{Attribute, EarlierUses, Place, allows, attribute_of, block_place, is_second};
+use sloth_base::least_fault::{fault_if, merge};
 use sloth_base::{Code, Part, Refusal, Result};
 use std::alloc::Global;
 use text_pieces::same;

@@ -1,15 +1,15 @@
 //! The faults of the attributes in the blocks of an alarm.
 ghost use Rattle.std.specs.Prelude.{◌≡◌, [], IfOk};
-ghost use Rattle.least_fault.specs.Search.{IsSearchResult, Somewhere};
+ghost use Rattle.sloth_base.specs.Search.{IsSearchResult, Somewhere};
 ghost use Rattle.oil_rules.specs.AlarmFaults.{InsideFault, BlockFault};
 
-use crate::alarm_faults::is_unlisted;
+use crate::blocks::is_unlisted;
 use crate::{Block, NamedTask};
-use least_fault::{fault_if, merge};
 use oil_parse::OilAttr;
 use oil_table::{
     EarlierUses, Limits, Place, TaskEvents, attribute_of, block_place, is_beyond, is_second,
 };
+use sloth_base::least_fault::{fault_if, merge};
 use sloth_base::{Code, Part, Refusal, Result};
 use std::alloc::Global;
 

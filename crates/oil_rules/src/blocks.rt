@@ -1,11 +1,13 @@
 //! The blocks of an object's attributes.
+//! What the action and the start of an alarm lack, and which event its task does not list.
 ghost use Rattle.std.specs.Prelude.{◌≡◌, IfOk, take, option_copied};
 ghost use Rattle.std.specs.List.{take_while, prefix_len};
-ghost use Rattle.oil_rules.specs.Blocks.{is_inner, blocks_of, first_block, is_inner_use, is_used_in, first_in};
-ghost use Rattle.oil_rules.specs.Blocks.{number_in};
+ghost use Rattle.oil_rules.specs.Blocks.{is_inner, blocks_of, first_block, is_inner_use, is_used_in, first_in, number_in};
+ghost use Rattle.oil_rules.specs.AlarmFaults.{lacks_inner, lacks_behind, lacks_part, sets_event, is_unlisted};
 
+use crate::NamedTask;
 use oil_parse::OilAttr;
-use oil_table::{is_use, number_of};
+use oil_table::{Place, block_place, first_use, is_use, number_of};
 use sloth_base::Result;
 use std::alloc::Global;
 use std::marker::Model;
@@ -130,4 +132,44 @@ pub fn number_in(inner: &[OilAttr], name: &[u8]) -> Option<u32>
         Some(attr) => number_of(&attr.value),
         None => None,
     }
+}
+
+fn lacks_inner(place: Place, inner: &[OilAttr]) -> bool
+    ensures { result ≡ lacks_inner place inner.now }
+{
+    match place {
+        Place::Activating => !is_used_in(inner, b"TASK"),
+        Place::Setting => !(is_used_in(inner, b"TASK") && is_used_in(inner, b"EVENT")),
+        Place::Wakeup => { !(is_used_in(inner, b"ALARMTIME") && is_used_in(inner, b"CYCLETIME")) },
+        _ => false,
+    }
+}
+
+fn lacks_behind(attrs: &[OilAttr], name: &[u8]) -> bool
+    ensures { result ≡ lacks_behind name.now attrs.now }
+{
+    let Some(attr) = first_use(attrs, name) else {
+        return false;
+    };
+    lacks_inner(block_place(Place::Alarm, attr), first_block(attrs, name))
+}
+
+/// Whether the action or the start of an alarm lacks a required attribute.
+pub fn lacks_part(attrs: &[OilAttr]) -> bool
+    ensures { result ≡ lacks_part attrs.now }
+{
+    lacks_behind(attrs, b"ACTION") || lacks_behind(attrs, b"AUTOSTART")
+}
+
+fn sets_event(place: Place) -> bool
+    ensures { result ≡ sets_event place }
+{
+    matches!(place, Place::Setting)
+}
+
+/// Whether the attribute is an event of an action that its task does not list.
+pub fn is_unlisted(place: Place, block: &NamedTask, attr: &OilAttr) -> bool
+    ensures { result ≡ is_unlisted block.now.objects place block.now.inner attr.now }
+{
+    matches!(place, Place::Setting) && is_inner_use(attr, b"EVENT") && block.leaves_out(&attr.value)
 }

@@ -1,6 +1,6 @@
 //! The least fault of a tree.
 ghost use Rattle.std.specs.Prelude.{◌≡◌, IfOk, true};
-ghost use Rattle.least_fault.specs.Search.{IsSearchResult, Somewhere};
+ghost use Rattle.sloth_base.specs.Search.{IsSearchResult, Somewhere};
 ghost use Rattle.oil_table.specs.Objects.{has_scheduler};
 ghost use Rattle.oil_table.specs.Events.{events_of};
 ghost use Rattle.oil_rules.specs.ObjectFaults.{is_known};
@@ -12,9 +12,9 @@ use crate::alarms::faults_of_alarms;
 use crate::attribute_faults::attribute_faults;
 use crate::object_faults::{kind_fault, known_fault};
 use crate::task_faults::task_faults;
-use least_fault::{fault_if, merge};
 use oil_parse::{OilObject, OilTree};
 use oil_table::{EventTable, events_without_bit, is_nowhere, is_of_kind, place_of};
+use sloth_base::least_fault::{fault_if, merge};
 use sloth_base::{Code, Part, Refusal, Result};
 use std::alloc::Global;
 

@@ -1,16 +1,16 @@
 //! The faults of an object as a whole.
 ghost use Rattle.std.specs.Prelude.{◌≡◌, ◌&&◌, codes};
 ghost use Rattle.oil_table.specs.Objects.{is_of_kind};
-ghost use Rattle.least_fault.specs.Search.{IsSearchResult};
+ghost use Rattle.sloth_base.specs.Search.{IsSearchResult};
 ghost use Rattle.std.specs.List.{list_any};
 ghost use Rattle.oil_rules.specs.ObjectFaults.{is_double_of, is_doubled, is_idle, lacks_task_attribute};
 ghost use Rattle.oil_rules.specs.ObjectFaults.{lacks_attribute, is_strange_mode, is_above};
 ghost use Rattle.oil_rules.specs.ObjectFaults.{KindFault, KnownFault};
 
 use crate::Front;
-use least_fault::{fault_if, merge};
 use oil_parse::OilObject;
 use oil_table::{comes_behind, declares, is_clock_more, is_nowhere, is_of_kind, is_used, place_of};
+use sloth_base::least_fault::{fault_if, merge};
 use sloth_base::{Code, EVENT_LIMIT, NAME_LIMIT, Part, RESOURCE_LIMIT, Refusal, TASK_LIMIT};
 use text_pieces::same;
 

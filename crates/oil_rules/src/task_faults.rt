@@ -1,13 +1,13 @@
 //! The faults of an attribute of a task that rest on other tasks and on events.
 ghost use Rattle.std.specs.Prelude.{◌≡◌, ◌&&◌, ◌||◌, not, IfOk, codes};
-ghost use Rattle.least_fault.specs.Search.{IsSearchResult, Somewhere};
+ghost use Rattle.sloth_base.specs.Search.{IsSearchResult, Somewhere};
 ghost use Rattle.oil_table.specs.Objects.{is_use, is_used, number_of};
 ghost use Rattle.oil_rules.specs.TaskFaults.{is_taken, TaskFault};
 
 use crate::{Front, References};
-use least_fault::{fault_if, merge};
 use oil_parse::OilAttr;
 use oil_table::{EventTable, is_use, number_of};
+use sloth_base::least_fault::{fault_if, merge};
 use sloth_base::{Code, Part, Refusal, Result};
 use std::alloc::Global;
 

@@ -20,7 +20,7 @@ use Rattle.oil_parse.specs.declared.tree.OilObject.{OilObject}
 use Rattle.text_pieces.proofs.Tests.{any_insert}
 use Rattle.oil_table.specs.Table.{is_word}
 use Rattle.oil_table.specs.Objects.{is_use, is_of_kind, is_declaration, names_of}
-use Rattle.oil_table.specs.declared.alarm_limits.Limits.{Limits}
+use Rattle.oil_table.specs.declared.counter_limits.Limits.{Limits}
 use Rattle.oil_table.proofs.Names.{place_in, declared_at}
 use Rattle.oil_table.specs.ListedEvents.{event_word, referred_word, lists_event, tasks_among, attrs_at, is_listing, AreTasks}
 use Rattle.oil_table.specs.AlarmCounters.{limits_in, limits_given, limits_among}

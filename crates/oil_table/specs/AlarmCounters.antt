@@ -4,7 +4,7 @@ use Rattle.sloth_base.specs.Limits.{tick_limit}
 use Rattle.oil_parse.specs.declared.tree.OilAttr.{OilAttr}
 use Rattle.oil_parse.specs.declared.tree.OilObject.{OilObject}
 use Rattle.oil_table.specs.Objects.{is_use, is_of_kind, names_of, object_named, first_number}
-use Rattle.oil_table.specs.declared.alarm_limits.Limits.{Limits}
+use Rattle.oil_table.specs.declared.counter_limits.Limits.{Limits}
 
 -- a number that a limit may be, else what stands in its place
 abbrev pub limit_by : Option ℕ → ℕ → ℕ

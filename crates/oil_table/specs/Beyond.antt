@@ -5,7 +5,7 @@ use Rattle.oil_parse.specs.declared.tree.OilValue.TheVariants.{Number}
 use Rattle.oil_parse.specs.declared.tree.OilAttr.{OilAttr}
 use Rattle.oil_table.specs.declared.table.Attribute.{Attribute}
 use Rattle.oil_table.specs.declared.table.Attribute.TheVariants as attribute
-use Rattle.oil_table.specs.declared.alarm_limits.Limits.{Limits}
+use Rattle.oil_table.specs.declared.counter_limits.Limits.{Limits}
 
 -- a number outside the limits of the alarm's counter
 abbrev pub is_number_beyond : Limits → Attribute → ℕ → Bool

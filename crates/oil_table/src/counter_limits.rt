@@ -1,9 +1,10 @@
-//! The limits of the counters of a tree.
+//! The limits of the counters of a tree. Numbers outside the limits of an alarm's counter.
 ghost use Rattle.std.specs.Prelude.{◌≡◌, IfOk, codes, find};
 ghost use Rattle.oil_table.specs.Objects.{is_declaration};
 ghost use Rattle.oil_table.specs.AlarmCounters.{limit_by, limits_in, limits_given, limits_of, limits_among};
+ghost use Rattle.oil_table.specs.Beyond.{is_beyond};
 
-use crate::{Limits, first_number, first_use, is_of_kind, names_of};
+use crate::{Attribute, first_number, first_use, is_of_kind, names_of};
 use oil_parse::{OilAttr, OilObject, OilValue};
 use sloth_base::{Result, TICK_LIMIT};
 use std::alloc::Global;
@@ -118,5 +119,32 @@ impl<'t> CounterLimits<'t> {
             OilValue::Word(word) => self.limits_of_word(word.bytes()),
             _ => WIDEST,
         }
+    }
+}
+
+/// The least cycle and the greatest value of a counter.
+#[derive(Clone, Copy)]
+pub struct Limits {
+    pub least: u32,
+    pub greatest: u32,
+}
+
+/// Whether the attribute is a number outside the limits of the alarm's counter.
+pub fn is_beyond(limits: Limits, row: Option<Attribute>, attr: &OilAttr) -> bool
+    ensures { result ≡ is_beyond limits row attr.now }
+{
+    let Some(attribute) = row else {
+        return false;
+    };
+    if attr.depth != 1 {
+        return false;
+    }
+    let OilValue::Number(number) = &attr.value else {
+        return false;
+    };
+    match attribute {
+        Attribute::Time => limits.greatest < *number,
+        Attribute::Cycle => *number != 0 && (*number < limits.least || limits.greatest < *number),
+        _ => false,
     }
 }

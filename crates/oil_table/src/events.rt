@@ -1,13 +1,13 @@
 //! Events and their masks. AUTO events, in the order of their objects, take the lowest bit that is in no number mask
 //! and was given to no earlier AUTO event (OIL 2.5, section 3.2.6).
 ghost use Rattle.std.specs.Prelude.{◌≡◌, ◌<◌, All, IfOk};
-ghost use Rattle.least_fault.specs.Search.{IsSearchResult, Somewhere};
+ghost use Rattle.sloth_base.specs.Search.{IsSearchResult, Somewhere};
 ghost use Rattle.oil_table.specs.Events.{is_event, number_bits, number_masks, free_bit, is_auto, mask_by, taken_more};
 ghost use Rattle.oil_table.specs.Events.{number_mask, lacks_bit, BitFault, events_of};
 
 use crate::{first_is, first_number, is_of_kind, is_used};
-use least_fault::{fault_if, merge};
 use oil_parse::OilObject;
+use sloth_base::least_fault::{fault_if, merge};
 use sloth_base::{Code, EventDecl, Name, Part, Refusal, Result};
 use std::alloc::Global;
 use text_pieces::push;

@@ -10,33 +10,25 @@
 //! no bit is free (`events_of`, `mask_of_value`, `event_mask`; `specs/Events`, `specs/Masks`). Trees: `oil_parse`.
 #![tactic(auto)]
 
-pub mod alarm_limits;
 pub mod counter_limits;
 pub mod event_table;
 pub mod events;
-pub mod masks;
-pub mod numbers;
 pub mod object_limits;
 pub mod objects;
-pub mod sets;
 pub mod table;
 pub mod task_events;
 pub mod uses;
 
-pub use alarm_limits::{Limits, is_beyond};
-pub use counter_limits::CounterLimits;
-pub use event_table::EventTable;
+pub use counter_limits::{CounterLimits, Limits, is_beyond};
+pub use event_table::{EventTable, event_mask, mask_of_value};
 pub use events::{events_of, events_without_bit, lacks_bit, number_masks, taken_more};
-pub use masks::{event_mask, mask_of_value};
-pub use numbers::names_of;
 pub use object_limits::{comes_behind, is_clock_more};
 pub use objects::{
     declares, first_is, first_number, first_use, has_scheduler, is_of_kind, is_use, is_used,
-    number_of,
+    names_of, number_of,
 };
-pub use sets::insert;
 pub use table::{
     Attribute, Place, allows, attribute_of, block_place, is_nowhere, is_single, is_word, place_of,
 };
 pub use task_events::{TaskEvents, event_word};
-pub use uses::{EarlierUses, is_second};
+pub use uses::{EarlierUses, insert, is_second};

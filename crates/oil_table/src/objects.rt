@@ -1,11 +1,13 @@
 //! What an object says by the attributes of its own block. Of two uses of one attribute the first counts.
-ghost use Rattle.std.specs.Prelude.{◌≡◌, codes, find, option_copied};
-ghost use Rattle.oil_table.specs.Objects.{is_use, is_used, first_is, number_of, first_number, is_declaration};
-ghost use Rattle.oil_table.specs.Objects.{has_scheduler, is_of_kind};
+//! The numbers of names.
+ghost use Rattle.std.specs.Prelude.{◌≡◌, codes, find, option_copied, IfOk};
+ghost use Rattle.oil_table.specs.Objects.{is_use, is_used, first_is, number_of, first_number, is_declaration, has_scheduler, is_of_kind, names_of};
 
 use crate::is_word;
 use oil_parse::{OilAttr, OilObject, OilValue};
-use text_pieces::same;
+use sloth_base::Result;
+use std::alloc::Global;
+use text_pieces::{Names, same};
 
 /// Whether this is a use of the attribute in the object's own block.
 pub fn is_use(attr: &OilAttr, name: &[u8]) -> bool
@@ -89,4 +91,17 @@ pub fn has_scheduler(objects: &[OilObject]) -> bool
         Some(os) => !first_is(os.attrs.items(), b"USERESSCHEDULER", b"FALSE"),
         None => true,
     }
+}
+
+/// The names of the objects of a kind. Objects of a kind are numbered in the order of the text.
+pub fn names_of<'t>(alloc: Global, objects: &'t [OilObject], kind: &[u8]) -> Result<Names<'t>>
+    ensures { IfOk result (λ names. names ≡ names_of kind.now objects.now) }
+{
+    let mut names = Names::new(alloc);
+    for object in objects {
+        if is_of_kind(object, kind) {
+            names = names.with(object.name.bytes())?;
+        }
+    }
+    Ok(names)
 }

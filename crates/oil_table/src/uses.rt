@@ -1,14 +1,16 @@
-//! The uses of attributes before one.
+//! The uses of attributes before one. Sets that grow.
 ghost use Rattle.std.specs.Prelude.{◌≡◌, ◌||◌, ℕ, List, [], ◌∷◌, ◌++◌, IfOk, OnOk, bytes_eq};
 ghost use Rattle.std.specs.List.{list_any};
 ghost use Rattle.oil_table.specs.Objects.{is_use_at};
 ghost use Rattle.oil_table.specs.Uses.{is_second};
+ghost use Rattle.indexmap.specs.IndexSet.{insert_key};
 
-use crate::{Attribute, insert, is_single};
+use crate::{Attribute, is_single};
 use indexmap::IndexSet;
 use oil_parse::OilAttr;
 use sloth_base::Result;
-use std::alloc::Global;
+use std::alloc::{AllocError, Global};
+use std::hash::Hash;
 use std::marker::Model;
 
 /// The attributes before one, with the names of those at one depth: 0 is an object's own block, 1 a block behind a
@@ -97,4 +99,14 @@ pub fn is_second(row: Option<Attribute>, before: &EarlierUses, attr: &OilAttr) -
         return false;
     };
     is_single(attribute) && attr.depth == before.depth() && before.is_used(attr.name.bytes())
+}
+
+/// One more key, if it isn't among them.
+pub fn insert<T: Eq + Hash + Drop>(set: &mut IndexSet<T>, key: T) -> Result<()>
+    ensures { OnOk result (set.new.keys ≡ insert_key T.eq set.old.keys key) }
+{
+    match set.insert(key) {
+        Ok(_) => Ok(()),
+        Err(failed) => Err(AllocError::from(failed).into()),
+    }
 }

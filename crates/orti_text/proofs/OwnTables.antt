@@ -19,8 +19,8 @@ use Rattle.sloth_base.specs.Named.{alarm_declaration, declaration, undeclared_al
 use Rattle.code_rules.specs.Code.{is_in}
 use Rattle.text_pieces.specs.Bytes.{is_byte_of}
 use Rattle.text_pieces.proofs.Cuts.{has_in, lacks}
-use Rattle.sloth_region.specs.declared.extent.Extent.{Extent}
-use Rattle.sloth_region.specs.declared.map.Map.{Map}
+use Rattle.sloth_region.specs.declared.region.Extent.{Extent}
+use Rattle.sloth_region.specs.declared.region.Map.{Map}
 use Rattle.sloth_region.specs.Layout.{active, alarm_cycle, alarm_left, counter_value, cur, enabled_byte, events, pending_byte, wait}
 use Rattle.mem_map.specs.StackParts.{no_extent}
 use Rattle.mem_map.specs.Zones.{HasZones, all_stacks}

@@ -3,7 +3,7 @@ use Rattle.std.proofs.Common.{◌≡◌, ℕ, ◌+◌, ◌*◌, ◌%◌, ◌<◌
 use Rattle.sloth_base.specs.declared.config.Config.{Config}
 use Rattle.sloth_base.specs.ConfigRange.{InRange}
 use Rattle.sloth_base.specs.Limits.{alarm_limit, task_limit}
-use Rattle.sloth_region.specs.declared.map.Map.{Map}
+use Rattle.sloth_region.specs.declared.region.Map.{Map}
 use Rattle.sloth_region.specs.Layout.{active, alarm_cycle, alarm_left, cur, enabled_byte, pending_byte}
 use Rattle.orti_text.specs.Formulas.{Formula, Number, Equal, Choice}
 use Rattle.orti_text.specs.InReach.{IsInReach}

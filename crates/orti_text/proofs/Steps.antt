@@ -3,7 +3,7 @@ use Rattle.std.proofs.Common.{◌≡◌, ◌∙◌, ℕ, suc, ◌+◌, ◌-◌, 
 use Rattle.std.specs.List.{flat_map, range_with_len}
 use Rattle.std.proofs.lemmas.List.{drop_more}
 use Rattle.sloth_base.specs.declared.config.Config.{Config}
-use Rattle.sloth_region.specs.declared.map.Map.{Map}
+use Rattle.sloth_region.specs.declared.region.Map.{Map}
 use Rattle.orti_text.specs.OrtiTable.{numbered_object, numbered_objects}
 use Rattle.orti_text.specs.Tables.{number_line, number_lines, object_text}
 use Rattle.orti_text.specs.declared.attributes.Kind.{Kind}

@@ -1,7 +1,7 @@
 -- What debuggers show of a kernel: a table of a configuration and of the stacks of its map.
 use Rattle.std.specs.Prelude.{ℕ, ◌+◌, ◌==◌, Bool, not, List, [], ◌∷◌, filter, flat_map, length, map}
 use Rattle.sloth_base.specs.declared.config.Config.{Config}
-use Rattle.sloth_region.specs.declared.map.Map.{Map}
+use Rattle.sloth_region.specs.declared.region.Map.{Map}
 use Rattle.orti_text.specs.Attributes.{all_kinds, attribute_about, attribute_name, attributes, is_traced, kind_about, kind_word, meaning, object_names}
 use Rattle.orti_text.specs.Tables as table
 use Rattle.orti_text.specs.Values.{attribute_value}

@@ -3,7 +3,7 @@ use Rattle.std.specs.Prelude.{ℕ, ◌≡◌, ◌≤◌, ◌<◌, ◌+◌, ◌%�
 use Rattle.sloth_base.specs.declared.config.Config.{Config}
 use Rattle.sloth_base.specs.ConfigRange.{InRange}
 use Rattle.sloth_base.specs.MemoryMap.{controller_base, controller_bytes, memory_base}
-use Rattle.sloth_region.specs.declared.map.Map.{Map}
+use Rattle.sloth_region.specs.declared.region.Map.{Map}
 use Rattle.sloth_region.specs.Layout.{below_word}
 use Rattle.orti_text.specs.Attributes.{attributes, object_names}
 use Rattle.orti_text.specs.Formulas.{Formula, Number, Hex, Word, Byte, Equal, Choice}

@@ -7,8 +7,8 @@ use Rattle.sloth_base.specs.declared.config.EventDecl.{EventDecl}
 use Rattle.sloth_base.specs.ConfigRange.{scheduler_number}
 use Rattle.sloth_base.specs.MemoryMap.{controller_base, memory_base}
 use Rattle.sloth_base.specs.Named.{alarm_declaration, counter_of, declaration}
-use Rattle.sloth_region.specs.declared.map.Map.{Map}
-use Rattle.sloth_region.specs.declared.extent.Extent.{Extent}
+use Rattle.sloth_region.specs.declared.region.Map.{Map}
+use Rattle.sloth_region.specs.declared.region.Extent.{Extent}
 use Rattle.sloth_region.specs.Layout.{active, alarm_cycle, alarm_left, counter_value, cur, enabled_byte, events, pending_byte, wait}
 use Rattle.mem_map.specs.StackParts.{no_extent, stack_number}
 use Rattle.mem_map.specs.Zones.{all_stacks}

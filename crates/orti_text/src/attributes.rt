@@ -1,7 +1,8 @@
 //! The kinds of objects that debuggers show of a kernel, and the attributes of each kind.
 ghost use Rattle.std.specs.Prelude.{◌≡◌, ◌++◌, IfOk, OnOk, map};
 ghost use Rattle.std.specs.List.{range_with_len};
-ghost use Rattle.orti_text.specs.Attributes.{attribute_about, attribute_name, attribute_object, attribute_word, attributes, kind_about, kind_word};
+ghost use Rattle.orti_text.specs.Attributes.{attribute_about, attribute_name, attribute_object, attribute_word};
+ghost use Rattle.orti_text.specs.Attributes.{attributes, kind_about, kind_word};
 ghost use Rattle.orti_text.specs.declared.attributes.Attribute.TheVariants as attribute_is;
 ghost use Rattle.orti_text.specs.declared.attributes.Kind.TheVariants.{Os};
 
@@ -11,7 +12,6 @@ use crate::attributes::Attribute::{
     TaskStack, TaskState, WaitMask,
 };
 use crate::{Put, Text};
-use map_text::counter_name;
 use sloth_base::{Config, Result};
 use std::alloc::Global;
 use text_pieces::pieces::Piece::Word;
@@ -125,23 +125,13 @@ pub fn attribute_words(attribute: Attribute) -> Words
     }
 }
 
-// The name of an event, empty where there is none of the number.
-fn event_name(config: &Config, event: usize) -> &[u8]
-    ensures { result.now ≡ attribute_object config.now (attribute_is.EventMask event) }
-{
-    match config.events.items().get(event) {
-        Some(event) => event.name.bytes(),
-        None => b"",
-    }
-}
-
 // The name of the counter or the event that an attribute is of.
 fn attribute_object(config: &Config, attribute: Attribute) -> &[u8]
     ensures { result.now ≡ attribute_object config.now attribute }
 {
     match attribute {
-        CounterValue(counter) => counter_name(config, counter),
-        EventMask(event) => event_name(config, event),
+        CounterValue(counter) => config.counter_name(counter),
+        EventMask(event) => config.event_name(event),
         _ => b"",
     }
 }
@@ -155,7 +145,8 @@ pub fn attribute_name(alloc: Global, config: &Config, attribute: Attribute) -> T
 }
 
 fn push_counters(list: &mut Vec<Attribute>, counters: usize) -> Put
-    ensures { OnOk result (list.new.items ≡ list.old.items ++ map attribute_is.CounterValue (range_with_len 0 counters)) }
+    ensures { OnOk result (list.new.items
+        ≡ list.old.items ++ map attribute_is.CounterValue (range_with_len 0 counters)) }
 {
     for counter in 0..counters {
         push(list, CounterValue(counter))?;

@@ -31,8 +31,9 @@ fn push_number_lines(text: &mut Vec<u8>, names: &[Name]) -> Put
 }
 
 // What values mean that stand for texts.
-fn one_of(alloc: Global, names: &[Name]) -> Text
-    ensures { IfOk result (λ text. text.items ≡ codes "ENUM \"unsigned int\" [" ++ number_lines 0 names.now ++ codes "\n    ]") }
+fn enumeration(alloc: Global, names: &[Name]) -> Text
+    ensures { IfOk result (λ text. text.items
+        ≡ codes "ENUM \"unsigned int\" [" ++ number_lines 0 names.now ++ codes "\n    ]") }
 {
     let mut text = text!(alloc; Word(b"ENUM \"unsigned int\" ["))?;
     push_number_lines(&mut text, names)?;
@@ -45,11 +46,14 @@ fn meaning_text(alloc: Global, config: &Config, attribute: Attribute) -> Text
     ensures { IfOk result (λ text. text.items ≡ meaning_text (meaning config.now attribute)) }
 {
     match attribute {
-        Attribute::RunningTask => one_of(alloc, running_names(alloc, config)?.items()),
-        Attribute::TaskState => one_of(alloc, state_names(alloc)?.items()),
-        Attribute::Entered => one_of(alloc, two_names(alloc, b"NO", b"YES")?.items()),
-        Attribute::TaskStack => one_of(alloc, object_names(alloc, config, Kind::Stack)?.items()),
-        Attribute::AlarmState => one_of(
+        Attribute::RunningTask => enumeration(alloc, running_names(alloc, config)?.items()),
+        Attribute::TaskState => enumeration(alloc, state_names(alloc)?.items()),
+        Attribute::Entered => enumeration(alloc, two_names(alloc, b"NO", b"YES")?.items()),
+        Attribute::TaskStack => enumeration(
+            alloc,
+            object_names(alloc, config, Kind::Stack)?.items(),
+        ),
+        Attribute::AlarmState => enumeration(
             alloc,
             two_names(alloc, b"ALARMSTOP", b"ALARMRUN")?.items(),
         ),
@@ -68,15 +72,18 @@ fn push_declared<'x>(
     name: &'x [u8],
     about: &'x [u8],
 ) -> Put
-    ensures { OnOk result (text.new.items ≡ text.old.items ++ (codes "    " ++ traced.now ++ meaning.now ++ codes " " ++ name.now
+    ensures { OnOk result (text.new.items
+        ≡ text.old.items ++ (codes "    " ++ traced.now ++ meaning.now ++ codes " " ++ name.now
         ++ codes ", \"" ++ about.now ++ codes "\";\n")) }
 {
-    line!(text; Word(b"    "), Word(traced), Word(meaning), Word(b" "), Word(name), Word(b", \""), Word(about), Word(b"\";\n"))
+    line!(text; Word(b"    "), Word(traced), Word(meaning), Word(b" "), Word(name), Word(b", \""), Word(about),
+        Word(b"\";\n"))
 }
 
 // Appends the declaration of an attribute.
 fn push_attribute(alloc: Global, text: &mut Vec<u8>, config: &Config, attribute: Attribute) -> Put
-    ensures { OnOk result (text.new.items ≡ text.old.items ++ attribute_text (declared_attribute config.now attribute)) }
+    ensures { OnOk result (text.new.items
+        ≡ text.old.items ++ attribute_text (declared_attribute config.now attribute)) }
 {
     let traced = between(!matches!(attribute, Attribute::RunningTask), b"TOTRACE ");
     let meaning = meaning_text(alloc, config, attribute)?;
@@ -86,7 +93,8 @@ fn push_attribute(alloc: Global, text: &mut Vec<u8>, config: &Config, attribute:
 }
 
 fn push_attributes(alloc: Global, text: &mut Vec<u8>, config: &Config, list: &[Attribute]) -> Put
-    ensures { OnOk result (text.new.items ≡ text.old.items ++ flat_map attribute_text (map (declared_attribute config.now) list.now)) }
+    ensures { OnOk result (text.new.items
+        ≡ text.old.items ++ flat_map attribute_text (map (declared_attribute config.now) list.now)) }
 {
     for attribute in list {
         push_attribute(alloc, text, config, *attribute)?;
@@ -107,7 +115,8 @@ fn push_kind(alloc: Global, text: &mut Vec<u8>, config: &Config, kind: Kind) -> 
 
 /// Appends the declarations of kinds.
 pub fn push_kinds(alloc: Global, text: &mut Vec<u8>, config: &Config, kinds: &[Kind]) -> Put
-    ensures { OnOk result (text.new.items ≡ text.old.items ++ flat_map kind_text (map (declared_kind config.now) kinds.now)) }
+    ensures { OnOk result (text.new.items
+        ≡ text.old.items ++ flat_map kind_text (map (declared_kind config.now) kinds.now)) }
 {
     for kind in kinds {
         push_kind(alloc, text, config, *kind)?;

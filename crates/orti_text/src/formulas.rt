@@ -5,7 +5,8 @@ ghost use Rattle.sloth_base.specs.MemoryMap.{controller_bytes};
 ghost use Rattle.sloth_region.specs.Layout.{active, alarm_cycle, alarm_left, enabled_byte, pending_byte};
 ghost use Rattle.orti_text.specs.Formulas as Formula;
 ghost use Rattle.orti_text.specs.Formulas.{Equal, hex_text, in_brackets, text};
-ghost use Rattle.orti_text.specs.Values.{activations_formula, byte, entered_formula, is_one, state_formula, wait_formula, where_in_use, word};
+ghost use Rattle.orti_text.specs.Values.{activations_formula, byte, entered_formula, is_one, state_formula};
+ghost use Rattle.orti_text.specs.Values.{wait_formula, where_in_use, word};
 
 use crate::Text;
 use sloth_base::{CONTROLLER_BASE, MEMORY_BASE};
@@ -71,7 +72,8 @@ fn where_equal<'x>(
     otherwise: &'x [u8],
 ) -> Text
     ensures { IfOk result (λ bytes. bytes.items
-        ≡ in_brackets (read.now ++ codes " == " ++ decimal number) ++ codes " ? " ++ then.now ++ codes " : " ++ otherwise.now) }
+        ≡ in_brackets (read.now ++ codes " == " ++ decimal number) ++ codes " ? " ++ then.now ++ codes " : "
+        ++ otherwise.now) }
 {
     let equal = text!(alloc; Word(read), Word(b" == "), Number(number))?;
     let test = in_brackets(alloc, equal.as_slice())?;
@@ -82,7 +84,8 @@ fn where_equal<'x>(
 fn by_byte<'x>(alloc: Global, offset: u32, one: &'x [u8], other: &'x [u8]) -> Text
     requires { offset < controller_bytes }
     ensures { IfOk result (λ bytes. bytes.items
-        ≡ in_brackets (in_brackets (text (is_one (byte offset))) ++ codes " ? " ++ one.now ++ codes " : " ++ other.now)) }
+        ≡ in_brackets (in_brackets (text (is_one (byte offset))) ++ codes " ? " ++ one.now ++ codes " : "
+        ++ other.now)) }
 {
     let read = byte(alloc, offset)?;
     let whole = where_equal(alloc, read.as_slice(), 1, one, other)?;
@@ -93,7 +96,8 @@ fn by_byte<'x>(alloc: Global, offset: u32, one: &'x [u8], other: &'x [u8]) -> Te
 fn by_active<'x>(alloc: Global, task: u8, entered: &'x [u8], otherwise: &'x [u8]) -> Text
     requires { task < task_limit }
     ensures { IfOk result (λ bytes. bytes.items
-        ≡ in_brackets (text (is_one (word (active task)))) ++ codes " ? " ++ entered.now ++ codes " : " ++ otherwise.now) }
+        ≡ in_brackets (text (is_one (word (active task)))) ++ codes " ? " ++ entered.now ++ codes " : "
+        ++ otherwise.now) }
 {
     let read = word(alloc, active(task) as u32)?;
     where_equal(alloc, read.as_slice(), 1, entered, otherwise)
@@ -111,7 +115,8 @@ fn by_state<'x>(
     ensures { IfOk result (λ bytes. bytes.items
         ≡ in_brackets (text (is_one (word (active task)))) ++ codes " ? " ++ entered.now ++ codes " : "
         ++ in_brackets (in_brackets (text (is_one (byte (enabled_byte task)))) ++ codes " ? "
-        ++ in_brackets (in_brackets (text (is_one (byte (pending_byte task)))) ++ codes " ? " ++ ready.now ++ codes " : " ++ suspended.now)
+        ++ in_brackets (in_brackets (text (is_one (byte (pending_byte task)))) ++ codes " ? " ++ ready.now
+        ++ codes " : " ++ suspended.now)
         ++ codes " : " ++ decimal 1)) }
 {
     let pending = by_byte(alloc, pending_byte(task) as u32, ready, suspended)?;
@@ -163,7 +168,8 @@ pub fn wait_mask(alloc: Global, task: u8) -> Text
 fn where_in_use(alloc: Global, alarm: u8, used: &[u8]) -> Text
     requires { alarm < alarm_limit }
     ensures { IfOk result (λ bytes. bytes.items
-        ≡ in_brackets (text (Equal (word (alarm_left alarm)) (Formula.Number 0))) ++ codes " ? " ++ decimal 0 ++ codes " : " ++ used.now) }
+        ≡ in_brackets (text (Equal (word (alarm_left alarm)) (Formula.Number 0))) ++ codes " ? " ++ decimal 0
+        ++ codes " : " ++ used.now) }
 {
     let left = word(alloc, alarm_left(alarm) as u32)?;
     where_equal(alloc, left.as_slice(), 0, b"0", used)

@@ -18,13 +18,12 @@ mod formulas;
 pub mod laws;
 mod names;
 mod objects;
-mod source_text;
 pub mod tables;
 mod values;
 
 pub use attributes::{Attribute, Kind};
 use sloth_base::Result;
-pub use source_text::orti_text;
+pub use tables::orti_text;
 
 /// A text, where memory suffices.
 pub type Text = Result<Vec<u8>>;

@@ -1,12 +1,12 @@
 //! The names of objects, and the texts that values stand for.
-ghost use Rattle.std.specs.Prelude.{◌≡◌, ◌<◌, ◌≤◌, ◌==◌, ◌++◌, ◌∷◌, [], IfOk, OnOk, codes, cond, filter, length, map};
-ghost use Rattle.sloth_base.specs.Limits.{task_limit};
+ghost use Rattle.std.specs.Prelude.{◌≡◌, ◌<◌, ◌==◌, ◌++◌, ◌∷◌, [], IfOk, OnOk, codes, cond, filter, map};
 ghost use Rattle.sloth_base.specs.declared.config.TaskDecl.{TaskDecl as AnyTask};
-ghost use Rattle.mem_map.specs.StackParts.{first_own, own_before, stack_number};
+ghost use Rattle.mem_map.specs.StackParts.{first_own};
 ghost use Rattle.orti_text.specs.Attributes.{object_names, stack_names, state_names};
 ghost use Rattle.orti_text.specs.declared.attributes.Kind.TheVariants.{Alarm, Resource, Task};
 
 use crate::{Kind, Put};
+use mem_map::first_own;
 use sloth_base::{AlarmDecl, Config, List, Name, Result, TaskDecl, task_names};
 use std::alloc::Global;
 use text_pieces::pieces::Piece::Word;
@@ -63,47 +63,6 @@ pub fn running_names(alloc: Global, config: &Config) -> Result<List<Name>>
     Ok(List::from_vec(names))
 }
 
-// How many of the tasks before this one are extended.
-fn own_before(tasks: &[TaskDecl], end: usize) -> usize
-    requires { end ≤ length tasks.now }
-    ensures is { result ≡ own_before tasks.now end }
-    ensures few { result ≤ end }
-{
-    let mut count = 0;
-    for number in 0..end {
-        if tasks[number].extended {
-            count += 1;
-        }
-    }
-    count
-}
-
-// The place of the first extended task's stack.
-fn first_own(tasks: &[TaskDecl]) -> usize
-    ensures is { result ≡ first_own tasks.now }
-    ensures small { result ≤ 1 }
-{
-    if own_before(tasks, tasks.len()) == tasks.len() {
-        0
-    } else {
-        1
-    }
-}
-
-/// The place of a task's stack among the stacks.
-pub fn stack_number(tasks: &[TaskDecl], task: usize) -> usize
-    requires few { length tasks.now ≤ task_limit }
-    requires known { task < length tasks.now }
-    ensures is { result ≡ stack_number tasks.now task }
-    ensures few { result ≤ task_limit }
-{
-    if tasks[task].extended {
-        first_own(tasks) + own_before(tasks, task)
-    } else {
-        0
-    }
-}
-
 fn push_own(alloc: Global, names: &mut Vec<Name>, tasks: &[TaskDecl]) -> Put
     ensures { OnOk result (names.new.items ≡ names.old.items
         ++ map (λ (d : AnyTask). codes "stack_" ++ d.name) (filter (λ (d : AnyTask). d.extended) tasks.now)) }
@@ -117,7 +76,8 @@ fn push_own(alloc: Global, names: &mut Vec<Name>, tasks: &[TaskDecl]) -> Put
 }
 
 fn push_shared(alloc: Global, names: &mut Vec<Name>, tasks: &[TaskDecl]) -> Put
-    ensures { OnOk result (names.new.items ≡ names.old.items ++ cond (first_own tasks.now == 0) [] (codes "shared" ∷ [])) }
+    ensures { OnOk result (names.new.items
+        ≡ names.old.items ++ cond (first_own tasks.now == 0) [] (codes "shared" ∷ [])) }
 {
     if first_own(tasks) == 0 {
         return Ok(());
@@ -152,13 +112,13 @@ fn alarm_names(alloc: Global, config: &Config) -> Result<List<Name>>
     Ok(List::from_vec(names))
 }
 
-fn push_scheduler(alloc: Global, names: &mut Vec<Name>, exists: bool) -> Put
-    ensures { OnOk result (names.new.items ≡ names.old.items ++ cond exists (codes "RES_SCHEDULER" ∷ []) []) }
+fn push_scheduler(alloc: Global, names: &mut Vec<Name>, declared: bool) -> Put
+    ensures { OnOk result (names.new.items ≡ names.old.items ++ cond declared (codes "RES_SCHEDULER" ∷ []) []) }
 {
-    if exists {
-        push_name(alloc, names, b"", b"RES_SCHEDULER")?;
+    if !declared {
+        return Ok(());
     }
-    Ok(())
+    push_name(alloc, names, b"", b"RES_SCHEDULER")
 }
 
 fn resource_names(alloc: Global, config: &Config) -> Result<List<Name>>

@@ -27,7 +27,8 @@ fn push_values(
 ) -> Put
     requires in_range { InRange config.now }
     requires in_reach { All (λ a. IsInReach config.now a n) list.now }
-    ensures { OnOk result (text.new.items ≡ text.old.items ++ flat_map value_line (map (named_value config.now plan.now n) list.now)) }
+    ensures { OnOk result (text.new.items
+        ≡ text.old.items ++ flat_map value_line (map (named_value config.now plan.now n) list.now)) }
 {
     for attribute in list {
         let name = attribute_name(alloc, config, *attribute)?;
@@ -50,7 +51,8 @@ fn push_object(
 ) -> Put
     requires in_range { InRange config.now }
     requires declared { n < length (object_names config.now kind) }
-    ensures { OnOk result (text.new.items ≡ text.old.items ++ object_text (numbered_object config.now plan.now kind n name.now)) }
+    ensures { OnOk result (text.new.items
+        ≡ text.old.items ++ object_text (numbered_object config.now plan.now kind n name.now)) }
 {
     let list = attributes(alloc, config, kind)?;
     line!(text; Word(kind_words(kind).word), Word(b" "), Word(name), Word(b" {\n"))?;
@@ -69,7 +71,8 @@ fn push_named(
 ) -> Put
     requires in_range { InRange config.now }
     requires names { names.now ≡ object_names config.now kind }
-    ensures { OnOk result (text.new.items ≡ text.old.items ++ flat_map object_text (numbered_objects config.now plan.now kind 0 names.now)) }
+    ensures { OnOk result (text.new.items
+        ≡ text.old.items ++ flat_map object_text (numbered_objects config.now plan.now kind 0 names.now)) }
 {
     for n in 0..names.len() {
         push_object(alloc, text, config, plan, kind, n, names[n].bytes())?;
@@ -86,7 +89,8 @@ pub fn push_objects(
     kinds: &[Kind],
 ) -> Put
     requires { InRange config.now }
-    ensures { OnOk result (text.new.items ≡ text.old.items ++ flat_map object_text (flat_map (objects_of_kind config.now plan.now) kinds.now)) }
+    ensures { OnOk result (text.new.items
+        ≡ text.old.items ++ flat_map object_text (flat_map (objects_of_kind config.now plan.now) kinds.now)) }
 {
     for kind in kinds {
         let names = object_names(alloc, config, *kind)?;

@@ -10,9 +10,8 @@ ghost use Rattle.orti_text.specs.Values.{action_text, attribute_value, mask_text
 use crate::formulas::{
     activations, cycle, entered, hex, is_running, number, state, wait_mask, word,
 };
-use crate::names::stack_number;
 use crate::{Attribute, Put, Text};
-use map_text::counter_name;
+use mem_map::stack_number;
 use osek_scheduler::ceiling;
 use sloth_base::{Action, Config, EventDecl, RES_SCHEDULER};
 use sloth_region::{CUR, Extent, Map, alarm_left, counter_value, events};
@@ -42,7 +41,7 @@ fn stacks(map: &Map) -> &[Extent]
 }
 
 // A stack by its place, or an extent without bytes.
-fn stack_at(map: &Map, number: usize) -> Extent
+fn numbered_stack(map: &Map, number: usize) -> Extent
     ensures { result ≡ stack_at map.now number }
 {
     match stacks(map).get(number) {
@@ -128,8 +127,8 @@ pub fn attribute_value(
         Attribute::Activations => activations(alloc, n as u8),
         Attribute::Events => word(alloc, events(n as u8) as u32),
         Attribute::WaitMask => wait_mask(alloc, n as u8),
-        Attribute::Size => number(alloc, stack_at(map, n).len),
-        Attribute::BaseAddress => hex(alloc, stack_at(map, n).base),
+        Attribute::Size => number(alloc, numbered_stack(map, n).len),
+        Attribute::BaseAddress => hex(alloc, numbered_stack(map, n).base),
         Attribute::Direction => text!(alloc; Word(b"DOWN")),
         Attribute::AlarmTime => word(alloc, alarm_left(n as u8) as u32),
         Attribute::CycleTime => cycle(alloc, n as u8),
@@ -137,7 +136,7 @@ pub fn attribute_value(
         Attribute::Expiry => action_text(alloc, config, config.alarms.items()[n].action),
         Attribute::AlarmCounter => {
             let counter = config.alarms.items()[n].counter as usize;
-            text!(alloc; Word(counter_name(config, counter)))
+            text!(alloc; Word(config.counter_name(counter)))
         },
         Attribute::Ceiling => number(alloc, ceiling(config, resource_number(config, n))),
     }

@@ -4,9 +4,9 @@ use Rattle.std.proofs.Common.{◌≡◌, ℕ, ◌⊎◌, List, [], ◌∷◌, �
 use Rattle.sloth_base.specs.declared.config.Config.{Config}
 use Rattle.sloth_base.specs.declared.app.App.{App}
 use Rattle.sloth_base.specs.declared.app.Op.TheVariants as op
-use Rattle.sloth_base.specs.declared.event.Event.{Event}
-use Rattle.sloth_base.specs.declared.event.Event.TheVariants as event
-use Rattle.sloth_base.specs.declared.event.Stamped.{Stamped}
+use Rattle.sloth_base.specs.declared.service.Event.{Event}
+use Rattle.sloth_base.specs.declared.service.Event.TheVariants as event
+use Rattle.sloth_base.specs.declared.service.Stamped.{Stamped}
 use Rattle.sloth_base.specs.declared.service.Service.TheVariants as service
 use Rattle.osek_scheduler.specs.State.{System, task, opening}
 use Rattle.code_rules.specs.Code.{is_in}

@@ -7,3 +7,14 @@ pub mod Examples
 pub mod OfTask
 pub mod Only
 pub mod WithoutArrivals
+pub mod Reached
+pub mod Frames
+pub mod Stepping
+pub mod Placed
+pub mod FrameEffects
+pub mod Raised
+pub mod Window
+pub mod Sectioned
+pub mod KeptBounds
+pub mod Counts
+pub mod SectionExamples

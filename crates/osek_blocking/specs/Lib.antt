@@ -2,3 +2,9 @@ pub mod Blocking
 pub mod Protocol
 pub mod ProtocolKept
 pub mod NextEvents
+pub mod Walks
+pub mod Sections
+pub mod Kept
+pub mod Pace
+pub mod Spent
+pub mod RunLaws

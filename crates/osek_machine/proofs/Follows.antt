@@ -14,7 +14,7 @@ use Rattle.sloth_base.specs.declared.app.Item.{Item}
 use Rattle.sloth_base.specs.declared.app.Width.{Width}
 use Rattle.sloth_base.specs.declared.app.Op.{Op}
 use Rattle.sloth_base.specs.declared.app.Op.TheVariants as op
-use Rattle.sloth_base.specs.declared.event.Event.TheVariants as event
+use Rattle.sloth_base.specs.declared.service.Event.TheVariants as event
 use Rattle.sloth_base.specs.declared.service.Service.{Service}
 use Rattle.sloth_base.specs.declared.service.Service.TheVariants as service
 use Rattle.sloth_base.specs.Named.{function, no_function, no_item, declaration, body_of}
@@ -29,12 +29,12 @@ use Rattle.osek_scheduler.proofs.AllPlans.{OnPlans}
 use Rattle.osek_scheduler.specs.Outcomes as one_by_one
 use Rattle.osek_scheduler.proofs.Outcomes.{on_tested}
 use Rattle.osek_scheduler.specs.declared.change.TaskChange.{TaskChange}
-use Rattle.osek_scheduler.specs.declared.plan.Other.{Other}
+use Rattle.osek_scheduler.specs.declared.change.Other.{Other}
 use Rattle.osek_scheduler.specs.Steps.{settled_state}
 use Rattle.osek_scheduler.specs.Next.{is_ready, is_top, is_position, operation_of, operation_at, meaning_of, served_outcome, going_on_system, left_state, executed_state, answer_to, next_state}
 use Rattle.osek_scheduler.specs.declared.change.TaskChange.TheVariants as change
-use Rattle.osek_scheduler.specs.declared.plan.Other.TheVariants as other
-use Rattle.osek_scheduler.specs.declared.plan.Plan.{Plan}
+use Rattle.osek_scheduler.specs.declared.change.Other.TheVariants as other
+use Rattle.osek_scheduler.specs.declared.change.Plan.{Plan}
 use Rattle.osek_scheduler.specs.Changes.{changed_task, woken_task_state, with_change}
 use Rattle.osek_machine.specs.Plans.{with_other, planned_system, write_plan, service_plan, item_plan, item_behind, is_inside}
 use Rattle.osek_machine.specs.Running.{next_operation, own_operation, run_plan, call_in, call_plan, serving_plan, running_plan, entry_change, entry_plan, back_plan}

@@ -21,8 +21,8 @@ use Rattle.sloth_base.specs.declared.app.Func.{Func}
 use Rattle.sloth_base.specs.declared.app.Op.{Op}
 use Rattle.sloth_base.specs.declared.app.Op.TheVariants as op
 use Rattle.sloth_base.specs.declared.app.Width.{Width}
-use Rattle.sloth_base.specs.declared.event.Event.{Event}
-use Rattle.sloth_base.specs.declared.event.Event.TheVariants as event
+use Rattle.sloth_base.specs.declared.service.Event.{Event}
+use Rattle.sloth_base.specs.declared.service.Event.TheVariants as event
 use Rattle.sloth_base.specs.declared.service.Service.{Service}
 use Rattle.sloth_base.specs.declared.service.Service.TheVariants as service
 use Rattle.sloth_base.specs.Named.{function, no_function, body_of, declaration, counter_declaration, undeclared_counter, alarm_declaration, undeclared_alarm}
@@ -49,9 +49,9 @@ use Rattle.osek_scheduler.proofs.Facts.{Facts, facts}
 use Rattle.osek_scheduler.proofs.Steps.{step_valid}
 use Rattle.osek_scheduler.proofs.Tidy.{tidy}
 use Rattle.osek_scheduler.specs.declared.change.TaskChange.TheVariants as change
-use Rattle.osek_scheduler.specs.declared.plan.Other.{Other}
-use Rattle.osek_scheduler.specs.declared.plan.Other.TheVariants as other
-use Rattle.osek_scheduler.specs.declared.plan.Plan.{Plan}
+use Rattle.osek_scheduler.specs.declared.change.Other.{Other}
+use Rattle.osek_scheduler.specs.declared.change.Other.TheVariants as other
+use Rattle.osek_scheduler.specs.declared.change.Plan.{Plan}
 use Rattle.osek_machine.specs.Clocked.{NamesTask, IsClocked}
 use Rattle.osek_machine.specs.Frames.{CanMove, HasWord}
 use Rattle.osek_scheduler.specs.Changes.{outer_frames, changed_task, with_change}

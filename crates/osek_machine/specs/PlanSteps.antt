@@ -9,7 +9,7 @@ use Rattle.sloth_base.specs.Limits.{task_limit, body_limit}
 use Rattle.osek_scheduler.specs.State.{Task, System, task}
 use Rattle.osek_scheduler.specs.Meaning.{on_some, if_true}
 use Rattle.osek_scheduler.specs.Steps.{settled_state}
-use Rattle.osek_scheduler.specs.declared.plan.Plan.{Plan}
+use Rattle.osek_scheduler.specs.declared.change.Plan.{Plan}
 use Rattle.osek_machine.specs.Clocked.{IsClocked}
 use Rattle.osek_machine.specs.Frames.{CanMove}
 use Rattle.osek_machine.specs.Plans.{planned_system}

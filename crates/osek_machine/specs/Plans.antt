@@ -14,9 +14,9 @@ use Rattle.osek_scheduler.specs.Meaning.{register, shown_value, on_some, if_true
 use Rattle.osek_scheduler.specs.Outcomes.{plan}
 use Rattle.osek_scheduler.specs.Outcomes.{plan_in, decision}
 use Rattle.osek_scheduler.specs.declared.change.TaskChange.TheVariants as change
-use Rattle.osek_scheduler.specs.declared.plan.Other.{Other}
-use Rattle.osek_scheduler.specs.declared.plan.Other.TheVariants as other
-use Rattle.osek_scheduler.specs.declared.plan.Plan.{Plan}
+use Rattle.osek_scheduler.specs.declared.change.Other.{Other}
+use Rattle.osek_scheduler.specs.declared.change.Other.TheVariants as other
+use Rattle.osek_scheduler.specs.declared.change.Plan.{Plan}
 use Rattle.osek_scheduler.specs.Changes.{with_change}
 use Rattle.osek_machine.specs.Changes.{HasChangeRoom}
 

@@ -17,8 +17,8 @@ use Rattle.osek_scheduler.specs.Meaning.{is_own, registers_of, on_some, if_true}
 use Rattle.osek_scheduler.specs.Services.{is_there}
 use Rattle.osek_scheduler.specs.Next.{is_ready, is_top, is_position}
 use Rattle.osek_scheduler.specs.declared.change.TaskChange.TheVariants as change
-use Rattle.osek_scheduler.specs.declared.plan.Other.TheVariants as other
-use Rattle.osek_scheduler.specs.declared.plan.Plan.{Plan}
+use Rattle.osek_scheduler.specs.declared.change.Other.TheVariants as other
+use Rattle.osek_scheduler.specs.declared.change.Plan.{Plan}
 use Rattle.osek_scheduler.specs.Outcomes.{plan}
 use Rattle.osek_machine.specs.Plans.{item_plan, service_plan}
 

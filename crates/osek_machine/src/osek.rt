@@ -6,7 +6,7 @@ ghost use Rattle.osek_scheduler.specs.State.{System, opening, task as task_of};
 ghost use Rattle.osek_scheduler.specs.Steps.{OsekStep};
 ghost use Rattle.osek_scheduler.specs.Next.{next_state};
 ghost use Rattle.sloth_base.specs.declared.app.App.{App as AnyApp};
-ghost use Rattle.sloth_base.specs.declared.event.Event.TheVariants as event;
+ghost use Rattle.sloth_base.specs.declared.service.Event.TheVariants as event;
 ghost use Rattle.sloth_base.specs.Limits.{task_limit};
 ghost use Rattle.osek_scheduler.specs.declared.state.TaskState.TheVariants as mode;
 ghost use Rattle.osek_machine.specs.Above.{is_line_above};

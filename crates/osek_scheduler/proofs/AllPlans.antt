@@ -1,6 +1,6 @@
 -- What holds of each plan of a decision.
 use Rattle.std.specs.Prelude.{◌≡◌, ◌&&◌, Bool, true, false}
-use Rattle.osek_scheduler.specs.declared.plan.Plan.{Plan}
+use Rattle.osek_scheduler.specs.declared.change.Plan.{Plan}
 use Rattle.osek_scheduler.specs.declared.state.TaskState.TheVariants as mode
 use Rattle.osek_scheduler.specs.State.{System, task}
 use Rattle.osek_scheduler.specs.Outcomes.{Decision, Does, IfSuspended, If}

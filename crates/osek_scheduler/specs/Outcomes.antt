@@ -6,9 +6,9 @@ use Rattle.sloth_base.specs.declared.service.Service.{Service}
 use Rattle.sloth_base.specs.declared.service.Service.TheVariants as service
 use Rattle.osek_scheduler.specs.declared.change.TaskChange.{TaskChange}
 use Rattle.osek_scheduler.specs.declared.change.TaskChange.TheVariants as change
-use Rattle.osek_scheduler.specs.declared.plan.Other.{Other}
-use Rattle.osek_scheduler.specs.declared.plan.Other.TheVariants as other
-use Rattle.osek_scheduler.specs.declared.plan.Plan.{Plan}
+use Rattle.osek_scheduler.specs.declared.change.Other.{Other}
+use Rattle.osek_scheduler.specs.declared.change.Other.TheVariants as other
+use Rattle.osek_scheduler.specs.declared.change.Plan.{Plan}
 use Rattle.sloth_base.specs.Named.{alarm_declaration, counter_of}
 use Rattle.sloth_base.specs.Ticks.{ticks_to}
 use Rattle.osek_scheduler.specs.State.{System, task, counter, alarm, with_alarm}

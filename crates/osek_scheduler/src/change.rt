@@ -1,6 +1,6 @@
-//! Changes of a task.
+//! Changes of a task. What an event of the running task does.
 
-use sloth_base::Reg;
+use sloth_base::{Reg, Width};
 
 /// A change of one task. All but the first two, `Start` and `Resume` are changes of the task that runs.
 #[derive(Clone, Copy)]
@@ -43,4 +43,38 @@ pub enum TaskChange {
     Invoke { func: u32, words: u32 },
     /// It returns from a function.
     Return,
+}
+
+/// What an event of one task does to another task, to an alarm, or to the data.
+#[derive(Clone, Copy)]
+pub enum Other {
+    Nothing,
+    /// This task becomes Ready.
+    Activate(u32),
+    /// Events of a task are set.
+    AddEvents {
+        task: u32,
+        mask: u32,
+    },
+    /// A value is stored in a symbol.
+    Store {
+        symbol: u32,
+        width: Width,
+        offset: u32,
+        value: u32,
+    },
+    /// An alarm gets these ticks to its expiry, and this cycle.
+    SetAlarm {
+        alarm: u32,
+        left: u32,
+        cycle: u32,
+    },
+}
+
+/// What an item does, and the result or status that it shows; none where the task leaves.
+#[derive(Clone, Copy)]
+pub struct Plan {
+    pub answer: Option<u32>,
+    pub change: TaskChange,
+    pub other: Other,
 }

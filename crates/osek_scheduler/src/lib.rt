@@ -15,11 +15,9 @@
 pub mod ceilings;
 pub mod change;
 pub mod laws;
-pub mod plan;
 pub mod state;
 pub mod validity;
 
 pub use ceilings::{ceiling, highest};
-pub use change::TaskChange;
-pub use plan::{Other, Plan};
+pub use change::{Other, Plan, TaskChange};
 pub use state::{Alarm, Counter, TaskState};

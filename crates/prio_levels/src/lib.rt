@@ -14,7 +14,7 @@ ghost use Rattle.sloth_base.specs.Limits.{task_limit};
 use sloth_base::{CEILING_COUNT, Config, Levels, RES_SCHEDULER, TASK_LIMIT, TaskDecl};
 
 /// The level of a priority: how many of the tasks have no greater one.
-fn level_of(tasks: &[TaskDecl], priority: u32) -> usize
+fn level(tasks: &[TaskDecl], priority: u32) -> usize
     ensures level { result ≡ level_among tasks.now priority }
     ensures few { result ≤ length tasks.now }
 {
@@ -31,7 +31,7 @@ fn task_levels(tasks: &[TaskDecl]) -> [u8; TASK_LIMIT]
 {
     let mut levels = [0; TASK_LIMIT];
     for (number, task) in tasks.iter().enumerate() {
-        levels[number] = level_of(tasks, task.priority) as u8;
+        levels[number] = level(tasks, task.priority) as u8;
     }
     levels
 }
@@ -57,13 +57,13 @@ fn raised(greatest: u8, counts: bool, level: u8) -> u8
 }
 
 /// The greatest level of the tasks that list the resource, 0 where none does.
-fn ceiling_of(tasks: &[TaskDecl], resource: u32) -> u8
+fn ceiling(tasks: &[TaskDecl], resource: u32) -> u8
     requires { length tasks.now ≤ task_limit }
     ensures { result ≡ ceiling tasks.now resource }
 {
     let mut greatest = 0;
     for task in tasks {
-        let level = level_of(tasks, task.priority) as u8;
+        let level = level(tasks, task.priority) as u8;
         greatest = raised(greatest, lists_resource(task, resource), level);
     }
     greatest
@@ -76,7 +76,7 @@ fn ceilings(tasks: &[TaskDecl]) -> [u8; CEILING_COUNT]
 {
     let mut ceilings = [0; CEILING_COUNT];
     for resource in 0..RES_SCHEDULER {
-        ceilings[resource as usize] = ceiling_of(tasks, resource);
+        ceilings[resource as usize] = ceiling(tasks, resource);
     }
     ceilings[RES_SCHEDULER as usize] = tasks.len() as u8;
     ceilings

@@ -8,8 +8,8 @@ use Rattle.std.proofs.lemmas.List.Sums.{sum_by-cons}
 use Rattle.sloth_base.specs.Options.{is_number}
 use Rattle.sloth_base.specs.declared.config.Config.{Config}
 use Rattle.sloth_base.specs.declared.app.App.{App}
-use Rattle.sloth_base.specs.declared.event.Arrival.{Arrival}
-use Rattle.sloth_base.specs.declared.event.Stamped.{Stamped}
+use Rattle.sloth_base.specs.declared.service.Arrival.{Arrival}
+use Rattle.sloth_base.specs.declared.service.Stamped.{Stamped}
 use Rattle.sloth_base.specs.Events.{admitted_line}
 use Rattle.osek_scheduler.specs.State.{System, opening}
 use Rattle.osek_scheduler.specs.InTime.{IsStamped, IsOrdered, StandsBefore, InTime, AreAllAdmitted, AreLeftOut, admits_at, arrivals_at, is_admit}
@@ -18,7 +18,7 @@ use Rattle.run_counts.specs.Stages.{Stage, state_behind, stage, stages, end_of}
 use Rattle.response_laws.specs.Sums.{count}
 use Rattle.response_laws.specs.Turns.{at_admission}
 use Rattle.response_laws.specs.Bounded.{BeginsWithin}
-use Rattle.load_text.specs.declared.entry.Entry.{Entry}
+use Rattle.load_text.specs.declared.load_line.Entry.{Entry}
 use Rattle.load_text.specs.Loads.{KeepDistances, arrivals_within}
 use Rattle.response_laws.specs.Response.{HasPace}
 use Rattle.response_laws.specs.Arrivals.{is_inside, passing_inside, arrivals_inside, HasDistances, AreCharged, admission_window, AdmissionsAreFew}

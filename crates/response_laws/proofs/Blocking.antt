@@ -5,8 +5,8 @@ use Rattle.std.proofs.lemmas.Bool.{cases_lt, cases_Bool, false≢true, true≢fa
 use Rattle.sloth_base.specs.Options.{is_number}
 use Rattle.sloth_base.specs.declared.config.Config.{Config}
 use Rattle.sloth_base.specs.declared.app.App.{App}
-use Rattle.sloth_base.specs.declared.event.Event.{Event}
-use Rattle.sloth_base.specs.declared.event.Event.TheVariants as event
+use Rattle.sloth_base.specs.declared.service.Event.{Event}
+use Rattle.sloth_base.specs.declared.service.Event.TheVariants as event
 use Rattle.sloth_base.specs.Events.{admitted_line, served_task}
 use Rattle.osek_scheduler.specs.State.{System, task}
 use Rattle.osek_scheduler.specs.InTime.{is_admit}
@@ -18,7 +18,7 @@ use Rattle.osek_blocking.proofs.Ordering.{effect, step_ordered}
 use Rattle.osek_blocking.proofs.Once.{Blocks, BlocksAlone, blocker}
 use Rattle.run_counts.specs.Stages.{Stage, end_of}
 use Rattle.response_laws.specs.Sums.{is_over}
-use Rattle.raised_sections.specs.Sections.{IsLower}
+use Rattle.osek_blocking.specs.Sections.{IsLower}
 use Rattle.run_counts.specs.Stages.{turn_task}
 use Rattle.response_laws.specs.Turns.{is_other_event, is_other}
 use Rattle.response_laws.specs.Busy.{is_quiet}

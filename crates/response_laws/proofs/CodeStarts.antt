@@ -4,13 +4,13 @@ use Rattle.std.specs.List.{AllByRecursion}
 use Rattle.sloth_base.specs.Events.{is_boot, served_task}
 use Rattle.osek_scheduler.specs.declared.state.TaskState.TheVariants as mode
 use Rattle.osek_scheduler.specs.State.{System, opening, task}
-use Rattle.raised_sections.specs.Sections.{IsLower}
+use Rattle.osek_blocking.specs.Sections.{IsLower}
 use Rattle.osek_scheduler.proofs.Facts.{Facts, facts}
 use Rattle.osek_scheduler.proofs.Leading.{follows_leads}
 use Rattle.osek_scheduler.proofs.Steps.{opening_valid, asleep_at}
 use Rattle.osek_blocking.proofs.Ordering.{opening_ordered}
-use Rattle.raised_sections.proofs.FrameEffects.{frame_effect}
-use Rattle.raised_sections.proofs.Placed.{Placed, step_placed, opening_placed}
+use Rattle.osek_blocking.proofs.FrameEffects.{frame_effect}
+use Rattle.osek_blocking.proofs.Placed.{Placed, step_placed, opening_placed}
 use Rattle.walk_sums.specs.Weights.{going_at, ending_at}
 use Rattle.run_counts.specs.Stages.{Stage, charged, end_of, run_stages}
 use Rattle.run_counts.specs.Laws.{IsWithinWeights}

@@ -5,9 +5,9 @@ use Rattle.std.proofs.lemmas.Bool.{cases_lt, le-leb, lt-ltb, and_from}
 use Rattle.sloth_base.specs.Options.{is_number}
 use Rattle.sloth_base.specs.Events.{admitted_line}
 use Rattle.sloth_base.specs.declared.config.Config.{Config}
-use Rattle.sloth_base.specs.declared.event.Arrival.{Arrival}
-use Rattle.sloth_base.specs.declared.event.Stamped.{Stamped}
-use Rattle.load_text.specs.declared.entry.Entry.{Entry}
+use Rattle.sloth_base.specs.declared.service.Arrival.{Arrival}
+use Rattle.sloth_base.specs.declared.service.Stamped.{Stamped}
+use Rattle.load_text.specs.declared.load_line.Entry.{Entry}
 use Rattle.load_text.specs.Loads.{distance, KeepDistances, filling}
 use Rattle.osek_scheduler.specs.InTime.{InTime}
 use Rattle.response_laws.specs.Arrivals.{is_inside, passing_inside, HasDistances}

@@ -2,13 +2,13 @@
 use Rattle.std.proofs.Common.{◌≡◌, ℕ, ◌≤◌, List, [], ◌∷◌, true, refl, ap, ◌∙◌, arith}
 use Rattle.std.specs.List.{AllByRecursion}
 use Rattle.std.proofs.lemmas.Bool.{false≢true, eqb-true}
-use Rattle.sloth_base.specs.declared.event.Event.{Event}
-use Rattle.sloth_base.specs.declared.event.Event.TheVariants as event
+use Rattle.sloth_base.specs.declared.service.Event.{Event}
+use Rattle.sloth_base.specs.declared.service.Event.TheVariants as event
 use Rattle.osek_scheduler.specs.State.{Frame, task}
 use Rattle.bound_rules.specs.declared.weights.BodyWeights.{BodyWeights}
 use Rattle.bound_rules.specs.Weights.{going_weight, ending_weight}
 use Rattle.walk_sums.specs.Weights.{going_at, ending_at}
-use Rattle.raised_sections.specs.Walks.{Position}
+use Rattle.osek_blocking.specs.Walks.{Position}
 use Rattle.run_counts.specs.Stages.{Stage}
 use Rattle.run_counts.specs.Rounds.{is_left, next_going, next_ending, executed_weight}
 use Rattle.response_laws.specs.Walked.{standing, is_executed, is_back, FitsItem}

@@ -8,14 +8,14 @@ use Rattle.sloth_base.specs.Options.{is_number}
 use Rattle.sloth_base.specs.Events.{admitted_line}
 use Rattle.sloth_base.specs.declared.config.Config.{Config}
 use Rattle.sloth_base.specs.declared.app.App.{App}
-use Rattle.sloth_base.specs.declared.event.Arrival.{Arrival}
-use Rattle.sloth_base.specs.declared.event.Event.TheVariants as event
-use Rattle.sloth_base.specs.declared.event.Stamped.{Stamped}
+use Rattle.sloth_base.specs.declared.service.Arrival.{Arrival}
+use Rattle.sloth_base.specs.declared.service.Event.TheVariants as event
+use Rattle.sloth_base.specs.declared.service.Stamped.{Stamped}
 use Rattle.sloth_base.specs.Named.{alarm_declaration}
 use Rattle.sloth_base.specs.Owners.{counter_line}
 use Rattle.code_rules.specs.WellFormed.{WellFormed}
 use Rattle.code_lengths.specs.LongestPaths.{tick_path}
-use Rattle.load_text.specs.declared.entry.Entry.{Entry}
+use Rattle.load_text.specs.declared.load_line.Entry.{Entry}
 use Rattle.load_text.specs.Loads.{distance, KeepDistances}
 use Rattle.osek_scheduler.specs.declared.state.Alarm.{Alarm}
 use Rattle.osek_scheduler.specs.declared.state.TaskState.TheVariants as mode
@@ -26,7 +26,7 @@ use Rattle.osek_scheduler.specs.Steps.{OsekStep}
 use Rattle.osek_scheduler.proofs.Facts.{Facts, facts}
 use Rattle.osek_scheduler.proofs.Leading.{leads-parts, follows_leads, one_end, one_step}
 use Rattle.osek_blocking.specs.Blocking.{MakesReady}
-use Rattle.event_weights.specs.Events.{stretch_counts}
+use Rattle.sim_induction.specs.Events.{stretch_counts}
 use Rattle.sim_induction.specs.Weighed.{AreWithinWeights}
 use Rattle.run_counts.specs.Rounds.{is_left}
 use Rattle.response_laws.specs.Arrivals.{is_inside, passing_inside, HasDistances}

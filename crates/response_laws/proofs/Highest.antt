@@ -10,7 +10,7 @@ use Rattle.osek_scheduler.specs.State.{System, task}
 use Rattle.osek_scheduler.specs.Priority.{ceiling, greatest, highest_priority}
 use Rattle.osek_scheduler.specs.Valid.{InState, IsValid}
 use Rattle.osek_scheduler.specs.Apart.{priority_of, static_priority, IsActive}
-use Rattle.raised_sections.specs.Sections.{IsLower}
+use Rattle.osek_blocking.specs.Sections.{IsLower}
 
 static_most : (ds : List TaskDecl) (t : ℕ) → t < length ds → (get_or ds t undeclared_task).priority ≤ greatest (map (λ d. d.priority) ds)
 static_most [] t lt = absurd (omega (arith, lt))

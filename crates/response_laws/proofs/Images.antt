@@ -3,9 +3,9 @@ use Rattle.std.proofs.Common.{ℕ, ◌+◌, ◌<◌, List, [], length, Bool, ref
 use Rattle.std.specs.List.{AllByRecursion}
 use Rattle.sloth_base.specs.declared.config.Config.{Config}
 use Rattle.sloth_base.specs.declared.app.App.{App}
-use Rattle.sloth_base.specs.declared.event.Stamped.{Stamped}
+use Rattle.sloth_base.specs.declared.service.Stamped.{Stamped}
 use Rattle.code_rules.specs.WellFormed.{WellFormed}
-use Rattle.load_text.specs.declared.entry.Entry.{Entry}
+use Rattle.load_text.specs.declared.load_line.Entry.{Entry}
 use Rattle.osek_scheduler.specs.State.{opening}
 use Rattle.osek_scheduler.specs.Runs.{AreStepsTo}
 use Rattle.osek_scheduler.proofs.Facts.{facts}
@@ -13,9 +13,9 @@ use Rattle.osek_scheduler.proofs.Leading.{follows_leads}
 use Rattle.osek_scheduler.proofs.Steps.{opening_valid}
 use Rattle.osek_blocking.proofs.Ordering.{opening_ordered}
 use Rattle.bound_rules.specs.declared.weights.BodyWeights.{BodyWeights}
-use Rattle.event_weights.specs.Items.{length_of}
-use Rattle.event_weights.specs.Pace.{ItemSizes, AreAtMost}
-use Rattle.event_weights.proofs.BodyLengths.{short}
+use Rattle.sim_induction.specs.Items.{length_of}
+use Rattle.sim_induction.specs.Pace.{ItemSizes, AreAtMost}
+use Rattle.sim_induction.proofs.BodyLengths.{short}
 use Rattle.sim_induction.specs.Paced.{KeepsPace, InPace}
 use Rattle.sim_induction.specs.Sound.{AreComing, Sound, IsSoundRun, events_of}
 use Rattle.sim_induction.specs.Spent.{SpendsOnItems}
@@ -27,7 +27,7 @@ use Rattle.run_counts.specs.Rounds.{WeighsEndings}
 use Rattle.run_counts.proofs.Counted.{counts_weigh, counts_end}
 use Rattle.run_counts.proofs.Shared as shared
 use Rattle.run_counts.proofs.Staged.{keeps_weights}
-use Rattle.sloth_base.specs.declared.event.Arrival.{Arrival}
+use Rattle.sloth_base.specs.declared.service.Arrival.{Arrival}
 use Rattle.sloth_base.specs.declared.image.Image.{Image}
 use Rattle.sloth_base.specs.Owners.{owners_in}
 use Rattle.code_rules.specs.AppRange.{IsTaskCode}

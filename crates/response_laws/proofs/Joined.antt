@@ -4,8 +4,8 @@ use Rattle.std.specs.List.{AllByRecursion}
 use Rattle.std.proofs.lemmas.Bool.{cases_Bool, true≢false, false≢true, and_parts, or_parts}
 use Rattle.sloth_base.specs.declared.config.Config.{Config}
 use Rattle.sloth_base.specs.declared.app.App.{App}
-use Rattle.sloth_base.specs.declared.event.Event.{Event}
-use Rattle.sloth_base.specs.declared.event.Event.TheVariants as event
+use Rattle.sloth_base.specs.declared.service.Event.{Event}
+use Rattle.sloth_base.specs.declared.service.Event.TheVariants as event
 use Rattle.sloth_base.specs.declared.service.Service.TheVariants as service
 use Rattle.sloth_base.specs.Named.{declaration}
 use Rattle.sloth_base.specs.ServiceCodes.{is_service}
@@ -17,9 +17,9 @@ use Rattle.osek_scheduler.specs.InTime.{is_admit}
 use Rattle.osek_scheduler.specs.Priority.{is_active}
 use Rattle.osek_scheduler.proofs.Facts.{Facts}
 use Rattle.osek_blocking.proofs.Once.{Blocks}
-use Rattle.raised_sections.specs.Sections.{IsLower}
-use Rattle.event_weights.specs.Events.{has_frames}
-use Rattle.event_weights.specs.Pace.{ItemSizes}
+use Rattle.osek_blocking.specs.Sections.{IsLower}
+use Rattle.sim_induction.specs.Events.{has_frames}
+use Rattle.sim_induction.specs.Pace.{ItemSizes}
 use Rattle.sim_induction.specs.Spent.{spent_behind}
 use Rattle.run_counts.specs.Stages.{Stage, is_turn, is_entry, charged, own, end_of}
 use Rattle.run_counts.specs.Rounds.{goes_on_waiting, is_left, opens_round, closes_round, total}

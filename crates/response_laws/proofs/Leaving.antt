@@ -4,8 +4,8 @@ use Rattle.std.specs.List.{AllByRecursion}
 use Rattle.std.proofs.lemmas.Bool.{false≢true, true≢false, true_from_ne_false, leb-true, not_from_false, and_from, eqb-true, eqb-false}
 use Rattle.sloth_base.specs.declared.config.Config.{Config}
 use Rattle.sloth_base.specs.declared.app.App.{App}
-use Rattle.sloth_base.specs.declared.event.Event.{Event}
-use Rattle.sloth_base.specs.declared.event.Event.TheVariants as event
+use Rattle.sloth_base.specs.declared.service.Event.{Event}
+use Rattle.sloth_base.specs.declared.service.Event.TheVariants as event
 use Rattle.sloth_base.specs.Events.{admitted_line}
 use Rattle.code_rules.specs.Code.{is_in}
 use Rattle.osek_scheduler.specs.declared.state.Counter.{Counter}
@@ -26,7 +26,7 @@ use Rattle.osek_scheduler.proofs.Tests.{Decides-is_due, Decides-no_ticks}
 use Rattle.osek_blocking.proofs.Effects.{Ordered, Effect}
 use Rattle.osek_blocking.proofs.Ordering.{effect, step_ordered}
 use Rattle.osek_blocking.proofs.Once.{Blocks}
-use Rattle.raised_sections.proofs.FrameEffects.{frame_effect}
+use Rattle.osek_blocking.proofs.FrameEffects.{frame_effect}
 use Rattle.run_counts.specs.Stages.{Stage, end_of, is_turn, is_entry}
 use Rattle.run_counts.specs.Rounds.{is_left}
 use Rattle.response_laws.specs.Sums.{count, is_over}

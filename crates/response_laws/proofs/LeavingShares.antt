@@ -9,12 +9,12 @@ use Rattle.osek_scheduler.specs.InTime.{is_admit}
 use Rattle.osek_scheduler.specs.State.{System}
 use Rattle.run_counts.specs.Stages.{Stage, unseen, charged, own, end_of, is_turn, is_running}
 use Rattle.run_counts.specs.OwnCounts.{if_preempted, IsOwn}
-use Rattle.raised_sections.specs.Pace.{takes_line}
+use Rattle.osek_blocking.specs.Pace.{takes_line}
 use Rattle.response_laws.specs.Shares.{share_of}
 use Rattle.response_laws.proofs.LowerSpending.{admit_own}
 use Rattle.response_laws.proofs.OwnShares.{own_no_round}
-use Rattle.sloth_base.specs.declared.event.Event.{Event}
-use Rattle.sloth_base.specs.declared.event.Event.TheVariants as event
+use Rattle.sloth_base.specs.declared.service.Event.{Event}
+use Rattle.sloth_base.specs.declared.service.Event.TheVariants as event
 use Rattle.run_counts.specs.Rounds.{goes_on_waiting, is_left, total}
 use Rattle.response_laws.proofs.RoundEnds.{left_inactive}
 use Rattle.response_laws.proofs.RoundSums.{no_round}

@@ -3,12 +3,12 @@ use Rattle.std.proofs.Common.{◌≡◌, ℕ, ◌+◌, ◌<◌, ◌≤◌, ◌�
 use Rattle.std.specs.List.{AllByRecursion}
 use Rattle.sloth_base.specs.declared.config.Config.{Config}
 use Rattle.sloth_base.specs.declared.app.App.{App}
-use Rattle.sloth_base.specs.declared.event.Arrival.{Arrival}
-use Rattle.sloth_base.specs.declared.event.Stamped.{Stamped}
+use Rattle.sloth_base.specs.declared.service.Arrival.{Arrival}
+use Rattle.sloth_base.specs.declared.service.Stamped.{Stamped}
 use Rattle.std.proofs.lemmas.Bool.{true≢false, cases_Bool, false≢true, eqb-true}
 use Rattle.sloth_base.specs.Events.{is_boot, served_task, admitted_line}
 use Rattle.code_rules.specs.WellFormed.{WellFormed}
-use Rattle.load_text.specs.declared.entry.Entry.{Entry}
+use Rattle.load_text.specs.declared.load_line.Entry.{Entry}
 use Rattle.load_text.specs.Loads.{KeepDistances}
 use Rattle.osek_scheduler.specs.InTime.{InTime, is_admit}
 use Rattle.osek_scheduler.specs.Runs.{OsekRun}
@@ -24,8 +24,8 @@ use Rattle.run_counts.proofs.Owned.{own_what_is_charged}
 use Rattle.response_laws.specs.Shares.{share_of, lower_counts, LowerSpendWithin}
 use Rattle.response_laws.proofs.OwnShares.{own_no_round}
 use Rattle.response_laws.proofs.Shares as shares
-use Rattle.sloth_base.specs.declared.event.Event.{Event}
-use Rattle.sloth_base.specs.declared.event.Event.TheVariants as event
+use Rattle.sloth_base.specs.declared.service.Event.{Event}
+use Rattle.sloth_base.specs.declared.service.Event.TheVariants as event
 use Rattle.osek_scheduler.specs.Steps.{OsekStep}
 use Rattle.osek_scheduler.specs.Apart.{IsActive}
 use Rattle.run_counts.specs.Rounds.{goes_on_waiting, total}
@@ -39,7 +39,7 @@ use Rattle.response_laws.specs.Busy.{IsBusyPeriod, is_quiet, LeavesFirst, IsLeav
 use Rattle.response_laws.specs.Demand.{Costs, Start}
 use Rattle.response_laws.specs.Bounded.{BeginsWithin, IsWithinInflow, JoinsWithin, StartsSo, EndsSoon, StartsInOne, left_of, left_over}
 use Rattle.response_laws.specs.Arrivals.{HasDistances, AreCharged}
-use Rattle.raised_sections.specs.Sections.{IsLower}
+use Rattle.osek_blocking.specs.Sections.{IsLower}
 use Rattle.response_laws.specs.Starts.{InSection, OpensSection, AreOfSection, HasSectionBehind, JoinsSo, IsAlone, AreOfOne, Comes, with_one, with_section, IsWithinStart, SomeIsWithin, HaveStarts, begun_item}
 use Rattle.response_laws.specs.Response.{HasPace, EntersOnce}
 use Rattle.response_laws.specs.Loaded.{IsStartFor, RespondsUnderLoad}

@@ -4,10 +4,10 @@ use Rattle.std.specs.List.{AllByRecursion}
 use Rattle.std.proofs.lemmas.Bool.{cases_Bool, cases_eq, true≢false, false≢true, ne_eqb, leb-true, leb-false}
 use Rattle.sloth_base.specs.declared.config.Config.{Config}
 use Rattle.sloth_base.specs.declared.app.App.{App}
-use Rattle.sloth_base.specs.declared.event.Arrival.{Arrival}
-use Rattle.sloth_base.specs.declared.event.Event.{Event}
-use Rattle.sloth_base.specs.declared.event.Event.TheVariants as event
-use Rattle.sloth_base.specs.declared.event.Stamped.{Stamped}
+use Rattle.sloth_base.specs.declared.service.Arrival.{Arrival}
+use Rattle.sloth_base.specs.declared.service.Event.{Event}
+use Rattle.sloth_base.specs.declared.service.Event.TheVariants as event
+use Rattle.sloth_base.specs.declared.service.Stamped.{Stamped}
 use Rattle.code_rules.specs.WellFormed.{WellFormed}
 use Rattle.osek_scheduler.specs.State.{System, task, opening}
 use Rattle.osek_scheduler.specs.Apart.{priority_of, static_priority, IsActive, IsOver}
@@ -20,7 +20,7 @@ use Rattle.osek_scheduler.proofs.Steps.{opening_valid}
 use Rattle.osek_blocking.proofs.Effects.{Ordered}
 use Rattle.osek_blocking.proofs.Once.{Blocks, blocker}
 use Rattle.osek_blocking.proofs.Ordering.{effect, opening_ordered}
-use Rattle.event_weights.specs.Pace.{ItemSizes, AreAtMost, next_size}
+use Rattle.sim_induction.specs.Pace.{ItemSizes, AreAtMost, next_size}
 use Rattle.sim_induction.specs.Spent.{SpendsOnItems, spent_behind}
 use Rattle.run_counts.specs.Stages.{Stage, unseen, spanned, charged, own, is_turn, is_entry, is_running, run_stages}
 use Rattle.run_counts.specs.Rounds.{is_left, total}

@@ -9,16 +9,16 @@ use Rattle.sloth_base.specs.declared.config.Config.{Config}
 use Rattle.sloth_base.specs.declared.config.CounterDecl.{CounterDecl}
 use Rattle.sloth_base.specs.declared.app.App.{App}
 use Rattle.sloth_base.specs.declared.app.Op.{Op}
-use Rattle.sloth_base.specs.declared.event.Arrival.{Arrival}
-use Rattle.sloth_base.specs.declared.event.Event.{Event}
-use Rattle.sloth_base.specs.declared.event.Stamped.{Stamped}
+use Rattle.sloth_base.specs.declared.service.Arrival.{Arrival}
+use Rattle.sloth_base.specs.declared.service.Event.{Event}
+use Rattle.sloth_base.specs.declared.service.Stamped.{Stamped}
 use Rattle.sloth_base.specs.declared.service.Service.{Service}
 use Rattle.sloth_base.specs.declared.service.Service.TheVariants as service
 use Rattle.sloth_base.specs.Events.{admitted_line}
 use Rattle.sloth_base.specs.Named.{declaration, counter_declaration, alarm_declaration, operation}
 use Rattle.sloth_base.specs.Owners.{counter_line}
 use Rattle.sloth_base.specs.ServiceCodes.{is_service}
-use Rattle.load_text.specs.declared.entry.Entry.{Entry}
+use Rattle.load_text.specs.declared.load_line.Entry.{Entry}
 use Rattle.load_text.specs.Loads.{distance, KeepDistances}
 use Rattle.osek_scheduler.specs.declared.state.Alarm.{Alarm}
 use Rattle.osek_scheduler.specs.State.{Frame, Task, System, no_counter, sleeping_task, task, counter, alarm, opening}
@@ -32,11 +32,11 @@ use Rattle.osek_scheduler.proofs.Leading.{follows_leads}
 use Rattle.osek_scheduler.proofs.ServiceStates.{IsAfter}
 use Rattle.osek_scheduler.proofs.Steps.{opening_valid, asleep_at, step_valid}
 use Rattle.osek_blocking.proofs.Ordering.{opening_ordered}
-use Rattle.raised_sections.specs.Walks.{Position}
-use Rattle.raised_sections.specs.Sections.{operation_at}
-use Rattle.raised_sections.proofs.FrameEffects.{frame_effect}
-use Rattle.raised_sections.proofs.Placed.{Placed, step_placed, opening_placed}
-use Rattle.raised_sections.proofs.Reached.{IsReached}
+use Rattle.osek_blocking.specs.Walks.{Position}
+use Rattle.osek_blocking.specs.Sections.{operation_at}
+use Rattle.osek_blocking.proofs.FrameEffects.{frame_effect}
+use Rattle.osek_blocking.proofs.Placed.{Placed, step_placed, opening_placed}
+use Rattle.osek_blocking.proofs.Reached.{IsReached}
 use Rattle.walk_sums.specs.Rounds.{Reaches}
 use Rattle.run_counts.specs.Stages.{Stage, stage, stages, state_behind, end_of, run_stages}
 use Rattle.run_counts.proofs.StepCases.{record_behind}

@@ -4,8 +4,8 @@ use Rattle.std.specs.List.{AllByRecursion}
 use Rattle.std.proofs.lemmas.Bool.{cases_Bool, true≢false, false≢true, eqb-true, and_parts}
 use Rattle.sloth_base.specs.declared.config.Config.{Config}
 use Rattle.sloth_base.specs.declared.app.App.{App}
-use Rattle.sloth_base.specs.declared.event.Event.{Event}
-use Rattle.sloth_base.specs.declared.event.Event.TheVariants as event
+use Rattle.sloth_base.specs.declared.service.Event.{Event}
+use Rattle.sloth_base.specs.declared.service.Event.TheVariants as event
 use Rattle.sloth_base.specs.declared.service.Service.TheVariants as service
 use Rattle.sloth_base.specs.ServiceCodes.{is_service}
 use Rattle.osek_scheduler.specs.declared.state.TaskState.{TaskState}
@@ -20,13 +20,13 @@ use Rattle.osek_scheduler.proofs.Facts.{Facts, facts}
 use Rattle.osek_scheduler.proofs.Leading.{follows_leads}
 use Rattle.osek_scheduler.proofs.Steps.{step_valid, opening_valid, asleep_at}
 use Rattle.osek_blocking.proofs.Ordering.{opening_ordered}
-use Rattle.raised_sections.proofs.FrameEffects.{frame_effect}
-use Rattle.raised_sections.specs.Sections.{operation_at, is_schedule}
-use Rattle.raised_sections.proofs.Placed.{Placed, step_placed, opening_placed}
-use Rattle.raised_sections.proofs.Reached.{IsReached}
-use Rattle.raised_sections.proofs.Stepping.{position_of}
+use Rattle.osek_blocking.proofs.FrameEffects.{frame_effect}
+use Rattle.osek_blocking.specs.Sections.{operation_at, is_schedule}
+use Rattle.osek_blocking.proofs.Placed.{Placed, step_placed, opening_placed}
+use Rattle.osek_blocking.proofs.Reached.{IsReached}
+use Rattle.osek_blocking.proofs.Stepping.{position_of}
 use Rattle.walk_sums.specs.Rounds.{Reaches, IsSteady}
-use Rattle.event_weights.specs.Events.{has_frames}
+use Rattle.sim_induction.specs.Events.{has_frames}
 use Rattle.run_counts.specs.Stages.{Stage, end_of, is_turn, is_entry, run_stages}
 use Rattle.run_counts.specs.Rounds.{goes_on_waiting, is_left, round_of, total}
 use Rattle.response_laws.specs.Turns.{in_turn, at_entry, begins_next, round_behind, is_ready_for, activated, if_turn, if_entry}

@@ -4,8 +4,8 @@ use Rattle.std.specs.List.{AllByRecursion}
 use Rattle.std.proofs.lemmas.Bool.{cases_Bool, eq-eqb, false≢true, true≢false, eqb-true}
 use Rattle.sloth_base.specs.declared.config.Config.{Config}
 use Rattle.sloth_base.specs.declared.app.App.{App}
-use Rattle.sloth_base.specs.declared.event.Event.{Event}
-use Rattle.sloth_base.specs.declared.event.Event.TheVariants as event
+use Rattle.sloth_base.specs.declared.service.Event.{Event}
+use Rattle.sloth_base.specs.declared.service.Event.TheVariants as event
 use Rattle.osek_scheduler.specs.declared.state.TaskState.TheVariants as mode
 use Rattle.osek_scheduler.specs.State.{task}
 use Rattle.osek_scheduler.specs.Steps.{OsekStep}
@@ -14,7 +14,7 @@ use Rattle.std.specs.Prelude.{◌-◌, is_some, is_none}
 use Rattle.sloth_base.specs.Options.{is_number}
 use Rattle.sloth_base.specs.Events.{admitted_line}
 use Rattle.osek_scheduler.specs.InTime.{is_admit}
-use Rattle.raised_sections.specs.Pace.{takes_line}
+use Rattle.osek_blocking.specs.Pace.{takes_line}
 use Rattle.run_counts.specs.Stages.{Stage, charged, spanned, own, is_entry, turn_task}
 use Rattle.run_counts.specs.Rounds.{total}
 use Rattle.run_counts.specs.OwnCounts.{unowned, IsShared}

@@ -15,7 +15,7 @@ use Rattle.run_counts.specs.OwnCounts.{IsShared}
 use Rattle.response_laws.specs.Shares.{share_of, lower_counts}
 use Rattle.run_counts.specs.Rounds.{goes_on_waiting, total}
 use Rattle.response_laws.specs.Sums.{total_where, count, is_over, sum_over}
-use Rattle.event_weights.specs.Events.{has_frames}
+use Rattle.sim_induction.specs.Events.{has_frames}
 use Rattle.response_laws.specs.Turns.{round_behind, if_turn, if_entry, in_turn, at_entry, at_entry_for, at_tick, at_admission, is_other, begins_first, begins_next, as_said, is_made, activated, has_grown, was_set}
 use Rattle.response_laws.specs.Busy.{is_quiet, is_quiet_but, LeavesOnce}
 use Rattle.osek_scheduler.proofs.Facts.{Facts}

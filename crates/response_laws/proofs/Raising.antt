@@ -9,7 +9,7 @@ use Rattle.sloth_base.specs.ServiceCodes.{is_service}
 use Rattle.code_rules.specs.Code.{without_last}
 use Rattle.osek_scheduler.specs.declared.change.TaskChange.{TaskChange}
 use Rattle.osek_scheduler.specs.declared.change.TaskChange.TheVariants as change
-use Rattle.osek_scheduler.specs.declared.plan.Plan.{Plan}
+use Rattle.osek_scheduler.specs.declared.change.Plan.{Plan}
 use Rattle.osek_scheduler.specs.declared.state.TaskState.TheVariants as mode
 use Rattle.osek_scheduler.specs.State.{Task, System, task}
 use Rattle.osek_scheduler.specs.Priority.{ceiling, greatest, highest_priority}

@@ -9,8 +9,8 @@ use Rattle.osek_scheduler.specs.State.{task}
 use Rattle.osek_scheduler.specs.Next.{is_ready}
 use Rattle.osek_scheduler.proofs.Facts.{Facts}
 use Rattle.osek_blocking.proofs.Ordering.{effect}
-use Rattle.raised_sections.proofs.FrameEffects.{frame_effect}
-use Rattle.event_weights.specs.Events.{has_frames}
+use Rattle.osek_blocking.proofs.FrameEffects.{frame_effect}
+use Rattle.sim_induction.specs.Events.{has_frames}
 use Rattle.run_counts.specs.Stages.{Stage}
 use Rattle.response_laws.specs.Turns.{at_entry, is_ready_for}
 use Rattle.run_counts.proofs.States.{not_ready}

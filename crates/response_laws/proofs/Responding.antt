@@ -7,10 +7,10 @@ use Rattle.std.specs.List.{AllByRecursion}
 use Rattle.std.proofs.lemmas.Bool.{cases_Bool, false≢true, true≢false, and_from, not_from_false}
 use Rattle.sloth_base.specs.declared.config.Config.{Config}
 use Rattle.sloth_base.specs.declared.app.App.{App}
-use Rattle.sloth_base.specs.declared.event.Arrival.{Arrival}
-use Rattle.sloth_base.specs.declared.event.Event.{Event}
-use Rattle.sloth_base.specs.declared.event.Event.TheVariants as event
-use Rattle.sloth_base.specs.declared.event.Stamped.{Stamped}
+use Rattle.sloth_base.specs.declared.service.Arrival.{Arrival}
+use Rattle.sloth_base.specs.declared.service.Event.{Event}
+use Rattle.sloth_base.specs.declared.service.Event.TheVariants as event
+use Rattle.sloth_base.specs.declared.service.Stamped.{Stamped}
 use Rattle.code_rules.specs.WellFormed.{WellFormed}
 use Rattle.osek_scheduler.specs.declared.state.TaskState.TheVariants as mode
 use Rattle.osek_scheduler.specs.State.{System, task, counter, opening}
@@ -23,11 +23,11 @@ use Rattle.osek_scheduler.proofs.Leading.{follows_leads, leads-parts, leads-appe
 use Rattle.osek_scheduler.proofs.Steps.{opening_valid}
 use Rattle.osek_blocking.specs.Blocking.{MakesReady}
 use Rattle.osek_blocking.proofs.Ordering.{opening_ordered}
-use Rattle.raised_sections.specs.Pace.{last_count}
+use Rattle.osek_blocking.specs.Pace.{last_count}
 use Rattle.run_counts.specs.Stages.{Stage, state_behind, stage, stages, run_stages, end_of}
 use Rattle.run_counts.specs.Rounds.{is_left, total}
 use Rattle.run_counts.specs.OwnCounts.{IsShared}
-use Rattle.event_weights.specs.Events.{has_frames}
+use Rattle.sim_induction.specs.Events.{has_frames}
 use Rattle.response_laws.specs.Sums.{count}
 use Rattle.sloth_base.specs.Options.{is_number}
 use Rattle.response_laws.specs.Turns.{ticking_counter, is_counter, comes_at, as_said, is_ready_for, is_made, makes_ready, has_grown, activated, was_set}

@@ -5,7 +5,7 @@ use Rattle.sloth_base.specs.declared.config.Config.{Config}
 use Rattle.sloth_base.specs.declared.app.App.{App}
 use Rattle.osek_scheduler.specs.State.{System}
 use Rattle.osek_blocking.proofs.Once.{Blocks}
-use Rattle.raised_sections.specs.Sections.{IsLower}
+use Rattle.osek_blocking.specs.Sections.{IsLower}
 use Rattle.run_counts.specs.Stages.{Stage, end_of}
 use Rattle.response_laws.specs.Sums.{count}
 use Rattle.response_laws.specs.Turns.{is_other}

@@ -4,15 +4,15 @@ use Rattle.std.specs.List.{AllByRecursion}
 use Rattle.std.proofs.lemmas.Bool.{cases_Bool, false≢true, eqb-true}
 use Rattle.sloth_base.specs.declared.config.Config.{Config}
 use Rattle.sloth_base.specs.declared.app.App.{App}
-use Rattle.sloth_base.specs.declared.event.Event.{Event}
-use Rattle.sloth_base.specs.declared.event.Event.TheVariants as event
+use Rattle.sloth_base.specs.declared.service.Event.{Event}
+use Rattle.sloth_base.specs.declared.service.Event.TheVariants as event
 use Rattle.osek_scheduler.specs.State.{System, task}
 use Rattle.osek_scheduler.specs.Steps.{OsekStep}
 use Rattle.osek_scheduler.specs.Apart.{priority_of, static_priority}
 use Rattle.osek_scheduler.proofs.Apart.{rank_active, rank_ready}
 use Rattle.osek_scheduler.proofs.Facts.{Facts}
 use Rattle.osek_blocking.proofs.Once.{Blocks}
-use Rattle.raised_sections.specs.Sections.{IsLower}
+use Rattle.osek_blocking.specs.Sections.{IsLower}
 use Rattle.run_counts.specs.Stages.{Stage, end_of, is_entry}
 use Rattle.response_laws.specs.Sums.{total_where}
 use Rattle.response_laws.specs.Turns.{at_entry, is_other, is_ready_for, activated}

@@ -5,21 +5,21 @@ use Rattle.std.specs.List.{AllByRecursion}
 use Rattle.std.proofs.lemmas.Bool.{cases_Bool, true≢false, false≢true, eqb-true}
 use Rattle.sloth_base.specs.declared.config.Config.{Config}
 use Rattle.sloth_base.specs.declared.app.App.{App}
-use Rattle.sloth_base.specs.declared.event.Event.{Event}
-use Rattle.sloth_base.specs.declared.event.Event.TheVariants as event
+use Rattle.sloth_base.specs.declared.service.Event.{Event}
+use Rattle.sloth_base.specs.declared.service.Event.TheVariants as event
 use Rattle.osek_scheduler.specs.State.{System, task}
 use Rattle.osek_scheduler.specs.Steps.{OsekStep}
 use Rattle.osek_scheduler.specs.Valid.{InState, IsValid}
 use Rattle.osek_scheduler.specs.Apart.{priority_of, static_priority, IsActive}
 use Rattle.osek_scheduler.proofs.Facts.{Facts}
-use Rattle.raised_sections.specs.Walks.{Position, IsPositionStep, IsPositionStepTo, AreConsecutive, IsWalk}
-use Rattle.raised_sections.specs.Sections.{priority_at, operation_at, is_schedule, OnlyLastSchedules, IsSection, IsLower}
-use Rattle.raised_sections.proofs.FrameEffects.{frame_effect}
-use Rattle.raised_sections.proofs.Frames.{SameFrames}
-use Rattle.raised_sections.proofs.Placed.{FrameEffect, Placed, step_placed}
-use Rattle.raised_sections.proofs.Raised.{at_position, owing}
-use Rattle.raised_sections.proofs.Reached.{IsReached, walk_on}
-use Rattle.raised_sections.proofs.Stepping.{StepsOn}
+use Rattle.osek_blocking.specs.Walks.{Position, IsPositionStep, IsPositionStepTo, AreConsecutive, IsWalk}
+use Rattle.osek_blocking.specs.Sections.{priority_at, operation_at, is_schedule, OnlyLastSchedules, IsSection, IsLower}
+use Rattle.osek_blocking.proofs.FrameEffects.{frame_effect}
+use Rattle.osek_blocking.proofs.Frames.{SameFrames}
+use Rattle.osek_blocking.proofs.Placed.{FrameEffect, Placed, step_placed}
+use Rattle.osek_blocking.proofs.Raised.{at_position, owing}
+use Rattle.osek_blocking.proofs.Reached.{IsReached, walk_on}
+use Rattle.osek_blocking.proofs.Stepping.{StepsOn}
 use Rattle.walk_sums.specs.Rounds.{Reaches}
 use Rattle.run_counts.specs.Stages.{Stage, end_of, is_turn, is_entry}
 use Rattle.run_counts.specs.Rounds.{is_left}

@@ -6,22 +6,22 @@ use Rattle.std.proofs.lemmas.Bool.{cases_Bool, false≢true, and_parts, or_parts
 use Rattle.std.proofs.lemmas.List.{append-nil}
 use Rattle.sloth_base.specs.declared.config.Config.{Config}
 use Rattle.sloth_base.specs.declared.app.App.{App}
-use Rattle.sloth_base.specs.declared.event.Event.{Event}
-use Rattle.sloth_base.specs.declared.event.Event.TheVariants as event
+use Rattle.sloth_base.specs.declared.service.Event.{Event}
+use Rattle.sloth_base.specs.declared.service.Event.TheVariants as event
 use Rattle.sloth_base.specs.declared.service.Service.TheVariants as service
 use Rattle.sloth_base.specs.ServiceCodes.{is_service}
-use Rattle.load_text.specs.declared.entry.Entry.{Entry}
+use Rattle.load_text.specs.declared.load_line.Entry.{Entry}
 use Rattle.osek_scheduler.specs.State.{System, task}
 use Rattle.osek_scheduler.specs.Apart.{IsActive}
 use Rattle.osek_scheduler.specs.Steps.{OsekStep}
 use Rattle.osek_scheduler.proofs.Facts.{Facts}
 use Rattle.osek_blocking.proofs.Once.{Blocks}
-use Rattle.raised_sections.specs.Walks.{Position}
-use Rattle.raised_sections.specs.Sections.{IsLower, operation_at}
-use Rattle.raised_sections.proofs.FrameEffects.{frame_effect}
-use Rattle.raised_sections.proofs.Placed.{Placed, step_placed}
+use Rattle.osek_blocking.specs.Walks.{Position}
+use Rattle.osek_blocking.specs.Sections.{IsLower, operation_at}
+use Rattle.osek_blocking.proofs.FrameEffects.{frame_effect}
+use Rattle.osek_blocking.proofs.Placed.{Placed, step_placed}
 use Rattle.walk_sums.specs.Rounds.{is_wait}
-use Rattle.event_weights.specs.Pace.{ItemSizes}
+use Rattle.sim_induction.specs.Pace.{ItemSizes}
 use Rattle.sim_induction.specs.Spent.{spent_behind}
 use Rattle.run_counts.specs.Stages.{Stage, is_turn, is_entry, charged, own, end_of}
 use Rattle.run_counts.specs.Rounds.{is_left, goes_on_waiting, opens_round, closes_round, round_of, total}

@@ -5,12 +5,12 @@ use Rattle.sloth_base.specs.declared.app.App.{App}
 use Rattle.osek_scheduler.specs.State.{task}
 use Rattle.osek_scheduler.specs.Valid.{InState}
 use Rattle.osek_scheduler.specs.Apart.{IsActive}
-use Rattle.raised_sections.specs.Walks.{Position}
-use Rattle.raised_sections.proofs.Placed.{Placed}
-use Rattle.raised_sections.proofs.Reached.{IsReached}
+use Rattle.osek_blocking.specs.Walks.{Position}
+use Rattle.osek_blocking.proofs.Placed.{Placed}
+use Rattle.osek_blocking.proofs.Reached.{IsReached}
 use Rattle.walk_sums.specs.Weights.{going_at, ending_at}
 use Rattle.walk_sums.specs.Rounds.{Reaches}
-use Rattle.event_weights.specs.Pace.{ItemSizes}
+use Rattle.sim_induction.specs.Pace.{ItemSizes}
 use Rattle.run_counts.specs.Stages.{Stage}
 use Rattle.run_counts.specs.Laws.{IsWithinWeights}
 use Rattle.response_laws.specs.Turns.{at_entry, in_turn, if_entry, activated, was_set}

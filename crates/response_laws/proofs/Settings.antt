@@ -12,9 +12,9 @@ use Rattle.sloth_base.specs.declared.config.Config.{Config}
 use Rattle.sloth_base.specs.declared.app.App.{App}
 use Rattle.sloth_base.specs.declared.app.Op.{Op}
 use Rattle.sloth_base.specs.declared.app.Op.TheVariants as op
-use Rattle.sloth_base.specs.declared.event.Event.{Event}
-use Rattle.sloth_base.specs.declared.event.Event.TheVariants as event
-use Rattle.sloth_base.specs.declared.event.Stamped.{Stamped}
+use Rattle.sloth_base.specs.declared.service.Event.{Event}
+use Rattle.sloth_base.specs.declared.service.Event.TheVariants as event
+use Rattle.sloth_base.specs.declared.service.Stamped.{Stamped}
 use Rattle.code_rules.specs.WellFormed.{WellFormed}
 use Rattle.osek_scheduler.specs.Runs.{OsekRun}
 use Rattle.sloth_base.specs.declared.service.Service.{Service}
@@ -34,9 +34,9 @@ use Rattle.osek_scheduler.specs.Changes.{changed_task, with_change}
 use Rattle.osek_scheduler.specs.Meaning.{meaning}
 use Rattle.osek_scheduler.specs.declared.change.TaskChange.{TaskChange}
 use Rattle.osek_scheduler.specs.declared.change.TaskChange.TheVariants as change
-use Rattle.osek_scheduler.specs.declared.plan.Other.{Other}
-use Rattle.osek_scheduler.specs.declared.plan.Other.TheVariants as other
-use Rattle.osek_scheduler.specs.declared.plan.Plan.{Plan}
+use Rattle.osek_scheduler.specs.declared.change.Other.{Other}
+use Rattle.osek_scheduler.specs.declared.change.Other.TheVariants as other
+use Rattle.osek_scheduler.specs.declared.change.Plan.{Plan}
 use Rattle.osek_scheduler.proofs.Apart.{at_task}
 use Rattle.osek_scheduler.proofs.Outcomes.{on_outcome, on_tested}
 use Rattle.std.specs.Prelude.{is_some}
@@ -47,13 +47,13 @@ use Rattle.osek_scheduler.proofs.Facts.{Facts, facts}
 use Rattle.osek_scheduler.proofs.Leading.{follows_leads}
 use Rattle.osek_scheduler.proofs.Steps.{opening_valid, asleep_at}
 use Rattle.osek_blocking.proofs.Ordering.{opening_ordered}
-use Rattle.raised_sections.specs.Walks.{Position, IsPositionStep, IsWalk}
-use Rattle.raised_sections.specs.Sections.{operation_at}
-use Rattle.raised_sections.proofs.FrameEffects.{frame_effect}
-use Rattle.raised_sections.proofs.Placed.{Placed, opening_placed}
-use Rattle.raised_sections.proofs.Reached.{walk_on}
+use Rattle.osek_blocking.specs.Walks.{Position, IsPositionStep, IsWalk}
+use Rattle.osek_blocking.specs.Sections.{operation_at}
+use Rattle.osek_blocking.proofs.FrameEffects.{frame_effect}
+use Rattle.osek_blocking.proofs.Placed.{Placed, opening_placed}
+use Rattle.osek_blocking.proofs.Reached.{walk_on}
 use Rattle.walk_sums.specs.Rounds.{is_wait, awaited, cleared, cleared_along, IsClean}
-use Rattle.event_weights.specs.Events.{has_frames}
+use Rattle.sim_induction.specs.Events.{has_frames}
 use Rattle.run_counts.specs.Stages.{Stage, end_of, is_turn, is_entry, run_stages}
 use Rattle.run_counts.specs.Rounds.{goes_on_waiting, is_left, total}
 use Rattle.response_laws.specs.Sums.{count}

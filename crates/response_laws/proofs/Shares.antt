@@ -4,17 +4,17 @@ use Rattle.std.specs.List.{AllByRecursion}
 use Rattle.std.proofs.lemmas.Bool.{false≢true, and_right, eqb-true}
 use Rattle.sloth_base.specs.declared.config.Config.{Config}
 use Rattle.sloth_base.specs.declared.app.App.{App}
-use Rattle.sloth_base.specs.declared.event.Event.{Event}
-use Rattle.sloth_base.specs.declared.event.Event.TheVariants as event
+use Rattle.sloth_base.specs.declared.service.Event.{Event}
+use Rattle.sloth_base.specs.declared.service.Event.TheVariants as event
 use Rattle.osek_scheduler.specs.State.{System, task}
 use Rattle.osek_scheduler.specs.Steps.{OsekStep}
 use Rattle.osek_scheduler.specs.Apart.{IsActive}
 use Rattle.osek_scheduler.proofs.Facts.{Facts}
-use Rattle.raised_sections.proofs.FrameEffects.{frame_effect}
+use Rattle.osek_blocking.proofs.FrameEffects.{frame_effect}
 use Rattle.run_counts.specs.Stages.{Stage, end_of, is_turn, is_entry}
 use Rattle.run_counts.specs.Rounds.{goes_on_waiting, is_left, round_of, total}
 use Rattle.response_laws.specs.Sums.{count}
-use Rattle.event_weights.specs.Events.{has_frames}
+use Rattle.sim_induction.specs.Events.{has_frames}
 use Rattle.response_laws.specs.Bounded.{EachOf}
 use Rattle.response_laws.specs.Turns.{at_entry, begins_first, begins_next, round_behind, if_entry}
 use Rattle.response_laws.proofs.Sums.{one_more}

@@ -4,11 +4,11 @@ use Rattle.std.proofs.lemmas.List.{get_or_past}
 use Rattle.std.proofs.lemmas.Bool.{cases_Bool, cases_lt, true≢false, false≢true, eqb-true, leb-false}
 use Rattle.sloth_base.specs.declared.config.Config.{Config}
 use Rattle.sloth_base.specs.declared.app.App.{App}
-use Rattle.sloth_base.specs.declared.event.Event.{Event}
-use Rattle.sloth_base.specs.declared.event.Event.TheVariants as event
+use Rattle.sloth_base.specs.declared.service.Event.{Event}
+use Rattle.sloth_base.specs.declared.service.Event.TheVariants as event
 use Rattle.sloth_base.specs.declared.service.Service.{Service}
 use Rattle.sloth_base.specs.Events.{is_boot, served_task}
-use Rattle.load_text.specs.declared.entry.Entry.{Entry}
+use Rattle.load_text.specs.declared.load_line.Entry.{Entry}
 use Rattle.osek_scheduler.specs.declared.state.TaskState.TheVariants as mode
 use Rattle.osek_scheduler.specs.State.{Task, System, sleeping_task, task}
 use Rattle.osek_scheduler.specs.Services.{ServiceOutcome, GoesOn, Leaves}
@@ -17,14 +17,14 @@ use Rattle.osek_scheduler.specs.Valid.{InState}
 use Rattle.osek_scheduler.specs.Apart.{IsActive, static_priority}
 use Rattle.osek_scheduler.proofs.Facts.{Facts}
 use Rattle.osek_scheduler.proofs.Steps.{autostarted_at}
-use Rattle.raised_sections.specs.Sections.{operation_at, IsLower}
+use Rattle.osek_blocking.specs.Sections.{operation_at, IsLower}
 use Rattle.bound_rules.specs.declared.weights.BodyWeights.{BodyWeights}
 use Rattle.walk_sums.specs.Weights.{going_at, ending_at}
 use Rattle.walk_sums.specs.Rounds.{Reaches}
 use Rattle.walk_sums.specs.declared.counted.Counted.{Counted}
 use Rattle.walk_sums.specs.declared.counted.Counted.TheVariants as counts
 use Rattle.walk_sums.specs.Counted.{one_if, counted_weights}
-use Rattle.event_weights.specs.Pace.{ItemSizes}
+use Rattle.sim_induction.specs.Pace.{ItemSizes}
 use Rattle.run_counts.specs.Stages.{Stage, charged, is_turn, is_entry}
 use Rattle.run_counts.specs.Spending.{WeighsItems}
 use Rattle.run_counts.specs.Rounds.{is_left, WeighsEndings}

@@ -5,24 +5,24 @@ use Rattle.std.proofs.Math.Nat.{max-le}
 use Rattle.std.proofs.lemmas.Bool.{false≢true, and_parts, not-true}
 use Rattle.sloth_base.specs.declared.config.Config.{Config}
 use Rattle.sloth_base.specs.declared.app.App.{App}
-use Rattle.sloth_base.specs.declared.event.Event.{Event}
-use Rattle.sloth_base.specs.declared.event.Event.TheVariants as event
-use Rattle.sloth_base.specs.declared.event.Stamped.{Stamped}
+use Rattle.sloth_base.specs.declared.service.Event.{Event}
+use Rattle.sloth_base.specs.declared.service.Event.TheVariants as event
+use Rattle.sloth_base.specs.declared.service.Stamped.{Stamped}
 use Rattle.code_rules.specs.WellFormed.{WellFormed}
-use Rattle.load_text.specs.declared.entry.Entry.{Entry}
+use Rattle.load_text.specs.declared.load_line.Entry.{Entry}
 use Rattle.osek_scheduler.specs.State.{Frame, Task, System, task, opening}
 use Rattle.osek_scheduler.specs.Steps.{OsekStep}
 use Rattle.osek_scheduler.specs.Runs.{AreStepsTo, OsekRun}
 use Rattle.osek_scheduler.proofs.Leading.{leads-append}
 use Rattle.bound_rules.specs.declared.weights.BodyWeights.{BodyWeights}
-use Rattle.event_weights.specs.Events.{has_frames, enter_counts, stretch_counts}
-use Rattle.event_weights.specs.Pace.{ItemSizes, AreAtMost, next_size, next_size_of, gap_counts}
+use Rattle.sim_induction.specs.Events.{has_frames, enter_counts, stretch_counts}
+use Rattle.sim_induction.specs.Pace.{ItemSizes, AreAtMost, next_size, next_size_of, gap_counts}
 use Rattle.sim_induction.specs.Weighed.{AreWithinWeights}
 use Rattle.run_counts.specs.Laws.{IsWithinWeights}
 use Rattle.run_counts.specs.Spending.{WeighsItems}
 use Rattle.run_counts.specs.Stages.{Stage, spanned, own, is_entry, run_stages}
 use Rattle.osek_scheduler.specs.InTime.{InTime}
-use Rattle.sloth_base.specs.declared.event.Arrival.{Arrival}
+use Rattle.sloth_base.specs.declared.service.Arrival.{Arrival}
 use Rattle.sim_induction.specs.Spent.{SpendsOnItems}
 use Rattle.response_laws.proofs.OwnWalks.{own_first, own_next}
 use Rattle.response_laws.proofs.Spanned.{IsSpannedWithin, run_spanned, entry_spanned, tick_spanned}

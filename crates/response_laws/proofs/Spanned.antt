@@ -7,15 +7,15 @@ use Rattle.sloth_base.specs.Options.{is_number}
 use Rattle.sloth_base.specs.Named.{declaration, function, body_of}
 use Rattle.sloth_base.specs.declared.config.Config.{Config}
 use Rattle.sloth_base.specs.declared.app.App.{App}
-use Rattle.sloth_base.specs.declared.event.Event.{Event}
-use Rattle.sloth_base.specs.declared.event.Event.TheVariants as event
-use Rattle.sloth_base.specs.declared.event.Stamped.{Stamped}
+use Rattle.sloth_base.specs.declared.service.Event.{Event}
+use Rattle.sloth_base.specs.declared.service.Event.TheVariants as event
+use Rattle.sloth_base.specs.declared.service.Stamped.{Stamped}
 use Rattle.code_lengths.specs.LongestPaths.{entry_path, tick_path}
 use Rattle.osek_scheduler.specs.State.{System, task, opening}
 use Rattle.osek_scheduler.specs.InTime.{is_admit}
 use Rattle.osek_scheduler.specs.Runs.{AreStepsTo, OsekRun}
 use Rattle.osek_scheduler.proofs.Leading.{follows_leads, leads-append}
-use Rattle.event_weights.specs.Events.{has_frames, enter_counts, stretch_counts}
+use Rattle.sim_induction.specs.Events.{has_frames, enter_counts, stretch_counts}
 use Rattle.sim_induction.specs.Weighed.{AreWithinWeights}
 use Rattle.run_counts.specs.Stages.{Stage, spanned, is_entry, end_of, stage, stages, run_stages}
 use Rattle.response_laws.specs.Turns.{ticking_counter, at_entry, at_tick}

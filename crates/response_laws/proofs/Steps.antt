@@ -9,8 +9,8 @@ use Rattle.sloth_base.specs.declared.config.Action.{Action}
 use Rattle.sloth_base.specs.declared.config.AlarmDecl.{AlarmDecl}
 use Rattle.sloth_base.specs.declared.config.Config.{Config}
 use Rattle.sloth_base.specs.declared.app.App.{App}
-use Rattle.sloth_base.specs.declared.event.Event.{Event}
-use Rattle.sloth_base.specs.declared.event.Event.TheVariants as event
+use Rattle.sloth_base.specs.declared.service.Event.{Event}
+use Rattle.sloth_base.specs.declared.service.Event.TheVariants as event
 use Rattle.sloth_base.specs.Events.{admitted_line}
 use Rattle.sloth_base.specs.Owners.{counter_line}
 use Rattle.sloth_base.specs.Named.{counter_declaration}
@@ -32,7 +32,7 @@ use Rattle.osek_blocking.proofs.Ordering.{effect}
 use Rattle.run_counts.specs.Stages.{Stage, is_entry}
 use Rattle.run_counts.proofs.StepCases.{clock_behind}
 use Rattle.run_counts.proofs.TaskCases.{TaskCase, entry_case, work_case, service_case, rest_case, task_case}
-use Rattle.event_weights.specs.Events.{has_frames}
+use Rattle.sim_induction.specs.Events.{has_frames}
 use Rattle.response_laws.specs.Turns.{ticking_counter, in_turn, at_entry, at_entry_for, at_tick, at_admission, as_said, is_ready_for, is_made, activated, has_grown, was_set}
 use Rattle.response_laws.proofs.Linked.{Known}
 

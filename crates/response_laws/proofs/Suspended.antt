@@ -9,9 +9,9 @@ use Rattle.sloth_base.specs.declared.service.Service.{Service}
 use Rattle.sloth_base.specs.declared.service.Service.TheVariants as service
 use Rattle.sloth_base.specs.Named.{undeclared_task}
 use Rattle.sloth_base.specs.ServiceCodes.{is_service}
-use Rattle.osek_scheduler.specs.declared.plan.Other.{Other}
-use Rattle.osek_scheduler.specs.declared.plan.Other.TheVariants as other
-use Rattle.osek_scheduler.specs.declared.plan.Plan.{Plan}
+use Rattle.osek_scheduler.specs.declared.change.Other.{Other}
+use Rattle.osek_scheduler.specs.declared.change.Other.TheVariants as other
+use Rattle.osek_scheduler.specs.declared.change.Plan.{Plan}
 use Rattle.osek_scheduler.specs.declared.state.TaskState.{TaskState}
 use Rattle.osek_scheduler.specs.declared.state.TaskState.TheVariants as mode
 use Rattle.osek_scheduler.specs.State.{Task, System, sleeping_task, task}

@@ -4,8 +4,8 @@ use Rattle.std.specs.List.{AllByRecursion}
 use Rattle.std.proofs.lemmas.Bool.{cases_Bool, cases_eq, true≢false, false≢true}
 use Rattle.sloth_base.specs.declared.config.Config.{Config}
 use Rattle.sloth_base.specs.declared.app.App.{App}
-use Rattle.sloth_base.specs.declared.event.Event.{Event}
-use Rattle.sloth_base.specs.declared.event.Event.TheVariants as event
+use Rattle.sloth_base.specs.declared.service.Event.{Event}
+use Rattle.sloth_base.specs.declared.service.Event.TheVariants as event
 use Rattle.sloth_base.specs.Events.{admitted_line}
 use Rattle.osek_scheduler.specs.State.{System, task}
 use Rattle.osek_scheduler.specs.Apart.{IsActive, IsOver}
@@ -14,9 +14,9 @@ use Rattle.osek_scheduler.specs.Priority.{rank}
 use Rattle.osek_scheduler.proofs.Apart.{Same, at_least_static, rank_active}
 use Rattle.osek_blocking.proofs.Effects.{Ordered}
 use Rattle.osek_blocking.proofs.Ordering.{effect}
-use Rattle.event_weights.specs.Pace.{ItemSizes, AreAtMost}
+use Rattle.sim_induction.specs.Pace.{ItemSizes, AreAtMost}
 use Rattle.sim_induction.specs.Spent.{spent_behind}
-use Rattle.raised_sections.specs.Pace.{takes_line}
+use Rattle.osek_blocking.specs.Pace.{takes_line}
 use Rattle.run_counts.specs.Stages.{Stage, unseen, spanned, charged, own, end_of, turn_task, is_turn, is_entry, is_running}
 use Rattle.run_counts.specs.Rounds.{is_left, total}
 use Rattle.run_counts.specs.OwnCounts.{is_preempted, begun, IsShared, unowned}

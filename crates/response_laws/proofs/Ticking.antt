@@ -5,15 +5,15 @@ use Rattle.std.proofs.lemmas.Bool.{cases_Bool, true≢false, false≢true, eq-eq
 use Rattle.sloth_base.specs.Options.{is_number}
 use Rattle.sloth_base.specs.declared.config.Config.{Config}
 use Rattle.sloth_base.specs.declared.app.App.{App}
-use Rattle.sloth_base.specs.declared.event.Arrival.{Arrival}
-use Rattle.sloth_base.specs.declared.event.Event.{Event}
-use Rattle.sloth_base.specs.declared.event.Event.TheVariants as event
-use Rattle.sloth_base.specs.declared.event.Stamped.{Stamped}
+use Rattle.sloth_base.specs.declared.service.Arrival.{Arrival}
+use Rattle.sloth_base.specs.declared.service.Event.{Event}
+use Rattle.sloth_base.specs.declared.service.Event.TheVariants as event
+use Rattle.sloth_base.specs.declared.service.Stamped.{Stamped}
 use Rattle.sloth_base.specs.Events.{admitted_line}
 use Rattle.sloth_base.specs.Owners.{counter_line}
 use Rattle.code_rules.specs.WellFormed.{WellFormed}
 use Rattle.code_lengths.specs.LongestPaths.{tick_path}
-use Rattle.load_text.specs.declared.entry.Entry.{Entry}
+use Rattle.load_text.specs.declared.load_line.Entry.{Entry}
 use Rattle.load_text.specs.Loads.{KeepDistances, arrivals_within}
 use Rattle.osek_scheduler.specs.State.{System, counter, opening}
 use Rattle.osek_scheduler.specs.InTime.{InTime, is_admit}
@@ -27,7 +27,7 @@ use Rattle.osek_scheduler.proofs.Steps.{opening_valid}
 use Rattle.osek_scheduler.proofs.Tests.{Decides-no_ticks}
 use Rattle.osek_blocking.proofs.Effects.{Ordered}
 use Rattle.osek_blocking.proofs.Ordering.{opening_ordered, step_ordered}
-use Rattle.event_weights.specs.Pace.{ItemSizes, AreAtMost}
+use Rattle.sim_induction.specs.Pace.{ItemSizes, AreAtMost}
 use Rattle.sim_induction.specs.Spent.{SpendsOnItems}
 use Rattle.sim_induction.specs.Weighed.{AreWithinWeights}
 use Rattle.run_counts.specs.Stages.{Stage, charged, spanned, end_of, stage, stages, state_behind, run_stages}

@@ -9,8 +9,8 @@ use Rattle.sloth_base.specs.declared.config.Action.TheVariants as action
 use Rattle.sloth_base.specs.declared.config.AlarmDecl.{AlarmDecl}
 use Rattle.sloth_base.specs.declared.config.Config.{Config}
 use Rattle.sloth_base.specs.declared.app.App.{App}
-use Rattle.sloth_base.specs.declared.event.Event.{Event}
-use Rattle.sloth_base.specs.declared.event.Event.TheVariants as event
+use Rattle.sloth_base.specs.declared.service.Event.{Event}
+use Rattle.sloth_base.specs.declared.service.Event.TheVariants as event
 use Rattle.sloth_base.specs.Owners.{counter_line}
 use Rattle.sloth_base.specs.Named.{counter_declaration}
 use Rattle.osek_scheduler.specs.declared.state.TaskState.{TaskState}
@@ -27,7 +27,7 @@ use Rattle.osek_scheduler.proofs.Steps.{opening_valid}
 use Rattle.osek_blocking.proofs.Ordering.{opening_ordered}
 use Rattle.run_counts.specs.Stages.{Stage, run_stages}
 use Rattle.response_laws.specs.Sums.{total_where, count}
-use Rattle.event_weights.specs.Events.{has_frames}
+use Rattle.sim_induction.specs.Events.{has_frames}
 use Rattle.response_laws.specs.Turns.{ticking_counter, at_tick, is_ready_for, has_grown, activated, was_set}
 use Rattle.response_laws.specs.Ticks.{activates, sets_events, has_alarm, TicksMakeByAlarms}
 use Rattle.response_laws.proofs.Linked.{Known, each_append, stages_known}

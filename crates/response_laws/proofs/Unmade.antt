@@ -6,17 +6,17 @@ use Rattle.std.proofs.lemmas.List.{get_or-set_same}
 use Rattle.sloth_base.specs.declared.config.AlarmDecl.{AlarmDecl}
 use Rattle.sloth_base.specs.declared.config.Config.{Config}
 use Rattle.sloth_base.specs.declared.app.App.{App}
-use Rattle.sloth_base.specs.declared.event.Event.{Event}
-use Rattle.sloth_base.specs.declared.event.Event.TheVariants as event
+use Rattle.sloth_base.specs.declared.service.Event.{Event}
+use Rattle.sloth_base.specs.declared.service.Event.TheVariants as event
 use Rattle.sloth_base.specs.declared.service.Service.{Service}
 use Rattle.sloth_base.specs.declared.service.Service.TheVariants as service
 use Rattle.sloth_base.specs.Named.{declaration, undeclared_alarm, function, no_function, no_item, operation}
 use Rattle.sloth_base.specs.ServiceCodes.{is_service}
 use Rattle.osek_scheduler.specs.declared.change.TaskChange.{TaskChange}
 use Rattle.osek_scheduler.specs.declared.change.TaskChange.TheVariants as change
-use Rattle.osek_scheduler.specs.declared.plan.Other.{Other}
-use Rattle.osek_scheduler.specs.declared.plan.Other.TheVariants as other
-use Rattle.osek_scheduler.specs.declared.plan.Plan.{Plan}
+use Rattle.osek_scheduler.specs.declared.change.Other.{Other}
+use Rattle.osek_scheduler.specs.declared.change.Other.TheVariants as other
+use Rattle.osek_scheduler.specs.declared.change.Plan.{Plan}
 use Rattle.osek_scheduler.specs.declared.state.Alarm.{Alarm}
 use Rattle.osek_scheduler.specs.declared.state.TaskState.TheVariants as mode
 use Rattle.osek_scheduler.specs.State.{Task, System, sleeping_task, task, alarm}

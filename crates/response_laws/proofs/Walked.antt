@@ -7,8 +7,8 @@ use Rattle.sloth_base.specs.declared.config.Config.{Config}
 use Rattle.sloth_base.specs.declared.app.App.{App}
 use Rattle.sloth_base.specs.declared.app.Op.{Op}
 use Rattle.sloth_base.specs.declared.app.Op.TheVariants as op
-use Rattle.sloth_base.specs.declared.event.Event.{Event}
-use Rattle.sloth_base.specs.declared.event.Event.TheVariants as event
+use Rattle.sloth_base.specs.declared.service.Event.{Event}
+use Rattle.sloth_base.specs.declared.service.Event.TheVariants as event
 use Rattle.sloth_base.specs.declared.service.Service.TheVariants as service
 use Rattle.sloth_base.specs.ServiceCodes.{is_service}
 use Rattle.osek_scheduler.specs.State.{Frame, System, task, opening}
@@ -18,11 +18,11 @@ use Rattle.osek_scheduler.proofs.Facts.{Facts, facts}
 use Rattle.osek_scheduler.proofs.Leading.{follows_leads}
 use Rattle.osek_scheduler.proofs.Steps.{opening_valid}
 use Rattle.osek_blocking.proofs.Ordering.{opening_ordered}
-use Rattle.raised_sections.specs.Walks.{Position, first_position, IsPositionStep, IsPositionStepTo, AreConsecutive, IsWalk}
-use Rattle.raised_sections.specs.Sections.{operation_at}
-use Rattle.raised_sections.proofs.FrameEffects.{frame_effect}
-use Rattle.raised_sections.proofs.Placed.{Placed, step_placed, opening_placed}
-use Rattle.raised_sections.proofs.Reached.{IsReached, walk_on}
+use Rattle.osek_blocking.specs.Walks.{Position, first_position, IsPositionStep, IsPositionStepTo, AreConsecutive, IsWalk}
+use Rattle.osek_blocking.specs.Sections.{operation_at}
+use Rattle.osek_blocking.proofs.FrameEffects.{frame_effect}
+use Rattle.osek_blocking.proofs.Placed.{Placed, step_placed, opening_placed}
+use Rattle.osek_blocking.proofs.Reached.{IsReached, walk_on}
 use Rattle.sloth_base.specs.Named.{declaration}
 use Rattle.osek_scheduler.specs.declared.state.TaskState.TheVariants as mode
 use Rattle.osek_scheduler.specs.Meaning.{meaning}
@@ -33,13 +33,13 @@ use Rattle.std.proofs.lemmas.List.{get_or-set_same}
 use Rattle.osek_scheduler.specs.Apart.{IsActive}
 use Rattle.osek_scheduler.specs.Valid.{InState}
 use Rattle.osek_scheduler.proofs.Apart.{at_task}
-use Rattle.raised_sections.specs.Walks.{place, GoesBack, GoesOnInside, LeadsTo}
-use Rattle.raised_sections.proofs.Placed.{FrameEffect}
+use Rattle.osek_blocking.specs.Walks.{place, GoesBack, GoesOnInside, LeadsTo}
+use Rattle.osek_blocking.proofs.Placed.{FrameEffect}
 use Rattle.run_counts.specs.Stages.{Stage, end_of, is_turn, is_entry, run_stages}
 use Rattle.run_counts.specs.Rounds.{goes_on_waiting, is_left, closes_round, round_of, total}
 use Rattle.run_counts.specs.OwnCounts.{is_preempted, begun, left_begun}
-use Rattle.event_weights.specs.Pace.{ItemSizes, next_size}
-use Rattle.event_weights.specs.Events.{has_frames}
+use Rattle.sim_induction.specs.Pace.{ItemSizes, next_size}
+use Rattle.sim_induction.specs.Events.{has_frames}
 use Rattle.response_laws.specs.Turns.{at_entry, begins_first, begins_next, if_turn}
 use Rattle.walk_sums.specs.Rounds.{is_wait, OnlyLast, IsBehindWait, Anywhere}
 use Rattle.response_laws.specs.Walked.{standing, is_cut, IsLaterRound, weigh, FirstRoundsWeigh, LaterRoundsWeigh, is_executed, is_back, FitsItem, FitsBegun, RoundsFollowWalks, RoundsFollowWalksOn}
@@ -48,7 +48,7 @@ use Rattle.osek_scheduler.specs.Steps.{IsServiceStep}
 use Rattle.osek_scheduler.proofs.Steps.{asleep_at}
 use Rattle.sloth_base.proofs.Services.{same_service}
 use Rattle.sloth_base.specs.declared.service.Service.{Service}
-use Rattle.raised_sections.proofs.Frames.{Served, served_frames}
+use Rattle.osek_blocking.proofs.Frames.{Served, served_frames}
 use Rattle.response_laws.specs.Turns.{in_turn}
 use Rattle.run_counts.proofs.Awake.{stays_active, entry_active}
 use Rattle.response_laws.proofs.RoundSums.{waiting_turn}

@@ -3,8 +3,8 @@ use Rattle.std.proofs.Common.{◌≡◌, ℕ, zero, suc, ◌+◌, ◌-◌, ◌*�
 use Rattle.std.specs.List.{AllByRecursion}
 use Rattle.std.proofs.lemmas.Bool.{cases_Bool, and_parts, eqb-true, ltb-true, leb-true, cases_eq, cases_lt, lt-ltb, le-ltb, le-leb, lt-leb, eq-eqb, ne_eqb}
 use Rattle.std.proofs.lemmas.List.Sums.{sum_by-cons}
-use Rattle.sloth_base.specs.declared.event.Arrival.{Arrival}
-use Rattle.load_text.specs.declared.entry.Entry.{Entry}
+use Rattle.sloth_base.specs.declared.service.Arrival.{Arrival}
+use Rattle.load_text.specs.declared.load_line.Entry.{Entry}
 use Rattle.load_text.specs.Loads.{distance, IsBehind, KeepDistances, filling, arrivals_within}
 use Rattle.response_laws.specs.Arrivals.{is_inside, passing_inside, arrivals_inside, HasDistances, ArrivalsAreFew}
 use Rattle.response_laws.proofs.Sums.{one_more}

@@ -2,18 +2,18 @@
 use Rattle.std.specs.Prelude.{ℕ, ◌+◌, ◌<◌, ◌≤◌, ◌≡◌, ◌⊎◌, List, Bool, true, false, length, Some}
 use Rattle.sloth_base.specs.declared.config.Config.{Config}
 use Rattle.sloth_base.specs.declared.app.App.{App}
-use Rattle.sloth_base.specs.declared.event.Arrival.{Arrival}
+use Rattle.sloth_base.specs.declared.service.Arrival.{Arrival}
 use Rattle.sloth_base.specs.declared.image.Image.{Image}
 use Rattle.sloth_base.specs.Owners.{owners_in}
 use Rattle.code_rules.specs.AppRange.{IsTaskCode}
 use Rattle.code_rules.specs.WellFormed.{WellFormed}
-use Rattle.load_text.specs.declared.entry.Entry.{Entry}
+use Rattle.load_text.specs.declared.load_line.Entry.{Entry}
 use Rattle.load_text.specs.Loads.{KeepDistances, work}
 use Rattle.bound_rules.specs.declared.weights.BodyWeights.{BodyWeights}
 use Rattle.code_lengths.specs.LongestPaths.{tick_path, boot_path}
-use Rattle.event_weights.specs.Events.{enter_counts}
-use Rattle.event_weights.specs.Items.{length_of, AreLengths}
-use Rattle.event_weights.specs.Pace.{AreAtMost}
+use Rattle.sim_induction.specs.Events.{enter_counts}
+use Rattle.sim_induction.specs.Items.{length_of, AreLengths}
+use Rattle.sim_induction.specs.Pace.{AreAtMost}
 use Rattle.run_counts.specs.Counts.{AreCounts}
 use Rattle.sim_induction.specs.Paced.{AreStretchesWithin, InPace}
 use Rattle.sim_induction.specs.Sound.{AreComing, Sound, events_of}

@@ -3,9 +3,9 @@ use Rattle.std.specs.Prelude.{ℕ, ◌+◌, ◌<◌, ◌≤◌, ◌≡◌, ◌�
 use Rattle.std.specs.List.{AllByRecursion}
 use Rattle.sloth_base.specs.declared.config.Config.{Config}
 use Rattle.sloth_base.specs.declared.app.App.{App}
-use Rattle.sloth_base.specs.declared.event.Event.{Event}
-use Rattle.sloth_base.specs.declared.event.Event.TheVariants as event
-use Rattle.sloth_base.specs.declared.event.Stamped.{Stamped}
+use Rattle.sloth_base.specs.declared.service.Event.{Event}
+use Rattle.sloth_base.specs.declared.service.Event.TheVariants as event
+use Rattle.sloth_base.specs.declared.service.Stamped.{Stamped}
 use Rattle.sloth_base.specs.Events.{is_boot, served_task}
 use Rattle.sloth_base.specs.declared.service.Service.TheVariants as service
 use Rattle.sloth_base.specs.Named.{declaration}
@@ -15,7 +15,7 @@ use Rattle.osek_scheduler.specs.InTime.{is_admit}
 use Rattle.osek_scheduler.specs.Runs.{OsekRun}
 use Rattle.osek_scheduler.specs.State.{task}
 use Rattle.osek_scheduler.specs.Apart.{priority_of, static_priority}
-use Rattle.raised_sections.specs.Sections.{IsLower}
+use Rattle.osek_blocking.specs.Sections.{IsLower}
 use Rattle.run_counts.specs.Stages.{Stage, charged, run_stages}
 use Rattle.run_counts.specs.Rounds.{is_left, total}
 use Rattle.response_laws.specs.Sums.{total_where, count, is_over}

@@ -2,12 +2,12 @@
 use Rattle.std.specs.Prelude.{ℕ, ◌==◌, ◌&&◌, ◌||◌, not, List, [], ◌∷◌, Bool, true, false, cond, Option, Some, None, bit_or}
 use Rattle.sloth_base.specs.Options.{is_number}
 use Rattle.sloth_base.specs.declared.config.Config.{Config}
-use Rattle.sloth_base.specs.declared.event.Event.{Event}
-use Rattle.sloth_base.specs.declared.event.Event.TheVariants as event
+use Rattle.sloth_base.specs.declared.service.Event.{Event}
+use Rattle.sloth_base.specs.declared.service.Event.TheVariants as event
 use Rattle.sloth_base.specs.Events.{admitted_line, named_task}
 use Rattle.osek_scheduler.specs.State.{Task, task}
 use Rattle.osek_scheduler.specs.Next.{is_ready}
-use Rattle.event_weights.specs.Events.{has_frames}
+use Rattle.sim_induction.specs.Events.{has_frames}
 use Rattle.run_counts.specs.Stages.{Stage, is_turn, is_entry}
 use Rattle.run_counts.specs.Rounds.{goes_on_waiting}
 use Rattle.response_laws.specs.Sums.{is_over}

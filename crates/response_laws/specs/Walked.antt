@@ -4,18 +4,18 @@ use Rattle.std.specs.List.{AllByRecursion}
 use Rattle.sloth_base.specs.declared.config.Config.{Config}
 use Rattle.sloth_base.specs.declared.app.App.{App}
 use Rattle.sloth_base.specs.declared.app.Op.{Op}
-use Rattle.sloth_base.specs.declared.event.Event.{Event}
-use Rattle.sloth_base.specs.declared.event.Event.TheVariants as event
-use Rattle.sloth_base.specs.declared.event.Stamped.{Stamped}
+use Rattle.sloth_base.specs.declared.service.Event.{Event}
+use Rattle.sloth_base.specs.declared.service.Event.TheVariants as event
+use Rattle.sloth_base.specs.declared.service.Stamped.{Stamped}
 use Rattle.code_rules.specs.WellFormed.{WellFormed}
 use Rattle.osek_scheduler.specs.State.{Frame, task}
 use Rattle.osek_scheduler.specs.Runs.{OsekRun}
-use Rattle.raised_sections.specs.Walks.{Position, place}
-use Rattle.raised_sections.specs.Sections.{IsSection}
+use Rattle.osek_blocking.specs.Walks.{Position, place}
+use Rattle.osek_blocking.specs.Sections.{IsSection}
 use Rattle.bound_rules.specs.declared.weights.BodyWeights.{BodyWeights}
 use Rattle.walk_sums.specs.Rounds.{is_wait, IsPart, IsFirst, IsBehindWait, Anywhere}
 use Rattle.walk_sums.specs.Told.{NoneIsAbove}
-use Rattle.event_weights.specs.Pace.{ItemSizes}
+use Rattle.sim_induction.specs.Pace.{ItemSizes}
 use Rattle.run_counts.specs.Stages.{Stage, run_stages}
 use Rattle.run_counts.specs.Rounds.{is_left, round_of, total}
 use Rattle.run_counts.specs.OwnCounts.{is_preempted, begun, left_begun}

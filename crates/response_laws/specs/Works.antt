@@ -2,11 +2,11 @@
 use Rattle.std.specs.Prelude.{ℕ, ◌≤◌, ◌≡◌, List, ◌∷◌, ◌++◌, Bool, true, IfSome, Some}
 use Rattle.sloth_base.specs.declared.config.Config.{Config}
 use Rattle.sloth_base.specs.declared.app.App.{App}
-use Rattle.load_text.specs.declared.entry.Entry.{Entry}
+use Rattle.load_text.specs.declared.load_line.Entry.{Entry}
 use Rattle.load_text.specs.Loads.{work}
 use Rattle.osek_scheduler.specs.Apart.{static_priority}
-use Rattle.raised_sections.specs.Walks.{Position}
-use Rattle.raised_sections.specs.Sections.{priority_at, operation_at}
+use Rattle.osek_blocking.specs.Walks.{Position}
+use Rattle.osek_blocking.specs.Sections.{priority_at, operation_at}
 use Rattle.walk_sums.specs.Rounds.{Reaches, is_wait}
 use Rattle.run_counts.specs.Stages.{Stage, own}
 use Rattle.run_counts.specs.Rounds.{opens_round, round_of, total}

@@ -7,7 +7,7 @@ use Rattle.sloth_base.specs.declared.app.Op.{Op}
 use Rattle.sloth_base.specs.declared.app.Op.TheVariants as op
 use Rattle.sloth_base.specs.Named.{function, operation}
 use Rattle.code_rules.specs.Code.{IsItem, HasCall}
-use Rattle.bound_rules.specs.declared.bodies.Body.{Body}
+use Rattle.bound_rules.specs.declared.bound.Body.{Body}
 use Rattle.osek_scheduler.proofs.Facts.{Facts}
 use Rattle.run_windows.specs.RunWindows.{IsLeastOf}
 use Rattle.run_windows.proofs.Leasts.{same_least, Below}

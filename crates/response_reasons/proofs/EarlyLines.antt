@@ -10,12 +10,12 @@ use Rattle.sloth_base.specs.declared.app.Item.{Item}
 use Rattle.sloth_base.specs.Named.{function, item_of, no_function, no_item}
 use Rattle.sloth_base.specs.Limits.{count_limit}
 use Rattle.stack_bounds.proofs.Below.{max_below-at}
-use Rattle.raised_sections.specs.Walks.{Position, IsWalk, AreConsecutive}
-use Rattle.raised_sections.specs.Sections.{IsSection}
+use Rattle.osek_blocking.specs.Walks.{Position, IsWalk, AreConsecutive}
+use Rattle.osek_blocking.specs.Sections.{IsSection}
 use Rattle.bound_rules.specs.declared.weights.BodyWeights.{BodyWeights}
 use Rattle.run_windows.specs.RunWindows.{IsLeastOf}
-use Rattle.walk_sums.specs.declared.sum.Sum.{Sum}
-use Rattle.walk_sums.specs.declared.sum.Sum.TheVariants as sum
+use Rattle.walk_sums.specs.declared.sections.Sum.{Sum}
+use Rattle.walk_sums.specs.declared.sections.Sum.TheVariants as sum
 use Rattle.walk_sums.specs.Early.{BeginsAt, IsEarlySection, IsToldEarly}
 use Rattle.walk_sums.specs.Told.{IsToldSum, IsGreatestSum, SomeReaches}
 use Rattle.walk_sums.specs.Weights.{sum_of}

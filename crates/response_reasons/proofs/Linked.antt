@@ -10,9 +10,9 @@ use Rattle.sloth_base.specs.declared.app.Op.TheVariants as op
 use Rattle.sloth_base.specs.Named.{function, operation}
 use Rattle.sloth_base.specs.Limits.{size_limit}
 use Rattle.code_rules.specs.Code.{IsItem, IsPathStep}
-use Rattle.raised_sections.specs.Walks.{chains_itself}
-use Rattle.bound_rules.specs.declared.bodies.Body.{Body}
-use Rattle.bound_rules.specs.declared.sizes.Summary.{Summary}
+use Rattle.osek_blocking.specs.Walks.{chains_itself}
+use Rattle.bound_rules.specs.declared.bound.Body.{Body}
+use Rattle.bound_rules.specs.declared.bound.Summary.{Summary}
 use Rattle.bound_rules.specs.declared.weights.BodyWeights.{BodyWeights}
 use Rattle.bound_rules.specs.Items.{reaches_level}
 use Rattle.bound_rules.specs.Summaries.{summary_of}

@@ -6,11 +6,11 @@ use Rattle.sloth_base.specs.declared.app.Func.{Func}
 use Rattle.sloth_base.specs.declared.app.Item.{Item}
 use Rattle.sloth_base.specs.Named.{no_function, no_item}
 use Rattle.call_graph.specs.Tables.{max_below}
-use Rattle.raised_sections.specs.Walks.{Position}
-use Rattle.raised_sections.specs.Sections.{IsSection}
+use Rattle.osek_blocking.specs.Walks.{Position}
+use Rattle.osek_blocking.specs.Sections.{IsSection}
 use Rattle.bound_rules.specs.declared.weights.BodyWeights.{BodyWeights}
-use Rattle.walk_sums.specs.declared.sum.Sum.{Sum}
-use Rattle.walk_sums.specs.declared.sum.Sum.TheVariants as sum
+use Rattle.walk_sums.specs.declared.sections.Sum.{Sum}
+use Rattle.walk_sums.specs.declared.sections.Sum.TheVariants as sum
 use Rattle.walk_sums.specs.Early.{BeginsAt, IsEarlySection}
 use Rattle.walk_sums.specs.Weights.{sum_of}
 use Rattle.response_reasons.specs.declared.early.LineRange.{LineRange}

@@ -12,7 +12,7 @@ ghost use Rattle.response_reasons.specs.Calls.{HasFreeServer, HasActivator, IsSe
 
 use crate::loops::{no_lines, numbered_line};
 use bound_rules::{Body, is_marked};
-use run_windows::fronts::{lesser, may_serve, services_front};
+use run_windows::level::{lesser, may_serve, services_front};
 use run_windows::{Costs, Start, call_path};
 use sloth_base::{Func, Op, Result, Service};
 use walk_sums::{Counted, Walks, is_ending_counted, numbered_body, numbered_function};

@@ -1,8 +1,8 @@
 //! Where greatest sections begin.
 ghost use Rattle.std.specs.Prelude.{◌-◌, ◌<◌, ◌≤◌, ◌≡◌, Some, length, Decides, IfOk};
-ghost use Rattle.raised_sections.specs.Sections.{IsLower, IsSection};
+ghost use Rattle.osek_blocking.specs.Sections.{IsLower, IsSection};
 ghost use Rattle.run_windows.specs.RunWindows.{IsLeastOf};
-ghost use Rattle.walk_sums.specs.declared.sum.Sum.TheVariants as sums;
+ghost use Rattle.walk_sums.specs.declared.sections.Sum.TheVariants as sums;
 ghost use Rattle.walk_sums.specs.Told.{IsToldSum};
 ghost use Rattle.walk_sums.specs.Weights.{AreWeights};
 ghost use Rattle.response_reasons.specs.EarlySections.{last_item_line, last_line, is_reached};

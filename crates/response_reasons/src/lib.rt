@@ -13,11 +13,10 @@
 mod calls;
 mod doubled;
 mod early;
-mod lines;
 mod loops;
 pub mod reasons;
 
 pub use calls::service_line;
 pub use early::greatest_section_line;
-pub use lines::{section_line, turn_line};
+pub use loops::{section_line, turn_line};
 pub use reasons::{Reason, reason_if};

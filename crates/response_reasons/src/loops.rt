@@ -1,4 +1,4 @@
-//! Loops in bodies, function by function.
+//! Loops in bodies, function by function. The least lines of loops on walks of a task.
 ghost use Rattle.std.specs.Prelude.{◌≡◌, ◌+◌, ◌<◌, ℕ, None, Some, false, length, get_or, IfOk};
 ghost use Rattle.sloth_base.specs.Named.{item_of};
 ghost use Rattle.code_rules.specs.Code.{HasCall};
@@ -6,14 +6,14 @@ ghost use Rattle.bound_rules.specs.Summaries.{summary_of};
 ghost use Rattle.run_windows.specs.Costs.{lesser};
 ghost use Rattle.run_windows.specs.RunWindows.{IsLeastOf};
 ghost use Rattle.walk_sums.specs.Graph.{AreInside};
-ghost use Rattle.walk_sums.specs.Known.{AreSums};
+ghost use Rattle.walk_sums.specs.Known.{AreSums, IsSummed};
 ghost use Rattle.walk_sums.specs.Weights.{AreWeights};
-ghost use Rattle.response_reasons.specs.LoopCode.{IsLoopCode, IsOfAllLines, is_limited, AreLoopWays, IsLineOfLoop};
-ghost use Rattle.response_reasons.specs.LoopCode.{line_at, called_line, IsLeastLine, AreLeastLines};
+ghost use Rattle.response_reasons.specs.LoopCode.{IsLoopCode, IsOfAllLines, is_limited, AreLoopWays, IsLineOfLoop, line_at, called_line, IsLeastLine, AreLeastLines};
+ghost use Rattle.response_reasons.specs.Loops.{HasTurnLoop, HasSectionLoop};
 
 use crate::doubled::{doubled, is_on_loop};
 use bound_rules::{Body, BodyWeights, Summary, is_marked, number_at, reaches_level, weights_at};
-use run_windows::fronts::lesser;
+use run_windows::level::lesser;
 use sloth_base::{App, Config, Func, Op, Result};
 use std::alloc::Global;
 use std::marker::Model;
@@ -242,4 +242,46 @@ impl<'a> Loops<'a> {
         }
         Ok(lines)
     }
+}
+
+/// The least source line of an item of a task that lies on a loop along which something weighs, in its turns or rounds,
+/// if there is one.
+pub fn turn_line(
+    walks: &Walks<'_>,
+    weights: &[BodyWeights],
+    kind: Kind,
+    task: usize,
+) -> Result<Option<u32>>
+    requires weights { AreWeights walks.now.app weights.now }
+    requires of_all { IsOfAllLines kind }
+    requires summed { IsSummed weights.now kind None }
+    requires inside { task < length walks.now.config.tasks }
+    ensures { IfOk result (IsLeastOf (HasTurnLoop walks.now.config walks.now.app weights.now kind task)) }
+{
+    let whole = walks.whole_sums(weights, kind)?;
+    let loops = Loops::of(&*walks, &*weights, kind, &whole);
+    let lines = loops.whole_lines()?;
+    Ok(numbered_line(&lines, walks.body(task)))
+}
+
+/// The same in its raised sections for task `above`.
+pub fn section_line(
+    walks: &Walks<'_>,
+    weights: &[BodyWeights],
+    above: usize,
+    task: usize,
+) -> Result<Option<u32>>
+    requires weights { AreWeights walks.now.app weights.now }
+    requires above { above < length walks.now.config.tasks }
+    requires inside { task < length walks.now.config.tasks }
+    ensures { IfOk result (IsLeastOf (HasSectionLoop walks.now.config walks.now.app weights.now above task)) }
+{
+    let sums = walks.whole_sums(weights, Kind::Sections)?;
+    let loops = Loops::of(&*walks, &*weights, Kind::Sections, &sums);
+    let whole = loops.whole_lines()?;
+    if walks.task(task).non {
+        return Ok(numbered_line(&whole, walks.body(task)));
+    }
+    let own = loops.own_lines(walks.priority(above), &whole)?;
+    Ok(numbered_line(&own, walks.body(task)))
 }

@@ -11,10 +11,9 @@ ghost use Rattle.response_reasons.specs.Reasons.{HasRoundLoop, HasCountedLoop, H
 ghost use Rattle.response_reasons.specs.Reasons.{HasSectionMakingLoop, HasLevelLoop, IsUntoldLine};
 ghost use Rattle.response_reasons.specs.Reasons.{loop_reason, IsReasonFor, IsReasonIf};
 
-use crate::lines::{section_line, turn_line};
+use crate::loops::{section_line, turn_line};
 use bound_rules::{BodyWeights, is_marked};
-use run_windows::fronts::lesser;
-use run_windows::level::is_lower;
+use run_windows::level::{is_lower, lesser};
 use run_windows::{Costs, Untold, first_untold};
 use sloth_base::Result;
 use walk_sums::{Counted, Kind, Walks, counted_weights, item_weights};

@@ -11,8 +11,8 @@ use Rattle.sloth_base.specs.declared.service.Service.TheVariants as service
 use Rattle.sloth_base.specs.Named.{undeclared_alarm, alarm_declaration}
 use Rattle.sloth_base.specs.Owners.{owners_in}
 use Rattle.code_rules.specs.WellFormed.{WellFormed}
-use Rattle.load_text.specs.declared.entry.Entry.{Entry}
-use Rattle.load_text.specs.declared.entry.Form.TheVariants as form
+use Rattle.load_text.specs.declared.load_line.Entry.{Entry}
+use Rattle.load_text.specs.declared.load_line.Form.TheVariants as form
 use Rattle.load_text.specs.Loads.{distance, IsLoad}
 use Rattle.sim_induction.specs.Sound.{Sound, events_of}
 use Rattle.sim_induction.specs.Weighed.{Weighed}

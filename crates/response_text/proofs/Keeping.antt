@@ -7,11 +7,11 @@ use Rattle.sloth_base.specs.declared.config.TaskDecl.{TaskDecl}
 use Rattle.sloth_base.specs.declared.config.CounterDecl.{CounterDecl}
 use Rattle.sloth_base.specs.declared.app.App.{App}
 use Rattle.sloth_base.specs.DeclaredNames.{task_names, counter_names}
-use Rattle.sloth_base.specs.declared.lines.Owners.{Owners}
+use Rattle.sloth_base.specs.declared.numbers.Owners.{Owners}
 use Rattle.sloth_base.specs.Owners.{owners_in}
 use Rattle.code_rules.specs.WellFormed.{WellFormed}
-use Rattle.load_text.specs.declared.entry.Entry.{Entry}
-use Rattle.load_text.specs.declared.entry.Form.TheVariants as form
+use Rattle.load_text.specs.declared.load_line.Entry.{Entry}
+use Rattle.load_text.specs.declared.load_line.Form.TheVariants as form
 use Rattle.load_text.specs.Loads.{distance, IsLoad}
 use Rattle.trace_text.specs.ArrivalsText.{owners_read}
 use Rattle.sloth_base.specs.declared.image.Image.{Image}
@@ -32,7 +32,7 @@ use Rattle.run_responses.proofs.Sizes.{longest_is, late_is}
 use Rattle.run_responses.proofs.TickTimes.{room_for}
 use Rattle.run_responses.specs.TickWindows.{IsTickNumber}
 use Rattle.response_text.specs.Lines.{is_within_limit, keeps_arrivals, response_at}
-use Rattle.response_text.specs.declared.told.Response.{Response}
+use Rattle.response_text.specs.declared.task_text.Response.{Response}
 use Rattle.response_text.proofs.Expecting.{expiries_kept}
 use Rattle.response_text.specs.ResponseText.{ImageKeepsNumbers, ImageLosesNone, ImageKeepsTicks, ImageServesArrivals, AreResponses, RunsKeepResponses}
 

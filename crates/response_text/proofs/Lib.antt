@@ -8,7 +8,6 @@ mod Unread
 mod Numbered
 mod Inside
 mod OwnSections
-mod OneSums
 mod OneNames
 mod OneParts
 pub mod OneTaskText

@@ -2,7 +2,7 @@
 use Rattle.std.proofs.Common.{◌≡◌, ◌∙◌, ◌⊎◌, inl, inr, ℕ, ◌<◌, Bool, true, false, not, length, Option, Some, None, sym, ap, arith}
 use Rattle.std.specs.Prelude.{◌==◌}
 use Rattle.std.proofs.lemmas.Bool.{cases_eq, eq-eqb, true≢false, false≢true, and_parts}
-use Rattle.run_windows.specs.declared.longest.Longest.{Longest}
+use Rattle.run_windows.specs.declared.window.Longest.{Longest}
 use Rattle.run_windows.specs.declared.costs.Costs.{Costs}
 use Rattle.run_windows.specs.RunWindows.{run_starts, IsRunResponse}
 use Rattle.run_windows.specs.Longest.{number_of, IsFirstWindow, IsLongest}

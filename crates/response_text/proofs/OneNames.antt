@@ -6,13 +6,10 @@ use Rattle.sloth_base.specs.declared.config.Config.{Config}
 use Rattle.sloth_base.specs.declared.app.App.{App}
 use Rattle.sloth_base.specs.declared.service.Service.TheVariants as service
 use Rattle.sloth_base.specs.Named.{declaration, body_of}
-use Rattle.load_text.specs.declared.entry.Entry.{Entry}
+use Rattle.load_text.specs.declared.load_line.Entry.{Entry}
 use Rattle.load_text.specs.Loads.{work}
 use Rattle.bound_rules.specs.declared.weights.BodyWeights.{BodyWeights}
-use Rattle.walk_sums.specs.declared.tasks.RoundSums.{RoundSums}
 use Rattle.walk_sums.specs.declared.counted.Counted.TheVariants as counts
-use Rattle.walk_sums.specs.Rounds.{IsTurn, IsFirstRound, IsLaterRound}
-use Rattle.walk_sums.proofs.OneTold.{one_told}
 use Rattle.run_windows.specs.declared.costs.Costs.{Costs}
 use Rattle.run_windows.specs.declared.window.Start.{Start}
 use Rattle.run_windows.specs.declared.window.Start.TheVariants as start
@@ -21,14 +18,14 @@ use Rattle.run_windows.proofs.OneLeast.{one_least}
 use Rattle.run_costs.specs.declared.record.RunCosts.{RunCosts}
 use Rattle.run_costs.specs.Rounds.{AreRounds}
 use Rattle.run_costs.specs.Tables.{no_sums}
-use Rattle.response_text.proofs.OneSums.{same_both, same_rounds}
+use Rattle.run_costs.proofs.OneCosts.{one_rounds}
 use Rattle.bounds_text.proofs.OneLatency.{same-lengths}
 use Rattle.bounds_text.proofs.OneLowerCounts.{same-weights}
 use Rattle.response_reasons.specs.Calls.{ComesTo, HasServer, HasFreeServer, HasActivator, IsServiceLine}
-use Rattle.response_text.specs.declared.named.Name.{Name}
-use Rattle.response_text.specs.declared.named.Name.TheVariants as name
-use Rattle.response_text.specs.declared.named.Bounded.{Bounded}
-use Rattle.response_text.specs.declared.named.PartNames.{PartNames}
+use Rattle.response_text.specs.declared.part_lines.Name.{Name}
+use Rattle.response_text.specs.declared.part_lines.Name.TheVariants as name
+use Rattle.response_text.specs.declared.part_lines.Bounded.{Bounded}
+use Rattle.response_text.specs.declared.part_lines.PartNames.{PartNames}
 use Rattle.response_text.specs.PartNames.{IsEntry, IsTick, HasHeavyItem, HasLongItem, line_name, IsStretchName, is_boot, is_entry, is_tick, is_item, IsItemName, bounded_by, unbounded, AreBounded, ArePartNames}
 
 some_and_none : (Kind : ℕ → Type 0) (n : ℕ) → IsLeastOf Kind (Some n) → IsLeastOf Kind None → ⊥
@@ -62,17 +59,6 @@ module _ (config : Config) (app : App) where
       let least = subst (λ (l : List (List ℕ)). IsLeastOf (HasLongItem app l longest) a.line) lengths a.is_least in
       a.is ∙ (ap line_name (one_least (HasLongItem app b.lengths longest) a.line b.line least b.is_least) ∙ sym b.is)
 
-  one_rounds : (clean extended : Bool) (t : ℕ) (weights : List BodyWeights) (x y : RoundSums) → AreRounds app clean extended t weights x → AreRounds app clean extended t weights y → x ≡ y
-  one_rounds true true t weights x y a b = same_rounds weights (IsFirstRound app t) (IsLaterRound app t) x y a b
-  one_rounds true false t weights x y a b =
-      let first : x.first ≡ y.first =
-      ap (λ (s : RoundSums). s.first)
-      (same_rounds weights (IsFirstRound app t) (IsLaterRound app t) (record { first = x.first; later = a.0 }) (record { first = y.first; later = b.0 }) a.1 b.1) in
-      same_both x y first (a.2 ∙ (first ∙ sym b.2))
-  one_rounds false extended t weights x y a b =
-      let first = one_told (IsTurn app t) weights x.first y.first a.0 b.0 in
-      same_both x y first (a.1 ∙ (first ∙ sym b.1))
-
   one_bounded : (load : List Entry) (weights : List BodyWeights) (x y : List Bounded) → AreBounded config app load weights x → AreBounded config app load weights y → x ≡ y
   one_bounded load weights x y a b =
       ext_get_or unbounded x y (a.each.count ∙ sym b.each.count)
@@ -83,7 +69,7 @@ module _ (config : Config) (app : App) where
       let one = get_or a.sums t no_sums in
       let clean = same_from_decides (get_or a.clean t false) (get_or b.clean t false) (a.are_clean t lt) (b.are_clean t lt) in
       let there = subst (λ (v : Bool). AreRounds app v extended t weights one) clean (a.are_sums.each t lt) in
-      let sums = one_rounds (get_or b.clean t false) extended t weights one (get_or b.sums t no_sums) there (b.are_sums.each t lt) in
+      let sums = one_rounds config app load (get_or b.clean t false) extended t weights one (get_or b.sums t no_sums) there (b.are_sums.each t lt) in
       a.each.each t lt ∙ (ap (bounded_by (work load t)) sums ∙ sym (b.each.each t lt)))
 
   -- those of all windows

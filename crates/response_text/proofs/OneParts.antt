@@ -8,8 +8,8 @@ use Rattle.run_windows.specs.declared.costs.Costs.{Costs}
 use Rattle.run_windows.specs.declared.window.Made.{Made}
 use Rattle.run_windows.specs.declared.window.Start.{Start}
 use Rattle.run_windows.specs.declared.window.Start.TheVariants as start
-use Rattle.run_windows.specs.declared.longest.Longest.{Longest}
-use Rattle.run_windows.specs.declared.parts.Parts.{Parts}
+use Rattle.run_windows.specs.declared.window.Longest.{Longest}
+use Rattle.run_windows.specs.declared.responses.Parts.{Parts}
 use Rattle.run_windows.specs.Costs.{task, section, section_counts, reckoned, capped}
 use Rattle.run_windows.specs.Windows.{IsAtMost, numbers_of}
 use Rattle.run_windows.specs.RunWindows.{IsLeastOf, IsNumber, IsRunBound, start_at, start_counts, run_starts}
@@ -17,10 +17,10 @@ use Rattle.run_windows.specs.Longest.{number_of, ComesBefore, IsFirstWindow, IsL
 use Rattle.run_windows.proofs.OneLeast.{one_least}
 use Rattle.run_costs.specs.declared.record.RunCosts.{RunCosts}
 use Rattle.response_reasons.specs.EarlySections.{BeginsSection}
-use Rattle.response_text.specs.declared.named.Name.{Name}
-use Rattle.response_text.specs.declared.named.Name.TheVariants as name
-use Rattle.response_text.specs.declared.named.FrontNames.{FrontNames}
-use Rattle.response_text.specs.declared.named.PartNames.{PartNames}
+use Rattle.response_text.specs.declared.part_lines.Name.{Name}
+use Rattle.response_text.specs.declared.part_lines.Name.TheVariants as name
+use Rattle.response_text.specs.declared.part_lines.FrontNames.{FrontNames}
+use Rattle.response_text.specs.declared.part_lines.PartNames.{PartNames}
 use Rattle.response_text.specs.PartNames.{line_name, IsSectionName, IsBegunName, AreFrontNames}
 use Rattle.response_text.specs.Parts.{front_line, front_lines, section_of, start_line, begun_line, part_line, first_word, work_name, bounded_at, round_lines, tick_lines, part_lines, has_parts, IsPartText}
 use Rattle.response_text.specs.TaskText.{same_number, shows_behind, AreBothParts}

@@ -4,16 +4,16 @@ use Rattle.sloth_base.specs.declared.config.Config.{Config}
 use Rattle.sloth_base.specs.declared.app.App.{App}
 use Rattle.sloth_source.proofs.Unique.{one_meaning}
 use Rattle.sloth_source.specs.TaskNames.{task_named}
-use Rattle.load_text.specs.declared.entry.Entry.{Entry}
+use Rattle.load_text.specs.declared.load_line.Entry.{Entry}
 use Rattle.run_windows.specs.Costs.{comes}
 use Rattle.run_windows.specs.Longest.{number_of, IsLongest}
 use Rattle.run_costs.specs.declared.record.RunCosts.{RunCosts}
 use Rattle.run_costs.proofs.OneCosts.{one_record}
 use Rattle.response_reasons.specs.declared.reasons.Reason.{Reason}
 use Rattle.response_reasons.proofs.OneReason.{one_if}
-use Rattle.response_text.specs.declared.named.PartNames.{PartNames}
-use Rattle.response_text.specs.declared.told.Response.{Response}
-use Rattle.response_text.specs.declared.told.Told.{Told}
+use Rattle.response_text.specs.declared.part_lines.PartNames.{PartNames}
+use Rattle.response_text.specs.declared.task_text.Response.{Response}
+use Rattle.response_text.specs.declared.task_text.Told.{Told}
 use Rattle.response_text.specs.PartNames.{ArePartNames}
 use Rattle.response_text.specs.Reasons.{is_numberless, IsReason}
 use Rattle.response_text.specs.TaskText.{response_of, AreBothParts, task_lines, HasParts, HasPartsOf, HasLoadParts, OneTaskText}

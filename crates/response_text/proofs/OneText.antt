@@ -3,7 +3,7 @@ use Rattle.std.proofs.Common.{◌≡◌, ◌∙◌, ℕ, ◌<◌, Bool, true, fa
 use Rattle.sloth_base.specs.declared.config.Config.{Config}
 use Rattle.sloth_base.specs.declared.app.App.{App}
 use Rattle.sloth_source.proofs.Unique.{one_meaning}
-use Rattle.load_text.specs.declared.entry.Entry.{Entry}
+use Rattle.load_text.specs.declared.load_line.Entry.{Entry}
 use Rattle.run_windows.specs.declared.costs.Costs.{Costs}
 use Rattle.run_windows.specs.RunWindows.{IsRunBound}
 use Rattle.run_windows.specs.Demand.{IsDemand}
@@ -13,8 +13,8 @@ use Rattle.run_windows.proofs.OneBound.{one_demand}
 use Rattle.run_responses.proofs.TickBounds.{one_tick_number}
 use Rattle.run_costs.specs.declared.record.RunCosts.{RunCosts}
 use Rattle.run_costs.proofs.OneCosts.{one_record}
-use Rattle.response_text.specs.declared.told.Told.{Told}
-use Rattle.response_text.specs.declared.told.Response.{Response}
+use Rattle.response_text.specs.declared.task_text.Told.{Told}
+use Rattle.response_text.specs.declared.task_text.Response.{Response}
 use Rattle.response_reasons.specs.declared.reasons.Reason.{Reason}
 use Rattle.response_text.specs.Lines.{response_at, reason_at, response_lines, counter_rows, demand_line, has_open}
 use Rattle.response_text.specs.ResponseText.{IsTaskResponse, AreResponses, told_of, HasResponses, HasLoadResponses, OneText}

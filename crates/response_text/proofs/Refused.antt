@@ -5,12 +5,12 @@ use Rattle.sloth_base.specs.declared.config.Config.{Config}
 use Rattle.sloth_base.specs.declared.refusal.Part.TheVariants.{Load}
 use Rattle.sloth_base.specs.declared.refusal.Refusal.{Refusal}
 use Rattle.sloth_base.specs.DeclaredNames.{task_names, counter_names}
-use Rattle.least_fault.specs.Order.{NoFault}
+use Rattle.sloth_base.specs.Order.{NoFault}
 use Rattle.sloth_source.specs.Texts.{AreAccepted}
 use Rattle.sloth_source.proofs.Least.{one_least, of_some}
 use Rattle.sloth_source.proofs.Refusals.{one_refusal}
 use Rattle.sloth_source.proofs.Unique.{one_meaning, never_both}
-use Rattle.load_text.specs.declared.entry.Entry.{Entry}
+use Rattle.load_text.specs.declared.load_line.Entry.{Entry}
 use Rattle.load_text.specs.LoadText.{LineFault, FaultAt, LoadFault, entries_of}
 use Rattle.response_text.specs.Inputs.{IsLoadFault, IsRefusal}
 

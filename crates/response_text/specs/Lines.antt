@@ -6,10 +6,10 @@ use Rattle.sloth_base.specs.declared.config.AlarmDecl.{AlarmDecl}
 use Rattle.sloth_base.specs.declared.service.Service.TheVariants as service
 use Rattle.sloth_base.specs.Named.{declaration, counter_declaration, alarm_declaration}
 use Rattle.sloth_base.specs.Owners.{counter_line}
-use Rattle.load_text.specs.declared.entry.Entry.{Entry}
+use Rattle.load_text.specs.declared.load_line.Entry.{Entry}
 use Rattle.load_text.specs.Loads.{distance, deadline}
 use Rattle.response_laws.specs.Made.{are_called, is_activating, is_made_by_arrivals, is_made_by_one_alarm}
-use Rattle.response_text.specs.declared.told.Response.{Response}
+use Rattle.response_text.specs.declared.task_text.Response.{Response}
 use Rattle.response_reasons.specs.declared.reasons.Reason.{Reason}
 use Rattle.response_reasons.specs.declared.reasons.Reason.TheVariants as reason
 

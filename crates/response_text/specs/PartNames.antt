@@ -4,15 +4,15 @@ use Rattle.sloth_base.specs.declared.config.Config.{Config}
 use Rattle.sloth_base.specs.declared.app.App.{App}
 use Rattle.sloth_base.specs.declared.app.Func.{Func}
 use Rattle.sloth_base.specs.Named.{function, item_of}
-use Rattle.load_text.specs.declared.entry.Entry.{Entry}
+use Rattle.load_text.specs.declared.load_line.Entry.{Entry}
 use Rattle.load_text.specs.Loads.{work}
 use Rattle.code_lengths.specs.LongestPaths.{boot_path, tick_path}
-use Rattle.event_weights.specs.Events.{enter_counts}
-use Rattle.event_weights.specs.Items.{AreLengths}
+use Rattle.sim_induction.specs.Events.{enter_counts}
+use Rattle.sim_induction.specs.Items.{AreLengths}
 use Rattle.bound_rules.specs.declared.weights.BodyWeights.{BodyWeights}
 use Rattle.bound_rules.specs.Weights.{no_weights}
-use Rattle.walk_sums.specs.declared.sum.Sum.{Sum}
-use Rattle.walk_sums.specs.declared.sum.Sum.TheVariants as sum
+use Rattle.walk_sums.specs.declared.sections.Sum.{Sum}
+use Rattle.walk_sums.specs.declared.sections.Sum.TheVariants as sum
 use Rattle.walk_sums.specs.declared.tasks.RoundSums.{RoundSums}
 use Rattle.walk_sums.specs.Rounds.{IsClean}
 use Rattle.walk_sums.specs.Weights.{AreWeights}
@@ -28,11 +28,11 @@ use Rattle.run_costs.specs.CostsOf.{AreEach, IsTaskSection}
 use Rattle.run_costs.specs.Makings.{AreRoundSums}
 use Rattle.response_reasons.specs.EarlySections.{BeginsSection}
 use Rattle.response_reasons.specs.Calls.{IsServiceLine}
-use Rattle.response_text.specs.declared.named.Name.{Name}
-use Rattle.response_text.specs.declared.named.Name.TheVariants as name
-use Rattle.response_text.specs.declared.named.FrontNames.{FrontNames}
-use Rattle.response_text.specs.declared.named.Bounded.{Bounded}
-use Rattle.response_text.specs.declared.named.PartNames.{PartNames}
+use Rattle.response_text.specs.declared.part_lines.Name.{Name}
+use Rattle.response_text.specs.declared.part_lines.Name.TheVariants as name
+use Rattle.response_text.specs.declared.part_lines.FrontNames.{FrontNames}
+use Rattle.response_text.specs.declared.part_lines.Bounded.{Bounded}
+use Rattle.response_text.specs.declared.part_lines.PartNames.{PartNames}
 
 -- ---- the longest stretch
 

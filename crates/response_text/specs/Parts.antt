@@ -7,8 +7,8 @@ use Rattle.run_windows.specs.declared.costs.CounterCosts.{CounterCosts}
 use Rattle.run_windows.specs.declared.costs.Costs.{Costs}
 use Rattle.run_windows.specs.declared.window.Start.{Start}
 use Rattle.run_windows.specs.declared.window.Start.TheVariants as start
-use Rattle.run_windows.specs.declared.longest.Longest.{Longest}
-use Rattle.run_windows.specs.declared.parts.Parts.{Parts}
+use Rattle.run_windows.specs.declared.window.Longest.{Longest}
+use Rattle.run_windows.specs.declared.responses.Parts.{Parts}
 use Rattle.run_windows.specs.Arrivals.{arrivals}
 use Rattle.run_windows.specs.Costs.{task}
 use Rattle.run_windows.specs.Windows.{numbers_of, is_round}
@@ -17,11 +17,11 @@ use Rattle.run_windows.specs.Longest.{AreParts}
 use Rattle.run_costs.specs.declared.record.RunCosts.{RunCosts}
 use Rattle.response_reasons.specs.Calls.{StartsInside}
 use Rattle.response_text.specs.Lines.{number_words}
-use Rattle.response_text.specs.declared.named.Name.{Name}
-use Rattle.response_text.specs.declared.named.Name.TheVariants as name
-use Rattle.response_text.specs.declared.named.FrontNames.{FrontNames}
-use Rattle.response_text.specs.declared.named.Bounded.{Bounded}
-use Rattle.response_text.specs.declared.named.PartNames.{PartNames}
+use Rattle.response_text.specs.declared.part_lines.Name.{Name}
+use Rattle.response_text.specs.declared.part_lines.Name.TheVariants as name
+use Rattle.response_text.specs.declared.part_lines.FrontNames.{FrontNames}
+use Rattle.response_text.specs.declared.part_lines.Bounded.{Bounded}
+use Rattle.response_text.specs.declared.part_lines.PartNames.{PartNames}
 use Rattle.response_text.specs.PartNames.{unbounded, AreFrontNames}
 
 -- ---- a line

@@ -5,7 +5,7 @@ use Rattle.sloth_base.specs.declared.app.App.{App}
 use Rattle.run_windows.specs.declared.costs.Costs.{Costs}
 use Rattle.response_reasons.specs.declared.reasons.Reason.{Reason}
 use Rattle.response_reasons.specs.Reasons.{IsReasonIf}
-use Rattle.response_text.specs.declared.told.Response.{Response}
+use Rattle.response_text.specs.declared.task_text.Response.{Response}
 use Rattle.response_text.specs.Lines.{response_at, reason_at}
 
 -- the task comes, and it has no number

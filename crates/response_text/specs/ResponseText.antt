@@ -2,12 +2,12 @@
 use Rattle.std.specs.Prelude.{ℕ, ◌+◌, ◌<◌, ◌≤◌, ◌≡◌, Bool, true, false, List, ◌++◌, length, Option, Some}
 use Rattle.sloth_base.specs.declared.config.Config.{Config}
 use Rattle.sloth_base.specs.declared.app.App.{App}
-use Rattle.sloth_base.specs.declared.event.Arrival.{Arrival}
+use Rattle.sloth_base.specs.declared.service.Arrival.{Arrival}
 use Rattle.sloth_base.specs.declared.image.Image.{Image}
 use Rattle.sloth_base.specs.Named.{alarm_declaration}
 use Rattle.sloth_base.specs.Owners.{counter_line, owners_in}
 use Rattle.sloth_source.specs.Texts.{AreAccepted}
-use Rattle.load_text.specs.declared.entry.Entry.{Entry}
+use Rattle.load_text.specs.declared.load_line.Entry.{Entry}
 use Rattle.load_text.specs.Loads.{distance, KeepDistances}
 use Rattle.sim_induction.specs.Paced.{InPace}
 use Rattle.sim_induction.specs.Sound.{AreComing, Sound, events_of}
@@ -27,8 +27,8 @@ use Rattle.response_laws.specs.Ticking.{TicksWithin, ArrivalsFindUndue}
 use Rattle.run_costs.specs.declared.record.RunCosts.{RunCosts}
 use Rattle.run_costs.specs.RunRecord.{IsRunRecord}
 use Rattle.run_responses.specs.Meeting.{AreCutTasks}
-use Rattle.response_text.specs.declared.told.Told.{Told}
-use Rattle.response_text.specs.declared.told.Response.{Response}
+use Rattle.response_text.specs.declared.task_text.Told.{Told}
+use Rattle.response_text.specs.declared.task_text.Response.{Response}
 use Rattle.response_reasons.specs.declared.reasons.Reason.{Reason}
 use Rattle.response_text.specs.Inputs.{IsLoadOf}
 use Rattle.response_text.specs.Lines.{keeps_arrivals, keeps_expiries, response_at, response_lines, counter_rows, demand_line, has_open}

@@ -14,20 +14,15 @@
 //! `response_laws`.
 #![tactic(auto)]
 
-pub mod inputs;
 pub mod laws;
 pub mod lines;
 mod lossless;
 mod made;
-pub mod named;
-mod part_lines;
+pub mod part_lines;
 mod part_names;
 mod parts;
-mod reasons;
-mod task_text;
-mod text;
-pub mod told;
+pub mod task_text;
+pub mod text;
 
-pub use task_text::response_parts;
+pub use task_text::{Told, response_parts};
 pub use text::{response_text, responses};
-pub use told::Told;

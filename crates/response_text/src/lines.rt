@@ -1,12 +1,12 @@
 //! The lines of responses.
-ghost use Rattle.std.specs.Prelude.{◌≡◌, ◌<◌, ◌≤◌, ◌++◌, length, codes, decimal, OnOk, IfOk};
+ghost use Rattle.std.specs.Prelude.{◌≡◌, ◌<◌, ◌≤◌, ◌++◌, length, decimal, OnOk, IfOk};
 ghost use Rattle.sloth_base.specs.ConfigRange.{InRange};
 ghost use Rattle.load_text.specs.Loads.{deadline};
-ghost use Rattle.response_text.specs.Lines.{number_words, is_never, made_words, response_words, is_met, is_met_behind, verdict_word, deadline_words, is_open, loop_words, reason_words, reason_at, lossless_words, task_words, response_at, response_line, response_lines, tick_words, counter_words, counter_row, counter_rows, demand_line, has_open};
+ghost use Rattle.response_text.specs.Lines.{number_words, is_never, made_words, response_words, is_met, is_met_behind, verdict_word, deadline_words, is_open, loop_words, reason_words, reason_at, lossless_words, response_at, response_line, response_lines, tick_words, counter_row, counter_rows, demand_line, has_open};
 
 use crate::lossless::{is_lossless, is_within, is_within_limit};
 use crate::part_lines::task_name;
-use crate::told::Response;
+use crate::task_text::Response;
 use itoa::Buffer;
 use load_text::{Entry, deadline_of, distance_of};
 use response_reasons::Reason;
@@ -59,21 +59,13 @@ pub fn push_made(text: &mut Vec<u8>, number: Option<u32>) -> Result<()>
     Ok(())
 }
 
-// A number behind boot.
-fn push_behind(text: &mut Vec<u8>, number: Option<u32>) -> Result<()>
-    ensures { OnOk result (text.new.items ≡ text.old.items ++ (codes " behind" ++ made_words number)) }
-{
-    text.extend_from_slice(b" behind")?;
-    push_made(text, number)?;
-    Ok(())
-}
-
 fn push_response(text: &mut Vec<u8>, response: Response) -> Result<()>
     ensures { OnOk result (text.new.items ≡ text.old.items ++ response_words response) }
 {
     if response.comes {
         push_number(text, response.anywhere)?;
-        push_behind(text, response.behind)?;
+        text.extend_from_slice(b" behind")?;
+        push_made(text, response.behind)?;
     } else {
         text.extend_from_slice(b" never")?;
     }
@@ -176,27 +168,6 @@ fn push_lossless(text: &mut Vec<u8>, kept: bool) -> Result<()>
     Ok(())
 }
 
-// What stands behind the name of a task.
-fn push_words(
-    text: &mut Vec<u8>,
-    config: &Config,
-    app: &App,
-    load: &[Entry],
-    task: u32,
-    told: (Response, Option<Reason>),
-) -> Result<()>
-    requires in_range { InRange config.now }
-    requires there { task < length config.now.tasks }
-    ensures { OnOk result (text.new.items ≡ text.old.items ++ task_words config.now app.now load.now task told.0 told.1) }
-{
-    let (response, reason) = told;
-    push_response(text, response)?;
-    push_deadline(text, response, deadline_of(load, task as u8))?;
-    let kept = is_lossless(config, app, load, task, response.anywhere);
-    push_lossless(text, kept)?;
-    push_reason(text, config, reason)
-}
-
 /// The response of a task; none behind the last one.
 pub fn response_at(responses: &[Response], task: u32) -> Response
     ensures { result ≡ response_at responses.now task }
@@ -226,7 +197,12 @@ pub fn push_line(
     ensures { OnOk result (text.new.items ≡ text.old.items ++ response_line config.now app.now load.now task told.0 told.1) }
 {
     text.extend_from_slice(config.tasks.items()[task as usize].name.bytes())?;
-    push_words(text, config, app, load, task, told)?;
+    let (response, reason) = told;
+    push_response(text, response)?;
+    push_deadline(text, response, deadline_of(load, task as u8))?;
+    let kept = is_lossless(config, app, load, task, response.anywhere);
+    push_lossless(text, kept)?;
+    push_reason(text, config, reason)?;
     text.extend_from_slice(b"\n")?;
     Ok(())
 }
@@ -277,15 +253,6 @@ fn push_tick_words(text: &mut Vec<u8>, distance: Option<u32>, tick: Option<u32>)
     }
 }
 
-// What stands behind the name of a counter.
-fn push_counter_words(text: &mut Vec<u8>, distance: Option<u32>, tick: Option<u32>) -> Result<()>
-    ensures { OnOk result (text.new.items ≡ text.old.items ++ counter_words distance tick) }
-{
-    push_tick_words(text, distance, tick)?;
-    push_lossless(text, is_within_limit(tick, distance))?;
-    Ok(())
-}
-
 // The line of a counter.
 #[tactic(auto, unfolding(crate::specs::Lines::counter_row))]
 fn push_counter_row(
@@ -302,7 +269,8 @@ fn push_counter_row(
     let distance = distance_of(load, FIRST_COUNTER_LINE + counter as u8);
     text.extend_from_slice(b"tick ")?;
     text.extend_from_slice(config.counters.items()[counter as usize].name.bytes())?;
-    push_counter_words(text, distance, tick)?;
+    push_tick_words(text, distance, tick)?;
+    push_lossless(text, is_within_limit(tick, distance))?;
     text.extend_from_slice(b"\n")?;
     Ok(())
 }
@@ -333,14 +301,6 @@ pub fn push_demand(text: &mut Vec<u8>, demand: Option<u32>) -> Result<()>
     Ok(())
 }
 
-// Whether the deadline of a task is open.
-fn is_open_at(load: &[Entry], responses: &[Response], task: u32) -> bool
-    requires { task < 256 }
-    ensures { result ≡ is_open (response_at responses.now task) (deadline load.now task) }
-{
-    is_open(response_at(responses, task), deadline_of(load, task as u8))
-}
-
 /// Whether that of one of the first tasks is, so many of them.
 pub fn has_open(load: &[Entry], responses: &[Response], count: u32) -> bool
     requires { count ≤ 256 }
@@ -348,7 +308,7 @@ pub fn has_open(load: &[Entry], responses: &[Response], count: u32) -> bool
 {
     let mut found = false;
     for task in 0..count {
-        found = found || is_open_at(load, responses, task);
+        found = found || is_open(response_at(responses, task), deadline_of(load, task as u8));
     }
     found
 }

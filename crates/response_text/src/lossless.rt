@@ -3,7 +3,7 @@ ghost use Rattle.std.specs.Prelude.{◌≡◌, ◌*◌, ◌<◌, length, IfSome}
 ghost use Rattle.sloth_base.specs.ConfigRange.{InRange};
 ghost use Rattle.sloth_base.specs.Limits.{counter_limit};
 ghost use Rattle.load_text.specs.Loads.{distance};
-ghost use Rattle.response_text.specs.Lines.{is_within, is_within_limit, keeps_arrivals, is_within_cycle, is_spaced, has_spaced, keeps_expiries, is_lossless};
+ghost use Rattle.response_text.specs.Lines.{is_within, is_within_limit, is_within_cycle, is_spaced, has_spaced, keeps_expiries, is_lossless};
 
 use crate::made::{activating_alarm, is_made_by_arrivals, is_made_by_one_alarm, is_set};
 use load_text::{Entry, distance_of};
@@ -27,21 +27,6 @@ pub fn is_within_limit(number: Option<u32>, limit: Option<u32>) -> bool
         Some(limit) => is_within(number, limit),
         None => false,
     }
-}
-
-// Whether each arrival finds a task Suspended: nothing else makes it Ready, and it responds within their distance.
-fn keeps_arrivals(
-    config: &Config,
-    app: &App,
-    load: &[Entry],
-    task: u32,
-    number: Option<u32>,
-) -> bool
-    requires in_range { InRange config.now }
-    requires there { task < length config.now.tasks }
-    ensures { result ≡ keeps_arrivals config.now app.now load.now task number }
-{
-    is_made_by_arrivals(config, app, task) && is_within_limit(number, distance_of(load, task as u8))
 }
 
 // Whether it is at most so many times so much.
@@ -130,6 +115,6 @@ pub fn is_lossless(
     requires there { task < length config.now.tasks }
     ensures { result ≡ is_lossless config.now app.now load.now task number }
 {
-    keeps_arrivals(config, app, load, task, number)
+    is_made_by_arrivals(config, app, task) && is_within_limit(number, distance_of(load, task as u8))
         || keeps_expiries(config, app, load, task, number)
 }

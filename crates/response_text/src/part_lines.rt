@@ -1,11 +1,11 @@
-//! Lines of parts.
+//! Lines of parts. What the parts of response times are.
 ghost use Rattle.std.specs.Prelude.{◌≡◌, ◌++◌, OnOk};
 ghost use Rattle.sloth_base.specs.Named.{declaration, counter_declaration};
 ghost use Rattle.response_text.specs.Lines.{number_words};
 ghost use Rattle.response_text.specs.Parts.{name_words, last_words, some_line, part_line};
 
-use crate::named::Name;
-use sloth_base::{Config, Result};
+use bound_rules::BodyWeights;
+use sloth_base::{Config, List, Result};
 use text_pieces::line;
 use text_pieces::pieces::Piece::{Number, Sum, Word};
 
@@ -116,4 +116,50 @@ pub fn counter_name(config: &Config, counter: usize) -> &[u8]
         Some(counter) => counter.name.bytes(),
         None => b"",
     }
+}
+
+/// What a part is.
+#[derive(Clone, Copy)]
+pub enum Name {
+    Boot,
+    /// An entry of this task.
+    Entry(usize),
+    /// A tick of this counter.
+    Tick(usize),
+    /// An item of this source line.
+    Line(u32),
+    /// The work that the load says.
+    Work,
+    Nothing,
+}
+
+/// What the parts in front of a window are.
+#[derive(Clone, Copy)]
+pub struct FrontNames {
+    pub stretch: Name,
+    pub service: Name,
+    pub item: Name,
+    pub section: Name,
+}
+
+/// Whether what the load says of a task's work bounds its rounds.
+#[derive(Clone, Copy)]
+pub struct Bounded {
+    /// Those that begin with the first item.
+    pub first: bool,
+    /// Those that begin behind a WaitEvent.
+    pub next: bool,
+}
+
+/// What the parts of all windows are.
+#[derive(Drop)]
+pub struct PartNames {
+    /// The longest stretch.
+    pub stretch: Name,
+    /// The longest item.
+    pub item: Name,
+    /// By task.
+    pub bounded: List<Bounded>,
+    /// The counts of items.
+    pub weights: List<BodyWeights>,
 }

@@ -12,17 +12,17 @@ ghost use Rattle.response_text.specs.PartNames.{IsStretchName, line_name, is_bou
 ghost use Rattle.response_text.specs.PartNames.{ArePartNames, AreOwnSections, IsSectionName, IsBegunName};
 ghost use Rattle.response_text.specs.PartNames.{AreFrontNames};
 
-use crate::named::{Bounded, FrontNames, Name, PartNames};
+use crate::part_lines::{Bounded, FrontNames, Name, PartNames};
 use bound_rules::{BodyWeights, number_at, weights_at};
 use bounds_text::stretches::enter_counts;
 use code_lengths::{boot_path, tick_path};
-use event_weights::{ItemLengths, lengths};
 use load_text::{Entry, work_of};
 use response_reasons::{greatest_section_line, service_line};
 use run_costs::{RunCosts, round_sums};
 use run_counts::weights_by;
-use run_windows::fronts::{lesser, section, section_counts};
+use run_windows::level::{lesser, section, section_counts};
 use run_windows::{Costs, Start};
+use sim_induction::{ItemLengths, lengths};
 use sloth_base::{App, Config, Func, List, Result};
 use text_pieces::push;
 use walk_sums::{RoundSums, Sum, Walks, numbered_function};

@@ -4,20 +4,19 @@ ghost use Rattle.run_windows.specs.Settling.{TakeCounts};
 ghost use Rattle.walk_sums.specs.Weights.{AreWeights};
 ghost use Rattle.response_reasons.specs.Calls.{StartsInside};
 ghost use Rattle.response_text.specs.PartNames.{AreOwnSections};
-ghost use Rattle.response_text.specs.Parts.{front_line, work_name, bounded_at, start_word, start_name, start_line};
-ghost use Rattle.response_text.specs.Parts.{section_of, front_lines, first_word, begun_line, round_line, round_lines};
+ghost use Rattle.response_text.specs.Parts.{front_line, work_name, bounded_at, start_word, start_name};
+ghost use Rattle.response_text.specs.Parts.{section_of, front_lines, begun_line, round_line, round_lines};
 ghost use Rattle.response_text.specs.Parts.{counter_costs, tick_line, tick_lines, part_lines, has_parts, IsNumbered};
 ghost use Rattle.response_text.specs.Parts.{BeginsInside, IsPartText};
 
-use crate::named::{Bounded, FrontNames, Name, PartNames};
 use crate::part_lines::{
-    counter_name, push_last, push_named, push_part, push_some, task_name, wide,
+    Bounded, FrontNames, Name, PartNames, counter_name, push_last, push_named, push_part,
+    push_some, task_name, wide,
 };
 use crate::part_names::front_names;
 use run_costs::RunCosts;
-use run_windows::arrivals::arrivals;
 use run_windows::level::is_round;
-use run_windows::rounds::number_of;
+use run_windows::rounds::{arrivals, number_of};
 use run_windows::{Costs, CounterCosts, Longest, Parts, Start, task, window_parts};
 use sloth_base::{Config, Result};
 use walk_sums::Walks;
@@ -46,14 +45,6 @@ fn start_name(config: &Config, start: Start) -> &[u8]
         Start::Section(raised) => task_name(config, raised),
         Start::Round(begun) => task_name(config, begun),
     }
-}
-
-fn push_start(text: &mut Vec<u8>, config: &Config, start: Start) -> Result<()>
-    ensures { OnOk result (text.new.items ≡ text.old.items ++ start_line config.now start) }
-{
-    push_named(text, b"start", start_word(start))?;
-    push_named(text, start_name(config, start), b"\n")?;
-    Ok(())
 }
 
 // So many counts in front of all; no line of none.
@@ -118,12 +109,6 @@ fn push_fronts(
     Ok(())
 }
 
-fn first_word(cut: bool) -> &'static [u8]
-    ensures { result.now ≡ first_word cut }
-{
-    if cut { b" first" } else { b"" }
-}
-
 fn work_name(bounded: bool) -> Name
     ensures { result ≡ work_name bounded }
 {
@@ -186,7 +171,7 @@ fn push_round(
     let name = task_name(config, t);
     let made = number_of(parts.numbers.items(), t);
     let costs = task(costs, t);
-    let word = first_word(costs.is_cut);
+    let word: &[u8] = if costs.is_cut { b" first" } else { b"" };
     let (first, next) = (work_name(bounded.first), work_name(bounded.next));
     push_part(
         text,
@@ -286,7 +271,8 @@ fn push_parts(
     ensures { OnOk result (text.new.items ≡ text.old.items ++
         part_lines config.now costs.now works.now start parts.now fronts) }
 {
-    push_start(text, config, start)?;
+    push_named(text, b"start", start_word(start))?;
+    push_named(text, start_name(config, start), b"\n")?;
     push_fronts(text, config, start, parts, fronts)?;
     push_rounds(text, config, costs, works, start, parts)?;
     push_ticks(text, config, costs, parts.counts)?;

@@ -1,7 +1,7 @@
-//! The lines of one task's response, from the texts.
+//! The lines of one task's response, from the texts. What is told.
 ghost use Rattle.std.specs.Prelude.{◌≡◌, ◌<◌, true, false, length, IfOk, IfErr};
 ghost use Rattle.sloth_base.specs.ConfigRange.{InRange};
-ghost use Rattle.least_fault.specs.Order.{ErrorIs};
+ghost use Rattle.sloth_base.specs.Order.{ErrorIs};
 ghost use Rattle.call_graph.specs.Ranks.{RanksOf};
 ghost use Rattle.load_text.specs.LoadText.{LoadFault};
 ghost use Rattle.sloth_base.specs.DeclaredNames.{task_names, counter_names};
@@ -12,24 +12,19 @@ ghost use Rattle.walk_sums.specs.Weights.{AreWeights};
 ghost use Rattle.response_text.specs.Inputs.{InputsErrorIs};
 ghost use Rattle.sloth_source.specs.TaskNames.{task_named};
 ghost use Rattle.response_text.specs.PartNames.{AreOwnSections};
-ghost use Rattle.response_text.specs.TaskText.{same_number, shows_behind, AreBothParts, task_lines, HasParts};
-ghost use Rattle.response_text.specs.TaskText.{HasPartsOf, HasLoadParts, IsTaskText};
+ghost use Rattle.response_text.specs.TaskText.{same_number, shows_behind, AreBothParts, task_lines, HasParts, HasPartsOf, HasLoadParts, IsTaskText};
 
-use crate::Told;
-use crate::inputs::load_of;
 use crate::lines::{is_open, push_line};
-use crate::named::PartNames;
+use crate::part_lines::PartNames;
 use crate::part_names::part_names;
 use crate::parts::{has_parts, part_text};
-use crate::reasons::reason;
-use crate::text::response_of;
-use crate::told::Response;
+use crate::text::{load_of, reason, response_of};
 use call_graph::Ranks;
 use load_text::{Entry, deadline_of};
 use response_reasons::Reason;
 use run_costs::{RunCosts, run_costs};
 use run_windows::level::comes;
-use run_windows::longest::number_of;
+use run_windows::window::number_of;
 use run_windows::{Longest, longest_window};
 use sloth_base::{App, BuildError, Config, List, Result};
 use sloth_source::{read_checked, task_named};
@@ -215,4 +210,21 @@ pub fn response_parts(
 {
     let checked = read_checked(alloc, oil, src)?;
     text_for(alloc, &checked.verified, &checked.ranks, load, name)
+}
+
+/// The lines, and whether a deadline among them is open.
+#[derive(Drop)]
+pub struct Told {
+    pub text: List<u8>,
+    pub is_open: bool,
+}
+
+/// Within how many counts of what makes it Ready a task leaves: 0 where nothing does, none where there is no number.
+#[derive(Clone, Copy)]
+pub struct Response {
+    /// Something may make it Ready.
+    pub comes: bool,
+    pub anywhere: Option<u32>,
+    /// The same, where what makes it is behind boot.
+    pub behind: Option<u32>,
 }

@@ -1,32 +1,33 @@
-//! The lines of responses, from the texts.
-ghost use Rattle.std.specs.Prelude.{◌≡◌, ◌<◌, length, IfOk, IfErr};
+//! The lines of responses, from the texts. The load of a text. The reasons of tasks that have no number.
+ghost use Rattle.std.specs.Prelude.{◌≡◌, ◌<◌, length, IfOk, IfErr, ℕ, false, get_or, Decides};
 ghost use Rattle.sloth_base.specs.ConfigRange.{InRange};
 ghost use Rattle.sloth_base.specs.DeclaredNames.{task_names, counter_names};
 ghost use Rattle.sloth_base.specs.Owners.{owners_in};
-ghost use Rattle.least_fault.specs.Order.{ErrorIs};
+ghost use Rattle.sloth_base.specs.Order.{ErrorIs};
 ghost use Rattle.call_graph.specs.Ranks.{RanksOf};
 ghost use Rattle.load_text.specs.LoadText.{LoadFault};
 ghost use Rattle.load_text.specs.Loads.{IsLoad};
 ghost use Rattle.run_windows.specs.Settling.{TakeCounts};
-ghost use Rattle.response_text.specs.Inputs.{InputsErrorIs};
+ghost use Rattle.response_text.specs.Inputs.{InputsErrorIs, IsLoadOf};
 ghost use Rattle.run_costs.specs.RunRecord.{IsRunRecord};
 ghost use Rattle.response_text.specs.TaskText.{response_of};
 ghost use Rattle.response_text.specs.ResponseText.{IsTaskResponse, AreResponses, told_of, HasResponses, HasLoadResponses, IsResponseText};
+ghost use Rattle.trace_text.specs.ArrivalsText.{owners_read};
+ghost use Rattle.walk_sums.specs.Rounds.{IsClean};
+ghost use Rattle.response_text.specs.Reasons.{is_numberless, IsReason, AreReasons};
 
 use crate::Told;
-use crate::inputs::load_of;
-use crate::lines::{has_open, push_counter_rows, push_demand, response_lines};
-use crate::reasons::reasons;
-use crate::told::Response;
+use crate::lines::{has_open, push_counter_rows, push_demand, response_at, response_lines};
+use crate::task_text::Response;
 use call_graph::Ranks;
-use load_text::Entry;
-use response_reasons::Reason;
+use load_text::{Entry, read_load};
+use response_reasons::{Reason, reason_if};
 use run_costs::{RunCosts, run_costs};
 use run_responses::tick_number;
 use run_windows::level::comes;
-use run_windows::longest::number_of;
+use run_windows::window::number_of;
 use run_windows::{Costs, Longest, demand, longest_window};
-use sloth_base::{App, BuildError, Config, List, Result};
+use sloth_base::{App, BuildError, Config, List, Result, counter_names, task_names};
 use sloth_source::read_checked;
 use std::alloc::Global;
 use task_verify::Verified;
@@ -173,4 +174,62 @@ pub fn response_text(alloc: Global, oil: &[u8], src: &[u8], load: &[u8]) -> Resu
 {
     let checked = read_checked(alloc, oil, src)?;
     text_for(alloc, &checked.verified, &checked.ranks, load)
+}
+
+/// The load that a text of at most 4,294,967,294 bytes is for a configuration, or its least fault (L1 to L4).
+pub fn load_of(alloc: Global, config: &Config, text: &[u8]) -> Result<Vec<Entry>, BuildError>
+    requires { length text.now < 4294967295 }
+    ensures load { IfOk result (λ load. IsLoadOf config.now text.now load.items) }
+    ensures in_range { IfOk result (λ load. IsLoad (owners_read (task_names config.now) (counter_names config.now)) load.items) }
+    ensures refused { IfErr result (λ error. ErrorIs (LoadFault (task_names config.now) (counter_names config.now) text.now) error) }
+{
+    let tasks = task_names(alloc, config)?;
+    let counters = counter_names(alloc, config)?;
+    read_load(alloc, text, tasks.items(), counters.items())
+}
+
+fn is_numberless(response: Response) -> bool
+    ensures { result ≡ is_numberless response }
+{
+    match response.anywhere {
+        Some(_) => false,
+        None => response.comes,
+    }
+}
+
+/// Why a task has no number, where it has none.
+pub fn reason(
+    walks: &Walks<'_>,
+    clean: &[bool],
+    costs: &Costs,
+    h: usize,
+    response: Response,
+) -> Result<Option<Reason>>
+    requires count { length costs.now.tasks ≡ length walks.now.config.tasks }
+    requires small { length walks.now.config.tasks < 4294967296 }
+    requires above { h < length walks.now.config.tasks }
+    requires clean { (t : ℕ) → t < length walks.now.config.tasks → Decides (get_or clean.now t false) (IsClean walks.now.app t) }
+    ensures { IfOk result (IsReason walks.now.config walks.now.app costs.now h response) }
+{
+    reason_if(walks, clean, costs, h, is_numberless(response))
+}
+
+/// The reasons of all tasks.
+pub fn reasons(
+    walks: &Walks<'_>,
+    costs: &Costs,
+    responses: &[Response],
+) -> Result<Vec<Option<Reason>>>
+    requires count { length costs.now.tasks ≡ length walks.now.config.tasks }
+    requires small { length walks.now.config.tasks < 4294967296 }
+    ensures { IfOk result (λ reasons. AreReasons walks.now.config walks.now.app costs.now responses.now (length walks.now.config.tasks) reasons.items) }
+{
+    let clean = walks.clean_tasks()?;
+    let mut reasons = Vec::new(walks.alloc());
+    for task in 0..walks.tasks() {
+        let response = response_at(responses, task as u32);
+        let reason = reason(walks, &clean, costs, task, response)?;
+        push(&mut reasons, reason)?;
+    }
+    Ok(reasons)
 }

@@ -6,7 +6,7 @@ use Rattle.std.proofs.lemmas.List.{get_or-set_other}
 use Rattle.std.proofs.lemmas.List.Sums.{sum_by-set}
 use Rattle.sloth_base.specs.declared.config.Config.{Config}
 use Rattle.sloth_base.specs.declared.app.App.{App}
-use Rattle.load_text.specs.declared.entry.Entry.{Entry}
+use Rattle.load_text.specs.declared.load_line.Entry.{Entry}
 use Rattle.osek_scheduler.proofs.Facts.{Facts}
 use Rattle.sloth_base.specs.declared.service.Service.TheVariants as service
 use Rattle.walk_sums.specs.declared.counted.Counted.{Counted}
@@ -35,19 +35,6 @@ some_decided config app w marks tops c are b some none = (
   λ (k, lt, mark, reached).
       none k lt (both_true (marked marks k) (ltb 0 (get_or tops k 0)) mark ((reaches_decided config app w k lt c (get_or tops k 0) (are.each k lt)).1 reached)),
 )
-
--- ---- no marks
-
--- one place more without a mark
-pub none_more : (marks : List Bool) → ((t : ℕ) → marked marks t ≡ false) → (t : ℕ) → marked (marks ++ false ∷ []) t ≡ false
-none_more [] none zero = refl
-none_more [] none (suc t) = refl
-none_more (m ∷ marks) none zero = none zero
-none_more (m ∷ marks) none (suc t) = none_more marks (λ i. none (suc i)) t
-
-pub none_longer : (marks : List Bool) → length (marks ++ false ∷ []) ≡ length marks + 1
-none_longer [] = omega arith
-none_longer (m ∷ marks) = let rest = none_longer marks in omega (arith, rest)
 
 -- ---- more marks
 

@@ -10,9 +10,9 @@ use Rattle.sloth_base.specs.Named.{body_of}
 use Rattle.code_rules.specs.WellFormed.{held_list_before}
 use Rattle.osek_scheduler.specs.Priority.{greatest, ceiling}
 use Rattle.osek_scheduler.proofs.Facts.{Facts}
-use Rattle.raised_sections.specs.Walks.{Position, place, IsWalk}
-use Rattle.raised_sections.specs.Sections.{held_list_along, operation_at}
-use Rattle.raised_sections.proofs.Reached.{IsReached, reached_next, reached_first}
+use Rattle.osek_blocking.specs.Walks.{Position, place, IsWalk}
+use Rattle.osek_blocking.specs.Sections.{held_list_along, operation_at}
+use Rattle.osek_blocking.proofs.Reached.{IsReached, reached_next, reached_first}
 use Rattle.walk_sums.specs.Activations.{ceiling_before, ReachesItem, reaches_first, reaches_inside, reaches_behind}
 use Rattle.walk_sums.proofs.Callers.{AreCallers, Walked, walked_to}
 use Rattle.walk_sums.specs.declared.counted.Counted.{Counted}

@@ -9,7 +9,7 @@ use Rattle.walk_sums.specs.declared.counted.Counted.TheVariants as counts
 use Rattle.walk_sums.specs.declared.tasks.RoundSums.{RoundSums}
 use Rattle.walk_sums.specs.Rounds.{IsClean, IsSteady}
 use Rattle.run_windows.specs.declared.costs.Makings.{Makings}
-use Rattle.run_costs.specs.declared.makings.MakingSums.{MakingSums}
+use Rattle.run_costs.specs.declared.rounds.MakingSums.{MakingSums}
 use Rattle.run_costs.specs.CostsOf.{AreMade}
 use Rattle.run_costs.specs.Makings.{AreMakingSums}
 use Rattle.run_costs.specs.RunRecord.{run_making}
@@ -38,8 +38,8 @@ module _ (config : Config) (app : App) (clean steady : List Bool) (sums : Making
 
   activations_are : AreMakingSums config app clean j sums → (once b : Bool)
       → AreMade config app (get_or clean k false) k (cond b (counts.Chains j) (counts.Activations j)) once (made once (Acts b).first) (made once (Acts b).later)
-  activations_are are once true = (get_or sums.chains k no_sums, are.chains.each k maker, refl, refl)
-  activations_are are once false = (get_or sums.activations k no_sums, are.activations.each k maker, refl, refl)
+  activations_are are once true = (get_or sums.chains k no_sums, are.chains k maker, refl, refl)
+  activations_are are once false = (get_or sums.activations k no_sums, are.activations k maker, refl, refl)
 
   makings_are : AreMakingSums config app clean j sums → ((t : ℕ) → t < length config.tasks → Decides (get_or clean t false) (IsClean app t))
       → ((t : ℕ) → t < length config.tasks → Decides (get_or steady t false) (IsSteady config app t))
@@ -50,7 +50,7 @@ module _ (config : Config) (app : App) (clean steady : List Bool) (sums : Making
     once = Once;
     is_once = once_decided (static_priority config j) (static_priority config k) (IsSteady config app k) (get_or steady k false) (steadies k maker);
     activations = activations_are are Once (k == j);
-    settings = (get_or sums.settings k no_sums, are.settings.each k maker, refl, refl);
+    settings = (get_or sums.settings k no_sums, are.settings k maker, refl, refl);
   }
 
   pub making_is : AreMakingSums config app clean j sums → ((t : ℕ) → t < length config.tasks → Decides (get_or clean t false) (IsClean app t))

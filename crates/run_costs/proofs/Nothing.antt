@@ -10,13 +10,13 @@ use Rattle.sloth_base.specs.declared.app.Item.{Item}
 use Rattle.sloth_base.specs.declared.app.Op.{Op}
 use Rattle.sloth_base.specs.Named.{no_function, no_item, item_of}
 use Rattle.osek_scheduler.specs.Apart.{static_priority}
-use Rattle.raised_sections.specs.Walks.{Position, AreConsecutive, IsWalk}
-use Rattle.raised_sections.specs.Sections.{IsSection, operation_at, priority_at}
+use Rattle.osek_blocking.specs.Walks.{Position, AreConsecutive, IsWalk}
+use Rattle.osek_blocking.specs.Sections.{IsSection, operation_at, priority_at}
 use Rattle.bound_rules.specs.Weights.{no_weights}
 use Rattle.walk_sums.specs.Weights.{sum_of, ending_at, going_at}
 use Rattle.walk_sums.specs.declared.counted.Counted.{Counted}
 use Rattle.walk_sums.specs.declared.counted.Counted.TheVariants as counts
-use Rattle.walk_sums.specs.declared.sum.Sum.TheVariants as sum
+use Rattle.walk_sums.specs.declared.sections.Sum.TheVariants as sum
 use Rattle.walk_sums.specs.Rounds.{IsPart, Reaches}
 use Rattle.walk_sums.specs.Counted.{one_if, is_going_counted, is_ending_counted, body_counts, counted_weights}
 use Rattle.walk_sums.specs.Clears.{ReachesCounted}

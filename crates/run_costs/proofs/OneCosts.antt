@@ -7,12 +7,12 @@ use Rattle.sloth_base.specs.declared.config.Config.{Config}
 use Rattle.sloth_base.specs.declared.app.App.{App}
 use Rattle.sloth_base.specs.declared.service.Service.{Service}
 use Rattle.sloth_base.specs.Named.{declaration}
-use Rattle.load_text.specs.declared.entry.Entry.{Entry}
+use Rattle.load_text.specs.declared.load_line.Entry.{Entry}
 use Rattle.load_text.specs.Loads.{work}
 use Rattle.osek_scheduler.specs.Apart.{static_priority}
-use Rattle.raised_sections.specs.Sections.{IsSection, IsLower}
+use Rattle.osek_blocking.specs.Sections.{IsSection, IsLower}
 use Rattle.bound_rules.specs.declared.weights.BodyWeights.{BodyWeights}
-use Rattle.walk_sums.specs.declared.sum.Sum.{Sum}
+use Rattle.walk_sums.specs.declared.sections.Sum.{Sum}
 use Rattle.walk_sums.specs.declared.tasks.RoundSums.{RoundSums}
 use Rattle.walk_sums.specs.declared.counted.Counted.{Counted}
 use Rattle.walk_sums.specs.Rounds.{IsTurn, IsFirstRound, IsLaterRound}
@@ -78,7 +78,7 @@ module _ (config : Config) (app : App) (load : List Entry) where
 
   -- ---- rounds
 
-  one_rounds : (clean extended : Bool) (t : ℕ) (weights : List BodyWeights) (x y : RoundSums) → AreRounds app clean extended t weights x → AreRounds app clean extended t weights y → x ≡ y
+  pub one_rounds : (clean extended : Bool) (t : ℕ) (weights : List BodyWeights) (x y : RoundSums) → AreRounds app clean extended t weights x → AreRounds app clean extended t weights y → x ≡ y
   one_rounds true true t weights x y a b = same_rounds weights (IsFirstRound app t) (IsLaterRound app t) x y a b
   one_rounds true false t weights x y a b =
       let first : x.first ≡ y.first =

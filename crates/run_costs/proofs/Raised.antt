@@ -9,8 +9,8 @@ use Rattle.sloth_base.specs.Named.{body_of, declaration}
 use Rattle.osek_scheduler.specs.Priority.{greatest, highest_priority}
 use Rattle.osek_scheduler.specs.Apart.{static_priority}
 use Rattle.osek_scheduler.proofs.Facts.{Facts}
-use Rattle.raised_sections.specs.Walks.{Position}
-use Rattle.raised_sections.specs.Sections.{priority_at, IsLower}
+use Rattle.osek_blocking.specs.Walks.{Position}
+use Rattle.osek_blocking.specs.Sections.{priority_at, IsLower}
 use Rattle.walk_sums.specs.declared.counted.Counted.{Counted}
 use Rattle.run_costs.specs.Sections.{DoesRaised}
 use Rattle.run_costs.specs.SectionSums.{does}

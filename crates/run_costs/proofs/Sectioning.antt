@@ -7,20 +7,20 @@ use Rattle.sloth_base.specs.declared.app.App.{App}
 use Rattle.sloth_base.specs.Named.{operation}
 use Rattle.sloth_base.specs.Limits.{count_limit}
 use Rattle.osek_scheduler.proofs.Facts.{Facts}
-use Rattle.raised_sections.specs.Walks.{Position}
+use Rattle.osek_blocking.specs.Walks.{Position}
 use Rattle.bound_rules.specs.declared.weights.BodyWeights.{BodyWeights}
 use Rattle.bound_rules.specs.Weights.{ending_weight}
 use Rattle.walk_sums.specs.Weights.{sum_of, ending_at}
 use Rattle.walk_sums.proofs.Reached.{reached_inside}
 use Rattle.code_rules.specs.Code.{IsItem}
 use Rattle.sloth_base.specs.declared.app.Op.{Op}
-use Rattle.walk_sums.specs.declared.sum.Sum.{Sum}
-use Rattle.walk_sums.specs.declared.sum.Sum.TheVariants as sum
+use Rattle.walk_sums.specs.declared.sections.Sum.{Sum}
+use Rattle.walk_sums.specs.declared.sections.Sum.TheVariants as sum
 use Rattle.walk_sums.specs.Rounds.{Reaches}
 use Rattle.walk_sums.specs.Told.{IsToldSum, SomeReaches}
 use Rattle.walk_sums.specs.Sections.{IsSumFor}
 use Rattle.code_rules.specs.WellFormed.{WellFormed}
-use Rattle.raised_sections.specs.Sections.{IsSection}
+use Rattle.osek_blocking.specs.Sections.{IsSection}
 use Rattle.walk_sums.proofs.Bodily.{facts_of}
 use Rattle.run_windows.specs.declared.costs.SectionCosts.{SectionCosts}
 use Rattle.run_windows.specs.Costs.{no_section}

@@ -10,7 +10,7 @@ use Rattle.sloth_base.specs.Named.{function, operation}
 use Rattle.code_rules.specs.Code.{IsItem, HasCall, is_in}
 use Rattle.osek_scheduler.proofs.Facts.{Facts}
 use Rattle.stack_bounds.proofs.Below.{max_below-at, max_below-some}
-use Rattle.bound_rules.specs.declared.bodies.Body.{Body}
+use Rattle.bound_rules.specs.declared.bound.Body.{Body}
 use Rattle.walk_sums.specs.CallOrder.{IsCallOrder}
 use Rattle.walk_sums.specs.KnownBodies.{IsKnownBody}
 use Rattle.walk_sums.specs.Activations.{ReachesItem, ReachesCall, ceiling_before}

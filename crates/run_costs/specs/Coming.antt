@@ -5,13 +5,13 @@ use Rattle.sloth_base.specs.declared.app.App.{App}
 use Rattle.sloth_base.specs.declared.service.Service.TheVariants as service
 use Rattle.sloth_base.specs.Named.{declaration, alarm_declaration}
 use Rattle.sloth_base.specs.Owners.{counter_line}
-use Rattle.load_text.specs.declared.entry.Entry.{Entry}
+use Rattle.load_text.specs.declared.load_line.Entry.{Entry}
 use Rattle.load_text.specs.Loads.{distance}
 use Rattle.walk_sums.specs.declared.counted.Counted.{Counted}
 use Rattle.walk_sums.specs.declared.counted.Counted.TheVariants as counts
 use Rattle.walk_sums.specs.Clears.{ReachesCounted}
 use Rattle.run_costs.specs.declared.closure.SettingTops.{SettingTops}
-use Rattle.run_costs.specs.CostsOf.{task_of, sets_events}
+use Rattle.run_costs.specs.CostsOf.{AreEach, task_of, sets_events}
 use Rattle.run_costs.specs.Tops.{AreTaskTops}
 
 -- ---- what makes a task come
@@ -74,6 +74,10 @@ no_setting = record { relative = []; absolute = [] }
 pub record AreSettingTops (config : Config) (app : App) (a : ℕ) (tops : SettingTops) : Type 0 where
   pub relative : AreTaskTops config app (counts.CallsFor service.SetRelAlarm a) tops.relative
   pub absolute : AreTaskTops config app (counts.CallsFor service.SetAbsAlarm a) tops.absolute
+
+-- those of all alarms
+abbrev pub AreAllSettingTops : Config → App → List SettingTops → Type 0
+AreAllSettingTops config app all = AreEach (length config.alarms) no_setting (AreSettingTops config app) all
 
 -- a task that something makes, where these come, is one of them
 abbrev pub IsSettled : Config → App → List Entry → List Bool → (t : ℕ) → Type 0

@@ -8,9 +8,9 @@ use Rattle.sloth_base.specs.declared.service.Service.{Service}
 use Rattle.sloth_base.specs.declared.service.Service.TheVariants as service
 use Rattle.sloth_base.specs.Named.{declaration, alarm_declaration, operation}
 use Rattle.load_text.specs.Loads.{distance}
-use Rattle.raised_sections.specs.Sections.{IsSection, IsLower}
+use Rattle.osek_blocking.specs.Sections.{IsSection, IsLower}
 use Rattle.bound_rules.specs.declared.weights.BodyWeights.{BodyWeights}
-use Rattle.walk_sums.specs.declared.sum.Sum.{Sum}
+use Rattle.walk_sums.specs.declared.sections.Sum.{Sum}
 use Rattle.walk_sums.specs.declared.tasks.RoundSums.{RoundSums}
 use Rattle.walk_sums.specs.declared.counted.Counted.{Counted}
 use Rattle.walk_sums.specs.declared.counted.Counted.TheVariants as counts

@@ -1,15 +1,18 @@
 -- How the record of costs that runs keep is put together.
-use Rattle.std.specs.Prelude.{ℕ, ◌≡◌, ◌&&◌, not, max, cond, Bool, false, List, length, Option, Some}
+use Rattle.std.specs.Prelude.{ℕ, ◌<◌, ◌≡◌, ◌&&◌, not, max, cond, Bool, true, false, List, length, get_or, Option, Some}
 use Rattle.sloth_base.specs.declared.config.Config.{Config}
 use Rattle.sloth_base.specs.declared.app.App.{App}
-use Rattle.load_text.specs.declared.entry.Entry.{Entry}
+use Rattle.load_text.specs.declared.load_line.Entry.{Entry}
 use Rattle.code_lengths.specs.LongestPaths.{boot_path}
-use Rattle.event_weights.specs.Items.{AreLengths}
-use Rattle.raised_sections.specs.Sections.{IsLower}
+use Rattle.sim_induction.specs.Items.{AreLengths}
+use Rattle.osek_blocking.specs.Sections.{IsLower, IsSection}
 use Rattle.bound_rules.specs.declared.weights.BodyWeights.{BodyWeights}
-use Rattle.walk_sums.specs.declared.sum.Sum.{Sum}
+use Rattle.walk_sums.specs.declared.sections.Sum.{Sum}
 use Rattle.walk_sums.specs.declared.tasks.RoundSums.{RoundSums}
 use Rattle.walk_sums.specs.declared.counted.Counted.{Counted}
+use Rattle.walk_sums.specs.Counted.{counted_weights}
+use Rattle.walk_sums.specs.Sections.{no_sum}
+use Rattle.walk_sums.specs.Told.{IsToldSum}
 use Rattle.bounds_text.specs.Stretches.{running_counts}
 use Rattle.bounds_text.specs.Latency.{heaviest_ending, longest_item}
 use Rattle.run_windows.specs.declared.costs.Makings.{Makings}
@@ -55,6 +58,11 @@ run_making once a s = record {
 -- sections of task k for h are asked how often they make j Ready, by their top
 abbrev pub is_asked : Config → (h j k top : ℕ) → Bool
 is_asked config h j k top = not (is_lower config h j) && (is_lower config h k && does config h k top)
+
+-- the sums of those that are asked, of what counts
+abbrev pub AreSummed : Config → App → Counted → (h j : ℕ) → (tops : List ℕ) → List Sum → Type 0
+AreSummed config app c h j tops sums =
+    (k : ℕ) → k < length config.tasks → is_asked config h j k (get_or tops k 0) ≡ true → IsToldSum (IsSection config app h k) (counted_weights c app) (get_or sums k no_sum)
 
 -- one makes j Ready once at most, if it is by activations
 abbrev pub is_limited : Config → (activates : Bool) → (h j k : ℕ) → Bool

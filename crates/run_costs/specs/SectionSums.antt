@@ -1,15 +1,10 @@
 -- How the makings of sections are found.
-use Rattle.std.specs.Prelude.{ℕ, ◌<◌, ◌≡◌, ◌==◌, ◌||◌, not, nat_lt, cond, Bool, true, false, List, length, get_or}
+use Rattle.std.specs.Prelude.{ℕ, ◌==◌, ◌||◌, not, nat_lt, cond, Bool, true, false}
 use Rattle.sloth_base.specs.declared.config.Config.{Config}
-use Rattle.sloth_base.specs.declared.app.App.{App}
 use Rattle.sloth_base.specs.Named.{declaration}
 use Rattle.osek_scheduler.specs.Apart.{static_priority}
-use Rattle.bound_rules.specs.declared.weights.BodyWeights.{BodyWeights}
-use Rattle.raised_sections.specs.Sections.{IsSection}
-use Rattle.walk_sums.specs.declared.sum.Sum.{Sum}
-use Rattle.walk_sums.specs.declared.sum.Sum.TheVariants as sum
-use Rattle.walk_sums.specs.Sections.{no_sum}
-use Rattle.walk_sums.specs.Told.{IsToldSum}
+use Rattle.walk_sums.specs.declared.sections.Sum.{Sum}
+use Rattle.walk_sums.specs.declared.sections.Sum.TheVariants as sum
 
 -- the sum tells that there are sections
 abbrev pub has_some : Sum → Bool
@@ -31,8 +26,3 @@ is_once config h j k = (declaration config k).non || (h == j)
 -- a section of a lower task does what counts, by its top
 abbrev pub does : Config → (h k top : ℕ) → Bool
 does config h k top = cond (declaration config k).non (nat_lt 0 top) (nat_lt (static_priority config h) top)
-
--- the sums of the sections for h of the tasks that are asked for
-abbrev pub AreSummed : Config → App → List BodyWeights → (h : ℕ) → (asked : List Bool) → List Sum → Type 0
-AreSummed config app weights h asked sums =
-    (k : ℕ) → k < length config.tasks → get_or asked k false ≡ true → IsToldSum (IsSection config app h k) weights (get_or sums k no_sum)

@@ -7,8 +7,8 @@ use Rattle.code_rules.specs.Code.{IsItem}
 use Rattle.bound_rules.specs.declared.weights.BodyWeights.{BodyWeights}
 use Rattle.bound_rules.specs.Weights.{ending_weight}
 use Rattle.osek_scheduler.specs.Apart.{static_priority}
-use Rattle.raised_sections.specs.Walks.{Position}
-use Rattle.raised_sections.specs.Sections.{priority_at, operation_at}
+use Rattle.osek_blocking.specs.Walks.{Position}
+use Rattle.osek_blocking.specs.Sections.{priority_at, operation_at}
 use Rattle.walk_sums.specs.declared.counted.Counted.{Counted}
 use Rattle.walk_sums.specs.Rounds.{Reaches}
 use Rattle.walk_sums.specs.Counted.{is_ending_counted}

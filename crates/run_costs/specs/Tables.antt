@@ -2,13 +2,13 @@
 use Rattle.std.specs.Prelude.{ℕ, ◌<◌, ◌≡◌, cond, false, Bool, List, length, get_or, None}
 use Rattle.sloth_base.specs.declared.config.Config.{Config}
 use Rattle.sloth_base.specs.declared.app.App.{App}
+use Rattle.bound_rules.specs.declared.bound.Summary.{Summary}
 use Rattle.bound_rules.specs.declared.weights.BodyWeights.{BodyWeights}
 use Rattle.walk_sums.specs.declared.kinds.Kind.TheVariants as kinds
-use Rattle.walk_sums.specs.declared.sum.Sum.{Sum}
-use Rattle.walk_sums.specs.declared.sum.Sum.TheVariants as sum
+use Rattle.walk_sums.specs.declared.sections.Sum.{Sum}
+use Rattle.walk_sums.specs.declared.sections.Sum.TheVariants as sum
 use Rattle.walk_sums.specs.declared.tasks.RoundSums.{RoundSums}
 use Rattle.walk_sums.specs.Known.{AreSums}
-use Rattle.run_costs.specs.declared.rounds.RoundTables.{RoundTables}
 
 -- rounds in which nothing counts
 abbrev pub no_sums : RoundSums
@@ -22,7 +22,6 @@ both s = record { first = s; later = s }
 abbrev pub rounds_by : (extended : Bool) → RoundSums → RoundSums
 rounds_by extended sums = cond extended sums (both sums.first)
 
--- those of rounds, and those of turns where some task is not clean
-pub record AreRoundTables (config : Config) (app : App) (weights : List BodyWeights) (clean : List Bool) (tables : RoundTables) : Type 0 where
-  pub rounds : AreSums config app weights kinds.Rounds None tables.rounds
-  pub turns : (t : ℕ) → t < length config.tasks → get_or clean t false ≡ false → AreSums config app weights kinds.Turns None tables.turns
+-- the summaries of turns, where some task is not clean
+abbrev pub AreTurns : Config → App → List BodyWeights → (clean : List Bool) → List Summary → Type 0
+AreTurns config app weights clean turns = (t : ℕ) → t < length config.tasks → get_or clean t false ≡ false → AreSums config app weights kinds.Turns None turns

@@ -7,7 +7,7 @@ use Rattle.sloth_base.specs.declared.app.Op.{Op}
 use Rattle.sloth_base.specs.declared.app.Op.TheVariants as op
 use Rattle.sloth_base.specs.Named.{operation, item_of, body_of}
 use Rattle.call_graph.specs.Tables.{max_below}
-use Rattle.bound_rules.specs.declared.bodies.Body.{Body}
+use Rattle.bound_rules.specs.declared.bound.Body.{Body}
 use Rattle.walk_sums.specs.Activations.{ReachesItem, ReachesCall, ceiling_before}
 use Rattle.walk_sums.specs.declared.counted.Counted.{Counted}
 use Rattle.walk_sums.specs.Counted.{is_ending_counted}

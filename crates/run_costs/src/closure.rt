@@ -1,24 +1,21 @@
 //! Which tasks come: from none up, each that something makes with those so far, until there is no more.
-ghost use Rattle.std.specs.Prelude.{◌≡◌, ◌<◌, ◌≤◌, ◌&&◌, ℕ, true, false, ltb, is_some, length, get_or, Decides, IfOk};
+ghost use Rattle.std.specs.Prelude.{◌≡◌, ◌<◌, ◌≤◌, ◌&&◌, true, false, ltb, is_some, length, get_or, Decides, IfOk};
 ghost use Rattle.sloth_base.specs.Limits.{counter_limit};
 ghost use Rattle.sloth_base.specs.Owners.{counter_line};
 ghost use Rattle.load_text.specs.Loads.{distance};
-ghost use Rattle.code_rules.specs.WellFormed.{WellFormed};
-ghost use Rattle.run_costs.specs.CostsOf.{AreEach};
 ghost use Rattle.run_costs.specs.Services.{AreAllNamingTops};
 ghost use Rattle.run_costs.specs.Tops.{AreTaskTops};
-ghost use Rattle.run_costs.specs.Coming.{SomeReaches, SomeSets, IsUsed, MayActivate, SomeExpires, IsMade, marked};
-ghost use Rattle.run_costs.specs.Coming.{AreInAll, AreComing, no_setting, AreSettingTops, IsSettled, unmarked};
-ghost use Rattle.run_costs.specs.Coming.{HasMarked};
+ghost use Rattle.run_costs.specs.Coming.{SomeReaches, IsUsed, MayActivate, SomeExpires, IsMade, marked, AreInAll};
+ghost use Rattle.run_costs.specs.Coming.{AreComing, no_setting, AreSettingTops, AreAllSettingTops, IsSettled};
+ghost use Rattle.run_costs.specs.Coming.{unmarked, HasMarked};
 
-use crate::objects::{action_task, sets_events};
-use crate::services::{NamingTops, numbered_tops};
-use crate::tops::{numbered_top, task_tops};
+use crate::services::{NamingTops, numbered_top, numbered_tops, task_tops};
+use crate::tasks::{action_task, sets_events};
 use bound_rules::is_marked;
 use load_text::{Entry, distance_of};
 use sloth_base::{Config, FIRST_COUNTER_LINE, List, Result, Service};
-use std::alloc::Global;
 use text_pieces::push;
+use walk_sums::graph::no_marks;
 use walk_sums::{Counted, Walks};
 
 /// Which tasks set an alarm: the tops of each of them.
@@ -42,8 +39,7 @@ fn setting_tops(walks: &Walks, alarm: u32) -> Result<SettingTops>
 }
 
 fn all_setting_tops(walks: &Walks) -> Result<Vec<SettingTops>>
-    ensures { IfOk result (λ all.
-        AreEach (length walks.now.config.alarms) no_setting (AreSettingTops walks.now.config walks.now.app) all.items) }
+    ensures { IfOk result (λ all. AreAllSettingTops walks.now.config walks.now.app all.items) }
 {
     let config = walks.config();
     let mut all = Vec::new(walks.alloc());
@@ -61,12 +57,10 @@ fn comes_and_reaches(marks: &[bool], tops: &[u64], task: usize) -> bool
     is_marked(marks, task) && 0 < numbered_top(tops, task)
 }
 
-// Whether one of these tasks does.
-fn some_reaches(walks: &Walks, marks: &[bool], tops: &[u64]) -> bool
-    ensures some { result ≡ true → (k : ℕ) × (k < length walks.now.config.tasks)
-        × ((marked marks.now k && ltb 0 (get_or tops.now k 0)) ≡ true) }
-    ensures none { (k : ℕ) → k < length walks.now.config.tasks
-        → (marked marks.now k && ltb 0 (get_or tops.now k 0)) ≡ true → result ≡ true }
+// Whether a task that comes reaches what counts.
+fn is_reached(walks: &Walks, marks: &[bool], tops: &[u64], counted: Counted) -> bool
+    requires { AreTaskTops walks.now.config walks.now.app counted tops.now }
+    ensures { Decides result (SomeReaches walks.now.config walks.now.app (marked marks.now) counted) }
 {
     for task in 0..walks.tasks() {
         if comes_and_reaches(marks, tops, task) {
@@ -74,27 +68,6 @@ fn some_reaches(walks: &Walks, marks: &[bool], tops: &[u64]) -> bool
         }
     }
     false
-}
-
-// Whether a task that comes reaches what counts.
-fn is_reached(walks: &Walks, marks: &[bool], tops: &[u64], counted: Counted) -> bool
-    requires well_formed { WellFormed walks.now.config walks.now.app }
-    requires tops { AreTaskTops walks.now.config walks.now.app counted tops.now }
-    ensures { Decides result (SomeReaches walks.now.config walks.now.app (marked marks.now) counted) }
-{
-    some_reaches(walks, marks, tops)
-}
-
-fn is_set(walks: &Walks, marks: &[bool], tops: &SettingTops, alarm: usize) -> bool
-    requires well_formed { WellFormed walks.now.config walks.now.app }
-    requires inside { alarm < length walks.now.config.alarms }
-    requires tops { AreSettingTops walks.now.config walks.now.app alarm tops.now }
-    ensures { Decides result (SomeSets walks.now.config walks.now.app (marked marks.now) alarm) }
-{
-    let relative = Counted::CallsFor(Service::SetRelAlarm, alarm as u32);
-    let absolute = Counted::CallsFor(Service::SetAbsAlarm, alarm as u32);
-    is_reached(walks, marks, tops.relative.items(), relative)
-        || is_reached(walks, marks, tops.absolute.items(), absolute)
 }
 
 fn numbered_setting(all: &[SettingTops], alarm: usize) -> &SettingTops
@@ -105,13 +78,17 @@ fn numbered_setting(all: &[SettingTops], alarm: usize) -> &SettingTops
 }
 
 fn is_used(walks: &Walks, marks: &[bool], settings: &[SettingTops], alarm: usize) -> bool
-    requires settings { AreEach (length walks.now.config.alarms) no_setting
-        (AreSettingTops walks.now.config walks.now.app) settings.now }
+    requires settings { AreAllSettingTops walks.now.config walks.now.app settings.now }
     requires inside { alarm < length walks.now.config.alarms }
     ensures { Decides result (IsUsed walks.now.config walks.now.app (marked marks.now) alarm) }
 {
-    0 < walks.config().alarms.items()[alarm].time
-        || is_set(walks, marks, numbered_setting(settings, alarm), alarm)
+    let declared = &walks.config().alarms.items()[alarm];
+    let tops = numbered_setting(settings, alarm);
+    let relative = Counted::CallsFor(Service::SetRelAlarm, alarm as u32);
+    let absolute = Counted::CallsFor(Service::SetAbsAlarm, alarm as u32);
+    0 < declared.time
+        || (is_reached(walks, marks, tops.relative.items(), relative)
+            || is_reached(walks, marks, tops.absolute.items(), absolute))
 }
 
 // Whether a counter arrives.
@@ -142,8 +119,7 @@ fn expires(
     alarm: usize,
     named: usize,
 ) -> bool
-    requires settings { AreEach (length walks.now.config.alarms) no_setting
-        (AreSettingTops walks.now.config walks.now.app) settings.now }
+    requires settings { AreAllSettingTops walks.now.config walks.now.app settings.now }
     requires inside { alarm < length walks.now.config.alarms }
     ensures { Decides result (MayActivate walks.now.config load.now alarm named
         × IsUsed walks.now.config walks.now.app (marked marks.now) alarm) }
@@ -158,8 +134,7 @@ fn some_expires(
     settings: &[SettingTops],
     named: usize,
 ) -> bool
-    requires settings { AreEach (length walks.now.config.alarms) no_setting
-        (AreSettingTops walks.now.config walks.now.app) settings.now }
+    requires settings { AreAllSettingTops walks.now.config walks.now.app settings.now }
     ensures { Decides result (SomeExpires walks.now.config walks.now.app load.now (marked marks.now) named) }
 {
     let config = walks.config();
@@ -181,8 +156,7 @@ fn is_made(
     task: usize,
 ) -> bool
     requires naming { AreAllNamingTops walks.now.config walks.now.app naming.now }
-    requires settings { AreEach (length walks.now.config.alarms) no_setting
-        (AreSettingTops walks.now.config walks.now.app) settings.now }
+    requires settings { AreAllSettingTops walks.now.config walks.now.app settings.now }
     requires inside { task < length walks.now.config.tasks }
     ensures { Decides result (IsMade walks.now.config walks.now.app load.now (marked marks.now) task) }
 {
@@ -193,27 +167,7 @@ fn is_made(
                 || some_expires(walks, load, marks, settings, task)))
 }
 
-// The same, where it is not marked.
-fn is_new(
-    walks: &Walks,
-    load: &[Entry],
-    naming: &[NamingTops],
-    settings: &[SettingTops],
-    marks: &[bool],
-    task: usize,
-) -> bool
-    requires naming { AreAllNamingTops walks.now.config walks.now.app naming.now }
-    requires settings { AreEach (length walks.now.config.alarms) no_setting
-        (AreSettingTops walks.now.config walks.now.app) settings.now }
-    requires inside { task < length walks.now.config.tasks }
-    ensures new { result ≡ true → (marked marks.now task ≡ false)
-        × IsMade walks.now.config walks.now.app load.now (marked marks.now) task }
-    ensures settled { result ≡ false → IsSettled walks.now.config walks.now.app load.now marks.now task }
-{
-    !is_marked(marks, task) && is_made(walks, load, naming, settings, marks, task)
-}
-
-// Marks the task, if it is new.
+// Marks the task, if something makes it and it is not marked.
 fn mark(
     walks: &Walks,
     load: &[Entry],
@@ -223,8 +177,7 @@ fn mark(
     task: usize,
 ) -> bool
     requires naming { AreAllNamingTops walks.now.config walks.now.app naming.now }
-    requires settings { AreEach (length walks.now.config.alarms) no_setting
-        (AreSettingTops walks.now.config walks.now.app) settings.now }
+    requires settings { AreAllSettingTops walks.now.config walks.now.app settings.now }
     requires inside { task < length walks.now.config.tasks }
     requires count { length marks.old ≡ length walks.now.config.tasks }
     requires within { AreInAll walks.now.config walks.now.app load.now marks.old }
@@ -234,7 +187,7 @@ fn mark(
     ensures same { result ≡ false → (marks.new ≡ marks.old)
         × IsSettled walks.now.config walks.now.app load.now marks.old task }
 {
-    if !is_new(walks, load, naming, settings, marks, task) {
+    if is_marked(marks, task) || !is_made(walks, load, naming, settings, marks, task) {
         return false;
     }
     marks[task] = true;
@@ -249,8 +202,7 @@ fn pass(
     marks: &mut [bool],
 ) -> bool
     requires naming { AreAllNamingTops walks.now.config walks.now.app naming.now }
-    requires settings { AreEach (length walks.now.config.alarms) no_setting
-        (AreSettingTops walks.now.config walks.now.app) settings.now }
+    requires settings { AreAllSettingTops walks.now.config walks.now.app settings.now }
     requires count { length marks.old ≡ length walks.now.config.tasks }
     requires within { AreInAll walks.now.config walks.now.app load.now marks.old }
     ensures count { length marks.new ≡ length walks.now.config.tasks }
@@ -267,17 +219,6 @@ fn pass(
     grown
 }
 
-fn none_marked(alloc: Global, count: usize) -> Result<Vec<bool>>
-    ensures count { IfOk result (λ marks. length marks.items ≡ count) }
-    ensures none { IfOk result (λ marks. (t : ℕ) → marked marks.items t ≡ false) }
-{
-    let mut marks = Vec::new(alloc);
-    for _task in 0..count {
-        push(&mut marks, false)?;
-    }
-    Ok(marks)
-}
-
 fn settled_marks(
     walks: &Walks,
     load: &[Entry],
@@ -285,11 +226,10 @@ fn settled_marks(
     settings: &[SettingTops],
 ) -> Result<Vec<bool>>
     requires naming { AreAllNamingTops walks.now.config walks.now.app naming.now }
-    requires settings { AreEach (length walks.now.config.alarms) no_setting
-        (AreSettingTops walks.now.config walks.now.app) settings.now }
+    requires settings { AreAllSettingTops walks.now.config walks.now.app settings.now }
     ensures { IfOk result (λ marks. AreComing walks.now.config walks.now.app load.now marks.items) }
 {
-    let mut marks = none_marked(walks.alloc(), walks.tasks())?;
+    let mut marks = no_marks(walks.alloc(), walks.tasks())?;
     loop {
         if !pass(walks, load, naming, settings, &mut marks) {
             return Ok(marks);

@@ -9,16 +9,11 @@
 #![tactic(auto)]
 
 mod closure;
-mod levels;
-mod makings;
-mod objects;
 pub mod record;
 mod rounds;
-mod section_makings;
 mod sections;
 mod services;
 mod tasks;
-mod tops;
 
 pub use record::{RunCosts, run_costs};
 pub use rounds::round_sums;

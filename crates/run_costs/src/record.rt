@@ -1,50 +1,39 @@
 //! The whole record.
-ghost use Rattle.std.specs.Prelude.{◌≡◌, ◌<◌, ℕ, false, length, get_or, Decides, IfOk};
+ghost use Rattle.std.specs.Prelude.{◌≡◌, length, IfOk};
 ghost use Rattle.code_rules.specs.WellFormed.{WellFormed};
 ghost use Rattle.call_graph.specs.Ranks.{RanksOf};
 ghost use Rattle.run_counts.specs.Counts.{AreCounts};
-ghost use Rattle.walk_sums.specs.Rounds.{IsClean};
 ghost use Rattle.walk_sums.specs.Weights.{AreWeights};
 ghost use Rattle.run_windows.specs.Costs.{no_task};
 ghost use Rattle.run_costs.specs.CostsOf.{AreEach};
 ghost use Rattle.run_costs.specs.Services.{AreAllNamingTops};
+ghost use Rattle.run_costs.specs.Makings.{AreCleanMarks};
 ghost use Rattle.run_costs.specs.RunCosts.{AreRunTaskCosts, AreRunCosts};
 ghost use Rattle.run_costs.specs.RunRecord.{late_of, IsRunRecord};
 
 use crate::closure::coming;
-use crate::levels::levels;
-use crate::makings::makings;
-use crate::objects::{alarms, counters};
+use crate::rounds::makings;
+use crate::sections::levels;
 use crate::services::{NamingTops, all_naming_tops, service_tops, services};
-use crate::tasks::tasks;
+use crate::tasks::{alarms, counters, tasks};
 use bound_rules::BodyWeights;
 use bounds_text::{heaviest_ending, longest_item, running_counts};
 use call_graph::Ranks;
 use code_lengths::boot_path;
-use event_weights::lengths;
 use load_text::Entry;
 use run_counts::count_weights;
 use run_windows::{Costs, TaskCosts};
+use sim_induction::lengths;
 use sloth_base::{App, Config, List, Result};
 use std::alloc::Global;
 use walk_sums::{Walks, known_code};
 
 /// Costs that runs keep, where no item has more instructions than `longest`, and no stretch more counts than `late`.
+#[derive(Drop)]
 pub struct RunCosts {
     pub costs: Costs,
     pub longest: u32,
     pub late: u32,
-}
-
-// Written out: what is derived is proved anew wherever a value is let go.
-impl Drop for RunCosts {
-    fn drop(self) {
-        let RunCosts {
-            costs: _,
-            longest: _,
-            late: _,
-        } = self;
-    }
 }
 
 // The costs by what is known of clean tasks and of what walks come to.
@@ -58,8 +47,7 @@ fn known_costs(
 ) -> Result<Costs>
     requires counts { AreCounts walks.now.app weights.now }
     requires fit { AreWeights walks.now.app weights.now }
-    requires clean { (t : ℕ) → t < length walks.now.config.tasks
-        → Decides (get_or clean.now t false) (IsClean walks.now.app t) }
+    requires clean { AreCleanMarks walks.now.config walks.now.app clean.now }
     requires naming { AreAllNamingTops walks.now.config walks.now.app naming.now }
     requires tasks { AreEach (length walks.now.config.tasks) no_task
         (AreRunTaskCosts walks.now.config walks.now.app load.now weights.now) tasks }

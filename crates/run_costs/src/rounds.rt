@@ -1,26 +1,28 @@
-//! The greatest sums of rounds.
-ghost use Rattle.std.specs.Prelude.{◌≡◌, ◌<◌, ℕ, None, true, false, length, get_or, IfOk};
+//! The greatest sums of rounds, and how often rounds make tasks Ready.
+ghost use Rattle.std.specs.Prelude.{◌≡◌, ◌<◌, ℕ, None, true, false, length, get_or, IfOk, ◌||◌, leb, cond, []};
 ghost use Rattle.sloth_base.specs.Named.{declaration};
-ghost use Rattle.walk_sums.specs.declared.kinds.Kind.TheVariants as kinds;
 ghost use Rattle.walk_sums.specs.Counted.{counted_weights};
 ghost use Rattle.walk_sums.specs.Weights.{AreWeights};
 ghost use Rattle.walk_sums.specs.Known.{AreSums};
-ghost use Rattle.run_costs.specs.Makings.{AreRoundSums, AreCountedSums};
-ghost use Rattle.run_costs.specs.Rounds.{AreRounds};
+ghost use Rattle.run_costs.specs.Makings.{AreRoundSums, AreCountedSums, AreMakingSums, AreCleanMarks};
+ghost use Rattle.run_costs.specs.Makings.{AreSteadyMarks};
+ghost use Rattle.run_costs.specs.Rounds.{AreRounds, many, one, made};
 ghost use Rattle.run_costs.specs.Tops.{AreTaskTops};
-ghost use Rattle.run_costs.specs.Tables.{both, rounds_by, AreRoundTables};
+ghost use Rattle.run_costs.specs.Tables.{both, rounds_by, AreTurns, no_sums};
+ghost use Rattle.osek_scheduler.specs.Apart.{static_priority};
+ghost use Rattle.run_windows.specs.Costs.{no_makings};
+ghost use Rattle.run_costs.specs.CostsOf.{AreEach};
+ghost use Rattle.run_costs.specs.Services.{AreNamingTops, AreAllNamingTops};
+ghost use Rattle.run_costs.specs.RunCosts.{AreRunMakings};
+ghost use Rattle.run_costs.specs.RunRecord.{run_making};
+ghost use Rattle.walk_sums.specs.declared.kinds.Kind.TheVariants as kinds;
 
+use crate::services::{NamingTops, numbered_tops};
 use bound_rules::{BodyWeights, Summary, is_marked};
+use run_windows::Makings;
 use sloth_base::{List, Result};
 use text_pieces::push;
 use walk_sums::{Counted, Kind, RoundSums, Sum, Walks, counted_weights};
-
-/// The summaries of rounds, and those of turns where some task is not clean.
-#[derive(Drop)]
-pub struct RoundTables {
-    pub rounds: List<Summary>,
-    pub turns: List<Summary>,
-}
 
 /// Rounds without a sum.
 pub const NO_SUMS: RoundSums = RoundSums {
@@ -41,27 +43,13 @@ fn all_marked(marks: &[bool], count: usize) -> bool
 
 fn turns(walks: &Walks, weights: &[BodyWeights], clean: &[bool]) -> Result<Vec<Summary>>
     requires { AreWeights walks.now.app weights.now }
-    ensures { IfOk result (λ turns. (t : ℕ) → t < length walks.now.config.tasks → get_or clean.now t false ≡ false
-        → AreSums walks.now.config walks.now.app weights.now kinds.Turns None turns.items) }
+    ensures { IfOk result (λ turns. AreTurns walks.now.config walks.now.app weights.now clean.now turns.items) }
 {
     if all_marked(clean, walks.tasks()) {
         Ok(Vec::new(walks.alloc()))
     } else {
         walks.whole_sums(weights, Kind::Turns)
     }
-}
-
-/// The summaries by these weights.
-pub fn round_tables(walks: &Walks, weights: &[BodyWeights], clean: &[bool]) -> Result<RoundTables>
-    requires { AreWeights walks.now.app weights.now }
-    ensures { IfOk result (AreRoundTables walks.now.config walks.now.app weights.now clean.now) }
-{
-    let rounds = walks.whole_sums(weights, Kind::Rounds)?;
-    let turns = turns(walks, weights, clean)?;
-    Ok(RoundTables {
-        rounds: List::from_vec(rounds),
-        turns: List::from_vec(turns),
-    })
 }
 
 fn both(sum: Sum) -> RoundSums
@@ -80,7 +68,6 @@ fn extended_rounds(extended: bool, sums: RoundSums) -> RoundSums
     if extended { sums } else { both(sums.first) }
 }
 
-// Those of a task that is clean.
 fn clean_sums(walks: &Walks, weights: &[BodyWeights], table: &[Summary], task: usize) -> RoundSums
     requires weights { AreWeights walks.now.app weights.now }
     requires table { AreSums walks.now.config walks.now.app weights.now kinds.Rounds None table.now }
@@ -91,24 +78,25 @@ fn clean_sums(walks: &Walks, weights: &[BodyWeights], table: &[Summary], task: u
     extended_rounds(walks.task(task).extended, sums)
 }
 
-/// The sums of the rounds of a task.
-pub fn task_rounds(
+fn task_rounds(
     walks: &Walks,
     weights: &[BodyWeights],
-    tables: &RoundTables,
+    rounds: &[Summary],
+    turns: &[Summary],
     clean: &[bool],
     task: usize,
 ) -> RoundSums
     requires weights { AreWeights walks.now.app weights.now }
-    requires tables { AreRoundTables walks.now.config walks.now.app weights.now clean.now tables.now }
+    requires rounds { AreSums walks.now.config walks.now.app weights.now kinds.Rounds None rounds.now }
+    requires turns { AreTurns walks.now.config walks.now.app weights.now clean.now turns.now }
     requires inside { task < length walks.now.config.tasks }
     ensures { AreRounds walks.now.app (get_or clean.now task false) (declaration walks.now.config task).extended task
         weights.now result }
 {
     if is_marked(clean, task) {
-        clean_sums(walks, weights, tables.rounds.items(), task)
+        clean_sums(walks, weights, rounds, task)
     } else {
-        both(walks.turn_sum(weights, tables.turns.items(), task))
+        both(walks.turn_sum(weights, turns, task))
     }
 }
 
@@ -125,38 +113,22 @@ fn some_top(tops: &[u64]) -> bool
     false
 }
 
-fn no_counted_sums(
-    walks: &Walks,
-    clean: &[bool],
-    tops: &[u64],
-    counted: Counted,
-) -> Result<Vec<RoundSums>>
-    requires tops { AreTaskTops walks.now.config walks.now.app counted tops.now }
-    requires none { (t : ℕ) → get_or tops.now t 0 ≡ 0 }
-    ensures { IfOk result (λ sums. AreCountedSums walks.now.config walks.now.app clean.now counted sums.items) }
-{
-    let mut sums = Vec::new(walks.alloc());
-    for _task in 0..walks.tasks() {
-        push(&mut sums, NO_SUMS)?;
-    }
-    Ok(sums)
-}
-
 /// The greatest sums of the rounds of all tasks, by weights of items and by which tasks are clean.
 pub fn round_sums(walks: &Walks, weights: &[BodyWeights], clean: &[bool]) -> Result<Vec<RoundSums>>
     requires { AreWeights walks.now.app weights.now }
     ensures { IfOk result (λ sums. AreRoundSums walks.now.config walks.now.app clean.now weights.now sums.items) }
 {
-    let tables = round_tables(walks, weights, clean)?;
+    let rounds = walks.whole_sums(weights, Kind::Rounds)?;
+    let turns = turns(walks, weights, clean)?;
     let mut sums = Vec::new(walks.alloc());
     for task in 0..walks.tasks() {
-        let sum = task_rounds(walks, weights, &tables, clean, task);
+        let sum = task_rounds(walks, weights, &rounds, &turns, clean, task);
         push(&mut sums, sum)?;
     }
     Ok(sums)
 }
 
-/// How often rounds of all tasks do what counts, by their tops.
+/// How often rounds of all tasks do what counts, by their tops; nothing where none does.
 pub fn counted_sums(
     walks: &Walks,
     clean: &[bool],
@@ -166,10 +138,148 @@ pub fn counted_sums(
     requires { AreTaskTops walks.now.config walks.now.app counted tops.now }
     ensures { IfOk result (λ sums. AreCountedSums walks.now.config walks.now.app clean.now counted sums.items) }
 {
-    if !some_top(tops) {
-        return no_counted_sums(walks, clean, tops, counted);
-    }
     let app = walks.app();
+    if !some_top(tops) {
+        return Ok(Vec::new(walks.alloc()));
+    }
     let weights = counted_weights(walks.alloc(), app, counted)?;
     round_sums(walks, &weights, clean)
+}
+
+/// How often at most, where it may be more than once; none where there is no limit.
+pub fn many(sum: Sum) -> Option<u32>
+    ensures { result ≡ many sum }
+{
+    match sum {
+        Sum::Counts(count) => Some(count),
+        Sum::Huge | Sum::Endless => None,
+    }
+}
+
+fn one(sum: Sum) -> u32
+    ensures { result ≡ one sum }
+{
+    match sum {
+        Sum::Counts(count) => count.min(1),
+        Sum::Huge | Sum::Endless => 1,
+    }
+}
+
+// How often at most, once where `once` says so.
+fn made(once: bool, sum: Sum) -> Option<u32>
+    ensures { result ≡ made once sum }
+{
+    if once { Some(one(sum)) } else { many(sum) }
+}
+
+/// The sums of the rounds of all tasks, of what makes one task Ready.
+#[derive(Drop)]
+pub struct MakingSums {
+    /// Of other tasks.
+    pub activations: List<RoundSums>,
+    /// Of its own ChainTask.
+    pub chains: List<RoundSums>,
+    pub settings: List<RoundSums>,
+}
+
+// Those for one task.
+fn making_sums(walks: &Walks, clean: &[bool], tops: &NamingTops, named: u32) -> Result<MakingSums>
+    requires { AreNamingTops walks.now.config walks.now.app named tops.now }
+    ensures { IfOk result (AreMakingSums walks.now.config walks.now.app clean.now named) }
+{
+    let (either, setting) = (tops.either.items(), tops.setting.items());
+    let activations = counted_sums(walks, clean, either, Counted::Activations(named))?;
+    let chains = counted_sums(walks, clean, tops.chain.items(), Counted::Chains(named))?;
+    let settings = counted_sums(walks, clean, setting, Counted::Settings(named))?;
+    Ok(MakingSums {
+        activations: List::from_vec(activations),
+        chains: List::from_vec(chains),
+        settings: List::from_vec(settings),
+    })
+}
+
+// Whether the task that is made cannot run between two makings of a round.
+fn is_once(walks: &Walks, steady: &[bool], maker: usize, named: usize) -> bool
+    requires maker { maker < length walks.now.config.tasks }
+    requires named { named < length walks.now.config.tasks }
+    ensures { result ≡ (leb (static_priority walks.now.config named)
+        (static_priority walks.now.config maker) || get_or steady.now maker false) }
+{
+    walks.priority(named) <= walks.priority(maker) || is_marked(steady, maker)
+}
+
+/// The sums of a task; none behind the last one.
+pub fn numbered_sums(list: &[RoundSums], task: usize) -> RoundSums
+    ensures { result ≡ get_or list.now task no_sums }
+{
+    list.get(task).copied().unwrap_or(NO_SUMS)
+}
+
+// The sums of its activations of another task, or of its own ChainTask.
+fn activation_sums(sums: &MakingSums, itself: bool, maker: usize) -> RoundSums
+    ensures { result ≡ cond itself (get_or sums.now.chains maker no_sums) (get_or sums.now.activations maker no_sums) }
+{
+    if itself {
+        numbered_sums(sums.chains.items(), maker)
+    } else {
+        numbered_sums(sums.activations.items(), maker)
+    }
+}
+
+fn run_making(once: bool, activations: RoundSums, settings: RoundSums) -> Makings
+    ensures { result ≡ run_making once activations settings }
+{
+    Makings {
+        first_activations: made(once, activations.first),
+        first_settings: made(false, settings.first),
+        next_activations: made(once, activations.later),
+        next_settings: made(false, settings.later),
+    }
+}
+
+fn summed_makers(
+    walks: &Walks,
+    clean: &[bool],
+    steady: &[bool],
+    sums: &MakingSums,
+    named: usize,
+) -> Result<Vec<Makings>>
+    requires named { named < length walks.now.config.tasks }
+    requires clean { AreCleanMarks walks.now.config walks.now.app clean.now }
+    requires steady { AreSteadyMarks walks.now.config walks.now.app steady.now }
+    requires sums { AreMakingSums walks.now.config walks.now.app clean.now named sums.now }
+    ensures { IfOk result (λ row. AreEach (length walks.now.config.tasks) no_makings
+        (AreRunMakings walks.now.config walks.now.app named) row.items) }
+{
+    let mut row = Vec::new(walks.alloc());
+    for maker in 0..walks.tasks() {
+        let once = is_once(walks, steady, maker, named);
+        let activations = activation_sums(sums, maker == named, maker);
+        let settings = numbered_sums(sums.settings.items(), maker);
+        push(&mut row, run_making(once, activations, settings))?;
+    }
+    Ok(row)
+}
+
+/// How often rounds make tasks Ready, by the task that is made.
+pub fn makings(
+    walks: &Walks,
+    clean: &[bool],
+    steady: &[bool],
+    tops: &[NamingTops],
+) -> Result<Vec<List<Makings>>>
+    requires clean { AreCleanMarks walks.now.config walks.now.app clean.now }
+    requires steady { AreSteadyMarks walks.now.config walks.now.app steady.now }
+    requires tops { AreAllNamingTops walks.now.config walks.now.app tops.now }
+    ensures { IfOk result (λ table. AreEach (length walks.now.config.tasks) []
+        (λ j. AreEach (length walks.now.config.tasks) no_makings
+        (AreRunMakings walks.now.config walks.now.app j)) table.items) }
+{
+    let mut table = Vec::new(walks.alloc());
+    for named in 0..walks.tasks() {
+        let sums = making_sums(walks, clean, numbered_tops(tops, named), named as u32)?;
+        let row = summed_makers(walks, clean, steady, &sums, named)?;
+        push(&mut table, List::from_vec(row))?;
+    }
+    Ok(table)
 }

@@ -1,21 +1,25 @@
-//! The raised sections of lower tasks.
-ghost use Rattle.std.specs.Prelude.{◌≡◌, ◌<◌, None, length, get_or, IfOk};
-ghost use Rattle.walk_sums.specs.declared.kinds.Kind.TheVariants as kinds;
-ghost use Rattle.walk_sums.specs.Known.{AreSums};
+//! The raised sections of lower tasks for each task, and how often they make tasks Ready.
+ghost use Rattle.std.specs.Prelude.{◌≡◌, ◌<◌, ◌≤◌, length, get_or, IfOk, ℕ, false, []};
+ghost use Rattle.sloth_base.specs.Limits.{task_limit};
 ghost use Rattle.walk_sums.specs.Weights.{AreWeights};
 ghost use Rattle.walk_sums.specs.Sections.{no_sum};
-ghost use Rattle.run_windows.specs.Costs.{no_section};
+ghost use Rattle.run_windows.specs.Costs.{no_section, no_section_makings, no_level};
 ghost use Rattle.run_costs.specs.CostsOf.{AreEach, IsTaskSection};
 ghost use Rattle.run_costs.specs.Rounds.{many};
 ghost use Rattle.run_costs.specs.Sections.{AllWeigh};
-ghost use Rattle.run_costs.specs.SectionSums.{is_lower, has_some, is_endless};
+ghost use Rattle.run_costs.specs.SectionSums.{is_lower, has_some, is_endless, does, is_once};
+ghost use Rattle.run_costs.specs.Services.{AreNamingTops, AreAllNamingTops};
+ghost use Rattle.run_costs.specs.RunCosts.{IsRunSectionMaking, IsRunLevel};
+ghost use Rattle.run_costs.specs.RunRecord.{is_asked, times, AreSummed};
+ghost use Rattle.walk_sums.specs.declared.counted.Counted.TheVariants as counts;
 
-use crate::makings::many;
-use bound_rules::{BodyWeights, Summary};
-use run_windows::SectionCosts;
-use sloth_base::Result;
+use crate::rounds::many;
+use crate::services::{NamingTops, numbered_top, numbered_tops};
+use bound_rules::BodyWeights;
+use run_windows::{Level, SectionCosts, SectionMakings};
+use sloth_base::{List, Result};
 use text_pieces::push;
-use walk_sums::{Sum, Walks, Weighed};
+use walk_sums::{Counted, Sum, Walks, counted_weights};
 
 /// Whether a task is lower than this one.
 pub fn is_lower(walks: &Walks, above: usize, task: usize) -> bool
@@ -39,10 +43,7 @@ fn has_some(sum: Sum) -> bool
 pub fn numbered_sum(sums: &[Sum], task: usize) -> Sum
     ensures { result ≡ get_or sums.now task no_sum }
 {
-    match sums.get(task) {
-        Some(sum) => *sum,
-        None => Sum::Endless,
-    }
+    sums.get(task).copied().unwrap_or(Sum::Endless)
 }
 
 fn is_endless(sum: Sum) -> bool
@@ -67,24 +68,198 @@ fn summed_sections(sum: Sum) -> SectionCosts
     }
 }
 
-/// The sections of all tasks for one, by the summaries where callers have raised a task.
-pub fn sections(
-    walks: &Walks,
-    weights: &[BodyWeights],
-    whole: &[Summary],
-    above: usize,
-) -> Result<Vec<SectionCosts>>
+fn sections(walks: &Walks, weights: &[BodyWeights], above: usize) -> Result<Vec<SectionCosts>>
     requires weigh { AllWeigh walks.now.app weights.now }
     requires fit { AreWeights walks.now.app weights.now }
-    requires whole { AreSums walks.now.config walks.now.app weights.now kinds.Sections None whole.now }
     requires above { above < length walks.now.config.tasks }
     ensures { IfOk result (λ list. AreEach (length walks.now.config.tasks) no_section
         (IsTaskSection walks.now.config walks.now.app weights.now above) list.items) }
 {
-    let sums = Weighed::new(walks, weights, whole).sums_above(above)?;
+    let sums = walks.sums_above(weights, above)?;
     let mut list = Vec::new(walks.alloc());
     for task in 0..walks.tasks() {
         push(&mut list, summed_sections(numbered_sum(&sums, task)))?;
+    }
+    Ok(list)
+}
+
+// Whether a section of a lower task does what counts, by its top.
+fn does(walks: &Walks, above: usize, task: usize, top: u64) -> bool
+    requires above { above < length walks.now.config.tasks }
+    requires task { task < length walks.now.config.tasks }
+    ensures { result ≡ does walks.now.config above task top }
+{
+    if walks.task(task).non {
+        0 < top
+    } else {
+        u64::from(walks.priority(above)) < top
+    }
+}
+
+// Whether sections of the task are asked how often they make `named`.
+fn is_asked(walks: &Walks, above: usize, named: usize, task: usize, top: u64) -> bool
+    requires above { above < length walks.now.config.tasks }
+    requires named { named < length walks.now.config.tasks }
+    requires task { task < length walks.now.config.tasks }
+    ensures { result ≡ is_asked walks.now.config above named task top }
+{
+    !is_lower(walks, above, named)
+        && (is_lower(walks, above, task) && does(walks, above, task, top))
+}
+
+fn some_asked(walks: &Walks, above: usize, named: usize, tops: &[u64]) -> bool
+    requires above { above < length walks.now.config.tasks }
+    requires named { named < length walks.now.config.tasks }
+    ensures { result ≡ false → (k : ℕ) → k < length walks.now.config.tasks
+        → is_asked walks.now.config above named k (get_or tops.now k 0) ≡ false }
+{
+    for task in 0..walks.tasks() {
+        if is_asked(walks, above, named, task, numbered_top(tops, task)) {
+            return true;
+        }
+    }
+    false
+}
+
+// The sums of the sections that are asked, of what counts.
+fn asked_sums(
+    walks: &Walks,
+    above: usize,
+    named: usize,
+    tops: &[u64],
+    counted: Counted,
+) -> Result<Vec<Sum>>
+    requires above { above < length walks.now.config.tasks }
+    requires named { named < length walks.now.config.tasks }
+    ensures { IfOk result (λ sums. AreSummed walks.now.config walks.now.app counted above named tops.now sums.items) }
+{
+    if !some_asked(walks, above, named, tops) {
+        return Ok(Vec::new(walks.alloc()));
+    }
+    let app = walks.app();
+    let weights = counted_weights(walks.alloc(), app, counted)?;
+    walks.sums_above(&weights, above)
+}
+
+// Whether a section activates the task once at most.
+fn is_once(walks: &Walks, above: usize, named: usize, task: usize) -> bool
+    requires { task < length walks.now.config.tasks }
+    ensures { result ≡ is_once walks.now.config above named task }
+{
+    walks.task(task).non || above == named
+}
+
+fn times(asked: bool, once: bool, sum: Sum) -> Option<u32>
+    ensures { result ≡ times asked once sum }
+{
+    if asked {
+        if once { Some(1) } else { many(sum) }
+    } else {
+        Some(0)
+    }
+}
+
+fn summed_makers(
+    walks: &Walks,
+    tops: &NamingTops,
+    above: usize,
+    named: usize,
+    activations: &[Sum],
+    settings: &[Sum],
+) -> Result<Vec<SectionMakings>>
+    requires tops { AreNamingTops walks.now.config walks.now.app named tops.now }
+    requires above { above < length walks.now.config.tasks }
+    requires named { named < length walks.now.config.tasks }
+    requires activations { AreSummed walks.now.config walks.now.app (counts.Activations named) above named
+        tops.now.either activations.now }
+    requires settings { AreSummed walks.now.config walks.now.app (counts.Settings named) above named
+        tops.now.setting settings.now }
+    ensures { IfOk result (λ row. AreEach (length walks.now.config.tasks) no_section_makings
+        (IsRunSectionMaking walks.now.config walks.now.app above named) row.items) }
+{
+    let mut row = Vec::new(walks.alloc());
+    for task in 0..walks.tasks() {
+        let either = numbered_top(tops.either.items(), task);
+        let setting = numbered_top(tops.setting.items(), task);
+        let activates = is_asked(walks, above, named, task, either);
+        let sets = is_asked(walks, above, named, task, setting);
+        let once = is_once(walks, above, named, task);
+        let makings = SectionMakings {
+            activations: times(activates, once, numbered_sum(activations, task)),
+            settings: times(sets, false, numbered_sum(settings, task)),
+        };
+        push(&mut row, makings)?;
+    }
+    Ok(row)
+}
+
+/// How often sections of lower tasks for `above` make `named` Ready, of each task.
+pub fn section_makers(
+    walks: &Walks,
+    tops: &NamingTops,
+    above: usize,
+    named: usize,
+) -> Result<Vec<SectionMakings>>
+    requires tops { AreNamingTops walks.now.config walks.now.app named tops.now }
+    requires above { above < length walks.now.config.tasks }
+    requires named { named < length walks.now.config.tasks }
+    requires few { length walks.now.config.tasks ≤ task_limit }
+    ensures { IfOk result (λ row. AreEach (length walks.now.config.tasks) no_section_makings
+        (IsRunSectionMaking walks.now.config walks.now.app above named) row.items) }
+{
+    let activated = Counted::Activations(named as u32);
+    let activations = asked_sums(walks, above, named, tops.either.items(), activated)?;
+    let set = Counted::Settings(named as u32);
+    let settings = asked_sums(walks, above, named, tops.setting.items(), set)?;
+    summed_makers(walks, tops, above, named, &activations, &settings)
+}
+
+fn section_table(
+    walks: &Walks,
+    tops: &[NamingTops],
+    above: usize,
+) -> Result<Vec<List<SectionMakings>>>
+    requires tops { AreAllNamingTops walks.now.config walks.now.app tops.now }
+    requires above { above < length walks.now.config.tasks }
+    ensures { IfOk result (λ table. AreEach (length walks.now.config.tasks) []
+        (λ j. AreEach (length walks.now.config.tasks) no_section_makings
+        (IsRunSectionMaking walks.now.config walks.now.app above j)) table.items) }
+{
+    let mut table = Vec::new(walks.alloc());
+    for named in 0..walks.tasks() {
+        let row = section_makers(walks, numbered_tops(tops, named), above, named)?;
+        push(&mut table, List::from_vec(row))?;
+    }
+    Ok(table)
+}
+
+fn level(walks: &Walks, weights: &[BodyWeights], tops: &[NamingTops], above: usize) -> Result<Level>
+    requires weigh { AllWeigh walks.now.app weights.now }
+    requires fit { AreWeights walks.now.app weights.now }
+    requires tops { AreAllNamingTops walks.now.config walks.now.app tops.now }
+    requires above { above < length walks.now.config.tasks }
+    ensures { IfOk result (IsRunLevel walks.now.config walks.now.app weights.now above) }
+{
+    let sections = sections(walks, weights, above)?;
+    let makings = section_table(walks, tops, above)?;
+    Ok(Level {
+        sections: List::from_vec(sections),
+        makings: List::from_vec(makings),
+    })
+}
+
+/// The sections for each task, and what they make.
+pub fn levels(walks: &Walks, weights: &[BodyWeights], tops: &[NamingTops]) -> Result<Vec<Level>>
+    requires weigh { AllWeigh walks.now.app weights.now }
+    requires fit { AreWeights walks.now.app weights.now }
+    requires tops { AreAllNamingTops walks.now.config walks.now.app tops.now }
+    ensures { IfOk result (λ list. AreEach (length walks.now.config.tasks) no_level
+        (IsRunLevel walks.now.config walks.now.app weights.now) list.items) }
+{
+    let mut list = Vec::new(walks.alloc());
+    for above in 0..walks.tasks() {
+        let level = level(walks, weights, tops, above)?;
+        push(&mut list, level)?;
     }
     Ok(list)
 }

@@ -1,29 +1,34 @@
-//! What entries and rounds of tasks cost.
-ghost use Rattle.std.specs.Prelude.{Some, None, ◌&&◌, ◌≡◌, ◌<◌, ℕ, [], false, cond, length, get_or, Decides, IfOk};
-ghost use Rattle.sloth_base.specs.Named.{declaration};
+//! What entries and rounds of tasks cost, the ticks of counters, and the alarms.
+ghost use Rattle.std.specs.Prelude.{Some, None, ◌&&◌, ◌≡◌, ◌<◌, [], cond, length, IfOk, ◌≤◌, ◌⊎◌, ℕ, true, Decides};
+ghost use Rattle.sloth_base.specs.Named.{declaration, item_of};
 ghost use Rattle.sloth_base.specs.ServiceCodes.{service_of};
-ghost use Rattle.sloth_base.specs.declared.service.Service.TheVariants as service;
 ghost use Rattle.code_lengths.specs.LongestPaths.{enter_path};
 ghost use Rattle.code_rules.specs.WellFormed.{WellFormed};
-ghost use Rattle.walk_sums.specs.Rounds.{IsClean};
 ghost use Rattle.walk_sums.specs.Weights.{AreWeights};
 ghost use Rattle.run_windows.specs.Costs.{no_task};
 ghost use Rattle.run_windows.specs.RunWindows.{call_path};
-ghost use Rattle.run_costs.specs.CostsOf.{AreEach, IsGreatest};
-ghost use Rattle.run_costs.specs.Rounds.{with_entry, round_cost};
+ghost use Rattle.run_costs.specs.CostsOf.{AreEach, IsGreatest, no_counter, Names, task_of, sets_events, no_alarm};
+ghost use Rattle.run_costs.specs.CostsOf.{IsAlarm};
+ghost use Rattle.run_costs.specs.Makings.{AreCleanMarks, AreRoundSums};
+ghost use Rattle.run_costs.specs.Rounds.{round_cost};
 ghost use Rattle.run_costs.specs.Services.{AreServiceTops, reaches, reached_path};
-ghost use Rattle.run_costs.specs.Tables.{AreRoundTables};
-ghost use Rattle.run_costs.specs.RunCosts.{round_entry, raising_counts, has_raised_waits, counts_once, AreRunTaskCosts};
+ghost use Rattle.run_costs.specs.RunCosts.{round_entry, raising_counts, has_raised_waits, counts_once};
+ghost use Rattle.run_costs.specs.RunCosts.{AreRunTaskCosts, IsRunCounter};
+ghost use Rattle.sloth_base.specs.Limits.{alarm_limit, counter_limit};
+ghost use Rattle.walk_sums.specs.Counted.{calls_for};
+ghost use Rattle.sloth_base.specs.declared.service.Service.TheVariants as service;
 
-use crate::rounds::{RoundTables, round_tables, task_rounds};
+use crate::rounds::{many, numbered_sums, round_sums};
 use crate::services::reaches;
 use bound_rules::{BodyWeights, is_marked};
-use code_lengths::entry_path;
+use code_lengths::{entry_path, tick_path};
 use load_text::{Entry, distance_of, work_of};
-use run_windows::{TaskCosts, call_path};
-use sloth_base::{List, Result, Service};
+use run_windows::level::lesser;
+use run_windows::{AlarmCosts, CounterCosts, TaskCosts, call_path};
+use sloth_base::{Action, App, Config, FIRST_COUNTER_LINE, Func, List, Result, Service};
+use std::alloc::Global;
 use text_pieces::push;
-use walk_sums::{Sum, Walks};
+use walk_sums::{RoundSums, Sum, Walks, calls_object, numbered_function};
 
 // The entry of a task, that starts anew or goes on behind a wait.
 fn entry(walks: &Walks, resumed: bool, task: usize) -> u32
@@ -35,7 +40,6 @@ fn entry(walks: &Walks, resumed: bool, task: usize) -> u32
     entry_path(walks.task(task).extended, resumed, words)
 }
 
-// The entry of a round.
 fn round_entry(walks: &Walks, clean: bool, resumed: bool, task: usize) -> u32
     requires { task < length walks.now.config.tasks }
     ensures { result ≡ round_entry walks.now.config walks.now.app clean resumed task }
@@ -44,30 +48,14 @@ fn round_entry(walks: &Walks, clean: bool, resumed: bool, task: usize) -> u32
     either.max(entry(walks, true, task))
 }
 
-// An entry and so many counts.
-fn with_entry(entry: u32, own: u32) -> Option<u32>
-    ensures { result ≡ with_entry entry own }
-{
-    entry.checked_add(own)
-}
-
 // An entry and a round: by the greatest sum, and by what the load says of the task's work.
 fn round_cost(entry: u32, work: Option<u32>, sum: Sum) -> Option<u32>
     ensures { result ≡ round_cost entry work sum }
 {
-    match work {
-        Some(own) => match sum {
-            Sum::Counts(counts) => with_entry(entry, own.min(counts)),
-            Sum::Huge | Sum::Endless => with_entry(entry, own),
-        },
-        None => match sum {
-            Sum::Counts(counts) => with_entry(entry, counts),
-            Sum::Huge | Sum::Endless => None,
-        },
-    }
+    let own = lesser(work, many(sum))?;
+    entry.checked_add(own)
 }
 
-// What raises a task in a window.
 fn raising_counts(walks: &Walks, task: usize) -> u32
     requires { task < length walks.now.config.tasks }
     ensures { result ≡ raising_counts walks.now.config task }
@@ -144,22 +132,20 @@ fn task_costs(
     walks: &Walks,
     load: &[Entry],
     weights: &[BodyWeights],
-    tables: &RoundTables,
+    rounds: &[RoundSums],
     clean: &[bool],
     services: &[List<u64>],
     task: usize,
 ) -> TaskCosts
-    requires weights { AreWeights walks.now.app weights.now }
-    requires tables { AreRoundTables walks.now.config walks.now.app weights.now clean.now tables.now }
-    requires clean { (t : ℕ) → t < length walks.now.config.tasks
-        → Decides (get_or clean.now t false) (IsClean walks.now.app t) }
+    requires rounds { AreRoundSums walks.now.config walks.now.app clean.now weights.now rounds.now }
+    requires clean { AreCleanMarks walks.now.config walks.now.app clean.now }
     requires services { AreEach 16 [] (AreServiceTops walks.now.config walks.now.app) services.now }
     requires inside { task < length walks.now.config.tasks }
     ensures { AreRunTaskCosts walks.now.config walks.now.app load.now weights.now task result }
 {
     let declared = walks.task(task);
     let is_clean = is_marked(clean, task);
-    let sums = task_rounds(walks, weights, tables, clean, task);
+    let sums = numbered_sums(rounds, task);
     let work = work_of(load, task as u8);
     let raised = has_raised_waits(walks, is_clean, services, task);
     let entry = round_entry(walks, is_clean, false, task);
@@ -190,17 +176,121 @@ pub fn tasks(
     services: &[List<u64>],
 ) -> Result<Vec<TaskCosts>>
     requires weights { AreWeights walks.now.app weights.now }
-    requires clean { (t : ℕ) → t < length walks.now.config.tasks
-        → Decides (get_or clean.now t false) (IsClean walks.now.app t) }
+    requires clean { AreCleanMarks walks.now.config walks.now.app clean.now }
     requires services { AreEach 16 [] (AreServiceTops walks.now.config walks.now.app) services.now }
     ensures { IfOk result (λ list. AreEach (length walks.now.config.tasks) no_task
         (AreRunTaskCosts walks.now.config walks.now.app load.now weights.now) list.items) }
 {
-    let tables = round_tables(walks, weights, clean)?;
+    let rounds = round_sums(walks, weights, clean)?;
     let mut list = Vec::new(walks.alloc());
     for task in 0..walks.tasks() {
-        let costs = task_costs(walks, load, weights, &tables, clean, services, task);
+        let costs = task_costs(walks, load, weights, &rounds, clean, services, task);
         push(&mut list, costs)?;
+    }
+    Ok(list)
+}
+
+// Whether an item of a body calls the service for the alarm.
+fn body_names(service: Service, alarm: u32, func: &Func) -> bool
+    ensures some { result ≡ true → (i : ℕ) × (calls_for alarm service (item_of func.now i).op ≡ true) }
+    ensures none { (i : ℕ) → calls_for alarm service (item_of func.now i).op ≡ true → result ≡ true }
+{
+    for number in 0..func.items.items().len() {
+        if calls_object(alarm, service, func.items.items()[number].op) {
+            return true;
+        }
+    }
+    false
+}
+
+fn is_named(app: &App, service: Service, alarm: u32) -> bool
+    ensures { Decides result (Names app.now service alarm) }
+{
+    for number in 0..app.funcs.items().len() {
+        if body_names(service, alarm, numbered_function(app, number)) {
+            return true;
+        }
+    }
+    false
+}
+
+fn is_set(app: &App, alarm: u32) -> bool
+    ensures { Decides result (Names app.now service.SetRelAlarm alarm ⊎ Names app.now service.SetAbsAlarm alarm) }
+{
+    is_named(app, Service::SetRelAlarm, alarm) || is_named(app, Service::SetAbsAlarm, alarm)
+}
+
+/// The task of an action.
+pub fn action_task(action: &Action) -> u32
+    ensures { result ≡ task_of action.now }
+{
+    match *action {
+        Action::Activate(task) => task.0,
+        Action::Set(task, _) => task.0,
+    }
+}
+
+/// Whether it sets events of that.
+pub fn sets_events(action: &Action) -> bool
+    ensures { result ≡ sets_events action.now }
+{
+    match *action {
+        Action::Activate(_) => false,
+        Action::Set(_, _) => true,
+    }
+}
+
+fn alarm(config: &Config, app: &App, number: usize) -> AlarmCosts
+    requires inside { number < length config.now.alarms }
+    requires few { length config.now.alarms ≤ alarm_limit }
+    ensures { IsAlarm config.now app.now number result }
+{
+    let declared = &config.alarms.items()[number];
+    AlarmCosts {
+        counter: declared.counter,
+        task: action_task(&declared.action),
+        sets_events: sets_events(&declared.action),
+        time: declared.time,
+        cycle: declared.cycle,
+        is_set: is_set(app, number as u32),
+    }
+}
+
+/// Of each alarm.
+pub fn alarms(alloc: Global, config: &Config, app: &App) -> Result<Vec<AlarmCosts>>
+    requires { length config.now.alarms ≤ alarm_limit }
+    ensures { IfOk result (λ list. AreEach (length config.now.alarms) no_alarm
+        (IsAlarm config.now app.now) list.items) }
+{
+    let mut list = Vec::new(alloc);
+    for number in 0..config.alarms.items().len() {
+        push(&mut list, alarm(config, app, number))?;
+    }
+    Ok(list)
+}
+
+fn counter(config: &Config, load: &[Entry], number: usize) -> CounterCosts
+    requires few { length config.now.counters ≤ counter_limit }
+    requires inside { number < length config.now.counters }
+    requires alarms { length config.now.alarms ≤ alarm_limit }
+    ensures { IsRunCounter config.now load.now number result }
+{
+    CounterCosts {
+        distance: distance_of(load, FIRST_COUNTER_LINE + number as u8),
+        tick: tick_path(config, number as u32),
+    }
+}
+
+/// Of each counter.
+pub fn counters(alloc: Global, config: &Config, load: &[Entry]) -> Result<Vec<CounterCosts>>
+    requires few { length config.now.counters ≤ counter_limit }
+    requires alarms { length config.now.alarms ≤ alarm_limit }
+    ensures { IfOk result (λ list. AreEach (length config.now.counters) no_counter
+        (IsRunCounter config.now load.now) list.items) }
+{
+    let mut list = Vec::new(alloc);
+    for number in 0..config.counters.items().len() {
+        push(&mut list, counter(config, load, number))?;
     }
     Ok(list)
 }

@@ -4,8 +4,8 @@ use Rattle.std.specs.Prelude.{◌||◌}
 use Rattle.std.proofs.lemmas.Bool.{true≢false}
 use Rattle.sloth_base.specs.declared.config.Config.{Config}
 use Rattle.sloth_base.specs.declared.app.App.{App}
-use Rattle.sloth_base.specs.declared.event.Event.{Event}
-use Rattle.sloth_base.specs.declared.event.Event.TheVariants as event
+use Rattle.sloth_base.specs.declared.service.Event.{Event}
+use Rattle.sloth_base.specs.declared.service.Event.TheVariants as event
 use Rattle.sloth_base.specs.Events.{admitted_line, is_boot, named_task}
 use Rattle.osek_scheduler.specs.declared.state.TaskState.{TaskState}
 use Rattle.osek_scheduler.specs.declared.state.TaskState.TheVariants as mode
@@ -18,9 +18,9 @@ use Rattle.osek_blocking.specs.Blocking.{is_entry_of}
 use Rattle.osek_blocking.proofs.Effects.{IsReady, Ordered}
 use Rattle.osek_blocking.proofs.Ordering.{effect, step_ordered}
 use Rattle.osek_blocking.proofs.Once.{stays}
-use Rattle.raised_sections.proofs.Placed.{Placed, step_placed}
-use Rattle.raised_sections.proofs.FrameEffects.{frame_effect}
-use Rattle.raised_sections.specs.Pace.{takes_line}
+use Rattle.osek_blocking.proofs.Placed.{Placed, step_placed}
+use Rattle.osek_blocking.proofs.FrameEffects.{frame_effect}
+use Rattle.osek_blocking.specs.Pace.{takes_line}
 use Rattle.run_counts.specs.EntryLatency.{IsHighest, is_tick}
 
 -- the event is no task's turn: an admission, or a tick

@@ -3,16 +3,16 @@ use Rattle.std.proofs.Common.{◌≡◌, ℕ, ◌+◌, ◌≤◌, List, [], ◌�
 use Rattle.std.specs.List.{AllByRecursion}
 use Rattle.std.proofs.lemmas.Bool.{true≢false}
 use Rattle.sloth_base.specs.declared.config.Config.{Config}
-use Rattle.sloth_base.specs.declared.event.Arrival.{Arrival}
-use Rattle.sloth_base.specs.declared.event.Event.{Event}
-use Rattle.sloth_base.specs.declared.event.Stamped.{Stamped}
-use Rattle.sloth_base.specs.declared.lines.LineKind.{LineKind}
-use Rattle.sloth_base.specs.declared.lines.LineKind.TheVariants as line_of
+use Rattle.sloth_base.specs.declared.service.Arrival.{Arrival}
+use Rattle.sloth_base.specs.declared.service.Event.{Event}
+use Rattle.sloth_base.specs.declared.service.Stamped.{Stamped}
+use Rattle.sloth_base.specs.declared.numbers.LineKind.{LineKind}
+use Rattle.sloth_base.specs.declared.numbers.LineKind.TheVariants as line_of
 use Rattle.sloth_base.specs.Events.{is_boot}
 use Rattle.sloth_base.specs.Owners.{line_kind}
 use Rattle.observe.specs.Observe.{View, stamp, admission, arrival_event}
 use Rattle.osek_scheduler.specs.InTime.{is_admit}
-use Rattle.raised_sections.specs.Pace.{event_counts, last_count, IsPaced}
+use Rattle.osek_blocking.specs.Pace.{event_counts, last_count, IsPaced}
 use Rattle.run_counts.specs.EntryLatency.{is_tick, IsShortTick}
 use Rattle.run_counts.proofs.PacedRun.{LastsBriefly, BeginsWithBoot}
 

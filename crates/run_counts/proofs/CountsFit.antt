@@ -10,8 +10,8 @@ use Rattle.sloth_base.specs.declared.service.Service.{Service}
 use Rattle.sloth_base.specs.declared.service.Service.TheVariants as service
 use Rattle.sloth_base.specs.Named.{function, operation}
 use Rattle.code_lengths.specs.LongestPaths.{leaving_path}
-use Rattle.raised_sections.specs.Walks.{chains_itself}
-use Rattle.event_weights.specs.Items.{length_of, served_counts, going_counts, ending_counts}
+use Rattle.osek_blocking.specs.Walks.{chains_itself}
+use Rattle.sim_induction.specs.Items.{length_of, served_counts, going_counts, ending_counts}
 use Rattle.bound_rules.specs.declared.weights.BodyWeights.{BodyWeights}
 use Rattle.bound_rules.specs.Weights.{no_weights, going_weight, ending_weight}
 use Rattle.walk_sums.specs.Activations.{is_plain}

@@ -6,9 +6,9 @@ use Rattle.std.proofs.lemmas.Bool.{cases_Bool, eqb-true, false≢true}
 use Rattle.std.proofs.lemmas.List.{append-nil}
 use Rattle.sloth_base.specs.declared.config.Config.{Config}
 use Rattle.sloth_base.specs.declared.app.App.{App}
-use Rattle.sloth_base.specs.declared.event.Event.{Event}
-use Rattle.sloth_base.specs.declared.event.Event.TheVariants as event
-use Rattle.sloth_base.specs.declared.event.Stamped.{Stamped}
+use Rattle.sloth_base.specs.declared.service.Event.{Event}
+use Rattle.sloth_base.specs.declared.service.Event.TheVariants as event
+use Rattle.sloth_base.specs.declared.service.Stamped.{Stamped}
 use Rattle.sloth_base.specs.Events.{is_boot}
 use Rattle.code_rules.specs.WellFormed.{WellFormed}
 use Rattle.osek_scheduler.specs.State.{System, task, opening}
@@ -21,11 +21,11 @@ use Rattle.osek_scheduler.proofs.Reached.{run_valid}
 use Rattle.osek_scheduler.proofs.Steps.{step_valid, opening_valid}
 use Rattle.osek_blocking.specs.Blocking.{is_entry_of, events_up_to_entry}
 use Rattle.osek_blocking.proofs.Ordering.{step_ordered, opening_ordered, leads_ordered}
-use Rattle.raised_sections.specs.Pace.{last_count}
-use Rattle.raised_sections.proofs.FrameEffects.{frame_effect, leads_placed}
-use Rattle.raised_sections.proofs.Placed.{step_placed, opening_placed}
-use Rattle.event_weights.specs.Events.{has_frames, enter_counts}
-use Rattle.event_weights.specs.Pace.{ItemSizes, paced_counts}
+use Rattle.osek_blocking.specs.Pace.{last_count}
+use Rattle.osek_blocking.proofs.FrameEffects.{frame_effect, leads_placed}
+use Rattle.osek_blocking.proofs.Placed.{step_placed, opening_placed}
+use Rattle.sim_induction.specs.Events.{has_frames, enter_counts}
+use Rattle.sim_induction.specs.Pace.{ItemSizes, paced_counts}
 use Rattle.sim_induction.specs.Paced.{ArePacedTo, AreStretchesWithin, GoesInPace}
 use Rattle.sim_induction.specs.Weighed.{AreWithinWeights}
 use Rattle.sim_induction.proofs.Pacing.{last-append}

@@ -7,9 +7,9 @@ use Rattle.std.proofs.lemmas.List.{append-nil}
 use Rattle.std.proofs.Math.Nat.{le-max_left, le-max_right}
 use Rattle.sloth_base.specs.declared.config.Config.{Config}
 use Rattle.sloth_base.specs.declared.app.App.{App}
-use Rattle.sloth_base.specs.declared.event.Event.{Event}
-use Rattle.sloth_base.specs.declared.event.Event.TheVariants as event
-use Rattle.sloth_base.specs.declared.event.Stamped.{Stamped}
+use Rattle.sloth_base.specs.declared.service.Event.{Event}
+use Rattle.sloth_base.specs.declared.service.Event.TheVariants as event
+use Rattle.sloth_base.specs.declared.service.Stamped.{Stamped}
 use Rattle.sloth_base.specs.Events.{admitted_line, is_boot}
 use Rattle.sloth_base.specs.Stretches.{Boots, stretch_limit, longest_stretch}
 use Rattle.sloth_base.specs.Limits.{item_counts}
@@ -26,11 +26,11 @@ use Rattle.osek_scheduler.proofs.Steps.{step_valid, opening_valid}
 use Rattle.osek_blocking.specs.Blocking.{is_entry_of, events_up_to_entry}
 use Rattle.osek_blocking.proofs.Ordering.{step_ordered, opening_ordered, leads_ordered}
 use Rattle.osek_blocking.proofs.Once.{block_once}
-use Rattle.raised_sections.specs.Pace.{own_counts, event_counts, takes_line, last_count, IsPaced}
+use Rattle.osek_blocking.specs.Pace.{own_counts, event_counts, takes_line, last_count, IsPaced}
 use Rattle.sim_induction.proofs.Events.{each_both}
-use Rattle.raised_sections.proofs.Counts.{behind_paced}
-use Rattle.raised_sections.proofs.Placed.{step_placed, opening_placed}
-use Rattle.raised_sections.proofs.FrameEffects.{frame_effect, leads_placed}
+use Rattle.osek_blocking.proofs.Counts.{behind_paced}
+use Rattle.osek_blocking.proofs.Placed.{step_placed, opening_placed}
+use Rattle.osek_blocking.proofs.FrameEffects.{frame_effect, leads_placed}
 use Rattle.run_counts.proofs.PacedRun.{LastsBriefly, BeginsWithBoot, IsPacedRun}
 use Rattle.run_counts.specs.EntryLatency.{any_stretch, running_limit, is_tick, tick_counts, latency_with_ticks, EntersBefore, EntersInTime}
 use Rattle.run_counts.proofs.Awaiting.{Awaits, is_outside}

@@ -3,14 +3,14 @@ use Rattle.std.proofs.Common.{◌≡◌, ℕ, ◌+◌, ◌-◌, ◌≤◌, lengt
 use Rattle.std.proofs.lemmas.Bool.{false≢true, and_parts}
 use Rattle.sloth_base.specs.declared.config.Config.{Config}
 use Rattle.sloth_base.specs.declared.app.App.{App}
-use Rattle.sloth_base.specs.declared.event.Event.{Event}
-use Rattle.sloth_base.specs.declared.event.Event.TheVariants as event
+use Rattle.sloth_base.specs.declared.service.Event.{Event}
+use Rattle.sloth_base.specs.declared.service.Event.TheVariants as event
 use Rattle.sloth_base.specs.Events.{admitted_line, is_boot}
 use Rattle.osek_scheduler.specs.State.{System, opening}
 use Rattle.osek_scheduler.proofs.Apart.{rank_active}
 use Rattle.osek_blocking.proofs.Ordering.{opening_ordered, leads_ordered}
-use Rattle.raised_sections.specs.Pace.{takes_line}
-use Rattle.event_weights.specs.Pace.{ItemSizes, gap_counts}
+use Rattle.osek_blocking.specs.Pace.{takes_line}
+use Rattle.sim_induction.specs.Pace.{ItemSizes, gap_counts}
 use Rattle.sim_induction.specs.Mirror.{IsRunningTask}
 use Rattle.run_counts.specs.Stages.{is_running}
 use Rattle.run_counts.specs.OwnCounts.{IsBehindItem, IsGapWithin, RunsHaveShortGaps, RunsPreemptWithinItems}

@@ -4,16 +4,16 @@ use Rattle.std.proofs.lemmas.Bool.{cases_Bool, cond-true, cond-false, false≢tr
 use Rattle.std.proofs.lemmas.Option.{same_Some}
 use Rattle.sloth_base.specs.declared.config.Config.{Config}
 use Rattle.sloth_base.specs.declared.app.App.{App}
-use Rattle.sloth_base.specs.declared.event.Event.{Event}
-use Rattle.sloth_base.specs.declared.event.Event.TheVariants as event
-use Rattle.sloth_base.specs.declared.event.Stamped.{Stamped}
+use Rattle.sloth_base.specs.declared.service.Event.{Event}
+use Rattle.sloth_base.specs.declared.service.Event.TheVariants as event
+use Rattle.sloth_base.specs.declared.service.Stamped.{Stamped}
 use Rattle.sloth_base.specs.Events.{working_task}
 use Rattle.osek_scheduler.specs.State.{System}
 use Rattle.osek_scheduler.specs.Steps.{OsekStep}
 use Rattle.osek_scheduler.specs.Runs.{AreStepsTo}
 use Rattle.osek_blocking.specs.Blocking.{is_entry_of, events_up_to_entry, IsOfLower}
-use Rattle.raised_sections.specs.Sections.{IsLower}
-use Rattle.raised_sections.specs.Kept.{is_lower, lower_events}
+use Rattle.osek_blocking.specs.Sections.{IsLower}
+use Rattle.osek_blocking.specs.Kept.{is_lower, lower_events}
 
 module _ (config : Config) (app : App) (h l : ℕ) where
   works_declared : (what : Event) (s next : System) (u : ℕ) → OsekStep config app what s next → working_task what ≡ Some u → u < length config.tasks

@@ -4,9 +4,9 @@ use Rattle.std.specs.List.{AllByRecursion}
 use Rattle.std.proofs.lemmas.Bool.{cases_Bool, true≢false, false≢true, or_cases, eqb-true, and_parts}
 use Rattle.sloth_base.specs.declared.config.Config.{Config}
 use Rattle.sloth_base.specs.declared.app.App.{App}
-use Rattle.sloth_base.specs.declared.event.Event.{Event}
-use Rattle.sloth_base.specs.declared.event.Event.TheVariants as event
-use Rattle.sloth_base.specs.declared.event.Stamped.{Stamped}
+use Rattle.sloth_base.specs.declared.service.Event.{Event}
+use Rattle.sloth_base.specs.declared.service.Event.TheVariants as event
+use Rattle.sloth_base.specs.declared.service.Stamped.{Stamped}
 use Rattle.sloth_base.specs.declared.service.Service.TheVariants as service
 use Rattle.sloth_base.specs.ServiceCodes.{is_service}
 use Rattle.osek_scheduler.specs.State.{System, opening}
@@ -19,9 +19,9 @@ use Rattle.osek_scheduler.proofs.Facts.{Facts, facts}
 use Rattle.osek_scheduler.proofs.Leading.{follows_leads}
 use Rattle.osek_scheduler.proofs.Steps.{step_valid, opening_valid}
 use Rattle.bound_rules.specs.declared.weights.BodyWeights.{BodyWeights}
-use Rattle.event_weights.specs.Items.{length_of}
-use Rattle.event_weights.specs.Pace.{ItemSizes}
-use Rattle.event_weights.proofs.BodyLengths.{short}
+use Rattle.sim_induction.specs.Items.{length_of}
+use Rattle.sim_induction.specs.Pace.{ItemSizes}
+use Rattle.sim_induction.proofs.BodyLengths.{short}
 use Rattle.sim_induction.specs.Sound.{events_of}
 use Rattle.sim_induction.specs.Spent.{spent_behind}
 use Rattle.sim_induction.proofs.Spending.{none_left}

@@ -7,8 +7,8 @@ use Rattle.sloth_base.specs.declared.app.App.{App}
 use Rattle.osek_scheduler.specs.State.{opening}
 use Rattle.osek_scheduler.proofs.Facts.{facts}
 use Rattle.osek_scheduler.proofs.Leading.{follows_leads}
-use Rattle.raised_sections.specs.Pace.{takes_line}
-use Rattle.event_weights.specs.Pace.{ItemSizes}
+use Rattle.osek_blocking.specs.Pace.{takes_line}
+use Rattle.sim_induction.specs.Pace.{ItemSizes}
 use Rattle.run_counts.specs.Stages.{Stage, is_running, unseen, spanned, own, run_stages}
 use Rattle.run_counts.specs.Laws.{IsWithinWeights}
 use Rattle.run_counts.specs.Rounds.{closes_round, round_of, total, charged_to}

@@ -5,10 +5,10 @@ use Rattle.std.proofs.lemmas.Bool.{cases_Bool, cases_eq, eq-eqb, ne_eqb, falseâ‰
 use Rattle.std.proofs.lemmas.List.Elements.{recursion_from_All}
 use Rattle.sloth_base.specs.declared.config.Config.{Config}
 use Rattle.sloth_base.specs.declared.app.App.{App}
-use Rattle.sloth_base.specs.declared.event.Arrival.{Arrival}
-use Rattle.sloth_base.specs.declared.event.Event.{Event}
-use Rattle.sloth_base.specs.declared.event.Event.TheVariants as event
-use Rattle.sloth_base.specs.declared.event.Stamped.{Stamped}
+use Rattle.sloth_base.specs.declared.service.Arrival.{Arrival}
+use Rattle.sloth_base.specs.declared.service.Event.{Event}
+use Rattle.sloth_base.specs.declared.service.Event.TheVariants as event
+use Rattle.sloth_base.specs.declared.service.Stamped.{Stamped}
 use Rattle.sloth_base.specs.Events.{admitted_line}
 use Rattle.osek_scheduler.specs.State.{System, task, opening}
 use Rattle.osek_scheduler.specs.InTime.{IsStamped, StandsBefore, IsOrdered, InTime, is_admit}
@@ -22,7 +22,7 @@ use Rattle.osek_scheduler.proofs.Leading.{follows_leads}
 use Rattle.osek_scheduler.proofs.Steps.{step_valid, opening_valid}
 use Rattle.osek_blocking.proofs.Effects.{Ordered}
 use Rattle.osek_blocking.proofs.Ordering.{effect, step_ordered, opening_ordered}
-use Rattle.raised_sections.specs.Pace.{takes_line}
+use Rattle.osek_blocking.specs.Pace.{takes_line}
 use Rattle.run_counts.specs.Stages.{Stage, is_running, is_turn, unseen, spanned, charged, end_of, stage, stages}
 use Rattle.run_counts.specs.OwnCounts.{IsOwn, RunsOwnWhatIsCharged}
 use Rattle.run_counts.proofs.Running.{others_rest, active_declared, above_runs, none_beside}

@@ -2,10 +2,10 @@
 use Rattle.std.specs.Prelude.{ℕ, ◌+◌, ◌<◌, ◌≤◌, ◌≡◌, List, [], ◌∷◌, true, cond}
 use Rattle.std.specs.List.{AllByRecursion}
 use Rattle.sloth_base.specs.declared.config.Config.{Config}
-use Rattle.sloth_base.specs.declared.event.Stamped.{Stamped}
+use Rattle.sloth_base.specs.declared.service.Stamped.{Stamped}
 use Rattle.sloth_base.specs.Events.{is_boot}
 use Rattle.sloth_base.specs.Stretches.{Boots, stretch_limit, longest_stretch}
-use Rattle.raised_sections.specs.Pace.{entry_counts, last_count, IsPaced}
+use Rattle.osek_blocking.specs.Pace.{entry_counts, last_count, IsPaced}
 use Rattle.run_counts.specs.EntryLatency.{IsShortTick}
 
 -- the event spans no more counts than its stretch may have

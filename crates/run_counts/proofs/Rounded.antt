@@ -7,9 +7,9 @@ use Rattle.sloth_base.specs.declared.app.App.{App}
 use Rattle.sloth_base.specs.declared.app.Func.{Func}
 use Rattle.sloth_base.specs.declared.app.Op.{Op}
 use Rattle.sloth_base.specs.declared.app.Op.TheVariants as op
-use Rattle.sloth_base.specs.declared.event.Event.{Event}
-use Rattle.sloth_base.specs.declared.event.Event.TheVariants as event
-use Rattle.sloth_base.specs.declared.event.Stamped.{Stamped}
+use Rattle.sloth_base.specs.declared.service.Event.{Event}
+use Rattle.sloth_base.specs.declared.service.Event.TheVariants as event
+use Rattle.sloth_base.specs.declared.service.Stamped.{Stamped}
 use Rattle.sloth_base.specs.declared.service.Service.{Service}
 use Rattle.sloth_base.specs.declared.service.Service.TheVariants as service
 use Rattle.sloth_base.specs.Events.{admitted_line, is_boot}
@@ -23,15 +23,15 @@ use Rattle.osek_scheduler.specs.Valid.{IsValid}
 use Rattle.osek_scheduler.proofs.Facts.{Facts, facts}
 use Rattle.osek_scheduler.proofs.Leading.{follows_leads}
 use Rattle.osek_scheduler.proofs.Steps.{step_valid, opening_valid}
-use Rattle.raised_sections.specs.Walks.{chains_itself}
-use Rattle.raised_sections.proofs.Frames.{KeepsOthers}
-use Rattle.raised_sections.proofs.FrameEffects.{frame_effect}
+use Rattle.osek_blocking.specs.Walks.{chains_itself}
+use Rattle.osek_blocking.proofs.Frames.{KeepsOthers}
+use Rattle.osek_blocking.proofs.FrameEffects.{frame_effect}
 use Rattle.bound_rules.specs.declared.weights.BodyWeights.{BodyWeights}
 use Rattle.bound_rules.specs.Weights.{going_weight, ending_weight}
-use Rattle.event_weights.specs.Events.{call_counts, left_counts}
-use Rattle.event_weights.specs.Items.{served_counts, going_counts, ending_counts}
+use Rattle.sim_induction.specs.Events.{call_counts, left_counts}
+use Rattle.sim_induction.specs.Items.{served_counts, going_counts, ending_counts}
 use Rattle.code_lengths.specs.LongestPaths.{leaving_path}
-use Rattle.event_weights.specs.Pace.{ItemSizes, next_size, next_size_of, paced_counts}
+use Rattle.sim_induction.specs.Pace.{ItemSizes, next_size, next_size_of, paced_counts}
 use Rattle.run_counts.specs.Stages.{Stage, charged, is_turn, end_of, stage, stages, state_behind}
 use Rattle.run_counts.specs.Laws.{IsWithinWeights}
 use Rattle.run_counts.specs.Spending.{WeighsItems}

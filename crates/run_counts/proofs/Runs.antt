@@ -5,9 +5,9 @@ use Rattle.std.proofs.lemmas.List.{length-append}
 use Rattle.std.proofs.lemmas.List.Elements.{recursion_from_All}
 use Rattle.sloth_base.specs.declared.config.Config.{Config}
 use Rattle.sloth_base.specs.declared.app.App.{App}
-use Rattle.sloth_base.specs.declared.event.Arrival.{Arrival}
+use Rattle.sloth_base.specs.declared.service.Arrival.{Arrival}
 use Rattle.sloth_base.specs.declared.image.Image.{Image}
-use Rattle.sloth_base.specs.declared.step.Step.{Step}
+use Rattle.sloth_base.specs.declared.numbers.Step.{Step}
 use Rattle.sloth_base.specs.Machine.{State}
 use Rattle.sloth_base.specs.Arrivals.{moments}
 use Rattle.sloth_base.specs.Stretches.{longest_stretch}
@@ -24,9 +24,9 @@ use Rattle.observe.specs.Observe.{View, view_of_image, first_masked_moment, foun
 use Rattle.observe.proofs.Rule.{is-cut}
 use Rattle.sim_induction.specs.Short.{AreShort, IsShortPiece, Short}
 use Rattle.sim_induction.specs.Sound.{IsSoundRun, events_of}
-use Rattle.raised_sections.specs.Pace.{entry_counts, last_count}
-use Rattle.raised_sections.proofs.KeptBounds.{keeps_bounds}
-use Rattle.raised_sections.proofs.Counts.{keeps_counts}
+use Rattle.osek_blocking.specs.Pace.{entry_counts, last_count}
+use Rattle.osek_blocking.proofs.KeptBounds.{keeps_bounds}
+use Rattle.osek_blocking.proofs.Counts.{keeps_counts}
 use Rattle.run_counts.proofs.PacedRun.{BeginsWithBoot, IsPacedRun}
 use Rattle.run_counts.specs.BlockingBounds.{KeepsBlockingBounds}
 use Rattle.run_counts.proofs.Entering.{enters_in_time}

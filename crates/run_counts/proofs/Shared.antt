@@ -4,9 +4,9 @@ use Rattle.std.specs.List.{AllByRecursion}
 use Rattle.std.proofs.lemmas.Bool.{cases_Bool, cases_eq, cases_lt, eq-eqb}
 use Rattle.sloth_base.specs.declared.config.Config.{Config}
 use Rattle.sloth_base.specs.declared.app.App.{App}
-use Rattle.sloth_base.specs.declared.event.Event.{Event}
-use Rattle.sloth_base.specs.declared.event.Event.TheVariants as event
-use Rattle.sloth_base.specs.declared.event.Stamped.{Stamped}
+use Rattle.sloth_base.specs.declared.service.Event.{Event}
+use Rattle.sloth_base.specs.declared.service.Event.TheVariants as event
+use Rattle.sloth_base.specs.declared.service.Stamped.{Stamped}
 use Rattle.osek_scheduler.specs.State.{System, task, opening}
 use Rattle.osek_scheduler.specs.Apart.{IsActive}
 use Rattle.osek_scheduler.specs.Priority.{is_active, rank}
@@ -14,8 +14,8 @@ use Rattle.osek_scheduler.specs.Steps.{OsekStep}
 use Rattle.osek_scheduler.proofs.Facts.{facts}
 use Rattle.osek_scheduler.proofs.Leading.{follows_leads}
 use Rattle.osek_scheduler.proofs.Tests.{Decides-is_active}
-use Rattle.raised_sections.specs.Pace.{last_count, takes_line}
-use Rattle.event_weights.specs.Pace.{ItemSizes}
+use Rattle.osek_blocking.specs.Pace.{last_count, takes_line}
+use Rattle.sim_induction.specs.Pace.{ItemSizes}
 use Rattle.sim_induction.specs.Paced.{GoesInPace}
 use Rattle.run_counts.specs.Stages.{Stage, turn_task, is_turn, is_running, unseen, spanned, charged, stage, run_stages}
 use Rattle.run_counts.specs.OwnCounts.{IsOwn, unowned, IsShared, RunsShareCounts}

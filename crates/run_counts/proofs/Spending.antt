@@ -3,7 +3,7 @@ use Rattle.std.proofs.Common.{◌≡◌, ◌∙◌, ℕ, ◌+◌, ◌<◌, ◌�
 use Rattle.std.proofs.lemmas.List.{append_assoc}
 use Rattle.sloth_base.specs.declared.config.Config.{Config}
 use Rattle.sloth_base.specs.declared.app.App.{App}
-use Rattle.sloth_base.specs.declared.event.Stamped.{Stamped}
+use Rattle.sloth_base.specs.declared.service.Stamped.{Stamped}
 use Rattle.osek_scheduler.specs.State.{System, opening}
 use Rattle.osek_scheduler.specs.Runs.{AreStepsTo, OsekRun}
 use Rattle.osek_scheduler.specs.Steps.{OsekStep}
@@ -17,15 +17,15 @@ use Rattle.osek_blocking.specs.Blocking.{events_up_to_entry, IsBlockedBy, MakesR
 use Rattle.osek_blocking.proofs.Effects.{IsReady, Ordered}
 use Rattle.osek_blocking.proofs.Once.{block_once}
 use Rattle.osek_blocking.proofs.Ordering.{step_ordered, opening_ordered, leads_ordered}
-use Rattle.raised_sections.specs.Pace.{last_count}
-use Rattle.raised_sections.specs.Sections.{IsLower}
-use Rattle.raised_sections.specs.Kept.{lower_events}
-use Rattle.raised_sections.specs.Spent.{spent_counts}
-use Rattle.raised_sections.proofs.FrameEffects.{frame_effect, leads_placed}
-use Rattle.raised_sections.proofs.Placed.{Placed, step_placed, opening_placed}
+use Rattle.osek_blocking.specs.Pace.{last_count}
+use Rattle.osek_blocking.specs.Sections.{IsLower}
+use Rattle.osek_blocking.specs.Kept.{lower_events}
+use Rattle.osek_blocking.specs.Spent.{spent_counts}
+use Rattle.osek_blocking.proofs.FrameEffects.{frame_effect, leads_placed}
+use Rattle.osek_blocking.proofs.Placed.{Placed, step_placed, opening_placed}
 use Rattle.bound_rules.specs.declared.weights.BodyWeights.{BodyWeights}
 use Rattle.bound_rules.specs.Weights.{going_weight}
-use Rattle.event_weights.specs.Pace.{ItemSizes}
+use Rattle.sim_induction.specs.Pace.{ItemSizes}
 use Rattle.sim_induction.specs.Paced.{ArePacedTo, KeepsPace}
 use Rattle.sim_induction.proofs.Pacing.{last-append}
 use Rattle.run_counts.specs.Spending.{WeighsItems, NoSumIsAbove, RunsSpendOnLower, RunsSpendNothing}

@@ -4,9 +4,9 @@ use Rattle.std.specs.List.{AllByRecursion}
 use Rattle.std.proofs.lemmas.Bool.{cases_Bool, false≢true, or_cases, eqb-true, and_parts}
 use Rattle.sloth_base.specs.declared.config.Config.{Config}
 use Rattle.sloth_base.specs.declared.app.App.{App}
-use Rattle.sloth_base.specs.declared.event.Event.{Event}
-use Rattle.sloth_base.specs.declared.event.Event.TheVariants as event
-use Rattle.sloth_base.specs.declared.event.Stamped.{Stamped}
+use Rattle.sloth_base.specs.declared.service.Event.{Event}
+use Rattle.sloth_base.specs.declared.service.Event.TheVariants as event
+use Rattle.sloth_base.specs.declared.service.Stamped.{Stamped}
 use Rattle.sloth_base.specs.declared.service.Service.TheVariants as service
 use Rattle.sloth_base.specs.Events.{admitted_line, is_boot}
 use Rattle.sloth_base.specs.ServiceCodes.{is_service}
@@ -18,9 +18,9 @@ use Rattle.osek_scheduler.specs.Steps.{OsekStep}
 use Rattle.osek_scheduler.specs.Valid.{IsValid}
 use Rattle.osek_scheduler.proofs.Facts.{Facts, facts}
 use Rattle.osek_scheduler.proofs.Steps.{step_valid}
-use Rattle.raised_sections.specs.Pace.{takes_line}
+use Rattle.osek_blocking.specs.Pace.{takes_line}
 use Rattle.bound_rules.specs.declared.weights.BodyWeights.{BodyWeights}
-use Rattle.event_weights.specs.Pace.{ItemSizes, paced_counts}
+use Rattle.sim_induction.specs.Pace.{ItemSizes, paced_counts}
 use Rattle.sim_induction.specs.Spent.{front_counts, spent_behind, SpendsWithin, AreSpentTo}
 use Rattle.sim_induction.proofs.Spending.{none_left, none_entered}
 use Rattle.run_counts.specs.Stages.{Stage, is_turn, is_entry, is_running, unseen, own, charged, end_of, stage, stages}

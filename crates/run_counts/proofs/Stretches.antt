@@ -3,8 +3,8 @@ use Rattle.std.proofs.Common.{◌≡◌, ℕ, ◌+◌, ◌<◌, ◌≤◌, List,
 use Rattle.std.proofs.lemmas.Bool.{true≢false}
 use Rattle.sloth_base.specs.declared.config.Config.{Config}
 use Rattle.sloth_base.specs.declared.app.App.{App}
-use Rattle.sloth_base.specs.declared.event.Event.{Event}
-use Rattle.sloth_base.specs.declared.event.Event.TheVariants as event
+use Rattle.sloth_base.specs.declared.service.Event.{Event}
+use Rattle.sloth_base.specs.declared.service.Event.TheVariants as event
 use Rattle.sloth_base.specs.Events.{is_boot}
 use Rattle.code_lengths.specs.LongestPaths.{tick_path}
 use Rattle.osek_scheduler.specs.State.{Frame, System, task}
@@ -12,8 +12,8 @@ use Rattle.osek_scheduler.specs.Steps.{OsekStep}
 use Rattle.osek_scheduler.proofs.Facts.{Facts}
 use Rattle.bound_rules.specs.declared.weights.BodyWeights.{BodyWeights}
 use Rattle.bound_rules.specs.Weights.{ending_weight}
-use Rattle.event_weights.specs.Events.{has_frames, left_counts, call_counts, enter_counts, stretch_counts}
-use Rattle.event_weights.specs.Pace.{ItemSizes, next_size_of}
+use Rattle.sim_induction.specs.Events.{has_frames, left_counts, call_counts, enter_counts, stretch_counts}
+use Rattle.sim_induction.specs.Pace.{ItemSizes, next_size_of}
 use Rattle.sim_induction.specs.Paced.{AreStretchesWithin}
 use Rattle.run_counts.specs.Spending.{WeighsItems}
 use Rattle.run_counts.specs.Rounds.{next_going, next_ending, WeighsEndings}

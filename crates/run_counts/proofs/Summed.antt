@@ -5,9 +5,9 @@ use Rattle.std.specs.List.{AllByRecursion}
 use Rattle.std.proofs.lemmas.Bool.{true≢false, cases_Bool, cond-true, lt-ltb}
 use Rattle.sloth_base.specs.declared.config.Config.{Config}
 use Rattle.sloth_base.specs.declared.app.App.{App}
-use Rattle.sloth_base.specs.declared.event.Event.{Event}
-use Rattle.sloth_base.specs.declared.event.Event.TheVariants as event
-use Rattle.sloth_base.specs.declared.event.Stamped.{Stamped}
+use Rattle.sloth_base.specs.declared.service.Event.{Event}
+use Rattle.sloth_base.specs.declared.service.Event.TheVariants as event
+use Rattle.sloth_base.specs.declared.service.Stamped.{Stamped}
 use Rattle.sloth_base.specs.Events.{working_task}
 use Rattle.code_rules.specs.Code.{is_in}
 use Rattle.osek_scheduler.specs.State.{System, task}
@@ -19,21 +19,21 @@ use Rattle.osek_blocking.specs.Blocking.{is_entry_of, events_up_to_entry, IsRais
 use Rattle.osek_blocking.proofs.Effects.{Effect}
 use Rattle.osek_blocking.proofs.Ordering.{effect}
 use Rattle.osek_blocking.proofs.Once.{stays_out}
-use Rattle.raised_sections.specs.Walks.{Position, IsPositionStep, IsPositionStepTo, AreConsecutive, IsWalk}
-use Rattle.raised_sections.specs.Sections.{priority_at, operation_at, is_schedule, OnlyLastSchedules, IsSection}
-use Rattle.raised_sections.specs.Kept.{is_lower}
-use Rattle.raised_sections.specs.Spent.{spent_counts}
-use Rattle.raised_sections.proofs.Frames.{SameFrames}
-use Rattle.raised_sections.proofs.Stepping.{position_of}
-use Rattle.raised_sections.proofs.Raised.{at_position}
-use Rattle.raised_sections.proofs.Reached.{IsReached, walk_on}
-use Rattle.raised_sections.proofs.Placed.{Advances}
-use Rattle.raised_sections.proofs.Window.{LowerPair, Waits, Rests, View, works, departs, keeps, view, Blocked, goes, Onward, onward, rests_all}
+use Rattle.osek_blocking.specs.Walks.{Position, IsPositionStep, IsPositionStepTo, AreConsecutive, IsWalk}
+use Rattle.osek_blocking.specs.Sections.{priority_at, operation_at, is_schedule, OnlyLastSchedules, IsSection}
+use Rattle.osek_blocking.specs.Kept.{is_lower}
+use Rattle.osek_blocking.specs.Spent.{spent_counts}
+use Rattle.osek_blocking.proofs.Frames.{SameFrames}
+use Rattle.osek_blocking.proofs.Stepping.{position_of}
+use Rattle.osek_blocking.proofs.Raised.{at_position}
+use Rattle.osek_blocking.proofs.Reached.{IsReached, walk_on}
+use Rattle.osek_blocking.proofs.Placed.{Advances}
+use Rattle.osek_blocking.proofs.Window.{LowerPair, Waits, Rests, View, works, departs, keeps, view, Blocked, goes, Onward, onward, rests_all}
 use Rattle.bound_rules.specs.declared.weights.BodyWeights.{BodyWeights}
 use Rattle.bound_rules.specs.Weights.{going_weight}
 use Rattle.walk_sums.specs.Weights.{going_at, ending_at, sum_of}
 use Rattle.walk_sums.specs.Told.{NoneIsAbove}
-use Rattle.event_weights.specs.Pace.{ItemSizes}
+use Rattle.sim_induction.specs.Pace.{ItemSizes}
 use Rattle.sim_induction.specs.Paced.{ArePacedTo}
 use Rattle.run_counts.specs.Spending.{WeighsItems}
 use Rattle.run_counts.proofs.Weighed.{paced_leads, spent_none, spends_at_most}

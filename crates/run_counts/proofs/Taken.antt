@@ -4,9 +4,9 @@ use Rattle.std.specs.Prelude.{◌≢◌}
 use Rattle.std.proofs.lemmas.Bool.{true≢false, false≢true, cases_Bool, cases_lt, cond_both, cond-true, lt-ltb}
 use Rattle.sloth_base.specs.declared.config.Config.{Config}
 use Rattle.sloth_base.specs.declared.app.App.{App}
-use Rattle.sloth_base.specs.declared.event.Event.{Event}
-use Rattle.sloth_base.specs.declared.event.Event.TheVariants as event
-use Rattle.sloth_base.specs.declared.event.Stamped.{Stamped}
+use Rattle.sloth_base.specs.declared.service.Event.{Event}
+use Rattle.sloth_base.specs.declared.service.Event.TheVariants as event
+use Rattle.sloth_base.specs.declared.service.Stamped.{Stamped}
 use Rattle.sloth_base.specs.Events.{admitted_line, is_boot, working_task}
 use Rattle.code_rules.specs.Code.{is_in}
 use Rattle.osek_scheduler.specs.State.{Frame, System, task}
@@ -16,19 +16,19 @@ use Rattle.osek_scheduler.specs.Apart.{static_priority, IsActive}
 use Rattle.osek_scheduler.proofs.Facts.{Facts}
 use Rattle.osek_blocking.specs.Blocking.{is_entry_of, events_up_to_entry, IsRaisedTo}
 use Rattle.osek_blocking.proofs.Once.{Blocks, BlocksAlone, blocker, called}
-use Rattle.raised_sections.specs.Walks.{Position}
-use Rattle.raised_sections.specs.Sections.{IsLower}
-use Rattle.raised_sections.proofs.Frames.{SameFrames, KeepsFrames}
-use Rattle.raised_sections.proofs.FrameEffects.{frame_effect}
-use Rattle.raised_sections.proofs.Placed.{FrameEffect}
-use Rattle.raised_sections.proofs.Raised.{at_position}
-use Rattle.raised_sections.proofs.Reached.{IsReached}
-use Rattle.raised_sections.proofs.Stepping.{position_of}
-use Rattle.raised_sections.proofs.Window.{LowerPair, Waits}
+use Rattle.osek_blocking.specs.Walks.{Position}
+use Rattle.osek_blocking.specs.Sections.{IsLower}
+use Rattle.osek_blocking.proofs.Frames.{SameFrames, KeepsFrames}
+use Rattle.osek_blocking.proofs.FrameEffects.{frame_effect}
+use Rattle.osek_blocking.proofs.Placed.{FrameEffect}
+use Rattle.osek_blocking.proofs.Raised.{at_position}
+use Rattle.osek_blocking.proofs.Reached.{IsReached}
+use Rattle.osek_blocking.proofs.Stepping.{position_of}
+use Rattle.osek_blocking.proofs.Window.{LowerPair, Waits}
 use Rattle.bound_rules.specs.declared.weights.BodyWeights.{BodyWeights}
 use Rattle.bound_rules.specs.Weights.{going_weight, ending_weight}
 use Rattle.walk_sums.specs.Weights.{ending_at}
-use Rattle.event_weights.specs.Pace.{ItemSizes, paced_counts}
+use Rattle.sim_induction.specs.Pace.{ItemSizes, paced_counts}
 use Rattle.sim_induction.specs.Paced.{GoesInPace, ArePacedTo}
 use Rattle.run_counts.specs.EntryLatency.{IsHighest, is_tick}
 use Rattle.run_counts.proofs.Awaiting.{Awaits, is_outside, next_awaits}

@@ -3,14 +3,14 @@ use Rattle.std.proofs.Common.{◌≡◌, ℕ, ◌⊎◌, true, false, Some, None
 use Rattle.std.proofs.lemmas.Bool.{cases_eq, eq-eqb, ne_eqb, eqb-false}
 use Rattle.sloth_base.specs.declared.config.Config.{Config}
 use Rattle.sloth_base.specs.declared.app.App.{App}
-use Rattle.sloth_base.specs.declared.event.Event.{Event}
-use Rattle.sloth_base.specs.declared.event.Event.TheVariants as event
+use Rattle.sloth_base.specs.declared.service.Event.{Event}
+use Rattle.sloth_base.specs.declared.service.Event.TheVariants as event
 use Rattle.sloth_base.specs.Events.{served_task}
 use Rattle.osek_scheduler.specs.State.{System, task}
 use Rattle.osek_scheduler.proofs.Apart.{Same}
 use Rattle.osek_blocking.proofs.Effects.{IsReady, Enters, Works, Calls, Effect}
-use Rattle.raised_sections.proofs.Frames.{SameFrames}
-use Rattle.raised_sections.proofs.Placed.{FrameEffect}
+use Rattle.osek_blocking.proofs.Frames.{SameFrames}
+use Rattle.osek_blocking.proofs.Placed.{FrameEffect}
 use Rattle.run_counts.specs.Stages.{is_turn, is_entry}
 
 module _ (config : Config) (s next : System) (t : ℕ) where

@@ -4,8 +4,8 @@ use Rattle.std.specs.Prelude.{◌≢◌}
 use Rattle.std.proofs.lemmas.Bool.{cases_Bool, eqb-false, false≢true}
 use Rattle.sloth_base.specs.declared.config.Config.{Config}
 use Rattle.sloth_base.specs.declared.app.App.{App}
-use Rattle.sloth_base.specs.declared.event.Event.{Event}
-use Rattle.sloth_base.specs.declared.event.Event.TheVariants as event
+use Rattle.sloth_base.specs.declared.service.Event.{Event}
+use Rattle.sloth_base.specs.declared.service.Event.TheVariants as event
 use Rattle.sloth_base.specs.Named.{declaration}
 use Rattle.sloth_base.specs.Events.{is_boot}
 use Rattle.osek_scheduler.specs.declared.state.TaskState.TheVariants as mode
@@ -22,11 +22,11 @@ use Rattle.osek_blocking.specs.Blocking.{is_entry_of, IsRaisedTo}
 use Rattle.osek_blocking.proofs.Effects.{IsReady, Calls, Effect}
 use Rattle.osek_blocking.proofs.Ordering.{effect}
 use Rattle.osek_blocking.proofs.Once.{Blocks}
-use Rattle.raised_sections.specs.Sections.{IsLower}
-use Rattle.raised_sections.proofs.Raised.{owing}
-use Rattle.raised_sections.proofs.Placed.{Advances, FrameEffect}
-use Rattle.raised_sections.proofs.FrameEffects.{frame_effect}
-use Rattle.raised_sections.specs.Pace.{takes_line}
+use Rattle.osek_blocking.specs.Sections.{IsLower}
+use Rattle.osek_blocking.proofs.Raised.{owing}
+use Rattle.osek_blocking.proofs.Placed.{Advances, FrameEffect}
+use Rattle.osek_blocking.proofs.FrameEffects.{frame_effect}
+use Rattle.osek_blocking.specs.Pace.{takes_line}
 use Rattle.run_counts.specs.EntryLatency.{IsHighest, is_tick}
 use Rattle.run_counts.proofs.Awaiting.{Awaits, is_outside, clash, next_awaits, outside}
 

@@ -4,8 +4,8 @@ use Rattle.std.specs.List.{AllByRecursion}
 use Rattle.std.proofs.lemmas.Bool.{cond_both, cond-true, cases_lt, cases_Bool, lt-ltb}
 use Rattle.sloth_base.specs.declared.config.Config.{Config}
 use Rattle.sloth_base.specs.declared.app.App.{App}
-use Rattle.sloth_base.specs.declared.event.Event.{Event}
-use Rattle.sloth_base.specs.declared.event.Stamped.{Stamped}
+use Rattle.sloth_base.specs.declared.service.Event.{Event}
+use Rattle.sloth_base.specs.declared.service.Stamped.{Stamped}
 use Rattle.sloth_base.specs.Named.{declaration}
 use Rattle.sloth_base.specs.Events.{is_boot}
 use Rattle.osek_scheduler.specs.State.{System, task}
@@ -18,11 +18,11 @@ use Rattle.sloth_base.specs.Events.{working_task}
 use Rattle.osek_blocking.specs.Blocking.{is_entry_of, events_up_to_entry, IsRaisedTo, FindsFresh, IsBlockedBy}
 use Rattle.osek_blocking.proofs.Ordering.{effect}
 use Rattle.osek_blocking.proofs.Once.{Blocks, BlocksAlone, blocker, at_top, old, at_work, called, stays_out}
-use Rattle.raised_sections.specs.Sections.{IsLower, IsBound, lowest, above, NoneIsLarger}
-use Rattle.raised_sections.specs.Kept.{is_lower, lower_events}
-use Rattle.raised_sections.proofs.Window.{LowerPair, Waits, blocked_next}
-use Rattle.raised_sections.proofs.Sectioned.{Found, in_front, found_all, within}
-use Rattle.raised_sections.specs.Pace.{takes_line}
+use Rattle.osek_blocking.specs.Sections.{IsLower, IsBound, lowest, above, NoneIsLarger}
+use Rattle.osek_blocking.specs.Kept.{is_lower, lower_events}
+use Rattle.osek_blocking.proofs.Window.{LowerPair, Waits, blocked_next}
+use Rattle.osek_blocking.proofs.Sectioned.{Found, in_front, found_all, within}
+use Rattle.osek_blocking.specs.Pace.{takes_line}
 use Rattle.run_counts.specs.EntryLatency.{IsHighest, is_tick}
 use Rattle.run_counts.proofs.Turns.{Working, Leaving, Turn, turn_outside, turn_work, turn_leave, turn, raised_non, leaves_non}
 use Rattle.run_counts.proofs.Awaiting.{Awaits, is_outside, next_awaits}

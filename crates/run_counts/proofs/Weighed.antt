@@ -4,9 +4,9 @@ use Rattle.std.proofs.lemmas.Bool.{cases_Bool}
 use Rattle.std.proofs.lemmas.Option.{same_Some}
 use Rattle.sloth_base.specs.declared.config.Config.{Config}
 use Rattle.sloth_base.specs.declared.app.App.{App}
-use Rattle.sloth_base.specs.declared.event.Event.{Event}
-use Rattle.sloth_base.specs.declared.event.Event.TheVariants as event
-use Rattle.sloth_base.specs.declared.event.Stamped.{Stamped}
+use Rattle.sloth_base.specs.declared.service.Event.{Event}
+use Rattle.sloth_base.specs.declared.service.Event.TheVariants as event
+use Rattle.sloth_base.specs.declared.service.Stamped.{Stamped}
 use Rattle.sloth_base.specs.declared.service.Service.{Service}
 use Rattle.sloth_base.specs.declared.service.Service.TheVariants as service
 use Rattle.sloth_base.specs.Events.{admitted_line, is_boot, working_task}
@@ -15,15 +15,15 @@ use Rattle.osek_scheduler.specs.State.{Frame, System, task}
 use Rattle.osek_scheduler.specs.InTime.{is_admit}
 use Rattle.osek_scheduler.specs.Steps.{OsekStep}
 use Rattle.osek_scheduler.specs.Runs.{AreStepsTo}
-use Rattle.raised_sections.specs.Kept.{is_lower, lower_events}
-use Rattle.raised_sections.specs.Spent.{spent_counts}
-use Rattle.raised_sections.proofs.Stepping.{position_of}
+use Rattle.osek_blocking.specs.Kept.{is_lower, lower_events}
+use Rattle.osek_blocking.specs.Spent.{spent_counts}
+use Rattle.osek_blocking.proofs.Stepping.{position_of}
 use Rattle.bound_rules.specs.declared.weights.BodyWeights.{BodyWeights}
 use Rattle.bound_rules.specs.Weights.{going_weight}
 use Rattle.walk_sums.specs.Weights.{going_at}
-use Rattle.event_weights.specs.Events.{call_counts}
-use Rattle.event_weights.specs.Items.{served_counts, going_counts}
-use Rattle.event_weights.specs.Pace.{ItemSizes, next_size, next_size_of, paced_counts}
+use Rattle.sim_induction.specs.Events.{call_counts}
+use Rattle.sim_induction.specs.Items.{served_counts, going_counts}
+use Rattle.sim_induction.specs.Pace.{ItemSizes, next_size, next_size_of, paced_counts}
 use Rattle.sim_induction.specs.Paced.{GoesInPace, ArePacedTo}
 use Rattle.run_counts.specs.Spending.{WeighsItems}
 

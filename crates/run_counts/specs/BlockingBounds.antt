@@ -3,13 +3,13 @@ use Rattle.std.specs.Prelude.{ℕ, List}
 use Rattle.std.specs.List.{AllByRecursion}
 use Rattle.sloth_base.specs.declared.config.Config.{Config}
 use Rattle.sloth_base.specs.declared.app.App.{App}
-use Rattle.sloth_base.specs.declared.event.Arrival.{Arrival}
-use Rattle.sloth_base.specs.declared.event.Stamped.{Stamped}
+use Rattle.sloth_base.specs.declared.service.Arrival.{Arrival}
+use Rattle.sloth_base.specs.declared.service.Stamped.{Stamped}
 use Rattle.sloth_base.specs.declared.image.Image.{Image}
 use Rattle.code_rules.specs.WellFormed.{WellFormed}
 use Rattle.sim_induction.specs.Sound.{IsSoundRun, events_of}
-use Rattle.raised_sections.specs.Kept.{KeepsBounds}
-use Rattle.raised_sections.specs.Spent.{KeepsCounts}
+use Rattle.osek_blocking.specs.Kept.{KeepsBounds}
+use Rattle.osek_blocking.specs.Spent.{KeepsCounts}
 use Rattle.run_counts.specs.EntryLatency.{IsShortTick, EntersInTime}
 
 -- The events of n instructions keep the blocking bounds of their tasks.

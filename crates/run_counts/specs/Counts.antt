@@ -5,7 +5,7 @@ use Rattle.sloth_base.specs.declared.app.Func.{Func}
 use Rattle.sloth_base.specs.Named.{function, item_of}
 use Rattle.bound_rules.specs.declared.weights.BodyWeights.{BodyWeights}
 use Rattle.bound_rules.specs.Weights.{no_weights}
-use Rattle.event_weights.specs.Items.{length_of, AreLengths, going_counts, ending_counts}
+use Rattle.sim_induction.specs.Items.{length_of, AreLengths, going_counts, ending_counts}
 
 -- the counts of the items of function f, by the lengths of items
 pub record AreBodyCounts (lengths : List (List ℕ)) (f : ℕ) (func : Func) (weights : BodyWeights) : Type 0 where

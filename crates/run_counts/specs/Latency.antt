@@ -3,9 +3,9 @@ use Rattle.std.specs.Prelude.{ℕ, ◌+◌, ◌<◌, ◌≤◌, ◌≡◌, ◌�
 use Rattle.std.specs.List.{AllByRecursion}
 use Rattle.sloth_base.specs.declared.config.Config.{Config}
 use Rattle.sloth_base.specs.declared.app.App.{App}
-use Rattle.sloth_base.specs.declared.event.Event.{Event}
-use Rattle.sloth_base.specs.declared.event.Event.TheVariants as event
-use Rattle.sloth_base.specs.declared.event.Stamped.{Stamped}
+use Rattle.sloth_base.specs.declared.service.Event.{Event}
+use Rattle.sloth_base.specs.declared.service.Event.TheVariants as event
+use Rattle.sloth_base.specs.declared.service.Stamped.{Stamped}
 use Rattle.sloth_base.specs.Events.{is_boot}
 use Rattle.code_lengths.specs.LongestPaths.{tick_path}
 use Rattle.code_rules.specs.WellFormed.{WellFormed}
@@ -15,14 +15,14 @@ use Rattle.osek_scheduler.specs.Runs.{AreStepsTo, OsekRun}
 use Rattle.osek_blocking.specs.Blocking.{events_up_to_entry, MakesReady}
 use Rattle.bound_rules.specs.declared.weights.BodyWeights.{BodyWeights}
 use Rattle.bound_rules.specs.Weights.{going_weight, ending_weight}
-use Rattle.event_weights.specs.Events.{enter_counts}
-use Rattle.event_weights.specs.Pace.{ItemSizes}
+use Rattle.sim_induction.specs.Events.{enter_counts}
+use Rattle.sim_induction.specs.Pace.{ItemSizes}
 use Rattle.sim_induction.specs.Paced.{AreStretchesWithin, KeepsPace}
 use Rattle.sim_induction.specs.Weighed.{AreWithinWeights}
 use Rattle.run_counts.specs.EntryLatency.{IsHighest, EntersBefore}
 use Rattle.run_counts.specs.Spending.{NoSumIsAbove, NoneIsLower, WeighsItems}
 use Rattle.run_counts.specs.Rounds.{WeighsEndings}
-use Rattle.sloth_base.specs.declared.event.Arrival.{Arrival}
+use Rattle.sloth_base.specs.declared.service.Arrival.{Arrival}
 
 -- ---- ticks
 

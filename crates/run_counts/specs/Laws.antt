@@ -3,11 +3,11 @@ use Rattle.std.specs.Prelude.{ℕ, ◌≤◌, ◌≡◌, List, false}
 use Rattle.std.specs.List.{AllByRecursion}
 use Rattle.sloth_base.specs.declared.config.Config.{Config}
 use Rattle.sloth_base.specs.declared.app.App.{App}
-use Rattle.sloth_base.specs.declared.event.Stamped.{Stamped}
+use Rattle.sloth_base.specs.declared.service.Stamped.{Stamped}
 use Rattle.sloth_base.specs.Events.{is_boot}
 use Rattle.osek_scheduler.specs.InTime.{is_admit}
 use Rattle.osek_scheduler.specs.Runs.{OsekRun}
-use Rattle.event_weights.specs.Pace.{ItemSizes, paced_counts}
+use Rattle.sim_induction.specs.Pace.{ItemSizes, paced_counts}
 use Rattle.sim_induction.specs.Paced.{KeepsPace}
 use Rattle.run_counts.specs.Stages.{Stage, charged, run_stages}
 

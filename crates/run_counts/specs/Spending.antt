@@ -3,19 +3,19 @@ use Rattle.std.specs.Prelude.{ℕ, ◌+◌, ◌<◌, ◌≤◌, ◌≡◌, List,
 use Rattle.sloth_base.specs.Named.{function, operation}
 use Rattle.sloth_base.specs.declared.config.Config.{Config}
 use Rattle.sloth_base.specs.declared.app.App.{App}
-use Rattle.sloth_base.specs.declared.event.Stamped.{Stamped}
+use Rattle.sloth_base.specs.declared.service.Stamped.{Stamped}
 use Rattle.code_rules.specs.WellFormed.{WellFormed}
 use Rattle.osek_scheduler.specs.State.{System, opening}
 use Rattle.osek_scheduler.specs.Runs.{AreStepsTo, OsekRun}
 use Rattle.osek_blocking.specs.Blocking.{events_up_to_entry, MakesReady}
-use Rattle.raised_sections.specs.Pace.{last_count}
-use Rattle.raised_sections.specs.Sections.{IsSection, IsLower}
-use Rattle.raised_sections.specs.Spent.{spent_counts}
+use Rattle.osek_blocking.specs.Pace.{last_count}
+use Rattle.osek_blocking.specs.Sections.{IsSection, IsLower}
+use Rattle.osek_blocking.specs.Spent.{spent_counts}
 use Rattle.bound_rules.specs.declared.weights.BodyWeights.{BodyWeights}
 use Rattle.bound_rules.specs.Weights.{going_weight, ending_weight}
 use Rattle.walk_sums.specs.Told.{NoneIsAbove}
-use Rattle.event_weights.specs.Items.{going_counts}
-use Rattle.event_weights.specs.Pace.{ItemSizes}
+use Rattle.sim_induction.specs.Items.{going_counts}
+use Rattle.sim_induction.specs.Pace.{ItemSizes}
 use Rattle.sim_induction.specs.Paced.{KeepsPace}
 
 -- an item weighs at least its instructions and what its service takes, and where a section ends with it no less

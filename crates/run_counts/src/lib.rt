@@ -10,8 +10,8 @@
 //! The bounds of raised sections over the runs of an image (`sound_runs_keep_blocking_bounds`): each event but boot
 //! ends at most 200 counts after the one before it, and one that begins with the taking of a line at most 40 and its
 //! own (`proofs/PacedRun`, `specs/BlockingBounds`). The latency of the task of highest priority: `specs/EntryLatency`.
-//! The counts of items as weights: `count_weights`, `weights_by` (`specs/Counts`). Sums: `walk_sums`; pace:
-//! `event_weights`; the promise of every run: `sim_induction`.
+//! The counts of items as weights: `count_weights`, `weights_by` (`specs/Counts`). Sums: `walk_sums`; pace and
+//! the promise of every run: `sim_induction`.
 #![tactic(auto)]
 
 pub mod blocking_laws;

@@ -2,12 +2,12 @@
 ghost use Rattle.std.specs.Prelude.{◌≡◌, ◌≤◌, ◌<◌, ◌+◌, ℕ, length, get_or, IfOk};
 ghost use Rattle.sloth_base.specs.Named.{item_of};
 ghost use Rattle.code_rules.specs.AppRange.{IsTaskCode};
-ghost use Rattle.event_weights.specs.Items.{length_of, going_counts, ending_counts};
+ghost use Rattle.sim_induction.specs.Items.{length_of, going_counts, ending_counts};
 ghost use Rattle.walk_sums.specs.Weights.{AreWeights};
 ghost use Rattle.run_counts.specs.Counts.{AreBodyCounts, AreCountsBy, AreCounts};
 
 use bound_rules::BodyWeights;
-use event_weights::{ItemLengths, ending_counts, going_counts, length_of, lengths};
+use sim_induction::{ItemLengths, ending_counts, going_counts, length_of, lengths};
 use sloth_base::{App, Func, List, Result};
 use std::alloc::Global;
 use text_pieces::push;

@@ -2,10 +2,10 @@
 use Rattle.std.proofs.Common.{◌≡◌, ◌+◌, inl, inr, ℕ, List, [], ap, subst, length}
 use Rattle.sloth_base.specs.declared.app.App.{App}
 use Rattle.sloth_base.specs.declared.config.Config.{Config}
-use Rattle.sloth_base.specs.declared.event.Arrival.{Arrival}
+use Rattle.sloth_base.specs.declared.service.Arrival.{Arrival}
 use Rattle.sloth_base.specs.declared.refusal.Part.TheVariants.{Arr}
 use Rattle.sloth_base.specs.declared.refusal.Refusal.{Refusal}
-use Rattle.least_fault.specs.Order.{IsLeast, NoFault}
+use Rattle.sloth_base.specs.Order.{IsLeast, NoFault}
 use Rattle.sloth_source.specs.Texts.{AreAccepted}
 use Rattle.sloth_source.proofs.Least.{one_least, of_some}
 use Rattle.sloth_source.proofs.Refusals.{one_refusal}

@@ -1,11 +1,11 @@
 -- What is read for a run of an image file: the image, and the arrivals.
 use Rattle.std.specs.Prelude.{ℕ, ◌≡◌, List}
-use Rattle.sloth_base.specs.declared.event.Arrival.{Arrival}
+use Rattle.sloth_base.specs.declared.service.Arrival.{Arrival}
 use Rattle.sloth_base.specs.declared.image.Image.{Image}
 use Rattle.sloth_base.specs.declared.refusal.BuildError.{BuildError}
 use Rattle.sloth_base.specs.declared.refusal.BuildError.TheVariants as error
 use Rattle.sloth_base.specs.declared.refusal.Refusal.{Refusal}
-use Rattle.least_fault.specs.Order.{IsLeast, NoFault}
+use Rattle.sloth_base.specs.Order.{IsLeast, NoFault}
 use Rattle.image_file.specs.ImageText.{ImageText}
 use Rattle.image_file.specs.Faults.{IsFirstImageFault}
 use Rattle.image_file.specs.declared.fault.ImageFault.{ImageFault}

@@ -3,7 +3,7 @@ ghost use Rattle.std.specs.Prelude.{◌<◌, IfOk, IfErr, length};
 ghost use Rattle.sloth_base.specs.Arrivals.{AreArrivals};
 ghost use Rattle.sloth_base.specs.Owners.{owners_in};
 ghost use Rattle.code_rules.specs.WellFormed.{WellFormed};
-ghost use Rattle.least_fault.specs.Order.{ErrorIs};
+ghost use Rattle.sloth_base.specs.Order.{ErrorIs};
 ghost use Rattle.trace_text.specs.ArrivalsText.{ArrivalsFault};
 ghost use Rattle.sloth_source.specs.Texts.{AreAccepted};
 ghost use Rattle.run_inputs.specs.Inputs.{AreArrivalsOf, InputsErrorIs};

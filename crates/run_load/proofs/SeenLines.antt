@@ -3,10 +3,10 @@ use Rattle.std.proofs.Common.{◌≡◌, ◌∙◌, ℕ, ◌+◌, Bool, true, fa
 use Rattle.std.proofs.Math.Numerals.{add-one}
 use Rattle.sloth_base.specs.declared.config.Config.{Config}
 use Rattle.sloth_base.specs.declared.app.App.{App}
-use Rattle.sloth_base.specs.declared.event.Stamped.{Stamped}
-use Rattle.load_text.specs.declared.entry.Entry.{Entry}
+use Rattle.sloth_base.specs.declared.service.Stamped.{Stamped}
+use Rattle.load_text.specs.declared.load_line.Entry.{Entry}
 use Rattle.load_text.specs.Loads.{work}
-use Rattle.response_text.specs.declared.told.Response.{Response}
+use Rattle.response_text.specs.declared.task_text.Response.{Response}
 use Rattle.response_text.specs.Lines.{response_at}
 use Rattle.run_load.specs.RunLines.{seen_line, seen_lines, tick_line, tick_lines}
 use Rattle.run_load.specs.Seen.{longest_seen}

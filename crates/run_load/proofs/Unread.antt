@@ -5,9 +5,9 @@ use Rattle.sloth_base.specs.declared.config.Config.{Config}
 use Rattle.sloth_base.specs.declared.refusal.BuildError.{BuildError}
 use Rattle.sloth_base.specs.declared.refusal.BuildError.TheVariants as error
 use Rattle.sloth_base.specs.DeclaredNames.{task_names, counter_names}
-use Rattle.least_fault.specs.Order.{ErrorIs}
+use Rattle.sloth_base.specs.Order.{ErrorIs}
 use Rattle.sloth_source.specs.Texts.{AreAccepted, SourcesErrorIs}
-use Rattle.load_text.specs.declared.entry.Entry.{Entry}
+use Rattle.load_text.specs.declared.load_line.Entry.{Entry}
 use Rattle.load_text.specs.LoadText.{LoadFault}
 use Rattle.trace_text.specs.ArrivalsText.{ArrivalsFault}
 use Rattle.response_text.specs.Inputs.{IsLoadOf}

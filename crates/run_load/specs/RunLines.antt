@@ -2,15 +2,15 @@
 use Rattle.std.specs.Prelude.{ℕ, zero, suc, ◌-◌, ◌&&◌, leb, Bool, true, false, cond, List, [], ◌++◌, codes, decimal, length, is_none, is_some, Option, Some, None}
 use Rattle.sloth_base.specs.declared.config.Config.{Config}
 use Rattle.sloth_base.specs.declared.app.App.{App}
-use Rattle.sloth_base.specs.declared.event.Arrival.{Arrival}
-use Rattle.sloth_base.specs.declared.event.Stamped.{Stamped}
+use Rattle.sloth_base.specs.declared.service.Arrival.{Arrival}
+use Rattle.sloth_base.specs.declared.service.Stamped.{Stamped}
 use Rattle.sloth_base.specs.Named.{declaration, counter_declaration}
 use Rattle.sloth_base.specs.Owners.{first_counter_line, counter_line}
-use Rattle.load_text.specs.declared.entry.Entry.{Entry}
+use Rattle.load_text.specs.declared.load_line.Entry.{Entry}
 use Rattle.load_text.specs.Loads.{distance}
 use Rattle.run_windows.specs.declared.costs.Costs.{Costs}
 use Rattle.run_windows.specs.Costs.{task}
-use Rattle.response_text.specs.declared.told.Response.{Response}
+use Rattle.response_text.specs.declared.task_text.Response.{Response}
 use Rattle.response_text.specs.Lines.{number_words, made_words, response_at}
 use Rattle.run_load.specs.declared.lines.ToldRun.{ToldRun}
 use Rattle.run_load.specs.declared.soon.EarlyArrival.{EarlyArrival}

@@ -1,11 +1,11 @@
 -- The first arrival that comes too soon for a load.
 use Rattle.std.specs.Prelude.{ℕ, ◌+◌, ◌-◌, ◌==◌, ◌&&◌, not, Bool, true, false, cond, ltb, List, [], ◌∷◌, length, replicate, set, get_or, Option, Some, None, unwrap_or}
 use Rattle.std.specs.Option.{option_map}
-use Rattle.sloth_base.specs.declared.event.Arrival.{Arrival}
+use Rattle.sloth_base.specs.declared.service.Arrival.{Arrival}
 use Rattle.sloth_base.specs.MemoryMap.{line_count}
 use Rattle.text_pieces.specs.Lines.{lines}
 use Rattle.trace_text.specs.ArrivalsText.{is_comment}
-use Rattle.load_text.specs.declared.entry.Entry.{Entry}
+use Rattle.load_text.specs.declared.load_line.Entry.{Entry}
 use Rattle.load_text.specs.Loads.{distance}
 use Rattle.run_load.specs.declared.soon.EarlyArrival.{EarlyArrival}
 

@@ -1,8 +1,8 @@
 -- How long ticks are seen to take in a run, from an arrival of their counter on.
 use Rattle.std.specs.Prelude.{ℕ, ◌+◌, ◌-◌, ◌==◌, ◌&&◌, ◌||◌, not, max, Bool, false, cond, List, [], ◌∷◌}
-use Rattle.sloth_base.specs.declared.event.Event.{Event}
-use Rattle.sloth_base.specs.declared.event.Event.TheVariants as event
-use Rattle.sloth_base.specs.declared.event.Stamped.{Stamped}
+use Rattle.sloth_base.specs.declared.service.Event.{Event}
+use Rattle.sloth_base.specs.declared.service.Event.TheVariants as event
+use Rattle.sloth_base.specs.declared.service.Stamped.{Stamped}
 use Rattle.sloth_base.specs.Options.{is_number}
 use Rattle.osek_scheduler.specs.InTime.{is_admit}
 use Rattle.response_laws.specs.Turns.{ticking_counter}

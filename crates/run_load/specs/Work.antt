@@ -2,9 +2,9 @@
 use Rattle.std.specs.Prelude.{ℕ, zero, suc, ◌+◌, ◌&&◌, Bool, false, cond, ltb, List, [], ◌∷◌, Option, Some, None, unwrap_or}
 use Rattle.sloth_base.specs.declared.config.Config.{Config}
 use Rattle.sloth_base.specs.declared.app.App.{App}
-use Rattle.sloth_base.specs.declared.event.Event.{Event}
-use Rattle.sloth_base.specs.declared.event.Stamped.{Stamped}
-use Rattle.load_text.specs.declared.entry.Entry.{Entry}
+use Rattle.sloth_base.specs.declared.service.Event.{Event}
+use Rattle.sloth_base.specs.declared.service.Stamped.{Stamped}
+use Rattle.load_text.specs.declared.load_line.Entry.{Entry}
 use Rattle.load_text.specs.Loads.{work}
 use Rattle.run_counts.specs.Stages.{is_entry}
 use Rattle.run_counts.specs.Rounds.{goes_on_waiting, is_left}

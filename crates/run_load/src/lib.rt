@@ -10,7 +10,6 @@
 
 pub mod lines;
 mod running;
-pub mod seen;
 pub mod soon;
 mod text;
 pub mod ticks;

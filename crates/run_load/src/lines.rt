@@ -1,26 +1,24 @@
-//! The lines of a run beside its load.
-ghost use Rattle.std.specs.Prelude.{List as Items};
-ghost use Rattle.std.specs.Prelude.{◌≡◌, ◌<◌, ◌++◌, ℕ, Some, true, false, length, IfOk, OnOk};
+//! The lines of a run beside its load. The longest responses that are seen in a run.
+ghost use Rattle.std.specs.Prelude.{List as Items, ◌≡◌, ◌<◌, ◌++◌, ℕ, Some, true, false, length, IfOk, OnOk, ◌&&◌, ◌||◌, cond};
 ghost use Rattle.sloth_base.specs.ConfigRange.{InRange};
 ghost use Rattle.sloth_base.specs.Named.{counter_declaration};
 ghost use Rattle.code_rules.specs.WellFormed.{WellFormed};
 ghost use Rattle.load_text.specs.Loads.{work};
 ghost use Rattle.response_text.specs.Lines.{number_words, made_words};
 ghost use Rattle.run_load.specs.RunLines.{owner_name, gap_words, arrivals_line, work_line, told_words, seen_line, seen_lines, tick_line, tick_lines, cuts_of, told_run};
-ghost use Rattle.run_load.specs.Seen.{longest_seen};
+ghost use Rattle.run_load.specs.Seen.{longest_seen, end_of_response, response, is_behind, longest};
 ghost use Rattle.run_load.specs.Soon.{line_at};
 ghost use Rattle.run_load.specs.Work.{above_limit, above_among};
 
-use crate::seen::longest;
 use crate::soon::{EarlyArrival, first_soon, line_number};
 use crate::ticks::longest_tick;
-use crate::watch::watch;
-use crate::work::{Excess, earlier, first_above};
+use crate::watch::{Watched, is_admission, watch};
+use crate::work::{Excess, earlier, first_above, is_left};
 use load_text::{Entry, distance_of, work_of};
 use response_text::lines::{push_made, push_number, response_at};
-use response_text::told::Response;
+use response_text::task_text::Response;
 use run_windows::{Costs, task};
-use sloth_base::{App, Arrival, Config, FIRST_COUNTER_LINE, List, Result, Stamped};
+use sloth_base::{App, Arrival, Config, Event, FIRST_COUNTER_LINE, List, Result, Stamped};
 use std::alloc::Global;
 use text_pieces::line;
 use text_pieces::pieces::Piece::{Count, Number, Sum, Word};
@@ -262,4 +260,52 @@ pub fn told_run(
         text: List::from_vec(text),
         keeps: soon.is_none() && seen.above.is_none(),
     })
+}
+
+// The count behind the first event with which the task leaves, or behind the last one.
+fn end_of_response(task: u32, behind: &[Watched]) -> u64
+    ensures { result ≡ end_of_response task 0 behind.now }
+{
+    let mut last = 0;
+    for seen in behind {
+        if !is_admission(&seen.event) {
+            last = u64::from(seen.event.stamp.at) + 1;
+            if is_left(task, &seen.event.event) {
+                return last;
+            }
+        }
+    }
+    last
+}
+
+fn is_behind(quiet: bool, seen: &Watched) -> bool
+    ensures { result ≡ is_behind quiet seen.now }
+{
+    quiet || (!matches!(seen.event.event, Event::Boot) && seen.quiet)
+}
+
+// The response to an event, where it counts.
+fn counted(task: u32, counts: bool, seen: &Watched, behind: &[Watched]) -> u64
+    ensures { result ≡ cond counts (response task seen.now behind.now) 0 }
+{
+    if counts {
+        end_of_response(task, behind).saturating_sub(u64::from(seen.edge))
+    } else {
+        0
+    }
+}
+
+/// The longest response to an event that makes the task Ready, of all or of those behind boot; 0 where there is none.
+pub fn longest(task: u32, all: bool, watched: &[Watched]) -> u64
+    ensures { result ≡ longest task all false watched.now }
+{
+    let mut most = 0;
+    let mut quiet = false;
+    let mut rest = watched;
+    while let Some((seen, behind)) = rest.split_first() {
+        quiet = is_behind(quiet, seen);
+        most = counted(task, seen.made && (all || quiet), seen, behind).max(most);
+        rest = behind;
+    }
+    most
 }

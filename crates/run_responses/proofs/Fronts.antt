@@ -20,22 +20,22 @@ use Rattle.sloth_base.proofs.Services.{same_service}
 use Rattle.rv32_expand.specs.Long.{size}
 use Rattle.rv32_expand.specs.Expansion.{number_in, mask_of}
 use Rattle.rv32_expand.proofs.Counts.{size_serve}
-use Rattle.load_text.specs.declared.entry.Entry.{Entry}
+use Rattle.load_text.specs.declared.load_line.Entry.{Entry}
 use Rattle.load_text.specs.Loads.{work}
 use Rattle.code_lengths.specs.LongestPaths.{leaving_path, served_path}
 use Rattle.osek_scheduler.specs.Apart.{static_priority}
 use Rattle.osek_scheduler.proofs.Facts.{Facts}
-use Rattle.raised_sections.specs.Walks.{Position, chains_itself, IsWalk}
-use Rattle.raised_sections.specs.Sections.{priority_at, operation_at, IsLower, IsSection}
+use Rattle.osek_blocking.specs.Walks.{Position, chains_itself, IsWalk}
+use Rattle.osek_blocking.specs.Sections.{priority_at, operation_at, IsLower, IsSection}
 use Rattle.bound_rules.specs.declared.weights.BodyWeights.{BodyWeights}
 use Rattle.bound_rules.specs.Weights.{no_weights}
 use Rattle.run_counts.specs.Counts.{AreBodyCounts}
 use Rattle.walk_sums.specs.Weights.{going_at, ending_at, sum_of}
-use Rattle.event_weights.specs.Items.{length_of, served_counts, going_counts, ending_counts}
+use Rattle.sim_induction.specs.Items.{length_of, served_counts, going_counts, ending_counts}
 use Rattle.walk_sums.specs.declared.counted.Counted.{Counted}
 use Rattle.walk_sums.specs.declared.counted.Counted.TheVariants as counts
-use Rattle.walk_sums.specs.declared.sum.Sum.{Sum}
-use Rattle.walk_sums.specs.declared.sum.Sum.TheVariants as sum
+use Rattle.walk_sums.specs.declared.sections.Sum.{Sum}
+use Rattle.walk_sums.specs.declared.sections.Sum.TheVariants as sum
 use Rattle.walk_sums.specs.Rounds.{Reaches, is_wait}
 use Rattle.walk_sums.specs.Counted.{one_if, calls, calls_for, is_ending_counted, counted_weights}
 use Rattle.walk_sums.specs.Told.{IsToldSum}
@@ -58,7 +58,7 @@ use Rattle.response_laws.specs.CodeStarts.{HasRoom, SomeHasRoom, none, autostart
 use Rattle.response_laws.proofs.Counting.{counted_ending, counted_lighter}
 use Rattle.run_responses.specs.Meeting.{AreCutTasks}
 use Rattle.run_costs.specs.RunCosts.{AreRunTaskCosts, AreRunCosts, AreRunSectionMakings}
-use Rattle.run_windows.specs.declared.fronts.Way.TheVariants as way
+use Rattle.run_windows.specs.declared.level.Way.TheVariants as way
 use Rattle.run_windows.specs.RunWindows.{is_joined, is_apart, longest_round, run_window, begun_item, call_words, call_path, may_serve, services_front, is_made_in_front, activation_front, setting_front, front_of, lead_of, run_starts, start_at, services_of, IsTold, AreTold}
 use Rattle.run_responses.proofs.Numbers.{told_number, none_told}
 use Rattle.run_responses.proofs.StartLists.{Has, has_free, has_boot, has_activation, has_setting, has_section, has_round, made_here, service_here}

@@ -9,9 +9,9 @@ use Rattle.sloth_base.specs.Named.{undeclared_task}
 use Rattle.code_rules.specs.WellFormed.{WellFormed}
 use Rattle.osek_scheduler.specs.Apart.{static_priority}
 use Rattle.osek_scheduler.proofs.Facts.{Facts, facts}
-use Rattle.load_text.specs.declared.entry.Entry.{Entry}
-use Rattle.load_text.specs.declared.entry.Form.{Form}
-use Rattle.load_text.specs.declared.entry.Form.TheVariants as form
+use Rattle.load_text.specs.declared.load_line.Entry.{Entry}
+use Rattle.load_text.specs.declared.load_line.Form.{Form}
+use Rattle.load_text.specs.declared.load_line.Form.TheVariants as form
 use Rattle.load_text.specs.LoadText.{is_of}
 use Rattle.load_text.specs.Loads.{said, IsNumber}
 use Rattle.run_windows.specs.declared.costs.Costs.{Costs}

@@ -20,8 +20,8 @@ use Rattle.osek_scheduler.specs.State.{sleeping_task}
 use Rattle.osek_scheduler.specs.Apart.{priority_of, static_priority}
 use Rattle.osek_scheduler.proofs.Facts.{Facts}
 use Rattle.osek_scheduler.proofs.Stacks.{has_body, calls_reach}
-use Rattle.raised_sections.specs.Walks.{Position, first_position, AreConsecutive, IsWalk}
-use Rattle.raised_sections.specs.Sections.{held_list_along, operation_at, priority_at}
+use Rattle.osek_blocking.specs.Walks.{Position, first_position, AreConsecutive, IsWalk}
+use Rattle.osek_blocking.specs.Sections.{held_list_along, operation_at, priority_at}
 use Rattle.walk_sums.specs.Activations.{reaches_first}
 use Rattle.walk_sums.proofs.Callers.{AreCallers, Walked, item_at, stands_on}
 use Rattle.walk_sums.specs.Rounds.{Reaches, is_wait}

@@ -5,8 +5,8 @@ use Rattle.sloth_base.specs.declared.app.App.{App}
 use Rattle.code_rules.specs.WellFormed.{WellFormed}
 use Rattle.osek_scheduler.proofs.Facts.{facts}
 use Rattle.bound_rules.specs.declared.weights.BodyWeights.{BodyWeights}
-use Rattle.event_weights.specs.Items.{length_of, AreLengths}
-use Rattle.event_weights.proofs.BodyLengths.{short}
+use Rattle.sim_induction.specs.Items.{length_of, AreLengths}
+use Rattle.sim_induction.proofs.BodyLengths.{short}
 use Rattle.run_counts.specs.Counts.{AreCounts}
 use Rattle.run_counts.proofs.Counted.{counts_weigh, counts_end}
 use Rattle.run_counts.proofs.Stretches.{stretches_within}

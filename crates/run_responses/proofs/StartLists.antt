@@ -9,7 +9,7 @@ use Rattle.run_windows.specs.declared.window.Start.{Start}
 use Rattle.run_windows.specs.declared.window.Start.TheVariants as start
 use Rattle.run_windows.specs.Costs.{section, no_services, no_task}
 use Rattle.run_windows.specs.Windows.{is_lower, is_boot}
-use Rattle.run_windows.specs.declared.fronts.Way.{Way}
+use Rattle.run_windows.specs.declared.level.Way.{Way}
 use Rattle.run_windows.specs.RunWindows.{is_joined, is_apart, may_serve, services_front, is_made_in_front, activation_front, setting_front, makes, made_start, start_if, start_at, lower_starts, task_starts, run_task_starts, run_starts}
 
 -- ---- a start among others

@@ -2,7 +2,7 @@
 use Rattle.std.proofs.Common.{◌≡◌, ◌∙◌, ◌+◌, ◌<◌, suc, ℕ, List, [], ◌∷◌, ◌++◌, length, take, drop, get_or, replicate, slice_set, sym, ap, arith, add-one, drop-cons, append_assoc}
 use Rattle.sloth_base.specs.Arrivals.{moments}
 use Rattle.sloth_base.specs.MemoryMap.{line_count}
-use Rattle.sloth_base.specs.declared.event.Arrival.{Arrival}
+use Rattle.sloth_base.specs.declared.service.Arrival.{Arrival}
 use Rattle.sloth_base.specs.declared.image.Image.{Image}
 use Rattle.observe.specs.Progress.{arrivals_from, arrivals_due}
 use Rattle.observe.proofs.Moments.{here-from}

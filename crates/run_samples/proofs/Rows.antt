@@ -3,7 +3,7 @@ use Rattle.std.proofs.Common.{◌≡◌, ◌+◌, ℕ, List, [], ◌++◌, get_o
 use Rattle.std.proofs.Math.Numerals.{add-one}
 use Rattle.sloth_base.specs.declared.image.Image.{Image}
 use Rattle.sloth_inspect.specs.declared.service_words.ServiceWords.{ServiceWords}
-use Rattle.sloth_runner.specs.declared.machine_states.Seen.{Seen}
+use Rattle.sloth_runner.specs.declared.task_states.Seen.{Seen}
 use Rattle.run_samples.specs.SystemText.{task_part, task_parts, counter_line, counter_lines, alarm_line, alarm_lines}
 
 pub no-tasks : (image : Image) (seen : Seen) (words : ServiceWords) → task_parts image seen words 0 ≡ []

@@ -7,8 +7,8 @@ use Rattle.sloth_base.specs.Machine.{State}
 use Rattle.sloth_base.specs.MemoryMap.{line_count}
 use Rattle.sloth_base.specs.Owners.{first_counter_line}
 use Rattle.sloth_base.specs.declared.app.Width.TheVariants as width
-use Rattle.sloth_base.specs.declared.event.Arrival.{Arrival}
-use Rattle.sloth_base.specs.declared.step.Step.{Step}
+use Rattle.sloth_base.specs.declared.service.Arrival.{Arrival}
+use Rattle.sloth_base.specs.declared.numbers.Step.{Step}
 use Rattle.osek_scheduler.specs.declared.state.TaskState.{TaskState}
 use Rattle.osek_scheduler.specs.declared.state.TaskState.TheVariants as mode
 use Rattle.rv32_instr.specs.Execute.{pending_line}
@@ -16,7 +16,7 @@ use Rattle.rv32_instr.specs.Memory.{Memory, memory_of, refusal, loaded_number}
 use Rattle.rv32_instr.specs.Table.{Decode}
 use Rattle.rv32_instr.specs.declared.InstrKind.{InstrKind}
 use Rattle.rv32_instr.specs.declared.InstrKind.TheVariants as instr
-use Rattle.rv32_instr.specs.declared.stop.Bad.{Bad}
+use Rattle.rv32_instr.specs.declared.effect.Bad.{Bad}
 use Rattle.sloth_inspect.specs.States.{states_in, is_pending_in}
 use Rattle.run_samples.specs.declared.accesses.Access.{Access}
 use Rattle.run_samples.specs.declared.accesses.AccessKind.{AccessKind}

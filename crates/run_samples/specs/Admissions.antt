@@ -2,14 +2,14 @@
 -- behind it before code loads it, and the line's task is Ready at the next count that finds interrupts open: then it is what made the task Ready.
 use Rattle.std.specs.Prelude.{ℕ, zero, suc, ◌+◌, ◌==◌, ◌&&◌, not, nat_lt, Bool, true, false, if◌then◌else◌, List, [], ◌∷◌, ◌++◌, get_or, Option, Some, None}
 use Rattle.sloth_base.specs.Owners.{first_counter_line}
-use Rattle.sloth_base.specs.declared.event.Arrival.{Arrival}
+use Rattle.sloth_base.specs.declared.service.Arrival.{Arrival}
 use Rattle.sloth_base.specs.declared.image.Image.{Image}
 use Rattle.osek_scheduler.specs.declared.state.TaskState.{TaskState}
 use Rattle.osek_scheduler.specs.declared.state.TaskState.TheVariants as mode
 use Rattle.rv32_machine.specs.Start.{start}
 use Rattle.rv32_machine.specs.Run.{state_after}
 use Rattle.run_samples.specs.Accesses.{accesses_at}
-use Rattle.sloth_runner.specs.declared.machine_states.Seen.{Seen}
+use Rattle.sloth_runner.specs.declared.task_states.Seen.{Seen}
 use Rattle.run_samples.specs.declared.accesses.Access.{Access}
 use Rattle.run_samples.specs.declared.accesses.AccessKind.{AccessKind}
 use Rattle.run_samples.specs.declared.accesses.AccessKind.TheVariants as kind

@@ -8,7 +8,6 @@
 #![tactic(auto)]
 
 pub mod accesses;
-mod addresses;
 mod admissions;
 pub mod lines;
 mod samples;

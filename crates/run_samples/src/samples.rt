@@ -1,4 +1,5 @@
 //! Samples of a run: one at each count, after the arrivals of the count and before a line is taken.
+//! Where a run stands at a count.
 ghost use Rattle.std.specs.Prelude.{◌≡◌, ◌<◌, ◌+◌, ◌++◌, OnOk, IfOk, IfErr};
 ghost use Rattle.sloth_base.specs.ImageRange.{InFormat};
 ghost use Rattle.sloth_base.specs.Arrivals.{AreArrivals};
@@ -8,6 +9,8 @@ ghost use Rattle.rv32_machine.specs.Start.{start};
 ghost use Rattle.rv32_machine.specs.Run.{state_after};
 ghost use Rattle.run_samples.specs.Accesses.{accesses_at};
 ghost use Rattle.run_samples.specs.Samples.{AreSampledLevels, IsSample, IsSampling, StopsAt, seen_behind, sampled_image, sampled_arrivals, sampled_count};
+ghost use Rattle.run_samples.specs.Addresses.{address_behind};
+ghost use Rattle.sloth_runner.specs.Moments.{sloth_state};
 
 use crate::Access;
 use crate::accesses::{note_arrivals, step_access};
@@ -110,5 +113,24 @@ impl<'a> Sampler<'a> {
         ensures same { self.new ≡ self.old }
     {
         level_bytes(&mut self.runner)
+    }
+}
+
+// The address at which a run goes on, where no line is taken.
+fn next_address(runner: &Runner) -> u32
+    ensures { result ≡ (sloth_state runner.now.machine).pc }
+{
+    runner.machine.pc()
+}
+
+impl<'a> Sampler<'a> {
+    ghost use Rattle.run_samples.specs.Samples.{IsSampling, sampled_image, sampled_arrivals, sampled_count};
+
+    /// The address of the instruction of the next count, where no line is taken there.
+    pub fn address(&self) -> u32
+        requires { IsSampling self.now }
+        ensures { result ≡ address_behind (sampled_image self.now) (sampled_arrivals self.now) (sampled_count self.now) }
+    {
+        next_address(&self.runner)
     }
 }

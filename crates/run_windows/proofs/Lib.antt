@@ -4,6 +4,8 @@ pub mod OneBound
 pub mod OneLeast
 mod Within
 mod WindowParts
+mod Booted
+mod Firsts
 mod Endless
 mod LowerBounds
 pub mod AllTold

@@ -19,7 +19,6 @@ use Rattle.run_windows.specs.Costs.{capped, reckoned, task, makers}
 use Rattle.run_windows.specs.Arrivals.{arrivals, booted_expiries, cyclic_expiries, expiries, acts_on, expiring, ticking, tick_counts}
 use Rattle.run_windows.specs.Windows.{Numbers, none_made, numbers_of, rule_of, counted, is_boot, span_of, shared, of_makings, round_makings, activations, settings, round_counts, window_counts, IsAtMost, IsSolution}
 use Rattle.run_windows.specs.Cycles.{IsOpen, rate_span, IsRate, AreRatesOf, AreRates, IsCurve}
-use Rattle.run_windows.proofs.Monotone.{arrivals_more}
 use Rattle.run_windows.proofs.Endless.{at_set, nothing_yet, made_open}
 
 -- ---- rates
@@ -36,6 +35,10 @@ rate_sum a b r c x y e h k =
     let p : r * c ≤ (a + b) * c = mul-le-mul_right c (omega (arith, e)) in
     let q = add-mul a b c in
     omega (arith, p, q, h, k)
+
+-- the span itself is the rate of the counts
+pub whole_rate : (c : ℕ) → IsRate rate_span c c
+whole_rate c = omega arith
 
 rate_times : (a f c x : ℕ) → IsRate a c x → IsRate (a * f) c (x * f)
 rate_times a f c x h =
@@ -213,22 +216,18 @@ raised_so costs w rates j arrived ticked signalled a s r v whole are lt is open_
 
 -- ---- curves
 
-pub curve_sum : (a b r : Curve) (c x y : ℕ) → r.burst ≡ capped (a.burst + b.burst) → r.rate ≡ capped (a.rate + b.rate) → IsCurve a c x → IsCurve b c y
-    → IsCurve r c (x + y)
-curve_sum a b r c x y e f h k =
-    let p : r.rate * c ≤ (a.rate + b.rate) * c = mul-le-mul_right c (omega (arith, f)) in
-    let q = add-mul a.rate b.rate c in
-    omega (arith, e, p, q, h, k)
+-- one more part: what is at least a number, or what comes by a rate, of so many counts each
+pub curve_burst : (a : Curve) (number f part burst c x y : ℕ) → part ≡ capped (number * f) → burst ≡ capped (a.burst + part) → number ≤ x → IsCurve a c y
+    → IsCurve (record { burst = burst; rate = a.rate }) c (y + x * f)
+curve_burst a number f part burst c x y e g le h = let p : number * f ≤ x * f = mul-le-mul_right f le in omega (arith, e, g, p, h)
 
-pub curve_times : (a r : Curve) (f c x : ℕ) → r.burst ≡ capped (a.burst * f) → r.rate ≡ capped (a.rate * f) → IsCurve a c x → IsCurve r c (x * f)
-curve_times a r f c x e g h =
-    let p : (rate_span * a.burst + a.rate * c) * f ≤ rate_span * x * f = mul-le-mul_right f h in
-    let cut = add-mul (rate_span * a.burst) (a.rate * c) f in
-    let burst = mul_assoc rate_span a.burst f in
-    let rate = mul_right_comm a.rate c f in
-    let all = mul_assoc rate_span x f in
-    let less : r.rate * c ≤ a.rate * f * c = mul-le-mul_right c (omega (arith, g)) in
-    omega (arith, e, p, cut, burst, rate, all, less)
+pub curve_rate : (a : Curve) (by f part rate c x y : ℕ) → part ≡ capped (by * f) → rate ≡ capped (a.rate + part) → IsRate by c x → IsCurve a c y
+    → IsCurve (record { burst = a.burst; rate = rate }) c (y + x * f)
+curve_rate a by f part rate c x y e g is h =
+    let own : part * c ≤ rate_span * (x * f) = lower_rate part (by * f) c (x * f) (omega (arith, e)) (rate_times by f c x is) in
+    let p : rate * c ≤ (a.rate + part) * c = mul-le-mul_right c (omega (arith, g)) in
+    let q = add-mul a.rate part c in
+    omega (arith, own, p, q, h)
 
 -- the counts that a curve asks for
 pub asked : (a : Curve) (s more : ℕ) → a.rate < rate_span → s ≤ a.burst * rate_span → IsCurve a more more → s / (rate_span - a.rate) ≤ more
@@ -243,16 +242,6 @@ asked a s more lt le h =
 -- at such a rate nothing holds a burst
 pub none_asked : (a : Curve) (more : ℕ) → rate_span ≤ a.rate → 0 < a.burst → IsCurve a more more → ⊥
 none_asked a more le some h = let p : rate_span * more ≤ a.rate * more = mul-le-mul_right more le in omega (arith, p, some, h)
-
-pub no_curve : (c : ℕ) (x : ℕ) → IsCurve (record { burst = 0; rate = 0 }) c x
-no_curve c x = omega arith
-
-pub curve_shared : (r : Curve) (m : Made) (more f n : ℕ) (first next : Option ℕ) → f ≡ reckoned first → n ≡ reckoned next
-    → IsCurve r more (m.activations * f + m.settings * n) → IsCurve r more (shared m first next)
-curve_shared r m more f n first next e g h =
-    let P : ℕ → Type 0 = λ k. IsCurve r more (m.activations * k + m.settings * n) in
-    let Q : ℕ → Type 0 = λ k. IsCurve r more (m.activations * reckoned first + m.settings * k) in
-    subst Q g (subst P e h)
 
 -- ---- lists
 
@@ -275,6 +264,25 @@ expiring_step boot sets counter task x counts total own new all i d alarms lt e 
     let here_is : ℕ = cond (acts_on sets counter task (get_or alarms i d)) (expiries boot (get_or alarms i d) x) 0 in
     (y + here_is, rate_sum total own new counts y here_is e is here, omega (arith, cut, sum))
 
+-- of one that acts, and of one that does not
+pub expiring_more : (boot sets : Bool) (counter task x counts total own new all i : ℕ) (d : AlarmCosts) (alarms : List AlarmCosts) → i < length alarms
+    → new ≡ capped (total + own) → acts_on sets counter task (get_or alarms i d) ≡ true → IsRate own counts (expiries boot (get_or alarms i d) x)
+    → Part (IsRate total counts) (expiring boot sets counter task x (drop i alarms)) all
+    → Part (IsRate new counts) (expiring boot sets counter task x (drop (i + 1) alarms)) all
+expiring_more boot sets counter task x counts total own new all i d alarms lt e acts is =
+    expiring_step boot sets counter task x counts total own new all i d alarms lt e
+    (subst (λ (b : Bool). IsRate own counts (cond b (expiries boot (get_or alarms i d) x) 0)) (sym acts) is)
+
+pub expiring_past : (boot sets : Bool) (counter task x counts total all i : ℕ) (d : AlarmCosts) (alarms : List AlarmCosts) → i < length alarms
+    → acts_on sets counter task (get_or alarms i d) ≡ false
+    → Part (IsRate total counts) (expiring boot sets counter task x (drop i alarms)) all
+    → Part (IsRate total counts) (expiring boot sets counter task x (drop (i + 1) alarms)) all
+expiring_past boot sets counter task x counts total all i d alarms lt none (y, is, sum) =
+    let F : List AlarmCosts → ℕ = λ ys. expiring boot sets counter task x ys in
+    let cut : F (drop i alarms) ≡ F (get_or alarms i d ∷ drop (i + 1) alarms) = at_drop_more F alarms i d lt in
+    let own = ap (λ b. cond b (expiries boot (get_or alarms i d) x) 0) none in
+    (y, is, omega (arith, cut, own, sum))
+
 -- one counter more
 pub ticking_step : (boot sets : Bool) (task counts total ticks made own new all i : ℕ) (alarms : List AlarmCosts) (d : CounterCosts) (counters : List CounterCosts)
     → i < length counters → own ≡ min ticks made → new ≡ capped (total + own) → IsRate ticks counts (arrivals counts (get_or counters i d).distance)
@@ -288,23 +296,25 @@ ticking_step boot sets task counts total ticks made own new all i alarms d count
     let here : ℕ = min n (expiring boot sets i task n alarms) in
     (y + here, rate_sum total own new counts y here e is (rate_min ticks made own counts n (expiring boot sets i task n alarms) least come act), omega (arith, cut, sum))
 
-pub tick_step : (total own new : Curve) (counts more all i : ℕ) (d : CounterCosts) (counters : List CounterCosts) → i < length counters
-    → ((x y : ℕ) → IsCurve total more x → IsCurve own more y → IsCurve new more (x + y)) → IsCurve own more (arrivals more (get_or counters i d).distance * (get_or counters i d).tick)
-    → Part (IsCurve total more) (tick_counts more (drop i counters)) all → Part (IsCurve new more) (tick_counts more (drop (i + 1) counters)) all
-tick_step total own new counts more all i d counters lt joined here (y, is, sum) =
+pub tick_step : (new : Curve) (more all i z factor : ℕ) (d : CounterCosts) (counters : List CounterCosts) → i < length counters
+    → factor ≡ (get_or counters i d).tick → IsCurve new more (z + arrivals more (get_or counters i d).distance * factor)
+    → z + tick_counts more (drop i counters) ≡ all → Part (IsCurve new more) (tick_counts more (drop (i + 1) counters)) all
+tick_step new more all i z factor d counters lt e is sum =
     let F : List CounterCosts → ℕ = λ ys. tick_counts more ys in
     let cut : F (drop i counters) ≡ F (get_or counters i d ∷ drop (i + 1) counters) = at_drop_more F counters i d lt in
-    let n : ℕ = arrivals more (get_or counters i d).distance * (get_or counters i d).tick in
-    (y + n, joined y n is here, omega (arith, cut, sum))
+    let n : ℕ = arrivals more (get_or counters i d).distance in
+    let same = ap (λ (k : ℕ). n * k) e in
+    (z + n * factor, is, omega (arith, cut, same, sum))
 
-pub round_step : (total own new : Curve) (m : Numbers) (more all i : ℕ) (d : TaskCosts) (tasks : List TaskCosts) → i < length tasks
-    → ((x y : ℕ) → IsCurve total more x → IsCurve own more y → IsCurve new more (x + y)) → IsCurve own more (shared (m i) (get_or tasks i d).first (get_or tasks i d).next)
-    → Part (IsCurve total more) (round_counts m i (drop i tasks)) all → Part (IsCurve new more) (round_counts m (i + 1) (drop (i + 1) tasks)) all
-round_step total own new m more all i d tasks lt joined here (y, is, sum) =
+-- one task more, of which so much is at least its activations, and its settings
+pub round_step : (new : Curve) (m : Numbers) (more all i z f n : ℕ) (d : TaskCosts) (tasks : List TaskCosts) → i < length tasks
+    → f ≡ reckoned (get_or tasks i d).first → n ≡ reckoned (get_or tasks i d).next → IsCurve new more (z + (m i).activations * f + (m i).settings * n)
+    → z + round_counts m i (drop i tasks) ≡ all → Part (IsCurve new more) (round_counts m (i + 1) (drop (i + 1) tasks)) all
+round_step new m more all i z f n d tasks lt e g is sum =
     let F : List TaskCosts → ℕ = λ ys. round_counts m i ys in
     let cut : F (drop i tasks) ≡ F (get_or tasks i d ∷ drop (i + 1) tasks) = at_drop_more F tasks i d lt in
-    let n : ℕ = shared (m i) (get_or tasks i d).first (get_or tasks i d).next in
-    (y + n, joined y n is here, omega (arith, cut, sum))
+    let same = ap (λ (k : ℕ). (m i).activations * k + (m i).settings * n) e ∙ ap (λ (k : ℕ). (m i).activations * reckoned (get_or tasks i d).first + (m i).settings * k) g in
+    (z + (m i).activations * f + (m i).settings * n, is, omega (arith, cut, same, sum))
 
 -- ---- a window
 
@@ -327,12 +337,3 @@ asked_solution costs w m more c tasks counters same_tasks same_counters whole s 
 
 pub front_curve : (front more : ℕ) → IsCurve (record { burst = front; rate = 0 }) more front
 front_curve front more = omega arith
-
--- the counts of the ticks of one counter
-pub tick_own : (counts more : ℕ) (counter : CounterCosts) (ticks rate : ℕ) (own whole : Curve) (factor : ℕ) → ticks ≡ arrivals counts counter.distance
-    → ((c : ℕ) → IsRate rate c (arrivals c counter.distance)) → ((c x : ℕ) → ticks ≤ x → IsRate rate c x → IsCurve own c x)
-    → ((x : ℕ) → IsCurve own more x → IsCurve whole more (x * factor)) → factor ≡ counter.tick → counts ≤ more → IsCurve whole more (arrivals more counter.distance * counter.tick)
-tick_own counts more counter ticks rate own whole factor e come greater scaled same le =
-    let more_ticks : arrivals counts counter.distance ≤ arrivals more counter.distance = arrivals_more counter.distance le in
-    let P : ℕ → Type 0 = λ k. IsCurve whole more (arrivals more counter.distance * k) in
-    subst P same (scaled (arrivals more counter.distance) (greater more (arrivals more counter.distance) (omega (arith, e, more_ticks)) (come more)))

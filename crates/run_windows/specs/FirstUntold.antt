@@ -1,5 +1,6 @@
 -- What of all that the windows of a task are computed from has no number, and the first of it.
 use Rattle.std.specs.Prelude.{ℕ, zero, suc, ◌<◌, ltb, ◌==◌, ◌&&◌, ◌||◌, not, cond, Bool, length, Option, Some, None}
+use Rattle.std.specs.Option.{option_or}
 use Rattle.run_windows.specs.declared.costs.TaskCosts.{TaskCosts}
 use Rattle.run_windows.specs.declared.costs.Makings.{Makings}
 use Rattle.run_windows.specs.declared.costs.SectionMakings.{SectionMakings}
@@ -36,8 +37,7 @@ IsInside n (untold.SectionMakings k) = k < n
 
 -- the first of two, if there is one
 abbrev pub earlier : Option Untold → Option Untold → Option Untold
-earlier (Some u) other = Some u
-earlier None other = other
+earlier one other = option_or one other
 
 -- the first of what numbers below n say
 abbrev pub first_below : (ℕ → Option Untold) → (n : ℕ) → Option Untold

@@ -2,8 +2,8 @@
 use Rattle.std.specs.Prelude.{ℕ, ◌+◌, ◌<◌, ◌≤◌, ◌≡◌, ◌⊎◌, nat_lt, cond, Bool, true, false, List, length, Option, Some, None}
 use Rattle.run_windows.specs.declared.costs.Costs.{Costs}
 use Rattle.run_windows.specs.declared.window.Start.{Start}
-use Rattle.run_windows.specs.declared.longest.Longest.{Longest}
-use Rattle.run_windows.specs.declared.parts.Parts.{Parts}
+use Rattle.run_windows.specs.declared.window.Longest.{Longest}
+use Rattle.run_windows.specs.declared.responses.Parts.{Parts}
 use Rattle.run_windows.specs.Windows.{numbers_of, round_counts, IsLeast}
 use Rattle.run_windows.specs.Arrivals.{tick_counts}
 use Rattle.run_windows.specs.RunWindows.{start_counts, start_service, lead_of, run_starts, start_at, begun_item, run_window, IsNumber, IsStartWithin, AreWithin, IsRunResponse}

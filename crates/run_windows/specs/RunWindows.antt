@@ -10,8 +10,8 @@ use Rattle.run_windows.specs.declared.costs.Services.{Services}
 use Rattle.run_windows.specs.declared.costs.Makings.{Makings}
 use Rattle.run_windows.specs.declared.costs.SectionMakings.{SectionMakings}
 use Rattle.run_windows.specs.declared.costs.Costs.{Costs}
-use Rattle.run_windows.specs.declared.fronts.Way.{Way}
-use Rattle.run_windows.specs.declared.fronts.Way.TheVariants as way
+use Rattle.run_windows.specs.declared.level.Way.{Way}
+use Rattle.run_windows.specs.declared.level.Way.TheVariants as way
 use Rattle.run_windows.specs.declared.window.Start.{Start}
 use Rattle.run_windows.specs.declared.window.Start.TheVariants as start
 use Rattle.run_windows.specs.declared.window.Window.{Window}

@@ -94,6 +94,7 @@ pub struct SectionMakings {
 }
 
 /// The sections for one task.
+#[derive(Drop)]
 pub struct Level {
     /// Of each task.
     pub sections: List<SectionCosts>,
@@ -101,17 +102,8 @@ pub struct Level {
     pub makings: List<List<SectionMakings>>,
 }
 
-// Written out: what is derived is proved anew wherever a value is let go.
-impl Drop for Level {
-    fn drop(self) {
-        let Level {
-            sections: _,
-            makings: _,
-        } = self;
-    }
-}
-
 /// What response times of a configuration's tasks under a load are computed from. Lists are in its numbers' order.
+#[derive(Drop)]
 pub struct Costs {
     pub tasks: List<TaskCosts>,
     /// Which tasks something may make Ready.
@@ -124,19 +116,4 @@ pub struct Costs {
     pub services: List<List<Services>>,
     /// By the task for which sections are.
     pub levels: List<Level>,
-}
-
-// Written out: what is derived is proved anew wherever a value is let go.
-impl Drop for Costs {
-    fn drop(self) {
-        let Costs {
-            tasks: _,
-            comes: _,
-            counters: _,
-            alarms: _,
-            makings: _,
-            services: _,
-            levels: _,
-        } = self;
-    }
 }

@@ -1,16 +1,21 @@
-//! How much comes within windows at least, by their counts.
-ghost use Rattle.std.specs.Prelude.{◌≤◌, ◌+◌, ◌*◌, ℕ};
-ghost use Rattle.run_windows.specs.Windows.{Numbers, numbers_of, shared, round_counts, IsAtMost, IsSolution};
-ghost use Rattle.run_windows.specs.Arrivals.{tick_counts};
+//! How much comes within windows at least, for each of their counts; and makings without end, round a cycle.
+ghost use Rattle.std.specs.Prelude.{◌≤◌, ◌+◌, ◌*◌, ℕ, ◌≡◌, ◌<◌, None, length, true};
+ghost use Rattle.run_windows.specs.Windows.{Numbers, numbers_of, round_counts, IsAtMost, IsSolution, rule_of};
+ghost use Rattle.run_windows.specs.Windows.{counted, round_makings};
+ghost use Rattle.run_windows.specs.Arrivals.{tick_counts, arrivals, expiries, expiring, ticking};
 ghost use Rattle.run_windows.specs.Settling.{AreBelow};
-ghost use Rattle.run_windows.specs.Cycles.{IsRate, AreRatesOf, AreRates, IsCurve};
+ghost use Rattle.run_windows.specs.Cycles.{IsRate, AreRatesOf, AreRates, IsCurve, IsOpen, HasNone, share_of};
+ghost use Rattle.run_windows.specs.Cycles.{one_share, AreMultiples, unmarked, rest};
+ghost use Rattle.run_windows.specs.Costs.{capped};
 
-use crate::arrivals::arrivals;
-use crate::numbers::{ENDLESS, plus, reckoned, times};
-use crate::rates::{RATE_SPAN, arrival_rate};
-use crate::rounds::number_of;
-use crate::window::Window;
-use crate::{Costs, CounterCosts, Made, TaskCosts};
+use crate::level::{counted, is_boot, makers, rule_of, task};
+use crate::rounds::{
+    ENDLESS, acts_on, arrivals, makings_within, number_of, of_makings, plus, reckoned,
+    round_makings, times,
+};
+use crate::window::{NEVER, Rule, Window};
+use crate::{AlarmCosts, Costs, CounterCosts, Made, Makings, TaskCosts};
+use sloth_base::TASK_LIMIT;
 
 /// At least `burst`, and besides `rate` in each 2,147,483,647 counts.
 #[derive(Clone, Copy)]
@@ -19,74 +24,57 @@ pub struct Curve {
     pub rate: u64,
 }
 
-fn joined(one: Curve, other: Curve) -> Curve
-    ensures { (counts x y : ℕ) → IsCurve one counts x → IsCurve other counts y → IsCurve result counts (x + y) }
+// Besides a curve what is at least the number, and what comes by the rate, of so many counts each: by that which is
+// more from these counts on.
+fn with_more(curve: Curve, number: u64, rate: u64, counts: u64, each: u64) -> Curve
+    ensures { (more x y : ℕ) → number ≤ x → IsRate rate more x → IsCurve curve more y
+        → IsCurve result more (y + x * each) }
 {
-    Curve {
-        burst: plus(one.burst, other.burst),
-        rate: plus(one.rate, other.rate),
-    }
-}
-
-fn scaled(curve: Curve, factor: u64) -> Curve
-    ensures { (counts x : ℕ) → IsCurve curve counts x → IsCurve result counts (x * factor) }
-{
-    Curve {
-        burst: times(curve.burst, factor),
-        rate: times(curve.rate, factor),
-    }
-}
-
-// What is at least the number, and at least what comes by the rate: by that which is more from these counts on.
-fn greater(number: u64, rate: u64, counts: u64) -> Curve
-    ensures { (more x : ℕ) → number ≤ x → IsRate rate more x → IsCurve result more x }
-{
+    let mut sum = curve;
     if rate.saturating_mul(counts) >= number.saturating_mul(RATE_SPAN) {
-        Curve { burst: 0, rate }
+        sum.rate = plus(curve.rate, times(rate, each));
     } else {
-        Curve {
-            burst: number,
-            rate: 0,
-        }
+        sum.burst = plus(curve.burst, times(number, each));
     }
+    sum
 }
 
-// The counts of rounds of a task.
-fn task_curve(made: Made, rates: Made, counts: u64, task: &TaskCosts) -> Curve
-    ensures { (more : ℕ) (m : Made) → IsAtMost made m → AreRatesOf rates more m
-        → IsCurve result more (shared m task.now.first task.now.next) }
-{
-    let first = greater(made.activations, rates.activations, counts);
-    let next = greater(made.settings, rates.settings, counts);
-    joined(
-        scaled(first, reckoned(task.first)),
-        scaled(next, reckoned(task.next)),
-    )
-}
-
-fn round_curve(numbers: &[Made], rates: &[Made], counts: u64, tasks: &[TaskCosts]) -> Curve
-    ensures { (more : ℕ) (m : Numbers) → ((k : ℕ) → IsAtMost (numbers_of numbers.now k) (m k))
+// Besides a curve the counts of rounds.
+fn with_rounds(
+    curve: Curve,
+    numbers: &[Made],
+    rates: &[Made],
+    counts: u64,
+    tasks: &[TaskCosts],
+) -> Curve
+    ensures { (more y : ℕ) (m : Numbers) → IsCurve curve more y
+        → ((k : ℕ) → IsAtMost (numbers_of numbers.now k) (m k))
         → ((k : ℕ) → AreRatesOf (numbers_of rates.now k) more (m k))
-        → IsCurve result more (round_counts m 0 tasks.now) }
+        → IsCurve result more (y + round_counts m 0 tasks.now) }
 {
-    let mut total = Curve { burst: 0, rate: 0 };
+    let mut sum = curve;
     for (k, task) in tasks.iter().enumerate() {
-        let own = task_curve(number_of(numbers, k), number_of(rates, k), counts, task);
-        total = joined(total, own);
+        let made = number_of(numbers, k);
+        let by = number_of(rates, k);
+        let (first, next) = (reckoned(task.first), reckoned(task.next));
+        let firsts = with_more(sum, made.activations, by.activations, counts, first);
+        sum = with_more(firsts, made.settings, by.settings, counts, next);
     }
-    total
+    sum
 }
 
-fn tick_curve(counts: u64, counters: &[CounterCosts]) -> Curve
-    ensures { (more : ℕ) → counts ≤ more → IsCurve result more (tick_counts more counters.now) }
+// Besides a curve those of ticks.
+fn with_ticks(curve: Curve, counts: u64, counters: &[CounterCosts]) -> Curve
+    ensures { (more y : ℕ) → IsCurve curve more y → counts ≤ more
+        → IsCurve result more (y + tick_counts more counters.now) }
 {
-    let mut total = Curve { burst: 0, rate: 0 };
+    let mut sum = curve;
     for counter in counters {
         let ticks = arrivals(counts, counter.distance);
-        let own = greater(ticks, arrival_rate(counter.distance), counts);
-        total = joined(total, scaled(own, u64::from(counter.tick)));
+        let rate = arrival_rate(RATE_SPAN, counter.distance);
+        sum = with_more(sum, ticks, rate, counts, u64::from(counter.tick));
     }
-    total
+    sum
 }
 
 // The counts below which none are as many as the curve asks for.
@@ -118,7 +106,270 @@ pub fn counts_ahead(
         burst: window.front,
         rate: 0,
     };
-    let rounds = round_curve(numbers, rates, counts, costs.tasks.items());
-    let ticks = tick_curve(counts, costs.counters.items());
-    least_counts(joined(joined(front, rounds), ticks))
+    let rounds = with_rounds(front, numbers, rates, counts, costs.tasks.items());
+    least_counts(with_ticks(rounds, counts, costs.counters.items()))
+}
+
+/// The counts for which rates are told.
+pub const RATE_SPAN: u64 = 2_147_483_647;
+
+/// Of what comes at this rate each multiple of a distance.
+pub fn arrival_rate(rate: u64, distance: Option<u32>) -> u64
+    ensures { (counts x : ℕ) → IsRate rate counts x → IsRate result counts (arrivals x distance) }
+{
+    let Some(distance) = distance else {
+        return 0;
+    };
+    if distance == 0 {
+        return 0;
+    }
+    rate / u64::from(distance)
+}
+
+// Of the expiries of an alarm, where ticks come at this rate.
+fn expiry_rate(boot: bool, alarm: &AlarmCosts, ticks: u64) -> u64
+    ensures { (counts x : ℕ) → IsRate ticks counts x → IsRate result counts (expiries boot alarm.now x) }
+{
+    if alarm.is_set {
+        return ticks;
+    }
+    if boot || alarm.time == 0 {
+        return 0;
+    }
+    arrival_rate(ticks, Some(alarm.cycle))
+}
+
+// Of those of a counter's alarms that set events of a task, or activate it.
+fn expiring_rate(
+    boot: bool,
+    sets: bool,
+    counter: usize,
+    task: usize,
+    ticks: u64,
+    alarms: &[AlarmCosts],
+) -> u64
+    ensures { (counts x : ℕ) → IsRate ticks counts x
+        → IsRate result counts (expiring boot sets counter task x alarms.now) }
+{
+    let mut total = 0;
+    for alarm in alarms {
+        if acts_on(sets, counter, task, alarm) {
+            total = plus(total, expiry_rate(boot, alarm, ticks));
+        }
+    }
+    total
+}
+
+// How often ticks set events of a task, or activate it.
+fn ticking_rate(
+    boot: bool,
+    sets: bool,
+    task: usize,
+    alarms: &[AlarmCosts],
+    counters: &[CounterCosts],
+) -> u64
+    ensures { (counts : ℕ) → IsRate result counts (ticking boot sets task counts alarms.now 0 counters.now) }
+{
+    let mut total = 0;
+    for (c, counter) in counters.iter().enumerate() {
+        let ticks = arrival_rate(RATE_SPAN, counter.distance);
+        let made = expiring_rate(boot, sets, c, task, ticks, alarms);
+        total = plus(total, ticks.min(made));
+    }
+    total
+}
+
+// The rates of a task, by those of the tasks that make it: whether they were less.
+fn raise(costs: &Costs, window: &Window, j: usize, rates: &mut [Made; TASK_LIMIT]) -> bool
+    requires inside { j < length costs.now.tasks }
+    requires whole { window.now.span ≡ None }
+    requires rates { AreRates costs.now window.now rates.old }
+    ensures { AreRates costs.now window.now rates.new }
+{
+    let rule = rule_of(costs, window, j);
+    if j >= TASK_LIMIT || !is_open(rule) {
+        return false;
+    }
+    let boot = is_boot(window.start);
+    let alarms = costs.alarms.items();
+    let counters = costs.counters.items();
+    let arrived = arrival_rate(RATE_SPAN, task(costs, j).distance);
+    let ticked = ticking_rate(boot, false, j, alarms, counters);
+    let made = round_makings(false, rates, makers(costs, j));
+    let activated = plus(plus(arrived, ticked), made);
+    let signalled = ticking_rate(boot, true, j, alarms, counters);
+    let set = plus(signalled, round_makings(true, rates, makers(costs, j)));
+    let rate = counted(rule, activated, set);
+    let old = rates[j];
+    if rate.activations <= old.activations && rate.settings <= old.settings {
+        return false;
+    }
+    rates[j] = rate;
+    true
+}
+
+/// Raises rates to those that follow from arrivals, where this is due.
+pub fn raise_rates(costs: &Costs, window: &Window, due: bool, rates: &mut [Made; TASK_LIMIT])
+    requires rates { AreRates costs.now window.now rates.old }
+    ensures { AreRates costs.now window.now rates.new }
+{
+    if !due || window.span.is_some() {
+        return;
+    }
+    for _turn in 0..2 * TASK_LIMIT {
+        let mut grown = false;
+        for j in 0..costs.tasks.items().len() {
+            grown = raise(costs, window, j, rates) || grown;
+        }
+        if !grown {
+            return;
+        }
+    }
+}
+
+/// Whether what counts of a task grows with what is made of it.
+pub fn is_open(which: Rule) -> bool
+    ensures { result ≡ true → IsOpen which }
+{
+    match which {
+        Rule::Once => false,
+        Rule::Out | Rule::Settings | Rule::Each => true,
+    }
+}
+
+// Whether each setting of its events counts; or each activation.
+fn is_share_counted(sets: bool, which: Rule) -> bool
+    ensures { result ≡ true → 1 ≤ share_of sets (counted which 1 1) }
+{
+    let made = counted(which, 1, 1);
+    if sets {
+        made.settings != 0
+    } else {
+        made.activations != 0
+    }
+}
+
+fn one_share(sets: bool) -> Made
+    ensures { result ≡ one_share sets }
+{
+    if sets {
+        Made::new(0, 1)
+    } else {
+        Made::new(1, 0)
+    }
+}
+
+// Marks a task that marked ones make: whether it was not marked.
+fn mark(
+    costs: &Costs,
+    window: &Window,
+    sets: bool,
+    t: usize,
+    j: usize,
+    marks: &mut [Made; TASK_LIMIT],
+) -> bool
+    requires inside { j < length costs.now.tasks }
+    requires marked { AreMultiples costs.now window.now sets t marks.old }
+    ensures { AreMultiples costs.now window.now sets t marks.new }
+{
+    let rule = rule_of(costs, window, j);
+    if j >= TASK_LIMIT || !is_open(rule) {
+        return false;
+    }
+    let activated = round_makings(false, marks, makers(costs, j)).min(1);
+    let signalled = round_makings(true, marks, makers(costs, j)).min(1);
+    let made = counted(rule, activated, signalled);
+    let old = marks[j];
+    if made.activations <= old.activations && made.settings <= old.settings {
+        return false;
+    }
+    marks[j] = Made {
+        activations: old.activations.max(made.activations),
+        settings: old.settings.max(made.settings),
+    };
+    true
+}
+
+fn reach(costs: &Costs, window: &Window, sets: bool, t: usize, marks: &mut [Made; TASK_LIMIT])
+    requires marked { AreMultiples costs.now window.now sets t marks.old }
+    ensures { AreMultiples costs.now window.now sets t marks.new }
+{
+    for _turn in 0..2 * TASK_LIMIT {
+        let mut grown = false;
+        for j in 0..costs.tasks.items().len() {
+            grown = mark(costs, window, sets, t, j, marks) || grown;
+        }
+        if !grown {
+            return;
+        }
+    }
+}
+
+fn unmarked(marks: Made, numbers: Made) -> Made
+    ensures { result ≡ unmarked marks numbers }
+{
+    let mut rest = numbers;
+    if marks.activations != 0 {
+        rest.activations = 0;
+    }
+    if marks.settings != 0 {
+        rest.settings = 0;
+    }
+    rest
+}
+
+// How often rounds of tasks that are not marked activate a task, or set its events.
+fn rest_makings(sets: bool, marks: &[Made; TASK_LIMIT], numbers: &[Made], makers: &[Makings]) -> u64
+    ensures { result ≡ capped (round_makings sets (rest (numbers_of marks.now) (numbers_of numbers.now)) 0 makers.now) }
+{
+    let mut total = 0;
+    for (k, makings) in makers.iter().enumerate() {
+        let rest = unmarked(number_of(marks, k), number_of(numbers, k));
+        total = plus(total, of_makings(sets, rest, makings));
+    }
+    total
+}
+
+// Whether a task, which something else makes, makes itself by the rounds that follow from its own.
+fn closes(
+    costs: &Costs,
+    window: &Window,
+    numbers: &[Made],
+    counts: u64,
+    sets: bool,
+    t: usize,
+) -> bool
+    requires inside { t < length costs.now.tasks }
+    requires below { AreBelow costs.now window.now numbers.now counts }
+    ensures { result ≡ true → HasNone costs.now window.now }
+{
+    let rule = rule_of(costs, window, t);
+    if t >= TASK_LIMIT || !is_open(rule) || !is_share_counted(sets, rule) {
+        return false;
+    }
+    let mut marks = [NEVER; TASK_LIMIT];
+    marks[t] = one_share(sets);
+    reach(costs, window, sets, t, &mut marks);
+    if round_makings(sets, &marks, makers(costs, t)) == 0 {
+        return false;
+    }
+    if makings_within(sets, costs, window, &[], counts, t) != 0 {
+        return true;
+    }
+    rest_makings(sets, &marks, numbers, makers(costs, t)) != 0
+}
+
+/// Whether some task makes itself so, of those that are made that often at least: then what comes has no end.
+pub fn has_cycle(costs: &Costs, window: &Window, numbers: &[Made], counts: u64) -> bool
+    requires below { AreBelow costs.now window.now numbers.now counts }
+    ensures { result ≡ true → HasNone costs.now window.now }
+{
+    for t in 0..costs.tasks.items().len() {
+        if closes(costs, window, numbers, counts, false, t)
+            || closes(costs, window, numbers, counts, true, t)
+        {
+            return true;
+        }
+    }
+    false
 }

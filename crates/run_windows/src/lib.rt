@@ -3,7 +3,7 @@
 //!
 //! A window of a start has the longest item and a stretch in front, and an item and a stretch behind
 //! (`specs/RunWindows`); its bound is the least number of counts that holds all that comes within it (`specs/Windows`,
-//! `specs/Arrivals`), which `settle` finds from zeros up: further on where `rates` leave no solution below, and not at
+//! `specs/Arrivals`), which `settle` finds from zeros up: further on where `curves` leave no solution below, and not at
 //! all where `cycles` of makings have no end (`specs/Cycles`). Rounds of a lower task that waits while it is raised may
 //! join (`joins`).
 //!
@@ -13,35 +13,22 @@
 //! Above 8,000,000,000 counts as 8,000,000,001. That runs keep these numbers: `run_responses`.
 #![tactic(auto)]
 
-pub mod arrivals;
 pub mod bounds;
 pub mod costs;
 pub mod curves;
-pub mod cycles;
-pub mod fronts;
 pub mod level;
-mod load_demand;
-pub mod longest;
-pub mod numbers;
-pub mod parts;
-pub mod rates;
 pub mod responses;
 pub mod rounds;
-pub mod settle;
-pub mod starts;
 pub mod told;
 pub mod window;
 
+pub use bounds::demand;
 pub use costs::{
     AlarmCosts, Costs, CounterCosts, Level, Makings, SectionCosts, SectionMakings, Services,
     TaskCosts,
 };
-pub use fronts::call_path;
-pub use level::task;
-pub use load_demand::demand;
-pub use longest::Longest;
-pub use numbers::plus;
-pub use parts::{Parts, window_parts};
-pub use responses::longest_window;
+pub use level::{call_path, task};
+pub use responses::{Parts, longest_window, window_parts};
+pub use rounds::plus;
 pub use told::{Untold, first_untold};
-pub use window::{Made, Start};
+pub use window::{Longest, Made, Start};

@@ -1,23 +1,19 @@
-//! What comes within a window: activations, settings of events and counts.
-ghost use Rattle.std.specs.Prelude.{◌≡◌};
-ghost use Rattle.run_windows.specs.Costs.{capped};
-ghost use Rattle.run_windows.specs.Windows.{numbers_of, shared, of_makings, round_makings, rule_of, counted};
-ghost use Rattle.run_windows.specs.Windows.{activations, settings, round_counts, window_counts};
+//! What comes within a window: arrivals, expiries of alarms, activations, settings of events and counts.
+//! Numbers up to 8,000,000,001, for which all that is greater, or has no limit, stands.
+ghost use Rattle.std.specs.Prelude.{◌≡◌, cond, ◌+◌, ◌*◌, ◌≤◌};
+ghost use Rattle.run_windows.specs.Costs.{capped, greatest_sum, reckoned};
+ghost use Rattle.run_windows.specs.Windows.{numbers_of, shared, of_makings, round_makings, rule_of, counted, activations, settings, round_counts, window_counts};
+ghost use Rattle.run_windows.specs.Arrivals.{arrivals, cyclic_expiries, expiries, acts_on, expiring, ticking, tick_counts};
 
-use crate::arrivals::{arrivals, tick_counts, ticking};
 use crate::level::{begun, counted, is_boot, makers, rule_of, span_of};
-use crate::numbers::{reckoned, times};
 use crate::window::{NEVER, Window};
-use crate::{Costs, Made, Makings, TaskCosts, plus, task};
+use crate::{AlarmCosts, Costs, CounterCosts, Made, Makings, TaskCosts, task};
 
 /// How often task k is made; never behind the last one.
 pub fn number_of(numbers: &[Made], k: usize) -> Made
     ensures { result ≡ numbers_of numbers.now k }
 {
-    match numbers.get(k) {
-        Some(made) => *made,
-        None => NEVER,
-    }
+    numbers.get(k).copied().unwrap_or(NEVER)
 }
 
 // A number for each activation and one for each setting.
@@ -52,7 +48,6 @@ pub fn round_makings(sets: bool, numbers: &[Made], makers: &[Makings]) -> u64
     total
 }
 
-// The counts of rounds.
 fn round_counts(numbers: &[Made], tasks: &[TaskCosts]) -> u64
     ensures { result ≡ capped (round_counts (numbers_of numbers.now) 0 tasks.now) }
 {
@@ -63,31 +58,29 @@ fn round_counts(numbers: &[Made], tasks: &[TaskCosts]) -> u64
     total
 }
 
-pub fn activations(costs: &Costs, window: &Window, numbers: &[Made], counts: u64, j: usize) -> u64
-    ensures { result ≡ capped (activations costs.now window.now (numbers_of numbers.now) counts j) }
+/// How often a task is activated within a window of so many counts, or its events are set.
+pub fn makings_within(
+    sets: bool,
+    costs: &Costs,
+    window: &Window,
+    numbers: &[Made],
+    counts: u64,
+    j: usize,
+) -> u64
+    ensures { result ≡ cond sets (capped (settings costs.now window.now (numbers_of numbers.now) counts j))
+        (capped (activations costs.now window.now (numbers_of numbers.now) counts j)) }
 {
     let span = span_of(window, counts);
-    let alarms = costs.alarms.items();
-    let counters = costs.counters.items();
-    let arrived = plus(
-        begun(costs, window, j).activations,
-        arrivals(span, task(costs, j).distance),
-    );
-    let ticked = ticking(is_boot(window.start), false, j, span, alarms, counters);
-    let made = round_makings(false, numbers, makers(costs, j));
-    plus(plus(arrived, ticked), made)
-}
-
-pub fn settings(costs: &Costs, window: &Window, numbers: &[Made], counts: u64, j: usize) -> u64
-    ensures { result ≡ capped (settings costs.now window.now (numbers_of numbers.now) counts j) }
-{
-    let span = span_of(window, counts);
-    let alarms = costs.alarms.items();
-    let counters = costs.counters.items();
-    let begun = begun(costs, window, j).settings;
-    let ticked = ticking(is_boot(window.start), true, j, span, alarms, counters);
-    let made = round_makings(true, numbers, makers(costs, j));
-    plus(plus(begun, ticked), made)
+    let (alarms, counters) = (costs.alarms.items(), costs.counters.items());
+    let begun = begun(costs, window, j);
+    let first = if sets {
+        begun.settings
+    } else {
+        plus(begun.activations, arrivals(span, task(costs, j).distance))
+    };
+    let ticked = ticking(is_boot(window.start), sets, j, span, alarms, counters);
+    let made = round_makings(sets, numbers, makers(costs, j));
+    plus(plus(first, ticked), made)
 }
 
 /// How often a task is made within a window of so many counts, in which all are made that often.
@@ -96,8 +89,8 @@ pub fn made_within(costs: &Costs, window: &Window, numbers: &[Made], counts: u64
         (capped (activations costs.now window.now (numbers_of numbers.now) counts j))
         (capped (settings costs.now window.now (numbers_of numbers.now) counts j)) }
 {
-    let activated = activations(costs, window, numbers, counts, j);
-    let signalled = settings(costs, window, numbers, counts, j);
+    let activated = makings_within(false, costs, window, numbers, counts, j);
+    let signalled = makings_within(true, costs, window, numbers, counts, j);
     counted(rule_of(costs, window, j), activated, signalled)
 }
 
@@ -108,4 +101,141 @@ pub fn window_counts(costs: &Costs, window: &Window, numbers: &[Made], counts: u
     let rounds = round_counts(numbers, costs.tasks.items());
     let ticks = tick_counts(span_of(window, counts), costs.counters.items());
     plus(plus(window.front, rounds), ticks)
+}
+
+/// The most arrivals within so many counts, where two are this far apart.
+pub fn arrivals(counts: u64, distance: Option<u32>) -> u64
+    ensures { result ≡ arrivals counts distance }
+{
+    let Some(distance) = distance else {
+        return 0;
+    };
+    if counts == 0 || distance == 0 {
+        return 0;
+    }
+    ((counts - 1) / u64::from(distance)).saturating_add(1)
+}
+
+// Those of an alarm that a tick may expire, each of these or the first alone.
+fn cyclic_expiries(cycle: u32, ticks: u64) -> u64
+    ensures { result ≡ cyclic_expiries cycle ticks }
+{
+    if cycle == 0 {
+        ticks.min(1)
+    } else {
+        arrivals(ticks, Some(cycle))
+    }
+}
+
+/// The most expiries of an alarm within so many ticks; behind boot the first comes with its time.
+pub fn expiries(boot: bool, alarm: &AlarmCosts, ticks: u64) -> u64
+    ensures { result ≡ expiries boot alarm.now ticks }
+{
+    if alarm.is_set {
+        return ticks;
+    }
+    if alarm.time == 0 {
+        return 0;
+    }
+    if boot {
+        let behind = ticks.saturating_sub(u64::from(alarm.time - 1));
+        return cyclic_expiries(alarm.cycle, behind);
+    }
+    cyclic_expiries(alarm.cycle, ticks)
+}
+
+/// Whether an alarm of this counter activates the task, or sets events of it.
+pub fn acts_on(sets: bool, counter: usize, task: usize, alarm: &AlarmCosts) -> bool
+    ensures { result ≡ acts_on sets counter task alarm.now }
+{
+    alarm.counter as usize == counter && (alarm.task as usize == task && alarm.sets_events == sets)
+}
+
+// The expiries of a counter's alarms that set events of a task, or activate it.
+fn expiring(
+    boot: bool,
+    sets: bool,
+    counter: usize,
+    task: usize,
+    ticks: u64,
+    alarms: &[AlarmCosts],
+) -> u64
+    ensures { result ≡ capped (expiring boot sets counter task ticks alarms.now) }
+{
+    let mut total = 0;
+    for alarm in alarms {
+        if acts_on(sets, counter, task, alarm) {
+            total = plus(total, expiries(boot, alarm, ticks));
+        }
+    }
+    total
+}
+
+/// How often ticks set events of a task, or activate it.
+pub fn ticking(
+    boot: bool,
+    sets: bool,
+    task: usize,
+    counts: u64,
+    alarms: &[AlarmCosts],
+    counters: &[CounterCosts],
+) -> u64
+    ensures { result ≡ capped (ticking boot sets task counts alarms.now 0 counters.now) }
+{
+    let mut total = 0;
+    for (c, counter) in counters.iter().enumerate() {
+        let ticks = arrivals(counts, counter.distance);
+        let made = expiring(boot, sets, c, task, ticks, alarms);
+        total = plus(total, ticks.min(made));
+    }
+    total
+}
+
+/// The counts of the ticks.
+pub fn tick_counts(counts: u64, counters: &[CounterCosts]) -> u64
+    ensures { result ≡ capped (tick_counts counts counters.now) }
+{
+    let mut total = 0;
+    for counter in counters {
+        let ticks = arrivals(counts, counter.distance);
+        total = plus(total, times(ticks, u64::from(counter.tick)));
+    }
+    total
+}
+
+/// What an endless number counts as.
+pub const ENDLESS: u64 = 8_000_000_001;
+
+/// The counts above which a window has no bound.
+pub const WINDOW_LIMIT: u64 = 2_147_483_647;
+
+fn capped(number: u64) -> u64
+    ensures { result ≡ capped number }
+{
+    number.min(ENDLESS)
+}
+
+/// A greatest number as a number of counts: `ENDLESS` where there is none.
+pub fn reckoned(most: Option<u32>) -> u64
+    ensures is { result ≡ reckoned most }
+    ensures short { result ≤ greatest_sum }
+{
+    match most {
+        Some(most) => capped(u64::from(most)),
+        None => ENDLESS,
+    }
+}
+
+/// The sum of two numbers, `ENDLESS` where it is that or more.
+pub fn plus(one: u64, other: u64) -> u64
+    ensures { result ≡ capped (one + other) }
+{
+    capped(one.saturating_add(other))
+}
+
+/// The product of two numbers, `ENDLESS` where it is that or more.
+pub fn times(one: u64, other: u64) -> u64
+    ensures { result ≡ capped (one * other) }
+{
+    capped(one.saturating_mul(other))
 }

@@ -1,16 +1,14 @@
 //! What of all that a response time is computed from has no number: the first thing, if there is one.
-ghost use Rattle.std.specs.Prelude.{◌≡◌, Some, length, Decides};
+ghost use Rattle.std.specs.Prelude.{◌≡◌, Some, None, cond, length, Decides};
 ghost use Rattle.run_windows.specs.declared.told.Untold.{Untold};
 ghost use Rattle.run_windows.specs.RunWindows.{AreTold};
-ghost use Rattle.run_windows.specs.FirstUntold.{IsInside, is_told, are_makings_told, earlier, first_below};
-ghost use Rattle.run_windows.specs.FirstUntold.{untold_rounds, untold_making, level_rounds, level_making};
-ghost use Rattle.run_windows.specs.FirstUntold.{level_makings, joined_making, making_of_joined, untold_joined};
-ghost use Rattle.run_windows.specs.FirstUntold.{untold_section, untold_section_making, untold_apart, untold_lower};
-ghost use Rattle.run_windows.specs.FirstUntold.{first_untold};
+ghost use Rattle.run_windows.specs.FirstUntold.{IsInside, is_told, are_makings_told, untold_rounds, untold_making};
+ghost use Rattle.run_windows.specs.FirstUntold.{level_makings, untold_joined, untold_apart, untold_lower, first_untold};
 
-use crate::fronts::{is_apart, is_joined, section_counts};
-use crate::level::{is_left_out, is_lower, making, section_making};
-use crate::numbers::{ENDLESS, reckoned};
+use crate::level::{
+    is_apart, is_joined, is_left_out, is_lower, making, section_counts, section_making,
+};
+use crate::rounds::{ENDLESS, reckoned};
 use crate::{Costs, Makings, task};
 
 /// Something without a number, of a level.
@@ -32,49 +30,21 @@ fn is_told(number: Option<u32>) -> bool
     reckoned(number) < ENDLESS
 }
 
-fn earlier(one: Option<Untold>, other: Option<Untold>) -> Option<Untold>
-    ensures { result ≡ earlier one other }
+// This thing, where it has no number.
+fn unless_told(told: bool, thing: Untold) -> Option<Untold>
+    ensures { result ≡ cond told None (Some thing) }
 {
-    match one {
-        Some(untold) => Some(untold),
-        None => other,
-    }
+    if told { None } else { Some(thing) }
 }
 
-// ---- rounds
-
-fn untold_rounds(costs: &Costs, k: usize) -> Option<Untold>
-    ensures { result ≡ untold_rounds costs.now k }
+// Rounds of task k, where they are not left out.
+fn untold_rounds(costs: &Costs, out: bool, k: usize) -> Option<Untold>
+    ensures { result ≡ cond out None (untold_rounds costs.now k) }
 {
     let task = task(costs, k);
-    if is_told(task.first) && is_told(task.next) {
-        None
-    } else {
-        Some(Untold::Rounds(k))
-    }
+    let told = is_told(task.first) && is_told(task.next);
+    unless_told(out || told, Untold::Rounds(k))
 }
-
-fn level_rounds(costs: &Costs, h: usize, k: usize) -> Option<Untold>
-    ensures { result ≡ level_rounds costs.now h k }
-{
-    if is_left_out(costs, h, k) {
-        None
-    } else {
-        untold_rounds(costs, k)
-    }
-}
-
-fn first_level_rounds(costs: &Costs, h: usize) -> Option<Untold>
-    ensures { result ≡ first_below (level_rounds costs.now h) (length costs.now.tasks) }
-{
-    let mut found = None;
-    for k in 0..costs.tasks.items().len() {
-        found = earlier(found, level_rounds(costs, h, k));
-    }
-    found
-}
-
-// ---- makings
 
 fn are_makings_told(makings: &Makings) -> bool
     ensures { result ≡ are_makings_told makings.now }
@@ -84,24 +54,12 @@ fn are_makings_told(makings: &Makings) -> bool
             && (is_told(makings.next_activations) && is_told(makings.next_settings)))
 }
 
-fn untold_making(costs: &Costs, k: usize, j: usize) -> Option<Untold>
-    ensures { result ≡ untold_making costs.now k j }
+// How often they make task j Ready, where that is not left out.
+fn untold_making(costs: &Costs, out: bool, k: usize, j: usize) -> Option<Untold>
+    ensures { result ≡ cond out None (untold_making costs.now k j) }
 {
-    if are_makings_told(&making(costs, k, j)) {
-        None
-    } else {
-        Some(Untold::Makings(k, j))
-    }
-}
-
-fn level_making(costs: &Costs, h: usize, k: usize, j: usize) -> Option<Untold>
-    ensures { result ≡ level_making costs.now h k j }
-{
-    if is_left_out(costs, h, k) || is_lower(costs, h, j) {
-        None
-    } else {
-        untold_making(costs, k, j)
-    }
+    let told = are_makings_told(&making(costs, k, j));
+    unless_told(out || told, Untold::Makings(k, j))
 }
 
 fn level_makings(costs: &Costs, h: usize, k: usize) -> Option<Untold>
@@ -109,106 +67,38 @@ fn level_makings(costs: &Costs, h: usize, k: usize) -> Option<Untold>
 {
     let mut found = None;
     for j in 0..costs.tasks.items().len() {
-        found = earlier(found, level_making(costs, h, k, j));
+        let out = is_left_out(costs, h, k) || is_lower(costs, h, j);
+        found = found.or(untold_making(costs, out, k, j));
     }
     found
 }
 
-fn first_level_makings(costs: &Costs, h: usize) -> Option<Untold>
-    ensures { result ≡ first_below (level_makings costs.now h) (length costs.now.tasks) }
-{
-    let mut found = None;
-    for k in 0..costs.tasks.items().len() {
-        found = earlier(found, level_makings(costs, h, k));
-    }
-    found
-}
-
-// ---- lower tasks whose rounds join
-
-// How often rounds of such a task make one of the level Ready, or itself.
-fn joined_making(costs: &Costs, h: usize, k: usize, j: usize) -> Option<Untold>
-    ensures { result ≡ joined_making costs.now h k j }
-{
-    if is_lower(costs, h, j) && k != j {
-        None
-    } else {
-        untold_making(costs, k, j)
-    }
-}
-
-fn joined_makings(costs: &Costs, h: usize, k: usize) -> Option<Untold>
-    ensures { result ≡ first_below (joined_making costs.now h k) (length costs.now.tasks) }
-{
-    let mut found = None;
-    for j in 0..costs.tasks.items().len() {
-        found = earlier(found, joined_making(costs, h, k, j));
-    }
-    found
-}
-
-// How often those of task j of the level make it Ready.
-fn making_of_joined(costs: &Costs, h: usize, k: usize, j: usize) -> Option<Untold>
-    ensures { result ≡ making_of_joined costs.now h k j }
-{
-    if is_left_out(costs, h, j) {
-        None
-    } else {
-        untold_making(costs, j, k)
-    }
-}
-
-fn makings_of_joined(costs: &Costs, h: usize, k: usize) -> Option<Untold>
-    ensures { result ≡ first_below (making_of_joined costs.now h k) (length costs.now.tasks) }
-{
-    let mut found = None;
-    for j in 0..costs.tasks.items().len() {
-        found = earlier(found, making_of_joined(costs, h, k, j));
-    }
-    found
-}
-
+// Of a lower task whose rounds join: how often they make one of the level Ready, or itself, and the level makes it.
 fn untold_joined(costs: &Costs, h: usize, k: usize) -> Option<Untold>
     ensures { result ≡ untold_joined costs.now h k }
 {
-    let made = earlier(joined_makings(costs, h, k), makings_of_joined(costs, h, k));
-    earlier(untold_rounds(costs, k), made)
-}
-
-// ---- lower tasks whose sections count
-
-fn untold_section(costs: &Costs, h: usize, k: usize) -> Option<Untold>
-    ensures { result ≡ untold_section costs.now h k }
-{
-    if is_told(section_counts(costs, h, k)) {
-        None
-    } else {
-        Some(Untold::Section(k))
+    let mut makings = None;
+    let mut makers = None;
+    for j in 0..costs.tasks.items().len() {
+        let out = is_lower(costs, h, j) && k != j;
+        makings = makings.or(untold_making(costs, out, k, j));
+        makers = makers.or(untold_making(costs, is_left_out(costs, h, j), j, k));
     }
+    untold_rounds(costs, false, k).or(makings.or(makers))
 }
 
-fn untold_section_making(costs: &Costs, h: usize, k: usize, j: usize) -> Option<Untold>
-    ensures { result ≡ untold_section_making costs.now h k j }
-{
-    let made = section_making(costs, h, k, j);
-    if is_lower(costs, h, j) || (is_told(made.activations) && is_told(made.settings)) {
-        None
-    } else {
-        Some(Untold::SectionMakings(k))
-    }
-}
-
+// Of one whose sections count.
 fn untold_apart(costs: &Costs, h: usize, k: usize) -> Option<Untold>
     ensures { result ≡ untold_apart costs.now h k }
 {
-    let mut found = None;
+    let mut makings = None;
     for j in 0..costs.tasks.items().len() {
-        found = earlier(found, untold_section_making(costs, h, k, j));
+        let made = section_making(costs, h, k, j);
+        let told = is_told(made.activations) && is_told(made.settings);
+        makings = makings.or(unless_told(is_lower(costs, h, j) || told, Untold::SectionMakings(k)));
     }
-    earlier(untold_section(costs, h, k), found)
+    unless_told(is_told(section_counts(costs, h, k)), Untold::Section(k)).or(makings)
 }
-
-// ---- all
 
 fn untold_lower(costs: &Costs, h: usize, k: usize) -> Option<Untold>
     ensures { result ≡ untold_lower costs.now h k }
@@ -222,16 +112,6 @@ fn untold_lower(costs: &Costs, h: usize, k: usize) -> Option<Untold>
     }
 }
 
-fn first_untold_lower(costs: &Costs, h: usize) -> Option<Untold>
-    ensures { result ≡ first_below (untold_lower costs.now h) (length costs.now.tasks) }
-{
-    let mut found = None;
-    for k in 0..costs.tasks.items().len() {
-        found = earlier(found, untold_lower(costs, h, k));
-    }
-    found
-}
-
 /// The first that has no number, of all that the windows of a task are computed from: rounds of its level, how often
 /// they make tasks of it Ready, by the task that makes them first, and for each lower task in turn its sections, and
 /// how often they make tasks of the level Ready; or its rounds, if they join, and how often these make such tasks and
@@ -240,10 +120,16 @@ pub fn first_untold(costs: &Costs, h: usize) -> Option<Untold>
     ensures is { result ≡ first_untold costs.now h }
     ensures inside { (u : Untold) → result ≡ Some u → IsInside (length costs.now.tasks) u }
 {
-    earlier(
-        first_level_rounds(costs, h),
-        earlier(first_level_makings(costs, h), first_untold_lower(costs, h)),
-    )
+    let mut rounds = None;
+    let mut makings = None;
+    let mut lower = None;
+    for k in 0..costs.tasks.items().len() {
+        let out = is_left_out(costs, h, k);
+        rounds = rounds.or(untold_rounds(costs, out, k));
+        makings = makings.or(level_makings(costs, h, k));
+        lower = lower.or(untold_lower(costs, h, k));
+    }
+    rounds.or(makings.or(lower))
 }
 
 /// Whether all has, for a task.

@@ -1,4 +1,6 @@
-//! Windows: the counts from a start on in which a task's response is looked for.
+//! Windows: the counts from a start on in which a task's response is looked for. The longest of windows.
+ghost use Rattle.std.specs.Prelude.{◌≡◌};
+ghost use Rattle.run_windows.specs.Longest.{number_of};
 
 /// How a window begins.
 #[derive(Clone, Copy)]
@@ -37,6 +39,18 @@ pub struct Made {
     pub settings: u64,
 }
 
+impl Made {
+    /// So many times.
+    pub fn new(activations: u64, settings: u64) -> Made
+        ensures { result ≡ record { activations = activations; settings = settings } }
+    {
+        Made {
+            activations,
+            settings,
+        }
+    }
+}
+
 /// Never.
 pub const NEVER: Made = Made {
     activations: 0,
@@ -54,4 +68,24 @@ pub enum Rule {
     Each,
     /// One.
     Once,
+}
+
+/// A window of a start, and its number.
+#[derive(Clone, Copy)]
+pub struct Longest {
+    /// Within how many counts the task leaves in it: 0 where nothing makes it Ready.
+    pub number: u32,
+    pub start: Start,
+    /// It opens with the event of its start; else with admissions in front of a service.
+    pub opens: bool,
+}
+
+/// The number of a window, if there is one.
+pub fn number_of(window: Option<Longest>) -> Option<u32>
+    ensures { result ≡ number_of window }
+{
+    match window {
+        Some(window) => Some(window.number),
+        None => None,
+    }
 }

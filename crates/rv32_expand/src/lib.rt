@@ -7,23 +7,12 @@
 //! mask: `far_accesses`. Instructions: `rv32_instr`.
 #![tactic(auto)]
 
-pub mod addresses;
-mod all_sizes;
-pub mod calls;
-mod draft;
 pub mod draft_lengths;
-mod expanding;
 pub mod far_accesses;
-pub mod item_lengths;
 pub mod laws;
-mod lengths;
-pub mod long_branches;
+pub mod lengths;
 mod operations;
-mod rows;
+pub mod rows;
 
-pub use addresses::item_address;
-pub use all_sizes::sizes;
-pub use draft::Expansion;
-pub use expanding::expand;
-pub use lengths::length;
-pub use long_branches::shortest;
+pub use draft_lengths::Expansion;
+pub use lengths::{expand, item_address, length, shortest, sizes};

@@ -1,21 +1,22 @@
-//! The instructions of each operation.
-ghost use Rattle.std.specs.Prelude.{◌≡◌, ◌≤◌, ◌<◌, ◌+◌, ◌*◌, ◌^◌, ◌++◌, ◌∷◌, [], length, pos};
+//! The instructions of each operation. The instructions of a call. How many instructions an item has.
+ghost use Rattle.std.specs.Prelude.{◌≡◌, ◌≤◌, ◌<◌, ◌+◌, ◌*◌, ◌^◌, ◌++◌, ◌∷◌, [], length, pos, ℕ};
 ghost use Rattle.sloth_base.specs.Arithmetic.{hi};
 ghost use Rattle.sloth_base.specs.Limits.{frame_limit};
 ghost use Rattle.rv32_expand.specs.FarAccesses.{wide, IsWide};
 ghost use Rattle.rv32_instr.specs.Range.{IsSigned};
 ghost use Rattle.rv32_instr.specs.declared.InstrKind.TheVariants.{Lui, Addi, Lw, Jalr};
-ghost use Rattle.rv32_expand.specs.Expansion.{distance, block_address, index_code, branch_code, mask_of, service_jump, operation_code};
+ghost use Rattle.rv32_expand.specs.Expansion.{distance, block_address, index_code, branch_code, mask_of, service_jump, operation_code, call_code};
 ghost use Rattle.rv32_expand.specs.NumberRange.{HasBranchRoom, HasNumbersInRange};
+ghost use Rattle.sloth_base.specs.Named.{function};
+ghost use Rattle.rv32_expand.specs.Long.{size};
 
-use crate::addresses::{block_address, label_address, symbol_address};
-use crate::calls::{call, distance, frame_offset, one};
 use crate::draft_lengths::Draft;
 use crate::item_address;
-use crate::item_lengths::{NEAR_MASK, frame_words, mask_length};
+use crate::lengths::{block_address, label_address, symbol_address};
 use crate::operations::{number_operation, opposite, register_operation, test};
 use rv32_instr::{
-    InstrKind, X2, X30, X31, ZERO, add, addi, andi, hi, jal, jalr, lo, load, lui, lw, store, sw,
+    InstrKind, X2, X30, X31, ZERO, add, addi, andi, auipc, hi, jal, jalr, lo, load, lui, lw, store,
+    sw,
 };
 use sloth_base::{App, BranchKind, Call, FuncId, Item, Op, Places, Reg, Service};
 
@@ -185,5 +186,87 @@ pub fn draft(item: &Item, func: u32, at: u32, long: bool, app: &App, places: &Pl
         Op::Invoke { func } => call(at, frame_words(app, func), item_address(places, func.0, 0)),
         Op::Return => way_back(frame_words(app, FuncId(func))),
         Op::Serve(call) => serve(call, at, places),
+    }
+}
+
+/// How far it is from one address to another.
+pub fn distance(from: u32, to: u32) -> i32
+    requires { IsSigned 21 (distance from to) }
+    ensures { result ≡ distance from to }
+{
+    (i64::from(to) - i64::from(from)) as i32
+}
+
+/// One instruction.
+pub fn one(kind: InstrKind) -> Draft
+    ensures { result ≡ kind ∷ [] }
+{
+    Draft::of(&[kind])
+}
+
+/// Where a word of the frame stands behind x2.
+pub fn frame_offset(word: u32) -> i32
+    requires { word ≤ 36 }
+    ensures { result ≡ pos (4 * word) }
+{
+    4 * word as i32
+}
+
+/// The call, at `at`, of a function with so many words of frame.
+pub fn call(at: u32, words: u32, target: u32) -> Draft
+    requires few { words ≤ frame_limit }
+    requires at_in { at < 2 ^ 31 + 2 ^ 22 }
+    requires near { IsSigned 21 (distance (at + 4 * (words + 3)) target) }
+    ensures { result ≡ call_code at words target }
+{
+    let mut draft = one(addi(X2, X2, -4 - frame_offset(words)));
+    for word in 0..words {
+        draft.push(sw(ZERO, X2, frame_offset(word)));
+    }
+    draft.push(auipc(X31, 0));
+    draft.push(sw(X31, X2, frame_offset(words)));
+    draft.push(jal(ZERO, distance(at + 4 * (words + 3), target)));
+    draft
+}
+
+/// The greatest mask that has a place in an instruction.
+pub const NEAR_MASK: u32 = 2047;
+
+/// The words of the frame of a function.
+pub fn frame_words(app: &App, func: FuncId) -> u32
+    ensures { result ≡ (function app.now func).frame_words }
+{
+    match app.funcs.items().get(func.0 as usize) {
+        Some(func) => func.frame_words,
+        None => 0,
+    }
+}
+
+/// How many instructions load the mask of a service.
+pub fn mask_length(service: Service) -> u32
+    ensures is { (mask : ℕ) → result ≡ length (mask_of service mask) }
+    ensures few { result ≤ 2 }
+{
+    if service.has_mask() { 2 } else { 0 }
+}
+
+/// How many instructions an operation has, where a branch is long or not.
+#[tactic(auto, unfolding(crate::specs::Long::size), using(crate::proofs::Counts::size_invoke, crate::proofs::Counts::size_serve, crate::proofs::Counts::size_load_at, crate::proofs::Counts::size_store_at))]
+pub fn size(op: Op, app: &App, long: bool) -> u32
+    requires { (func : ℕ) → (function app.now func).frame_words ≤ frame_limit }
+    ensures is { result ≡ size app.now long op }
+    ensures few { result ≤ 36 }
+{
+    match op {
+        Op::Alu { .. } | Op::AluImm { .. } | Op::Lui { .. } => 1,
+        Op::FrameLoad { .. } | Op::FrameStore { .. } | Op::Jump { .. } => 1,
+        Op::Li { .. } | Op::Load { .. } | Op::Store { .. } => 2,
+        Op::LoadAt { mask, .. } | Op::StoreAt { mask, .. } => {
+            if mask <= NEAR_MASK { 4 } else { 6 }
+        }
+        Op::Branch { .. } => { if long { 6 } else { 1 } }
+        Op::Invoke { func } => 4 + frame_words(app, func),
+        Op::Return => 3,
+        Op::Serve(call) => mask_length(call.service) + 1,
     }
 }

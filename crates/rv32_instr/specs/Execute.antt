@@ -1,10 +1,10 @@
 -- One instruction of the machine: what it leaves, or why it stops, which changes nothing.
 use Rattle.std.specs.Prelude.{ℕ, zero, suc, ◌+◌, ◌-◌, ◌/◌, ◌%◌, ◌^◌, Option, Some, None, true, if◌then◌else◌, ◌==◌, ◌&&◌, nat_le, nat_lt, bit_and, bit_or, slice_set}
 use Rattle.sloth_base.specs.Machine.{Core, State}
-use Rattle.rv32_instr.specs.declared.stop.Bad.{Bad}
-use Rattle.rv32_instr.specs.declared.stop.Bad.TheVariants as bad
-use Rattle.rv32_instr.specs.declared.stop.Stop.{Stop}
-use Rattle.rv32_instr.specs.declared.stop.Stop.TheVariants as stop
+use Rattle.rv32_instr.specs.declared.effect.Bad.{Bad}
+use Rattle.rv32_instr.specs.declared.effect.Bad.TheVariants as bad
+use Rattle.rv32_instr.specs.declared.effect.Stop.{Stop}
+use Rattle.rv32_instr.specs.declared.effect.Stop.TheVariants as stop
 use Rattle.rv32_instr.specs.declared.csr.TheConstants.{MSTATUS, MSCRATCH, MEPC, ILEVEL, PLEVEL}
 use Rattle.rv32_instr.specs.declared.effect.Change.{Change}
 use Rattle.rv32_instr.specs.declared.effect.Change.TheVariants.{Keep, Replace, Set, Clear}

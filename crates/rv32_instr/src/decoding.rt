@@ -6,10 +6,10 @@ ghost use Rattle.rv32_instr.specs.Table.{Decode, jump, branch, load, store, imme
 ghost use Rattle.rv32_instr.specs.Encode.{IsWordOf};
 ghost use Rattle.rv32_instr.specs.declared.InstrKind.{InstrKind};
 
-use crate::fields::{bits, signed};
-use crate::opcodes::{
+use crate::encoding::{
     AUIPC, BRANCH, EBREAK, ECALL, JAL, JALR, LOAD, LUI, MISC_MEM, MRET, OP, OP_IMM, STORE, SYSTEM,
 };
+use crate::fields::{bits, signed};
 use crate::{Instr, InstrKind};
 use sloth_base::Reg;
 

@@ -1,5 +1,5 @@
 //! From an instruction to its word.
-
+//! The opcodes of the RISC-V unprivileged manual, and the words of the instructions without fields.
 ghost use Rattle.std.specs.Prelude.{◌≡◌, ◌<◌, ◌^◌, Some};
 ghost use Rattle.rv32_instr.specs.Range.{InRange};
 ghost use Rattle.rv32_instr.specs.Words.{word, upper_word, r_word, i_word, s_word, b_word, j_word};
@@ -7,9 +7,6 @@ ghost use Rattle.rv32_instr.specs.Encode.{Encode};
 ghost use Rattle.rv32_instr.specs.Table.{Decode};
 
 use crate::fields::part;
-use crate::opcodes::{
-    AUIPC, BRANCH, EBREAK, ECALL, JAL, JALR, LOAD, LUI, MISC_MEM, MRET, OP, OP_IMM, STORE, SYSTEM,
-};
 use crate::{Instr, InstrKind};
 use sloth_base::Reg;
 
@@ -153,3 +150,31 @@ pub fn encode(instr: Instr) -> u32
 {
     encode_kind(instr.kind())
 }
+
+pub const LUI: u32 = 0b011_0111;
+
+pub const AUIPC: u32 = 0b001_0111;
+
+pub const JAL: u32 = 0b110_1111;
+
+pub const JALR: u32 = 0b110_0111;
+
+pub const BRANCH: u32 = 0b110_0011;
+
+pub const LOAD: u32 = 0b000_0011;
+
+pub const STORE: u32 = 0b010_0011;
+
+pub const OP_IMM: u32 = 0b001_0011;
+
+pub const OP: u32 = 0b011_0011;
+
+pub const MISC_MEM: u32 = 0b000_1111;
+
+pub const SYSTEM: u32 = 0b111_0011;
+
+pub const ECALL: u32 = 0x0000_0073;
+
+pub const EBREAK: u32 = 0x0010_0073;
+
+pub const MRET: u32 = 0x3020_0073;

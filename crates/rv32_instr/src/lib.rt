@@ -14,14 +14,11 @@ use std::marker::Model;
 pub mod access;
 pub mod asm;
 pub mod block;
-pub mod constant;
 pub mod csr;
 pub mod decoding;
 pub mod effect;
 pub mod encoding;
 pub mod fields;
-pub mod opcodes;
-pub mod stop;
 
 pub use access::{load, store};
 pub use asm::{
@@ -30,12 +27,11 @@ pub use asm::{
     slti, sltiu, sltu, sra, srai, srl, srli, sub, sw, xor, xori,
 };
 pub use block::Block;
-pub use constant::{hi, lo};
 pub use csr::{ILEVEL, MEPC, MIE, MPIE, MSCRATCH, MSTATUS, PLEVEL};
 pub use decoding::decode;
-pub use effect::{Change, Effect};
+pub use effect::{Bad, Change, Effect, Stop};
 pub use encoding::encode;
-pub use stop::{Bad, Stop};
+pub use fields::{hi, lo};
 
 /// One instruction: its mnemonic and its fields. `specs/Range.antt` has the ranges of the fields.
 #[derive(Clone, Copy)]

@@ -1,7 +1,7 @@
 -- The steps of a run hang together: their counts follow one another, and each finds MIE as the one before left it.
 use Rattle.std.proofs.Common.{◌≡◌, ◌+◌, ℕ, zero, suc, List, [], ◌∷◌, refl, sym, ◌∙◌, ap, subst}
-use Rattle.sloth_base.specs.declared.event.Arrival.{Arrival}
-use Rattle.sloth_base.specs.declared.step.Step.{Step}
+use Rattle.sloth_base.specs.declared.service.Arrival.{Arrival}
+use Rattle.sloth_base.specs.declared.numbers.Step.{Step}
 use Rattle.sloth_base.specs.Machine.{State}
 use Rattle.rv32_instr.specs.Execute.{Next, Going, Stopped, step}
 use Rattle.sloth_base.specs.Take.{execution_state}

@@ -4,8 +4,8 @@ use Rattle.std.proofs.lemmas.Bool.Decides.{nat_tests}
 use Rattle.sloth_base.specs.Machine.{State}
 use Rattle.sloth_base.specs.declared.app.Width.TheVariants as width
 use Rattle.sloth_base.specs.MemoryMap.{memory_base}
-use Rattle.rv32_instr.specs.declared.stop.Bad.{Bad}
-use Rattle.rv32_instr.specs.declared.stop.Stop.TheVariants as stop
+use Rattle.rv32_instr.specs.declared.effect.Bad.{Bad}
+use Rattle.rv32_instr.specs.declared.effect.Stop.TheVariants as stop
 use Rattle.rv32_instr.specs.declared.InstrKind.{InstrKind}
 use Rattle.rv32_instr.specs.Encode.{Encode}
 use Rattle.rv32_instr.specs.Table.{Decode}

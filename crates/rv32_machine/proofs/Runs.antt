@@ -1,9 +1,9 @@
 -- Runs that go on, and runs that stop.
 use Rattle.std.proofs.Common.{◌≡◌, ◌≤◌, ◌<◌, ◌+◌, ℕ, zero, suc, List, [], ◌∷◌, ◌++◌, Option, Some, None, refl, sym, ◌∙◌, ap, arith, add-one, append-nil}
-use Rattle.sloth_base.specs.declared.event.Arrival.{Arrival}
-use Rattle.sloth_base.specs.declared.step.Step.{Step}
+use Rattle.sloth_base.specs.declared.service.Arrival.{Arrival}
+use Rattle.sloth_base.specs.declared.numbers.Step.{Step}
 use Rattle.sloth_base.specs.Machine.{State}
-use Rattle.rv32_instr.specs.declared.stop.Stop.{Stop}
+use Rattle.rv32_instr.specs.declared.effect.Stop.{Stop}
 use Rattle.rv32_machine.specs.Advance.{StepOutcome, Goes, Halts}
 use Rattle.rv32_machine.specs.Run.{Moment, Stopping, state_with_arrivals, moment, on_goes, moment_of, run_from, state_after_from, stop_from, stopping}
 

@@ -1,11 +1,11 @@
 //! Laws of runs.
 ghost use Rattle.std.specs.Prelude.{◌≡◌, ◌<◌, ◌+◌, ◌++◌, ◌∷◌, [], ℕ, List, Option, Some, None};
-ghost use Rattle.sloth_base.specs.declared.event.Arrival.{Arrival};
-ghost use Rattle.sloth_base.specs.declared.step.Step.{Step};
+ghost use Rattle.sloth_base.specs.declared.service.Arrival.{Arrival};
+ghost use Rattle.sloth_base.specs.declared.numbers.Step.{Step};
 ghost use Rattle.sloth_base.specs.Machine.{State};
 ghost use Rattle.sloth_base.specs.Lines.{Lines};
 ghost use Rattle.sloth_base.specs.Choose.{IsChosen};
-ghost use Rattle.rv32_instr.specs.declared.stop.Stop.{Stop};
+ghost use Rattle.rv32_instr.specs.declared.effect.Stop.{Stop};
 ghost use Rattle.rv32_machine.specs.Advance.{Goes, Halts};
 ghost use Rattle.rv32_machine.specs.Run.{state_with_arrivals, moment, moment_of, run, steps_of, state_after, stop_of, stopping};
 ghost use Rattle.rv32_machine.specs.Coherent.{AreCoherent};

@@ -2,8 +2,8 @@
 use Rattle.std.proofs.Common.{◌≡◌, ◌+◌, ℕ, List, [], ◌∷◌, ◌++◌, refl, ap}
 use Rattle.std.specs.Prelude.{cond}
 use Rattle.std.proofs.Math.Numerals.{add-one}
-use Rattle.sloth_base.specs.declared.event.Arrival.{Arrival}
-use Rattle.sloth_runner.specs.declared.machine_states.Seen.{Seen}
+use Rattle.sloth_base.specs.declared.service.Arrival.{Arrival}
+use Rattle.sloth_runner.specs.declared.task_states.Seen.{Seen}
 use Rattle.schedule_picture.specs.declared.marks.Actor.{Actor}
 use Rattle.schedule_picture.specs.declared.marks.Actor.TheVariants as actor
 use Rattle.schedule_picture.specs.declared.marks.Sign.TheVariants as sign

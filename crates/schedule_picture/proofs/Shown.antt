@@ -1,6 +1,6 @@
 -- What the lanes of a picture have shown.
 use Rattle.std.specs.Prelude.{ℕ, ◌≡◌, ◌≤◌, ◌+◌, ◌-◌, List, length, get_or}
-use Rattle.sloth_base.specs.declared.event.Arrival.{Arrival}
+use Rattle.sloth_base.specs.declared.service.Arrival.{Arrival}
 use Rattle.sloth_base.specs.declared.image.Image.{Image}
 use Rattle.run_samples.specs.declared.samples.Sample.{Sample}
 use Rattle.run_samples.specs.declared.samples.Sampler.{Sampler}

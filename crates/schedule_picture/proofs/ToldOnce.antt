@@ -5,9 +5,9 @@ use Rattle.std.proofs.lemmas.List.{map-append}
 use Rattle.sloth_base.specs.Arrivals.{moments, AreRisingMoments}
 use Rattle.sloth_base.specs.MemoryMap.{line_count}
 use Rattle.sloth_base.specs.Machine.{State}
-use Rattle.sloth_base.specs.declared.event.Arrival.{Arrival}
+use Rattle.sloth_base.specs.declared.service.Arrival.{Arrival}
 use Rattle.sloth_base.specs.declared.image.Image.{Image}
-use Rattle.sloth_base.specs.declared.step.Step.{Step}
+use Rattle.sloth_base.specs.declared.numbers.Step.{Step}
 use Rattle.rv32_instr.specs.Memory.{Memory, memory_of}
 use Rattle.rv32_machine.specs.Start.{start}
 use Rattle.rv32_machine.specs.Run.{state_after}
@@ -18,7 +18,7 @@ use Rattle.run_samples.specs.Admissions.{Notes, no_notes, is_by_code, admission_
 use Rattle.run_samples.specs.Samples.{IsSample, AreSamples, no_sample, seen_behind}
 use Rattle.run_samples.specs.declared.accesses.Access.{Access}
 use Rattle.run_samples.specs.declared.admissions.Admission.{Admission}
-use Rattle.sloth_runner.specs.declared.machine_states.Seen.{Seen}
+use Rattle.sloth_runner.specs.declared.task_states.Seen.{Seen}
 use Rattle.run_samples.specs.declared.samples.Sample.{Sample}
 use Rattle.run_samples.proofs.Noted.{found_at}
 

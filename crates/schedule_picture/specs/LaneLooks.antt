@@ -4,7 +4,7 @@ use Rattle.sloth_base.specs.declared.image.Image.{Image}
 use Rattle.sloth_base.specs.Options.{is_number}
 use Rattle.sloth_base.specs.Owners.{counter_line}
 use Rattle.osek_scheduler.specs.declared.state.TaskState.TheVariants as mode
-use Rattle.sloth_runner.specs.declared.machine_states.Seen.{Seen}
+use Rattle.sloth_runner.specs.declared.task_states.Seen.{Seen}
 use Rattle.run_samples.specs.declared.samples.Sample.{Sample}
 use Rattle.run_samples.specs.Samples.{no_sample}
 use Rattle.lane_drawing.specs.declared.bars.Look.{Look}

@@ -3,7 +3,7 @@ use Rattle.std.specs.Prelude.{ℕ, zero, suc, ◌+◌, ◌-◌, ◌==◌, ◌&&�
 use Rattle.std.specs.List.{list_any}
 use Rattle.sloth_base.specs.Limits.{task_limit, alarm_limit}
 use Rattle.sloth_base.specs.Owners.{first_counter_line}
-use Rattle.sloth_base.specs.declared.event.Arrival.{Arrival}
+use Rattle.sloth_base.specs.declared.service.Arrival.{Arrival}
 use Rattle.sloth_base.specs.declared.image.Image.{Image}
 use Rattle.osek_scheduler.specs.declared.state.TaskState.{TaskState}
 use Rattle.osek_scheduler.specs.declared.state.TaskState.TheVariants as mode
@@ -11,7 +11,7 @@ use Rattle.lane_drawing.specs.Signs.{is_woken, is_activated, is_over}
 use Rattle.run_samples.specs.Addresses.{address_behind}
 use Rattle.run_samples.specs.Samples.{no_sample}
 use Rattle.run_samples.specs.ServiceWords.{words_behind}
-use Rattle.sloth_runner.specs.declared.machine_states.Seen.{Seen}
+use Rattle.sloth_runner.specs.declared.task_states.Seen.{Seen}
 use Rattle.run_samples.specs.declared.samples.Sample.{Sample}
 use Rattle.schedule_picture.specs.declared.marks.Actor.{Actor}
 use Rattle.schedule_picture.specs.declared.marks.Actor.TheVariants as actor

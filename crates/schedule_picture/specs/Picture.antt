@@ -1,7 +1,7 @@
 -- The picture of a part of a run.
 use Rattle.std.specs.Prelude.{ℕ, zero, suc, ◌+◌, ◌-◌, ◌==◌, ◌&&◌, ltb, leb, Bool, true, ◌≡◌, ◌≤◌, max, cond, if◌then◌else◌, List, [], ◌++◌, codes, filter, length, get_or}
 use Rattle.std.specs.List.{flat_map}
-use Rattle.sloth_base.specs.declared.event.Arrival.{Arrival}
+use Rattle.sloth_base.specs.declared.service.Arrival.{Arrival}
 use Rattle.sloth_base.specs.declared.image.Image.{Image}
 use Rattle.sloth_runner.specs.declared.runner.RunEnd.TheVariants as ends
 use Rattle.sloth_runner.specs.Runner.{run_end}

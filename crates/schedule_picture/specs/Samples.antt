@@ -1,6 +1,6 @@
 -- A sampler that has given the first samples of a run.
 use Rattle.std.specs.Prelude.{ℕ, ◌≡◌, ◌≤◌, ◌+◌, ◌-◌, List, length, get_or}
-use Rattle.sloth_base.specs.declared.event.Arrival.{Arrival}
+use Rattle.sloth_base.specs.declared.service.Arrival.{Arrival}
 use Rattle.sloth_base.specs.declared.image.Image.{Image}
 use Rattle.sloth_runner.specs.Runner.{run_end}
 use Rattle.sloth_runner.specs.declared.runner.Halt.{Halt}

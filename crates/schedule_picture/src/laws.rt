@@ -1,7 +1,7 @@
 //! Laws of pictures.
 ghost use Rattle.std.specs.Prelude.{ℕ, ◌≡◌, ◌≤◌, ◌+◌, List, length, map};
 ghost use Rattle.sloth_base.specs.Arrivals.{AreRisingMoments, moments};
-ghost use Rattle.sloth_base.specs.declared.event.Arrival.{Arrival};
+ghost use Rattle.sloth_base.specs.declared.service.Arrival.{Arrival};
 ghost use Rattle.sloth_base.specs.declared.image.Image.{Image};
 ghost use Rattle.run_samples.specs.Admissions.{run_admissions};
 ghost use Rattle.run_samples.specs.Samples.{AreSamples};

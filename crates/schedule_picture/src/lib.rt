@@ -7,9 +7,7 @@
 //! once (`arrivals_are_told_once`). Samples: `run_samples`; bars and lines: `lane_drawing`.
 #![tactic(auto)]
 
-mod arrivals;
 mod items;
-mod lane_looks;
 mod lanes;
 pub mod laws;
 mod mark_lines;

@@ -1,4 +1,4 @@
-//! The text of a picture.
+//! The text of a picture. The arrivals in a lane.
 ghost use Rattle.std.specs.Prelude.{◌≡◌, ◌≤◌, ◌<◌, ◌+◌, ◌*◌, ◌++◌, IfOk, OnOk, All, length};
 ghost use Rattle.schedule_picture.specs.Items.{bar_words};
 ghost use Rattle.sloth_base.specs.ImageRange.{InFormat};
@@ -8,15 +8,15 @@ ghost use Rattle.lane_drawing.specs.Drawing.{is_above};
 ghost use Rattle.lane_drawing.specs.Scale.{IsScale};
 ghost use Rattle.schedule_picture.specs.Drawn.{IsDrawable, drawing_of};
 ghost use Rattle.schedule_picture.specs.LaneLooks.{owned_lanes};
-ghost use Rattle.schedule_picture.specs.Picture.{longest_length, longest_name, picture_scale, tasks_above, bar_lines};
-ghost use Rattle.schedule_picture.specs.Picture.{task_lane, task_lanes, counter_lane, counter_lanes, picture_text};
+ghost use Rattle.schedule_picture.specs.Picture.{longest_length, longest_name, picture_scale, tasks_above, bar_lines, task_lane, task_lanes, counter_lane, counter_lanes, picture_text, admission_line, is_shown, shown_arrivals};
+ghost use Rattle.std.specs.List.{flat_map};
 
-use crate::arrivals::push_arrivals;
 use crate::items::bar_words;
 use crate::mark_lines::push_marks;
 use crate::marks::Mark;
 use lane_drawing::{
-    Bar, Scale, Strip, push_axis, push_bar, push_head, push_lane, push_legend, push_name,
+    Bar, Scale, Strip, arrival_line, push_axis, push_bar, push_head, push_lane, push_legend,
+    push_name,
 };
 use run_samples::Admission;
 use sloth_base::{FIRST_COUNTER_LINE, Image, Name, Result, TASK_LIMIT};
@@ -235,4 +235,37 @@ pub fn drawn_text(alloc: Global, drawn: &Drawn) -> Result<Vec<u8>>
     push_legend(&mut text, drawn.scale, rows)?;
     text.extend_from_slice(b"</svg>\n")?;
     Ok(text)
+}
+
+// Whether an arrival is of a line, in the counts of a picture.
+fn is_shown(scale: Scale, line: u8, admission: &Admission) -> bool
+    ensures { result ≡ is_shown scale line admission.now }
+{
+    admission.arrival.line.0 == line
+        && admission.arrival.at >= scale.from
+        && admission.arrival.at < scale.to
+}
+
+/// Appends the arrivals of a line, a task's or a counter's, in the counts of a picture.
+pub fn push_arrivals(
+    text: &mut Vec<u8>,
+    scale: Scale,
+    name: &[u8],
+    middle: u32,
+    admissions: &[Admission],
+    line: u8,
+) -> Result<()>
+    requires scale { IsScale scale }
+    requires name { length name.now ≤ name_limit }
+    requires high { 13 ≤ middle }
+    ensures { OnOk result (text.new.items ≡ text.old.items
+        ++ flat_map (admission_line scale name.now middle) (shown_arrivals scale admissions.now line)) }
+{
+    for admission in admissions {
+        if is_shown(scale, line, admission) {
+            let drawn = arrival_line(scale, name, middle, &admission.arrival, admission.lost);
+            text.extend_from_slice(drawn.bytes())?;
+        }
+    }
+    Ok(())
 }

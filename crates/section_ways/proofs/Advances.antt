@@ -8,9 +8,9 @@ use Rattle.sloth_base.specs.declared.app.Op.TheVariants as op
 use Rattle.sloth_base.specs.Named.{function, operation, body_of}
 use Rattle.code_rules.specs.Code.{IsItem, IsPathStep}
 use Rattle.osek_scheduler.specs.Apart.{static_priority}
-use Rattle.raised_sections.specs.Walks.{place, IsPositionStep, chains_itself}
-use Rattle.raised_sections.specs.Sections.{priority_at, operation_at, is_schedule, is_counted}
-use Rattle.raised_sections.proofs.Reached.{IsReached}
+use Rattle.osek_blocking.specs.Walks.{place, IsPositionStep, chains_itself}
+use Rattle.osek_blocking.specs.Sections.{priority_at, operation_at, is_schedule, is_counted}
+use Rattle.osek_blocking.proofs.Reached.{IsReached}
 use Rattle.walk_sums.specs.Activations.{ceiling_before, is_plain, ReachesItem}
 use Rattle.walk_sums.proofs.LevelsAt.{raised_at_is}
 use Rattle.walk_sums.specs.declared.standing.Point.{Point}

@@ -7,8 +7,8 @@ use Rattle.sloth_base.specs.Named.{declaration}
 use Rattle.osek_scheduler.specs.Priority.{highest_priority}
 use Rattle.osek_scheduler.specs.Apart.{static_priority}
 use Rattle.osek_scheduler.proofs.Excluding.{below_ceiling}
-use Rattle.raised_sections.specs.Walks.{Position}
-use Rattle.raised_sections.specs.Sections.{IsLower, IsSection}
+use Rattle.osek_blocking.specs.Walks.{Position}
+use Rattle.osek_blocking.specs.Sections.{IsLower, IsSection}
 use Rattle.walk_sums.specs.declared.standing.Point.{Point}
 use Rattle.walk_sums.specs.declared.standing.Standing.{Standing}
 use Rattle.section_ways.specs.SectionWays.{StandAt, IsSectionWay, IsCycleWay}

@@ -2,7 +2,7 @@
 use Rattle.std.proofs.Common.{◌≡◌, ℕ, List, [], ◌∷◌, ◌++◌, refl}
 use Rattle.sloth_base.specs.declared.config.Config.{Config}
 use Rattle.sloth_base.specs.declared.app.App.{App}
-use Rattle.raised_sections.specs.Walks.{Position}
+use Rattle.osek_blocking.specs.Walks.{Position}
 use Rattle.walk_sums.specs.declared.standing.Standing.{Standing}
 use Rattle.walk_sums.specs.Positions.{place_of}
 use Rattle.section_ways.specs.Standings.{is_raised_at, AreToldOn}

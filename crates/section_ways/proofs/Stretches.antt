@@ -6,9 +6,9 @@ use Rattle.std.specs.List.{AllByRecursion}
 use Rattle.sloth_base.specs.declared.config.Config.{Config}
 use Rattle.sloth_base.specs.declared.app.App.{App}
 use Rattle.osek_scheduler.specs.Apart.{static_priority}
-use Rattle.raised_sections.specs.Walks.{Position, IsPositionStep, AreConsecutive}
-use Rattle.raised_sections.specs.Sections.{priority_at, operation_at, is_schedule, is_counted, OnlyLastSchedules, IsSection, size_of_section}
-use Rattle.raised_sections.proofs.Reached.{walk_on}
+use Rattle.osek_blocking.specs.Walks.{Position, IsPositionStep, AreConsecutive}
+use Rattle.osek_blocking.specs.Sections.{priority_at, operation_at, is_schedule, is_counted, OnlyLastSchedules, IsSection, size_of_section}
+use Rattle.osek_blocking.proofs.Reached.{walk_on}
 use Rattle.walk_sums.specs.declared.standing.Point.{Point}
 use Rattle.walk_sums.specs.declared.standing.Standing.{Standing}
 use Rattle.section_ways.specs.SectionWays.{StandAt}

@@ -5,8 +5,8 @@ use Rattle.sloth_base.specs.declared.app.Op.{Op}
 use Rattle.sloth_base.specs.declared.app.Op.TheVariants as op
 use Rattle.sloth_base.specs.Named.{function, operation, body_of}
 use Rattle.code_rules.specs.Code.{IsItem, IsPathStep}
-use Rattle.raised_sections.specs.Walks.{Position, place, IsPositionStep, chains_itself}
-use Rattle.raised_sections.proofs.Reached.{IsReached, reached_next, reached_first}
+use Rattle.osek_blocking.specs.Walks.{Position, place, IsPositionStep, chains_itself}
+use Rattle.osek_blocking.proofs.Reached.{IsReached, reached_next, reached_first}
 use Rattle.walk_sums.proofs.PlainSteps.{plain_leads}
 use Rattle.walk_sums.specs.Activations.{is_plain, ReachesItem, reaches_first, reaches_inside, reaches_behind}
 

@@ -4,8 +4,8 @@ use Rattle.std.specs.List.{AllByRecursion}
 use Rattle.sloth_base.specs.declared.config.Config.{Config}
 use Rattle.sloth_base.specs.declared.app.App.{App}
 use Rattle.osek_scheduler.specs.Apart.{static_priority}
-use Rattle.raised_sections.specs.Walks.{Position, IsPositionStep, AreConsecutive, IsWalk}
-use Rattle.raised_sections.specs.Sections.{priority_at, operation_at, is_schedule, is_counted, OnlyLastSchedules, IsSection, size_of_section}
+use Rattle.osek_blocking.specs.Walks.{Position, IsPositionStep, AreConsecutive, IsWalk}
+use Rattle.osek_blocking.specs.Sections.{priority_at, operation_at, is_schedule, is_counted, OnlyLastSchedules, IsSection, size_of_section}
 use Rattle.walk_sums.specs.declared.standing.Point.{Point}
 use Rattle.walk_sums.specs.declared.standing.Standing.{Standing}
 use Rattle.walk_sums.specs.Positions.{place_of, position_of}

@@ -2,7 +2,7 @@
 use Rattle.std.specs.Prelude.{ℕ, ◌<◌, length}
 use Rattle.sloth_base.specs.declared.config.Config.{Config}
 use Rattle.sloth_base.specs.declared.app.App.{App}
-use Rattle.raised_sections.specs.Sections.{IsLower}
+use Rattle.osek_blocking.specs.Sections.{IsLower}
 
 -- task code, a task of it, and another one
 pub record TrialCode : Type 0 where

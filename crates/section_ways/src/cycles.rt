@@ -1,7 +1,6 @@
 //! Cycles within sections.
-use crate::frames::{Frame, Mode};
 use crate::tables::Tables;
-use crate::walking::push_points;
+use crate::walking::{Frame, Mode, push_points};
 use sloth_base::Result;
 use std::alloc::Global;
 use text_pieces::push;

@@ -1,7 +1,7 @@
 //! Two tasks of walked task code: one, and a lower one whose sections are tried.
 ghost use Rattle.std.specs.Prelude.{◌≡◌, ◌<◌, length};
 ghost use Rattle.code_rules.specs.WellFormed.{WellFormed};
-ghost use Rattle.raised_sections.specs.Sections.{IsLower};
+ghost use Rattle.osek_blocking.specs.Sections.{IsLower};
 ghost use Rattle.section_ways.specs.Trials.{IsTrial};
 
 use sloth_base::App;

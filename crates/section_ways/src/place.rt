@@ -1,10 +1,10 @@
 //! Functions at a level: where their items go on, and the parts of sections from them.
-use crate::frames::Mode;
 use crate::sizes::{NO_PART, NO_SIZE, Part, RETURN_SIZE, Size, both, greater, item_size};
 use crate::tables::Tables;
 use crate::trial::counts;
+use crate::walking::Mode;
 use bound_rules::{Body, is_marked, is_schedule, number_at};
-use raised_sections::chains_itself;
+use osek_blocking::chains_itself;
 use sloth_base::{Func, Op};
 use task_verify::{falls, way};
 

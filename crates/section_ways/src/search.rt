@@ -1,8 +1,8 @@
 //! A search of a body: its items in an order of finish, each behind those that it goes on to, or the first cycle.
-use crate::frames::Mode;
 use crate::place::{Nexts, Place};
 use crate::sizes::{NO_SIZE, Size, item_size};
 use crate::tables::{Entry, no_entry};
+use crate::walking::Mode;
 use bound_rules::number_at;
 use sloth_base::Result;
 use std::alloc::Global;

@@ -1,5 +1,5 @@
 //! Sizes of parts of sections, and greatest parts.
-use crate::frames::Mode;
+use crate::walking::Mode;
 
 /// The greatest size that is told apart.
 const LARGE: u32 = 1_000_001;

@@ -4,14 +4,14 @@ ghost use Rattle.sloth_base.specs.Named.{function, item_of, label_of};
 ghost use Rattle.sloth_base.specs.declared.app.Op.TheVariants as op_is;
 ghost use Rattle.code_rules.specs.Code.{IsItem, IsPathStep};
 ghost use Rattle.osek_scheduler.specs.Apart.{static_priority};
-ghost use Rattle.raised_sections.specs.Walks.{chains_itself};
+ghost use Rattle.osek_blocking.specs.Walks.{chains_itself};
 ghost use Rattle.walk_sums.specs.Activations.{ceiling_before, is_plain};
 ghost use Rattle.section_ways.specs.Standings.{AreTold, is_raised_at, IsAdvance};
 ghost use Rattle.walk_sums.specs.Positions.{place_of, position_of};
 
 use crate::pair::Trial;
 use bound_rules::number_at;
-use raised_sections::chains_itself;
+use osek_blocking::chains_itself;
 use sloth_base::{App, Func, Op, Result};
 use task_verify::way;
 use text_pieces::push;

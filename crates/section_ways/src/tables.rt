@@ -1,8 +1,8 @@
 //! What is known of all functions, where their callers raised the task and where it has to be raised to a priority.
-use crate::frames::Mode;
 use crate::place::Place;
 use crate::search::searched;
 use crate::sizes::{NO_PART, NO_SIZE, Part, Size, item_size};
+use crate::walking::Mode;
 use sloth_base::Result;
 use std::alloc::Global;
 use text_pieces::push;

@@ -3,7 +3,7 @@ ghost use Rattle.std.specs.Prelude.{◌≡◌, ◌<◌, ◌++◌, ◌∷◌, [],
 ghost use Rattle.sloth_base.specs.Named.{function, operation};
 ghost use Rattle.sloth_base.specs.declared.app.Op.TheVariants as op_is;
 ghost use Rattle.code_rules.specs.Code.{IsItem};
-ghost use Rattle.raised_sections.specs.Sections.{IsLower, is_counted, is_schedule};
+ghost use Rattle.osek_blocking.specs.Sections.{IsLower, is_counted, is_schedule};
 ghost use Rattle.walk_sums.specs.Activations.{ReachesItem};
 ghost use Rattle.walk_sums.specs.Positions.{no_point, position_of};
 ghost use Rattle.section_ways.specs.Standings.{AreTold, IsStart, IsRaisedAt, IsSectionStep, IsStretch, is_raised_at};

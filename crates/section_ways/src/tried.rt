@@ -1,7 +1,7 @@
 //! Whether points are those of a section of a lower task, or of a cycle within one.
 ghost use Rattle.std.specs.Prelude.{◌≡◌, ◌<◌, [], length, true, IfOk};
 ghost use Rattle.sloth_base.specs.Named.{body_of, declaration};
-ghost use Rattle.raised_sections.specs.Sections.{IsLower};
+ghost use Rattle.osek_blocking.specs.Sections.{IsLower};
 ghost use Rattle.section_ways.specs.SectionWays.{IsSectionWay};
 ghost use Rattle.section_ways.specs.Standings.{IsStart, IsClosedWay, is_raised_at};
 

@@ -1,9 +1,11 @@
 //! Where a greatest section of a task begins, and from position to position along parts of greatest or least size.
-use crate::frames::{Frame, Mode};
+//! Functions in progress, as a search goes through them.
+
 use crate::place::Nexts;
 use crate::sizes::{both, is_better};
 use crate::tables::Tables;
 use sloth_base::{Op, Result};
+use std::alloc::Global;
 use text_pieces::push;
 use walk_sums::Point;
 
@@ -130,4 +132,29 @@ pub fn push_points(
         }
     }
     Ok(())
+}
+
+/// How a part goes on through a function: as far as it can, by the longest way to its `ret`, or by the shortest.
+#[derive(Clone, Copy)]
+pub enum Mode {
+    On,
+    Back,
+    Least,
+}
+
+/// Where a function in progress stands, whether it was called raised, and how the part goes on through it.
+#[derive(Clone, Copy)]
+pub struct Frame {
+    pub point: Point,
+    pub whole: bool,
+    pub mode: Mode,
+}
+
+/// The points of these, the outermost first.
+pub fn frame_points(alloc: Global, frames: &[Frame]) -> Result<Vec<Point>> {
+    let mut points = Vec::new(alloc);
+    for frame in frames {
+        push(&mut points, frame.point)?;
+    }
+    Ok(points)
 }

@@ -1,14 +1,13 @@
 //! A greatest section of a lower task, or a cycle in one.
 ghost use Rattle.std.specs.Prelude.{◌≡◌, ◌<◌, ◌+◌, length, true, IfOk, IfSome};
-ghost use Rattle.raised_sections.specs.Sections.{IsLower};
+ghost use Rattle.osek_blocking.specs.Sections.{IsLower};
 ghost use Rattle.bound_rules.specs.declared.bound.Bound.TheVariants as bound_is;
 ghost use Rattle.section_ways.specs.ShownWays.{ArePointsOf, IsShown};
 
 use crate::cycles::{cycle_points, cycle_start};
-use crate::frames::frame_points;
 use crate::pair::Trial;
 use crate::tables::{Tables, all_tables};
-use crate::walking::{push_points, section_start};
+use crate::walking::{frame_points, push_points, section_start};
 use bound_rules::Bound;
 use sloth_base::{Config, List, Result};
 use walk_sums::{Point, Walks};

@@ -9,7 +9,7 @@ use Rattle.sloth_base.specs.declared.app.App.{App}
 use Rattle.sloth_base.specs.Named.{function, no_function}
 use Rattle.code_rules.specs.Code.{TaskReaches}
 use Rattle.code_rules.specs.WellFormed.{WellFormed}
-use Rattle.call_graph.specs.declared.ranking.Ranks.{Ranks}
+use Rattle.call_graph.specs.declared.lists.Ranks.{Ranks}
 use Rattle.call_graph.specs.Bits.{is_member}
 use Rattle.call_graph.specs.Ranks.{RanksOf}
 use Rattle.call_graph.proofs.Itself.{number_found, number_counts}

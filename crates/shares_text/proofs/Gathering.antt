@@ -15,7 +15,7 @@ use Rattle.sloth_base.specs.Named.{function, no_function, item_of, no_item}
 use Rattle.code_rules.specs.Code.{IsItem}
 use Rattle.code_rules.specs.WellFormed.{held_list_before}
 use Rattle.osek_scheduler.specs.Priority.{greatest}
-use Rattle.call_graph.specs.declared.ranking.Ranks.{Ranks}
+use Rattle.call_graph.specs.declared.lists.Ranks.{Ranks}
 use Rattle.call_graph.specs.Ranks.{RanksOf}
 use Rattle.shares_text.specs.declared.held.Held.{Held}
 use Rattle.shares_text.specs.declared.held.HeldRow.{HeldRow}

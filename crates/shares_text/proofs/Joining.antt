@@ -17,8 +17,8 @@ use Rattle.osek_scheduler.specs.Apart.{static_priority}
 use Rattle.osek_scheduler.proofs.Stacks.{is_in-append}
 use Rattle.call_graph.specs.Bits.{is_member}
 use Rattle.call_graph.proofs.Sets.{has_or}
-use Rattle.raised_sections.specs.Walks.{Position, place}
-use Rattle.raised_sections.specs.Sections.{held_list_along, priority_at}
+use Rattle.osek_blocking.specs.Walks.{Position, place}
+use Rattle.osek_blocking.specs.Sections.{held_list_along, priority_at}
 use Rattle.shares_text.specs.declared.contexts.Context.{Context}
 use Rattle.shares_text.specs.declared.held.Held.{Held}
 use Rattle.shares_text.specs.Sites.{IsHeld}

@@ -16,8 +16,8 @@ use Rattle.osek_scheduler.specs.Apart.{static_priority}
 use Rattle.osek_scheduler.proofs.Facts.{facts}
 use Rattle.call_graph.specs.Bits.{is_member}
 use Rattle.call_graph.proofs.Sets.{has_none}
-use Rattle.raised_sections.specs.Walks.{Place, place}
-use Rattle.raised_sections.specs.Sections.{priority_at}
+use Rattle.osek_blocking.specs.Walks.{Place, place}
+use Rattle.osek_blocking.specs.Sections.{priority_at}
 use Rattle.shares_text.specs.declared.contexts.Contexts.{Contexts}
 use Rattle.shares_text.specs.declared.open_pairs.OpenPair.{OpenPair}
 use Rattle.shares_text.specs.declared.sites.Access.{Access}

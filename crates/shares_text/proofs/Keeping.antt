@@ -12,7 +12,7 @@ use Rattle.osek_scheduler.specs.Priority.{ceiling}
 use Rattle.osek_scheduler.specs.Apart.{static_priority}
 use Rattle.osek_scheduler.proofs.Facts.{facts}
 use Rattle.call_graph.specs.Bits.{is_member}
-use Rattle.raised_sections.specs.Walks.{Place, Position, place}
+use Rattle.osek_blocking.specs.Walks.{Place, Position, place}
 use Rattle.shares_text.specs.declared.keepers.Keeper.{Keeper}
 use Rattle.shares_text.specs.declared.data_uses.Use.{Use}
 use Rattle.shares_text.specs.Accesses.{IsUse, Uses, IsAlwaysHeld}

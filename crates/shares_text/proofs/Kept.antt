@@ -7,9 +7,9 @@ use Rattle.std.proofs.lemmas.List.{append_assoc}
 use Rattle.std.proofs.lemmas.Option.{same_Some, none-some}
 use Rattle.sloth_base.specs.declared.config.Config.{Config}
 use Rattle.sloth_base.specs.declared.app.App.{App}
-use Rattle.sloth_base.specs.declared.event.Event.{Event}
-use Rattle.sloth_base.specs.declared.event.Event.TheVariants as event
-use Rattle.sloth_base.specs.declared.event.Stamped.{Stamped}
+use Rattle.sloth_base.specs.declared.service.Event.{Event}
+use Rattle.sloth_base.specs.declared.service.Event.TheVariants as event
+use Rattle.sloth_base.specs.declared.service.Stamped.{Stamped}
 use Rattle.sloth_base.specs.Events.{working_task}
 use Rattle.sloth_base.specs.Named.{function, operation, IsBodyOf}
 use Rattle.code_rules.specs.Code.{is_in}
@@ -29,10 +29,10 @@ use Rattle.osek_scheduler.proofs.Steps.{opening_valid}
 use Rattle.osek_blocking.specs.Blocking.{IsRaisedTo}
 use Rattle.osek_blocking.proofs.Effects.{Ordered, Effect}
 use Rattle.osek_blocking.proofs.Ordering.{effect, opening_ordered, leads_ordered}
-use Rattle.raised_sections.specs.Walks.{Place, Position, place}
-use Rattle.raised_sections.specs.Sections.{held_list_along, priority_at}
-use Rattle.raised_sections.proofs.Raised.{at_position}
-use Rattle.raised_sections.proofs.Stepping.{position_of}
+use Rattle.osek_blocking.specs.Walks.{Place, Position, place}
+use Rattle.osek_blocking.specs.Sections.{held_list_along, priority_at}
+use Rattle.osek_blocking.proofs.Raised.{at_position}
+use Rattle.osek_blocking.proofs.Stepping.{position_of}
 use Rattle.shares_text.specs.declared.verdict.Verdict.{Verdict}
 use Rattle.shares_text.specs.declared.verdict.Verdict.TheVariants as verdict
 use Rattle.shares_text.specs.Accesses.{symbol_of, IsCalledFrom, IsUse}

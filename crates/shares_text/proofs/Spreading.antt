@@ -14,8 +14,8 @@ use Rattle.code_rules.specs.Code.{IsItem}
 use Rattle.code_rules.specs.WellFormed.{WellFormed}
 use Rattle.osek_scheduler.proofs.Facts.{facts}
 use Rattle.osek_scheduler.proofs.Stacks.{has_body}
-use Rattle.raised_sections.specs.Walks.{Place, Position, place}
-use Rattle.raised_sections.specs.Sections.{priority_at}
+use Rattle.osek_blocking.specs.Walks.{Place, Position, place}
+use Rattle.osek_blocking.specs.Sections.{priority_at}
 use Rattle.call_graph.proofs.Sets.{has_none}
 use Rattle.shares_text.specs.declared.contexts.Context.{Context}
 use Rattle.shares_text.specs.declared.sites.CallSite.{CallSite}

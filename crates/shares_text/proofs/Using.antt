@@ -12,8 +12,8 @@ use Rattle.sloth_base.specs.Named.{operation}
 use Rattle.code_rules.specs.Code.{is_in}
 use Rattle.code_rules.specs.WellFormed.{WellFormed}
 use Rattle.osek_scheduler.proofs.Facts.{facts}
-use Rattle.raised_sections.specs.Walks.{Position, place}
-use Rattle.raised_sections.specs.Sections.{held_list_along, priority_at}
+use Rattle.osek_blocking.specs.Walks.{Position, place}
+use Rattle.osek_blocking.specs.Sections.{held_list_along, priority_at}
 use Rattle.shares_text.specs.declared.contexts.Context.{Context}
 use Rattle.shares_text.specs.declared.contexts.Contexts.{Contexts}
 use Rattle.shares_text.specs.declared.sites.Access.{Access}

@@ -6,8 +6,8 @@ use Rattle.sloth_base.specs.declared.app.Op.{Op}
 use Rattle.sloth_base.specs.declared.app.Op.TheVariants as op
 use Rattle.sloth_base.specs.Named.{function, operation, IsBodyOf}
 use Rattle.code_rules.specs.Code.{IsItem, is_in}
-use Rattle.raised_sections.specs.Walks.{Place, Position}
-use Rattle.raised_sections.specs.Sections.{held_list_along, priority_at}
+use Rattle.osek_blocking.specs.Walks.{Place, Position}
+use Rattle.osek_blocking.specs.Sections.{held_list_along, priority_at}
 
 -- ---- items
 

@@ -6,8 +6,8 @@ use Rattle.sloth_base.specs.declared.app.App.{App}
 use Rattle.sloth_base.specs.Limits.{ceiling_count}
 use Rattle.sloth_base.specs.Named.{function, item_of}
 use Rattle.code_rules.specs.Code.{is_in}
-use Rattle.raised_sections.specs.Walks.{Position, place}
-use Rattle.raised_sections.specs.Sections.{held_list_along, priority_at}
+use Rattle.osek_blocking.specs.Walks.{Position, place}
+use Rattle.osek_blocking.specs.Sections.{held_list_along, priority_at}
 use Rattle.call_graph.specs.Bits.{is_member}
 use Rattle.shares_text.specs.declared.held.Held.{Held}
 use Rattle.shares_text.specs.declared.contexts.Context.{Context}

@@ -2,9 +2,9 @@
 use Rattle.std.specs.Prelude.{ℕ, ◌<◌, ◌≡◌, ◌≢◌, ◌||◌, List, [], ◌∷◌, ◌++◌, true, false, length, get_or, Some}
 use Rattle.sloth_base.specs.declared.config.Config.{Config}
 use Rattle.sloth_base.specs.declared.app.App.{App}
-use Rattle.sloth_base.specs.declared.event.Event.{Event}
-use Rattle.sloth_base.specs.declared.event.Event.TheVariants as event
-use Rattle.sloth_base.specs.declared.event.Stamped.{Stamped}
+use Rattle.sloth_base.specs.declared.service.Event.{Event}
+use Rattle.sloth_base.specs.declared.service.Event.TheVariants as event
+use Rattle.sloth_base.specs.declared.service.Stamped.{Stamped}
 use Rattle.sloth_base.specs.Events.{working_task}
 use Rattle.sloth_base.specs.Limits.{ceiling_count}
 use Rattle.sloth_base.specs.Named.{operation}
@@ -15,7 +15,7 @@ use Rattle.osek_scheduler.specs.State.{System, task, opening}
 use Rattle.osek_scheduler.specs.Runs.{AreStepsTo, OsekRun}
 use Rattle.osek_scheduler.specs.Apart.{AreTwo, IsActive}
 use Rattle.osek_blocking.specs.Blocking.{IsRaisedTo}
-use Rattle.raised_sections.specs.Walks.{Place, Position}
+use Rattle.osek_blocking.specs.Walks.{Place, Position}
 use Rattle.shares_text.specs.declared.verdict.Verdict.{Verdict}
 use Rattle.shares_text.specs.declared.verdict.Verdict.TheVariants as verdict
 use Rattle.shares_text.specs.Accesses.{symbol_of, stores_at, IsUse}

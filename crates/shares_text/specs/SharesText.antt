@@ -1,11 +1,11 @@
 -- The lines of the command `shares`.
-use Rattle.std.specs.Prelude.{ℕ, zero, suc, ◌≡◌, ◌==◌, List, [], ◌∷◌, ◌++◌, ◌||◌, Bool, false, cond, codes, decimal, length, get_or}
+use Rattle.std.specs.Prelude.{ℕ, zero, suc, ◌≡◌, List, [], ◌∷◌, ◌++◌, ◌||◌, Bool, false, cond, codes, decimal, length, get_or}
 use Rattle.sloth_base.specs.declared.config.Config.{Config}
 use Rattle.sloth_base.specs.declared.app.App.{App}
 use Rattle.sloth_base.specs.Named.{declaration, no_symbol}
 use Rattle.sloth_base.specs.Limits.{ceiling_count}
 use Rattle.call_graph.specs.Bits.{is_member}
-use Rattle.sloth_base.specs.ConfigRange.{scheduler_number}
+use Rattle.sloth_base.specs.ConfigRange.{resource_name}
 use Rattle.sloth_source.specs.Texts.{AreAccepted}
 use Rattle.shares_text.specs.declared.keepers.Keeper.{Keeper}
 use Rattle.shares_text.specs.declared.open_pairs.OpenPair.{OpenPair}
@@ -22,7 +22,7 @@ task_word config t = codes " " ++ (declaration config t).name
 
 -- a space and a resource's name
 abbrev pub resource_word : Config → ℕ → List ℕ
-resource_word config r = codes " " ++ cond (r == scheduler_number) (codes "RES_SCHEDULER") (get_or config.resources r [])
+resource_word config r = codes " " ++ resource_name config r
 
 -- of the first n numbers the words of those in a set
 abbrev pub words_below : (ℕ → List ℕ) → (set n : ℕ) → List ℕ

@@ -8,8 +8,8 @@ use Rattle.code_rules.specs.Code.{is_in}
 use Rattle.osek_scheduler.specs.Priority.{ceiling}
 use Rattle.osek_scheduler.specs.Apart.{static_priority}
 use Rattle.call_graph.specs.Bits.{is_member}
-use Rattle.raised_sections.specs.Walks.{Place, Position}
-use Rattle.raised_sections.specs.Sections.{held_list_along, priority_at}
+use Rattle.osek_blocking.specs.Walks.{Place, Position}
+use Rattle.osek_blocking.specs.Sections.{held_list_along, priority_at}
 use Rattle.shares_text.specs.declared.keepers.Keeper.{Keeper}
 use Rattle.shares_text.specs.declared.open_pairs.OpenPair.{OpenPair}
 use Rattle.shares_text.specs.declared.verdict.Verdict.{Verdict}

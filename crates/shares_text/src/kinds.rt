@@ -1,7 +1,7 @@
 //! What may be used: the objects of a configuration, and the data and functions of its task code.
 ghost use Rattle.std.specs.Prelude.{◌≡◌};
 ghost use Rattle.shares_text.specs.Uses.{event_mask};
-ghost use Rattle.shares_text.specs.UnusedText.{kind_word, count_of, object_name, header_line};
+ghost use Rattle.shares_text.specs.UnusedText.{kind_word, count_of, object_name};
 
 use sloth_base::{App, Config};
 
@@ -54,32 +54,10 @@ pub fn object_name<'t>(config: &'t Config, app: &'t App, kind: Kind, number: usi
             Some(name) => name.bytes(),
             None => b"",
         },
-        Kind::Event => match config.events.items().get(number) {
-            Some(event) => event.name.bytes(),
-            None => b"",
-        },
-        Kind::Alarm => match config.alarms.items().get(number) {
-            Some(alarm) => alarm.name.bytes(),
-            None => b"",
-        },
-        Kind::Symbol => match app.symbols.items().get(number) {
-            Some(symbol) => symbol.name.bytes(),
-            None => b"",
-        },
-        Kind::Function => match app.funcs.items().get(number) {
-            Some(func) => func.name.bytes(),
-            None => b"",
-        },
-    }
-}
-
-/// The line of a function's header.
-pub fn header_line(app: &App, number: usize) -> u32
-    ensures { result ≡ header_line app.now number }
-{
-    match app.funcs.items().get(number) {
-        Some(func) => func.line,
-        None => 0,
+        Kind::Event => config.event_name(number),
+        Kind::Alarm => config.alarm_name(number),
+        Kind::Symbol => app.symbol_name(number),
+        Kind::Function => app.function_name(number),
     }
 }
 

@@ -8,7 +8,6 @@
 //! (`symbols_agree`). What a use is: `specs/Uses`, `specs/UsesBy`.
 #![tactic(auto)]
 
-pub mod call_order;
 pub mod contexts;
 pub mod data_uses;
 pub mod held;

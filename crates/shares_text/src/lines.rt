@@ -1,6 +1,5 @@
 //! The line of a symbol.
-ghost use Rattle.std.specs.Prelude.{◌≡◌, ◌==◌, ◌<◌, ◌≤◌, ◌++◌, [], length, get_or, drop, cond, OnOk, codes};
-ghost use Rattle.sloth_base.specs.ConfigRange.{scheduler_number};
+ghost use Rattle.std.specs.Prelude.{◌≡◌, ◌<◌, ◌≤◌, ◌++◌, [], length, drop, cond, OnOk, codes};
 ghost use Rattle.sloth_base.specs.Limits.{task_limit, ceiling_count};
 ghost use Rattle.call_graph.specs.Bits.{is_member};
 ghost use Rattle.shares_text.specs.SharesText.{task_word, resource_word, task_words, resource_words, has_below, under_words, keeper_words, further_keepers, keepers_words, pair_words, verdict_words};
@@ -27,19 +26,6 @@ fn push_task(text: &mut Vec<u8>, config: &Config, task: usize) -> Result<()>
     push_word(text, config.task_name(task))
 }
 
-fn resource_name(config: &Config, resource: usize) -> &[u8]
-    ensures { result.now
-        ≡ cond (resource == scheduler_number) (codes "RES_SCHEDULER") (get_or config.now.resources resource []) }
-{
-    if resource == RES_SCHEDULER as usize {
-        return b"RES_SCHEDULER";
-    }
-    match config.resources.items().get(resource) {
-        Some(name) => name.bytes(),
-        None => b"",
-    }
-}
-
 // The tasks of a set, by number.
 fn push_tasks(text: &mut Vec<u8>, config: &Config, set: u32) -> Result<()>
     requires { length config.now.tasks ≤ task_limit }
@@ -60,7 +46,7 @@ fn push_member(text: &mut Vec<u8>, config: &Config, set: u64, resource: usize) -
         ++ cond (is_member set resource) (resource_word config.now resource) []) }
 {
     if has(set, resource) {
-        push_word(text, resource_name(config, resource))?;
+        push_word(text, config.resource_name(resource))?;
     }
     Ok(())
 }

@@ -4,7 +4,7 @@ ghost use Rattle.sloth_base.specs.Limits.{ceiling_count};
 ghost use Rattle.code_rules.specs.Code.{is_in};
 ghost use Rattle.call_graph.specs.Bits.{is_member};
 
-use call_graph::bits;
+use call_graph::rows;
 
 /// The members of both.
 pub fn common(one: u64, other: u64) -> u64
@@ -18,7 +18,7 @@ pub fn with_resource(set: u64, resource: usize) -> u64
     ensures { (r : ℕ) → r < 64 → is_member result r ≡ (is_member set r || (resource == r)) }
 {
     if resource < 64 {
-        bits::with(set, resource as u32)
+        rows::with(set, resource as u32)
     } else {
         set
     }
@@ -29,7 +29,7 @@ pub fn with_task(set: u32, task: usize) -> u32
     ensures { (t : ℕ) → t < 32 → is_member result t ≡ (is_member set t || (task == t)) }
 {
     if task < 32 {
-        bits::with_task(set, task as u32)
+        rows::with_task(set, task as u32)
     } else {
         set
     }

@@ -9,25 +9,24 @@
 //!
 //! What each function itself holds (`held`), items that call or use a symbol (`sites`, `specs/Sites`), callers' calls
 //! first (`call_order`); what is known as a task enters a function (`contexts`, `specs/Contexts`); a symbol's uses
-//! (`data_uses`), and what they tell (`specs/Computed`, `specs/VerdictsBy`). Positions: `raised_sections` (`Sections`).
+//! (`data_uses`), and what they tell (`specs/Computed`, `specs/VerdictsBy`). Positions: `osek_blocking` (`Sections`).
 ghost use Rattle.std.specs.Prelude.{◌≡◌, ◌<◌, [], length, IfOk};
 ghost use Rattle.sloth_base.specs.Limits.{ceiling_count};
 ghost use Rattle.sloth_base.specs.declared.app.App.{App as AnyApp};
 ghost use Rattle.code_rules.specs.WellFormed.{WellFormed};
 ghost use Rattle.osek_scheduler.specs.Priority.{highest_priority};
 ghost use Rattle.call_graph.specs.Ranks.{RanksOf};
-ghost use Rattle.raised_sections.specs.Sections.{priority_at};
+ghost use Rattle.osek_blocking.specs.Sections.{priority_at};
 ghost use Rattle.shares_text.specs.Sites.{AreAllHeld};
 ghost use Rattle.walk_sums.specs.Ceilings.{AreResourceCeilings};
 ghost use Rattle.shares_text.specs.Tables.{AreAccesses, AreCalls, AreAllContexts};
 ghost use Rattle.shares_text.specs.Verdicts.{AreVerdicts};
 ghost use Rattle.shares_text.specs.RunLaws.{RunsKeepApart};
 
-use crate::call_order::callers_first;
 use crate::contexts::{Contexts, body_contexts};
 use crate::data_uses::symbol_uses;
 use crate::held::{HeldRow, all_held};
-use crate::sites::{Access, CallSite, all_accesses, all_calls};
+use crate::sites::{Access, CallSite, all_accesses, all_calls, callers_first};
 use crate::verdict::{Verdict, uses_verdict};
 use call_graph::Ranks;
 use osek_scheduler::highest;

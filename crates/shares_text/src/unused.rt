@@ -6,7 +6,7 @@ ghost use Rattle.sloth_source.specs.Texts.{SourcesErrorIs};
 ghost use Rattle.shares_text.specs.UnusedText.{kind_word, object_name, further_words, unused_line, lines_of, unused_lines, HasUnused, IsUnusedText};
 ghost use Rattle.shares_text.specs.UsesBy.{is_used_by};
 
-use crate::kinds::{Kind, header_line, kind_count, kind_word, object_name};
+use crate::kinds::{Kind, kind_count, kind_word, object_name};
 use crate::uses::is_used;
 use call_graph::Ranks;
 use sloth_base::{App, BuildError, Config, Result};
@@ -23,7 +23,7 @@ fn push_further(text: &mut Vec<u8>, app: &App, kind: Kind, number: usize) -> Res
     match kind {
         Kind::Task => line!(text; Word(b" arrivals")),
         Kind::Resource | Kind::Event | Kind::Alarm | Kind::Symbol => Ok(()),
-        Kind::Function => line!(text; Word(b" "), Number(header_line(app, number))),
+        Kind::Function => line!(text; Word(b" "), Number(app.function_line(number))),
     }
 }
 

@@ -1,7 +1,7 @@
 -- Lists of arrivals that may come.
 use Rattle.std.proofs.Common.{List}
-use Rattle.sloth_base.specs.declared.event.Arrival.{Arrival}
-use Rattle.sloth_base.specs.declared.lines.Owners.{Owners}
+use Rattle.sloth_base.specs.declared.service.Arrival.{Arrival}
+use Rattle.sloth_base.specs.declared.numbers.Owners.{Owners}
 use Rattle.sloth_base.specs.Arrivals.{AreArrivals}
 use Rattle.sim_induction.specs.Sound.{AreComing}
 

@@ -1,6 +1,6 @@
 -- A stretch is one piece, and where the run ends inside it, none.
 use Rattle.std.proofs.Common.{◌≡◌, ℕ, zero, suc, ◌<◌, List, [], ◌∷◌, ◌++◌, length, take, refl, ap, ◌∙◌, arith, append_assoc, false, cond}
-use Rattle.sloth_base.specs.declared.step.Step.{Step}
+use Rattle.sloth_base.specs.declared.numbers.Step.{Step}
 use Rattle.observe.specs.Pieces.{Outside, Stretch, is_outside, pieces, cut_off_steps}
 use Rattle.sim_induction.proofs.MaskedRun.{Flags}
 

@@ -4,9 +4,9 @@ use Rattle.std.specs.Prelude.{map}
 use Rattle.std.specs.List.{flat_map, AllByRecursion}
 use Rattle.std.proofs.lemmas.Bool.{cases_lt, le-leb, true≢false}
 use Rattle.std.proofs.lemmas.List.Elements.{filter-append}
-use Rattle.sloth_base.specs.declared.event.Arrival.{Arrival}
-use Rattle.sloth_base.specs.declared.event.Stamped.{Stamped}
-use Rattle.sloth_base.specs.declared.step.Step.{Step}
+use Rattle.sloth_base.specs.declared.service.Arrival.{Arrival}
+use Rattle.sloth_base.specs.declared.service.Stamped.{Stamped}
+use Rattle.sloth_base.specs.declared.numbers.Step.{Step}
 use Rattle.sloth_base.specs.Machine.{State}
 use Rattle.sloth_base.specs.Arrivals.{moments}
 use Rattle.sloth_base.specs.Owners.{owners_in, AreOwned}
@@ -25,7 +25,7 @@ use Rattle.sim_induction.proofs.Lines.{is_admitted, spans_admit, admit_before}
 use Rattle.sim_induction.specs.Advances.{EachPair, IsInCounts, found_events, IsWithinItem, IsNamedByWord, Advances}
 use Rattle.sim_induction.specs.PieceLaws.{Passed}
 use Rattle.sim_induction.specs.Spent.{AreSpentTo}
-use Rattle.raised_sections.specs.Pace.{last_count}
+use Rattle.osek_blocking.specs.Pace.{last_count}
 use Rattle.sim_induction.specs.Weighed.{AreWeighedTo}
 use Rattle.sim_induction.specs.Paced.{ArePacedTo}
 use Rattle.sim_induction.specs.Related.{IsSimulation}

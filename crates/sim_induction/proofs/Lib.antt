@@ -1,3 +1,4 @@
+pub mod BodyLengths
 pub mod Follow
 pub mod Events
 pub mod Runs

@@ -2,10 +2,10 @@
 use Rattle.std.proofs.Common.{◌≡◌, ℕ, ◌+◌, ◌<◌, ◌≤◌, List, [], ◌∷◌, ◌++◌, refl, sym, ap, ◌∙◌, subst, arith, true, false, cond, inl, append-nil}
 use Rattle.std.specs.Prelude.{map}
 use Rattle.std.proofs.lemmas.Bool.{not_from_false, false≢true}
-use Rattle.sloth_base.specs.declared.event.Event.{Event}
-use Rattle.sloth_base.specs.declared.event.Event.TheVariants as event
-use Rattle.sloth_base.specs.declared.event.Stamped.{Stamped}
-use Rattle.sloth_base.specs.declared.step.Step.{Step}
+use Rattle.sloth_base.specs.declared.service.Event.{Event}
+use Rattle.sloth_base.specs.declared.service.Event.TheVariants as event
+use Rattle.sloth_base.specs.declared.service.Stamped.{Stamped}
+use Rattle.sloth_base.specs.declared.numbers.Step.{Step}
 use Rattle.sloth_base.specs.Machine.{State}
 use Rattle.sloth_base.specs.Arrivals.{moments}
 use Rattle.observe.specs.Pieces.{Outside, Stretch, is_outside, begins}
@@ -18,8 +18,8 @@ use Rattle.sim_induction.specs.Admits.{Setting, IsSetting, lines_at, with_admits
 use Rattle.sim_induction.specs.Advances.{EachPair, IsInCounts, found_events, HasSpent, Spends, Advances}
 use Rattle.std.specs.List.{AllByRecursion}
 use Rattle.rv32_instr.specs.Ram.{word_at}
-use Rattle.raised_sections.specs.Pace.{last_count, takes_line}
-use Rattle.event_weights.specs.Pace.{single_counts, gap_counts, paced_counts}
+use Rattle.osek_blocking.specs.Pace.{last_count, takes_line}
+use Rattle.sim_induction.specs.Pace.{single_counts, gap_counts, paced_counts}
 use Rattle.sim_induction.specs.Weighed.{AreWeighedTo}
 use Rattle.sim_induction.specs.Paced.{ArePacedTo}
 use Rattle.sim_induction.specs.PieceLaws.{Passed, OutsideLaw, IsOutsideStep, MakesProgress, RunsOn, seen_step_at}

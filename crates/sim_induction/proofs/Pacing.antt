@@ -5,10 +5,10 @@ use Rattle.std.proofs.lemmas.Bool.{true≢false, false≢true}
 use Rattle.sloth_base.specs.declared.app.App.{App}
 use Rattle.sloth_base.specs.declared.config.Config.{Config}
 use Rattle.sloth_base.specs.declared.image.Image.{Image}
-use Rattle.sloth_base.specs.declared.event.Arrival.{Arrival}
-use Rattle.sloth_base.specs.declared.event.Event.{Event}
-use Rattle.sloth_base.specs.declared.event.Event.TheVariants as event
-use Rattle.sloth_base.specs.declared.event.Stamped.{Stamped}
+use Rattle.sloth_base.specs.declared.service.Arrival.{Arrival}
+use Rattle.sloth_base.specs.declared.service.Event.{Event}
+use Rattle.sloth_base.specs.declared.service.Event.TheVariants as event
+use Rattle.sloth_base.specs.declared.service.Stamped.{Stamped}
 use Rattle.sloth_base.specs.Events.{admitted_line, is_boot}
 use Rattle.sloth_base.specs.Machine.{State}
 use Rattle.sloth_base.specs.Owners.{first_counter_line, owners_in, AreOwned}
@@ -17,8 +17,8 @@ use Rattle.osek_scheduler.specs.State.{Frame, Task, System, task}
 use Rattle.osek_scheduler.specs.InTime.{is_admit}
 use Rattle.osek_scheduler.specs.Runs.{AreStepsTo}
 use Rattle.osek_scheduler.proofs.Leading.{one_step}
-use Rattle.raised_sections.specs.Pace.{last_count, takes_line}
-use Rattle.event_weights.specs.Pace.{ItemSizes, AreAtMost, next_size, next_size_of, gap_counts}
+use Rattle.osek_blocking.specs.Pace.{last_count, takes_line}
+use Rattle.sim_induction.specs.Pace.{ItemSizes, AreAtMost, next_size, next_size_of, gap_counts}
 use Rattle.sim_induction.specs.Admits.{Setting, with_arrival, with_admits, admit_event}
 use Rattle.sim_induction.specs.Paced.{ArePacedTo, GoesInPace, Paced}
 use Rattle.sim_induction.specs.PieceLaws.{IsNamed, IsMeasure}

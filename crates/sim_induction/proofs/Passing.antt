@@ -4,9 +4,9 @@ use Rattle.std.specs.Prelude.{◌⊎◌, ◌||◌, ◌==◌, map}
 use Rattle.std.proofs.lemmas.Bool.{cases_eq, or_parts, eqb-false, ne_eqb}
 use Rattle.sloth_base.specs.declared.config.Config.{Config}
 use Rattle.sloth_base.specs.declared.app.App.{App}
-use Rattle.sloth_base.specs.declared.event.Arrival.{Arrival}
-use Rattle.sloth_base.specs.declared.event.Event.TheVariants as event
-use Rattle.sloth_base.specs.declared.event.Stamped.{Stamped}
+use Rattle.sloth_base.specs.declared.service.Arrival.{Arrival}
+use Rattle.sloth_base.specs.declared.service.Event.TheVariants as event
+use Rattle.sloth_base.specs.declared.service.Stamped.{Stamped}
 use Rattle.sloth_base.specs.Owners.{first_counter_line, owners_in, AreTasks}
 use Rattle.sloth_base.proofs.Owners.{task_owned}
 use Rattle.osek_scheduler.specs.declared.state.TaskState.{TaskState}

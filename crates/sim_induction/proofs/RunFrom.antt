@@ -1,6 +1,6 @@
 -- What holds of a run from a count on that finds MIE 1.
 use Rattle.std.proofs.Common.{◌≡◌, ℕ, ◌+◌, ◌<◌, ◌≤◌, List, [], length, refl, Some, true, false, filter}
-use Rattle.sloth_base.specs.declared.event.Stamped.{Stamped}
+use Rattle.sloth_base.specs.declared.service.Stamped.{Stamped}
 use Rattle.sloth_base.specs.Machine.{State}
 use Rattle.sloth_base.specs.Arrivals.{moments}
 use Rattle.sloth_base.specs.Stretches.{longest_stretch}
@@ -14,8 +14,8 @@ use Rattle.osek_scheduler.specs.Runs.{AreStepsTo, AreStepsBehind}
 use Rattle.osek_scheduler.specs.InTime.{is_admit, admits_at, arrivals_at, IsOrdered, KeepsOrder}
 use Rattle.sim_induction.specs.Short.{AreShort, IsShortPiece, HasShortGaps}
 use Rattle.sim_induction.specs.Sound.{stands_before}
-use Rattle.raised_sections.specs.Pace.{last_count}
-use Rattle.event_weights.specs.Pace.{AreAtMost}
+use Rattle.osek_blocking.specs.Pace.{last_count}
+use Rattle.sim_induction.specs.Pace.{AreAtMost}
 use Rattle.sim_induction.specs.Weighed.{AreWeighedTo}
 use Rattle.sim_induction.specs.Paced.{ArePacedTo, AreStretchesWithin}
 use Rattle.sim_induction.specs.Admits.{Setting}

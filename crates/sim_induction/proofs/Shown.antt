@@ -6,15 +6,15 @@ use Rattle.sloth_base.specs.declared.service.Service.{Service}
 use Rattle.sloth_base.specs.declared.image.Mark.{Mark}
 use Rattle.sloth_base.specs.declared.image.MarkKind.{MarkKind}
 use Rattle.sloth_base.specs.declared.image.MarkKind.TheVariants as kind
-use Rattle.sloth_base.specs.declared.event.Event.{Event}
-use Rattle.sloth_base.specs.declared.event.Event.TheVariants as event
-use Rattle.sloth_base.specs.declared.event.Stamped.{Stamped}
-use Rattle.sloth_base.specs.declared.step.Step.{Step}
+use Rattle.sloth_base.specs.declared.service.Event.{Event}
+use Rattle.sloth_base.specs.declared.service.Event.TheVariants as event
+use Rattle.sloth_base.specs.declared.service.Stamped.{Stamped}
+use Rattle.sloth_base.specs.declared.numbers.Step.{Step}
 use Rattle.observe.specs.Observe.{View, stretch_event, later_event, unentered_event, marked_event, service_event, running_task, mark_at, outside_events, events_of_kind, stamp, entry_event, NO_TASK, NO_COUNTER}
 use Rattle.sloth_base.specs.ServiceCodes.{service_of}
 use Rattle.sloth_base.specs.Owners.{first_counter_line, line_kind}
-use Rattle.sloth_base.specs.declared.lines.LineKind.{LineKind}
-use Rattle.sloth_base.specs.declared.lines.LineKind.TheVariants as line_of
+use Rattle.sloth_base.specs.declared.numbers.LineKind.{LineKind}
+use Rattle.sloth_base.specs.declared.numbers.LineKind.TheVariants as line_of
 use Rattle.osek_scheduler.specs.InTime.{is_admit, HasSpanFor}
 
 -- an event that is no admit, and may have more than one instruction

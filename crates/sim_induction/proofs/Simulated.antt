@@ -6,13 +6,13 @@ use Rattle.sloth_base.specs.declared.config.CounterDecl.{CounterDecl}
 use Rattle.sloth_base.specs.declared.config.Config.{Config}
 use Rattle.sloth_base.specs.declared.app.App.{App}
 use Rattle.sloth_base.specs.declared.image.Image.{Image}
-use Rattle.sloth_base.specs.declared.event.Arrival.{Arrival}
+use Rattle.sloth_base.specs.declared.service.Arrival.{Arrival}
 use Rattle.sloth_base.specs.Machine.{State}
 use Rattle.sloth_base.specs.Owners.{first_counter_line, owners_in}
 use Rattle.rv32_machine.specs.Start.{start}
 use Rattle.osek_scheduler.specs.State.{System}
 use Rattle.sim_induction.specs.Sound.{IsSoundRun, Sound, AreComing}
-use Rattle.event_weights.specs.Pace.{ItemSizes}
+use Rattle.sim_induction.specs.Pace.{ItemSizes}
 use Rattle.sim_induction.specs.Weighed.{Weighed}
 use Rattle.sim_induction.specs.Paced.{Paced}
 use Rattle.sim_induction.specs.Spent.{SpentBySizes}

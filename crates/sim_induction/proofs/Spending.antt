@@ -4,18 +4,18 @@ use Rattle.std.specs.Prelude.{map}
 use Rattle.std.proofs.lemmas.Bool.{false≢true, cases_Bool, cases_eq, eq-eqb, eqb-true, ne_eqb, or_right, and_parts}
 use Rattle.sloth_base.specs.declared.app.App.{App}
 use Rattle.sloth_base.specs.declared.config.Config.{Config}
-use Rattle.sloth_base.specs.declared.event.Arrival.{Arrival}
-use Rattle.sloth_base.specs.declared.event.Event.{Event}
-use Rattle.sloth_base.specs.declared.event.Event.TheVariants as event
-use Rattle.sloth_base.specs.declared.event.Stamped.{Stamped}
+use Rattle.sloth_base.specs.declared.service.Arrival.{Arrival}
+use Rattle.sloth_base.specs.declared.service.Event.{Event}
+use Rattle.sloth_base.specs.declared.service.Event.TheVariants as event
+use Rattle.sloth_base.specs.declared.service.Stamped.{Stamped}
 use Rattle.sloth_base.specs.Owners.{first_counter_line, owners_in, AreOwned}
 use Rattle.observe.specs.Observe.{stamp}
 use Rattle.osek_scheduler.specs.State.{System, task}
 use Rattle.osek_scheduler.specs.InTime.{is_admit}
 use Rattle.osek_scheduler.specs.Steps.{OsekStep}
-use Rattle.raised_sections.specs.Pace.{takes_line}
-use Rattle.event_weights.specs.Events.{stretch_counts}
-use Rattle.event_weights.specs.Pace.{ItemSizes, next_size_of, gap_counts}
+use Rattle.osek_blocking.specs.Pace.{takes_line}
+use Rattle.sim_induction.specs.Events.{stretch_counts}
+use Rattle.sim_induction.specs.Pace.{ItemSizes, next_size_of, gap_counts}
 use Rattle.sim_induction.specs.Admits.{Setting, with_arrival, with_admits, admit_event, line_event}
 use Rattle.sim_induction.specs.Advances.{HasSpent, Spends}
 use Rattle.sim_induction.specs.PieceLaws.{Passed, IsNamed, GoesOn}

@@ -4,8 +4,8 @@ use Rattle.std.specs.Prelude.{All, AllPairs, ◌&&◌}
 use Rattle.sloth_base.specs.declared.config.Config.{Config}
 use Rattle.sloth_base.specs.declared.app.App.{App}
 use Rattle.sloth_base.specs.declared.image.Image.{Image}
-use Rattle.sloth_base.specs.declared.event.Arrival.{Arrival}
-use Rattle.sloth_base.specs.declared.event.Stamped.{Stamped}
+use Rattle.sloth_base.specs.declared.service.Arrival.{Arrival}
+use Rattle.sloth_base.specs.declared.service.Stamped.{Stamped}
 use Rattle.sloth_base.specs.Machine.{State}
 use Rattle.sloth_base.specs.Arrivals.{moments}
 use Rattle.sloth_base.specs.Stretches.{longest_stretch}
@@ -20,8 +20,8 @@ use Rattle.osek_scheduler.specs.Runs.{AreStepsBehind}
 use Rattle.osek_scheduler.specs.InTime.{InTime, IsStamped, is_admit, admits_at, arrivals_at, IsOrdered, KeepsOrder, longest_cut_off_stretch}
 use Rattle.sim_induction.specs.Short.{Short, AreShort, IsShortPiece, HasShortGaps}
 use Rattle.sim_induction.specs.Sound.{IsSoundRun, events_of}
-use Rattle.raised_sections.specs.Pace.{last_count}
-use Rattle.event_weights.specs.Pace.{ItemSizes, AreAtMost}
+use Rattle.osek_blocking.specs.Pace.{last_count}
+use Rattle.sim_induction.specs.Pace.{ItemSizes, AreAtMost}
 use Rattle.sim_induction.specs.Weighed.{AreWeighedTo, AreWithinWeights}
 use Rattle.sim_induction.specs.Paced.{ArePacedTo, AreStretchesWithin, KeepsPace}
 use Rattle.sim_induction.specs.Admits.{Setting, IsSetting}

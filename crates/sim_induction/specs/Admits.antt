@@ -2,16 +2,16 @@
 use Rattle.std.specs.Prelude.{ℕ, ◌+◌, ◌-◌, ◌≤◌, ◌≡◌, if◌then◌else◌, nat_lt, List, [], ◌∷◌, ◌++◌, map, length, All}
 use Rattle.sloth_base.specs.declared.config.Config.{Config}
 use Rattle.sloth_base.specs.declared.app.App.{App}
-use Rattle.sloth_base.specs.declared.event.Arrival.{Arrival}
-use Rattle.sloth_base.specs.declared.event.Event.{Event}
-use Rattle.sloth_base.specs.declared.event.Event.TheVariants as event
-use Rattle.sloth_base.specs.declared.event.Stamped.{Stamped}
+use Rattle.sloth_base.specs.declared.service.Arrival.{Arrival}
+use Rattle.sloth_base.specs.declared.service.Event.{Event}
+use Rattle.sloth_base.specs.declared.service.Event.TheVariants as event
+use Rattle.sloth_base.specs.declared.service.Stamped.{Stamped}
 use Rattle.sloth_base.specs.Arrivals.{moments, AreRisingMoments}
 use Rattle.sloth_base.specs.Owners.{first_counter_line, owners_in, IsOwned}
 use Rattle.observe.specs.Observe.{View, stamp}
 use Rattle.osek_scheduler.specs.State.{System}
 use Rattle.osek_scheduler.specs.Steps.{admitted_state, due_state}
-use Rattle.event_weights.specs.Pace.{ItemSizes}
+use Rattle.sim_induction.specs.Pace.{ItemSizes}
 use Rattle.masked_code.specs.Trace.{Trace, touched_lines_of, untouched_lines_of}
 
 -- what is fixed in a run: the system, how long its items are, what the run is observed by, and what arrives

@@ -1,9 +1,9 @@
 -- A piece of a run, from a count that finds MIE 1 to the next such count.
 use Rattle.std.specs.Prelude.{ℕ, zero, suc, ◌+◌, ◌<◌, ◌≤◌, ◌≡◌, ◌⊎◌, List, [], ◌∷◌, ◌++◌, map, take, length, Some, true, false}
 use Rattle.std.specs.List.{AllByRecursion}
-use Rattle.sloth_base.specs.declared.event.Arrival.{Arrival}
-use Rattle.sloth_base.specs.declared.event.Stamped.{Stamped}
-use Rattle.sloth_base.specs.declared.step.Step.{Step}
+use Rattle.sloth_base.specs.declared.service.Arrival.{Arrival}
+use Rattle.sloth_base.specs.declared.service.Stamped.{Stamped}
+use Rattle.sloth_base.specs.declared.numbers.Step.{Step}
 use Rattle.sloth_base.specs.Machine.{State}
 use Rattle.sloth_base.specs.Arrivals.{moments}
 use Rattle.sloth_base.specs.Stretches.{longest_stretch}
@@ -17,8 +17,8 @@ use Rattle.osek_scheduler.specs.Runs.{AreStepsTo, AreStepsBehind}
 use Rattle.osek_scheduler.specs.InTime.{is_admit, admits_at, arrivals_at, HasSpanFor, IsOrdered, KeepsOrder}
 use Rattle.sim_induction.specs.Short.{AreShort, IsShortPiece, passed_length}
 use Rattle.sim_induction.specs.Admits.{Setting, lines_at, with_admits, admit_event}
-use Rattle.raised_sections.specs.Pace.{last_count}
-use Rattle.event_weights.specs.Pace.{AreAtMost, next_size_of}
+use Rattle.osek_blocking.specs.Pace.{last_count}
+use Rattle.sim_induction.specs.Pace.{AreAtMost, next_size_of}
 use Rattle.sim_induction.specs.Mirror.{IsRunningTask, NoneIsActive}
 use Rattle.sim_induction.specs.Weighed.{AreWeighedTo}
 use Rattle.sim_induction.specs.Paced.{ArePacedTo, AreStretchesWithin}

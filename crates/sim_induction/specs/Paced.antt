@@ -3,9 +3,9 @@ use Rattle.std.specs.Prelude.{ℕ, ◌+◌, ◌<◌, ◌≤◌, ◌≡◌, true,
 use Rattle.sloth_base.specs.declared.config.Config.{Config}
 use Rattle.sloth_base.specs.declared.app.App.{App}
 use Rattle.sloth_base.specs.declared.image.Image.{Image}
-use Rattle.sloth_base.specs.declared.event.Arrival.{Arrival}
-use Rattle.sloth_base.specs.declared.event.Event.{Event}
-use Rattle.sloth_base.specs.declared.event.Stamped.{Stamped}
+use Rattle.sloth_base.specs.declared.service.Arrival.{Arrival}
+use Rattle.sloth_base.specs.declared.service.Event.{Event}
+use Rattle.sloth_base.specs.declared.service.Stamped.{Stamped}
 use Rattle.sloth_base.specs.Events.{is_boot}
 use Rattle.sloth_base.specs.Owners.{owners_in}
 use Rattle.sloth_base.specs.Stretches.{longest_stretch}
@@ -13,10 +13,10 @@ use Rattle.osek_scheduler.specs.State.{System, task, opening}
 use Rattle.osek_scheduler.specs.InTime.{is_admit}
 use Rattle.osek_scheduler.specs.Steps.{OsekStep}
 use Rattle.osek_scheduler.specs.Runs.{AreStepsTo}
-use Rattle.raised_sections.specs.Pace.{last_count, takes_line}
-use Rattle.event_weights.specs.Events.{stretch_counts}
-use Rattle.event_weights.specs.Items.{length_of, AreLengths}
-use Rattle.event_weights.specs.Pace.{ItemSizes, AreAtMost, next_size_of, gap_counts, EndsInPace}
+use Rattle.osek_blocking.specs.Pace.{last_count, takes_line}
+use Rattle.sim_induction.specs.Events.{stretch_counts}
+use Rattle.sim_induction.specs.Items.{length_of, AreLengths}
+use Rattle.sim_induction.specs.Pace.{ItemSizes, AreAtMost, next_size_of, gap_counts, EndsInPace}
 use Rattle.sim_induction.specs.Mirror.{IsRunningTask, NoneIsActive}
 use Rattle.sim_induction.specs.Sound.{events_of, AreComing}
 use Rattle.sim_induction.specs.Spent.{SpentBySizes}

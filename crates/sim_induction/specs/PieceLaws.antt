@@ -1,11 +1,11 @@
 -- What is asked of a piece of generated code, for each kind of piece of a run.
 use Rattle.std.specs.Prelude.{ℕ, suc, ◌+◌, ◌==◌, ◌<◌, ◌≤◌, ◌≡◌, List, [], ◌∷◌, ◌++◌, map, length, true, false, cond, slice_index, Contains}
 use Rattle.std.specs.List.{AllByRecursion}
-use Rattle.sloth_base.specs.declared.event.Event.{Event}
-use Rattle.sloth_base.specs.declared.event.Event.TheVariants as event
-use Rattle.sloth_base.specs.declared.event.Stamped.{Stamped}
+use Rattle.sloth_base.specs.declared.service.Event.{Event}
+use Rattle.sloth_base.specs.declared.service.Event.TheVariants as event
+use Rattle.sloth_base.specs.declared.service.Stamped.{Stamped}
 use Rattle.sloth_base.specs.declared.service.Service.{Service}
-use Rattle.sloth_base.specs.declared.step.Step.{Step}
+use Rattle.sloth_base.specs.declared.numbers.Step.{Step}
 use Rattle.sloth_base.specs.Machine.{State}
 use Rattle.sloth_base.specs.Stretches.{Beginning, Boots, later_beginning, stretch_limit, touch_limit}
 use Rattle.sloth_base.specs.Take.{execution_state, line_to_take}
@@ -20,8 +20,8 @@ use Rattle.observe.specs.Observe.{stretch_event, outside_events, mark_at}
 use Rattle.osek_scheduler.specs.State.{System, task, opening}
 use Rattle.osek_scheduler.specs.Steps.{OsekStep}
 use Rattle.osek_scheduler.specs.Runs.{AreStepsTo, PassesOverArrivals}
-use Rattle.event_weights.specs.Events.{stretch_counts}
-use Rattle.event_weights.specs.Pace.{ItemSizes, AreAtMost, next_size_of, single_counts}
+use Rattle.sim_induction.specs.Events.{stretch_counts}
+use Rattle.sim_induction.specs.Pace.{ItemSizes, AreAtMost, next_size_of, single_counts}
 use Rattle.sim_induction.specs.Short.{TouchesOnly}
 use Rattle.sim_induction.specs.Admits.{Setting, lines_at, with_admits, admit_event, arrivals_before_event}
 

@@ -1,7 +1,7 @@
 -- How long generated code keeps interrupts masked, and what it touches.
 use Rattle.std.specs.Prelude.{ℕ, ◌+◌, ◌≤◌, List, [], ◌∷◌, length, IfSome, All, Contains}
-use Rattle.sloth_base.specs.declared.event.Event.{Event}
-use Rattle.sloth_base.specs.declared.step.Step.{Step}
+use Rattle.sloth_base.specs.declared.service.Event.{Event}
+use Rattle.sloth_base.specs.declared.numbers.Step.{Step}
 use Rattle.sloth_base.specs.declared.config.Config.{Config}
 use Rattle.sloth_base.specs.Stretches.{Beginning, beginning_of, stretch_limit, touch_limit}
 use Rattle.sloth_base.specs.Limits.{unseen_counts}

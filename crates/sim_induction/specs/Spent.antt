@@ -3,10 +3,10 @@ use Rattle.std.specs.Prelude.{ℕ, ◌+◌, ◌-◌, ◌<◌, ◌≤◌, ◌≡�
 use Rattle.sloth_base.specs.declared.config.Config.{Config}
 use Rattle.sloth_base.specs.declared.app.App.{App}
 use Rattle.sloth_base.specs.declared.image.Image.{Image}
-use Rattle.sloth_base.specs.declared.event.Arrival.{Arrival}
-use Rattle.sloth_base.specs.declared.event.Event.{Event}
-use Rattle.sloth_base.specs.declared.event.Event.TheVariants as event
-use Rattle.sloth_base.specs.declared.event.Stamped.{Stamped}
+use Rattle.sloth_base.specs.declared.service.Arrival.{Arrival}
+use Rattle.sloth_base.specs.declared.service.Event.{Event}
+use Rattle.sloth_base.specs.declared.service.Event.TheVariants as event
+use Rattle.sloth_base.specs.declared.service.Stamped.{Stamped}
 use Rattle.sloth_base.specs.Events.{entered_task}
 use Rattle.sloth_base.specs.Options.{is_number}
 use Rattle.sloth_base.specs.Owners.{owners_in}
@@ -15,8 +15,8 @@ use Rattle.osek_scheduler.specs.InTime.{is_admit}
 use Rattle.osek_scheduler.specs.Next.{all_below}
 use Rattle.osek_scheduler.specs.Priority.{is_active, rank}
 use Rattle.osek_scheduler.specs.Steps.{OsekStep}
-use Rattle.raised_sections.specs.Pace.{takes_line}
-use Rattle.event_weights.specs.Pace.{ItemSizes, next_size_of, gap_counts, paced_counts}
+use Rattle.osek_blocking.specs.Pace.{takes_line}
+use Rattle.sim_induction.specs.Pace.{ItemSizes, next_size_of, gap_counts, paced_counts}
 use Rattle.sim_induction.specs.Sound.{events_of, AreComing}
 
 -- ---- whose counts they are

@@ -1,8 +1,8 @@
 //! Laws of the definitions.
 ghost use Rattle.std.specs.Prelude.{List};
 ghost use Rattle.sloth_base.specs.Arrivals.{AreArrivals};
-ghost use Rattle.sloth_base.specs.declared.event.Arrival.{Arrival};
-ghost use Rattle.sloth_base.specs.declared.lines.Owners.{Owners};
+ghost use Rattle.sloth_base.specs.declared.service.Arrival.{Arrival};
+ghost use Rattle.sloth_base.specs.declared.numbers.Owners.{Owners};
 ghost use Rattle.sim_induction.specs.Endless.{SoundForEver};
 ghost use Rattle.sim_induction.specs.Observed.{StretchesAreTraced};
 ghost use Rattle.sim_induction.specs.Passing.{StaysTop, PassesOverInner};

@@ -7,6 +7,13 @@
 //! stretch: `specs/Observed`; weights, pace and what a task spends on an item: `specs/Weighed`, `specs/Paced`,
 //! `specs/Spent`. Nothing of it has a limit of counts or arrivals, so a run goes on for ever (`specs/Endless`). Laws:
 //! `arrivals_of_files_come`, `sound_images_run_for_ever`, `top_task_stays`, `stretches_are_traced`.
+//!
+//! How many counts the events of a run take at most: of each item its expansion (`lengths`), and of a service its code
+//! (`going_counts`, `ending_counts`; `specs/Items`); of each stretch, by its event (`specs/Events`); how soon an event
+//! ends behind the one before it (`specs/Pace`). Longest paths of generated code: `code_lengths` (`LongestPaths`).
 #![tactic(auto)]
 
+mod items;
 pub mod laws;
+
+pub use items::{ItemLengths, ending_counts, going_counts, length_of, lengths};

@@ -10,7 +10,7 @@ use Rattle.sloth_base.specs.Named.{operation, function}
 use Rattle.sloth_base.specs.declared.app.Op.{Op}
 use Rattle.sloth_base.specs.declared.app.Op.TheVariants as op
 use Rattle.sloth_base.specs.declared.app.Width.TheVariants as width
-use Rattle.sloth_base.specs.declared.event.Arrival.{Arrival}
+use Rattle.sloth_base.specs.declared.service.Arrival.{Arrival}
 use Rattle.sloth_base.specs.declared.image.MarkKind.TheVariants as mark_kind
 use Rattle.sloth_base.specs.MemoryMap.{memory_base, memory_bytes, memory_end}
 use Rattle.sloth_region.specs.Layout.{context_bytes}

@@ -5,7 +5,7 @@ use Rattle.std.proofs.lemmas.Bool.{cases_lt}
 use Rattle.sloth_base.specs.Machine.{State}
 use Rattle.sloth_base.specs.Named.{operation}
 use Rattle.sloth_base.specs.declared.app.Op.{Op}
-use Rattle.sloth_base.specs.declared.event.Arrival.{Arrival}
+use Rattle.sloth_base.specs.declared.service.Arrival.{Arrival}
 use Rattle.code_rules.specs.AppRange.{IsRegister}
 use Rattle.sloth_base.specs.MemoryMap.{memory_base}
 use Rattle.rv32_instr.specs.Encode.{Encode}

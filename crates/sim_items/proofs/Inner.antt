@@ -3,7 +3,7 @@ use Rattle.std.proofs.Common.{ℕ, ◌+◌, ◌*◌, ◌<◌, List, length, arit
 use Rattle.sloth_base.specs.Machine.{State}
 use Rattle.sloth_base.specs.Named.{operation}
 use Rattle.sloth_base.specs.declared.app.Op.{Op}
-use Rattle.sloth_base.specs.declared.event.Arrival.{Arrival}
+use Rattle.sloth_base.specs.declared.service.Arrival.{Arrival}
 use Rattle.rv32_expand.specs.Expansion.{is_long, expansion}
 use Rattle.observe.specs.Observe.{View}
 use Rattle.osek_scheduler.specs.State.{System, task}

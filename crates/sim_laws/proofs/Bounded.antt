@@ -4,17 +4,17 @@ use Rattle.std.specs.Prelude.{◌==◌, IfSome, if◌then◌else◌, bit_and, bi
 use Rattle.std.proofs.lemmas.Nat.{or_lt}
 use Rattle.sloth_base.specs.declared.app.Width.{Width}
 use Rattle.sloth_base.specs.declared.app.Width.TheVariants as width
-use Rattle.sloth_base.specs.declared.event.Arrival.{Arrival}
-use Rattle.sloth_base.specs.declared.step.Step.{Step}
+use Rattle.sloth_base.specs.declared.service.Arrival.{Arrival}
+use Rattle.sloth_base.specs.declared.numbers.Step.{Step}
 use Rattle.sloth_base.specs.Machine.{Core, State}
 use Rattle.sloth_base.specs.Lines.{Lines, controller_byte, with_controller_byte, flag_of}
 use Rattle.sloth_base.specs.Arrive.{state_arrive}
 use Rattle.sloth_base.specs.Take.{line_to_take, entry_state, execution_state}
 use Rattle.sloth_base.specs.MemoryMap.{memory_base, controller_base}
 use Rattle.rv32_instr.specs.declared.csr.TheConstants.{MSTATUS, MSCRATCH, MEPC, ILEVEL, PLEVEL}
-use Rattle.rv32_instr.specs.declared.stop.Bad.{Bad}
-use Rattle.rv32_instr.specs.declared.stop.Bad.TheVariants as bad
-use Rattle.rv32_instr.specs.declared.stop.Stop.TheVariants as stop
+use Rattle.rv32_instr.specs.declared.effect.Bad.{Bad}
+use Rattle.rv32_instr.specs.declared.effect.Bad.TheVariants as bad
+use Rattle.rv32_instr.specs.declared.effect.Stop.TheVariants as stop
 use Rattle.rv32_instr.specs.declared.effect.Change.{Change}
 use Rattle.rv32_instr.specs.declared.effect.Change.TheVariants.{Keep, Replace, Set, Clear}
 use Rattle.rv32_instr.specs.declared.effect.Effect.{Effect}

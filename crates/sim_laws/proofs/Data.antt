@@ -9,8 +9,8 @@ use Rattle.sloth_base.specs.Named.{no_symbol}
 use Rattle.sloth_base.specs.declared.app.App.{App}
 use Rattle.sloth_base.specs.declared.app.Symbol.{Symbol}
 use Rattle.sloth_base.specs.MemoryMap.{memory_base}
-use Rattle.sloth_region.specs.declared.extent.Extent.{Extent}
-use Rattle.sloth_region.specs.declared.map.Map.{Map}
+use Rattle.sloth_region.specs.declared.region.Extent.{Extent}
+use Rattle.sloth_region.specs.declared.region.Map.{Map}
 use Rattle.sloth_region.specs.Region.{FollowWithin, aligned}
 use Rattle.sloth_region.proofs.Placed.{apart_within}
 use Rattle.mem_map.specs.Plan.{symbol_bytes, data_extents}

@@ -4,8 +4,8 @@ use Rattle.std.specs.Prelude.{All, nat_le, nat_lt, slice_index_or}
 use Rattle.std.proofs.lemmas.Bool.{leb-true, ltb-true, le-leb, lt-ltb, and_parts, and_from, false_from_ne_true}
 use Rattle.sloth_base.specs.declared.app.App.{App}
 use Rattle.sloth_base.specs.declared.config.Config.{Config}
-use Rattle.sloth_region.specs.declared.extent.Extent.{Extent}
-use Rattle.sloth_region.specs.declared.map.Map.{Map}
+use Rattle.sloth_region.specs.declared.region.Extent.{Extent}
+use Rattle.sloth_region.specs.declared.region.Map.{Map}
 use Rattle.sloth_region.specs.Region.{FollowWithin}
 use Rattle.sloth_region.proofs.Placed.{apart_within}
 use Rattle.rv32_instr.specs.declared.block.Block.{Block}

@@ -1,6 +1,6 @@
 -- Extents that follow one another.
 use Rattle.std.proofs.Common.{◌≤◌, ◌+◌, ℕ, suc, List, [], ◌∷◌, arith}
-use Rattle.sloth_region.specs.declared.extent.Extent.{Extent}
+use Rattle.sloth_region.specs.declared.region.Extent.{Extent}
 use Rattle.sloth_region.specs.Region.{FollowWithin, AreApartWithin}
 
 behind_first : (from end : ℕ) (x : Extent) (xs : List Extent) → AreApartWithin from end (x ∷ xs) → AreApartWithin (x.base + x.len) end xs

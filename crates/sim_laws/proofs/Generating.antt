@@ -21,7 +21,7 @@ use Rattle.sloth_base.specs.declared.config.Config.{Config}
 use Rattle.sloth_base.specs.declared.image.Image.{Image}
 use Rattle.sloth_base.specs.declared.image.Mark.{Mark}
 use Rattle.sloth_base.specs.declared.places.Levels.{Levels}
-use Rattle.sloth_region.specs.declared.map.Map.{Map}
+use Rattle.sloth_region.specs.declared.region.Map.{Map}
 use Rattle.rv32_instr.specs.declared.block.Block.{Block}
 use Rattle.rv32_instr.specs.Range.{InRange}
 use Rattle.rv32_expand.specs.Expansion.{expansion, item_address, block_address}
@@ -47,7 +47,7 @@ use Rattle.sim_laws.specs.Generated.{HasPrologue, HasTick, IsGenerated}
 use Rattle.sim_laws.specs.Items.{HasItems}
 use Rattle.sim_laws.proofs.Items.{marks_found, item_stands}
 use Rattle.sim_laws.proofs.Known.{item_known}
-use Rattle.sloth_link.specs.declared.datum.Datum.{Datum}
+use Rattle.sloth_link.specs.declared.linking.Datum.{Datum}
 use Rattle.mem_map.specs.Sections.{marks_of, code_bytes, block_section, IsSectionInside}
 use Rattle.sloth_link.specs.Linked.{datum_section}
 use Rattle.sloth_link.proofs.Written.{code_bytes_length, front_of}

@@ -3,8 +3,8 @@ use Rattle.std.proofs.Common.{◌≡◌, ◌≢◌, ◌≤◌, ◌<◌, ◌+◌,
 use Rattle.std.specs.Prelude.{All}
 use Rattle.std.proofs.lemmas.List.Elements.{All-nil, All-cons}
 use Rattle.sloth_base.specs.declared.image.Mark.{Mark}
-use Rattle.sloth_region.specs.declared.extent.Extent.{Extent}
-use Rattle.sloth_region.specs.declared.map.Map.{Map}
+use Rattle.sloth_region.specs.declared.region.Extent.{Extent}
+use Rattle.sloth_region.specs.declared.region.Map.{Map}
 use Rattle.sloth_region.specs.Region.{FollowWithin}
 use Rattle.rv32_instr.specs.declared.block.Block.{Block}
 use Rattle.mem_map.specs.Zones.{code_zone}

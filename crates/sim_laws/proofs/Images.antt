@@ -11,7 +11,7 @@ use Rattle.sloth_base.specs.declared.config.CounterDecl.{CounterDecl}
 use Rattle.sloth_base.specs.declared.app.App.{App}
 use Rattle.sloth_base.specs.declared.app.Symbol.{Symbol}
 use Rattle.sloth_base.specs.declared.config.Config.{Config}
-use Rattle.sloth_region.specs.declared.map.Map.{Map}
+use Rattle.sloth_region.specs.declared.region.Map.{Map}
 use Rattle.sloth_region.specs.Layout.{counter_value, alarm_left, alarm_cycle, below_word}
 use Rattle.rv32_instr.specs.Ram.{word_at}
 use Rattle.rv32_instr.specs.declared.block.Block.{Block}
@@ -21,7 +21,7 @@ use Rattle.osek_scheduler.specs.declared.state.Counter.{Counter}
 use Rattle.sim_relation.specs.Build.{Build}
 use Rattle.sim_relation.specs.DataStands.{ByteStands}
 use Rattle.sim_relation.proofs.Starting.{zero_word}
-use Rattle.sloth_link.specs.declared.datum.Datum.{Datum}
+use Rattle.sloth_link.specs.declared.linking.Datum.{Datum}
 use Rattle.mem_map.specs.Sections.{block_section}
 use Rattle.sloth_link.specs.Linked.{datum_section, sections_of, HasSectionBytes, IsOutsideSection}
 use Rattle.sloth_link.specs.Image.{all_data}

@@ -1,7 +1,7 @@
 -- The measure of the instructions that show nothing is at most the next item of the task that runs.
 use Rattle.std.proofs.Common.{◌≡◌, ◌∙◌, ℕ, zero, suc, ◌+◌, ◌<◌, ◌≤◌, Bool, true, false, cond, List, [], ◌∷◌, length, refl, sym, ap, subst, arith}
 use Rattle.std.proofs.lemmas.Bool.{lt-ltb}
-use Rattle.sloth_base.specs.declared.event.Arrival.{Arrival}
+use Rattle.sloth_base.specs.declared.service.Arrival.{Arrival}
 use Rattle.sloth_base.specs.Machine.{State}
 use Rattle.sloth_base.specs.Named.{function}
 use Rattle.sloth_region.specs.Layout.{cur}
@@ -9,7 +9,7 @@ use Rattle.rv32_instr.specs.Ram.{word_at}
 use Rattle.rv32_expand.specs.Expansion.{item_address, expansion}
 use Rattle.observe.specs.Observe.{View}
 use Rattle.osek_scheduler.specs.State.{Frame, Task, System, task}
-use Rattle.event_weights.specs.Pace.{AreAtMost, next_size, next_size_of}
+use Rattle.sim_induction.specs.Pace.{AreAtMost, next_size, next_size_of}
 use Rattle.sim_induction.specs.Admits.{with_admits}
 use Rattle.sim_induction.specs.PieceLaws.{IsMeasure}
 use Rattle.sim_induction.proofs.Passing.{not_suspended, kept_admits}

@@ -9,7 +9,7 @@ use Rattle.sloth_base.specs.declared.app.App.{App}
 use Rattle.sloth_base.specs.declared.app.Call.{Call}
 use Rattle.sloth_base.specs.declared.app.Op.TheVariants as op
 use Rattle.sloth_base.specs.declared.app.Symbol.{Symbol}
-use Rattle.sloth_base.specs.declared.event.Event.{Event}
+use Rattle.sloth_base.specs.declared.service.Event.{Event}
 use Rattle.sloth_base.specs.Named.{no_symbol}
 use Rattle.code_rules.specs.WellFormed.{WellFormed, held_list_before}
 use Rattle.osek_scheduler.specs.declared.state.TaskState.TheVariants as mode

@@ -1,7 +1,7 @@
 -- The numbers of the machine's state have room in its registers and bytes.
 use Rattle.std.specs.Prelude.{ℕ, ◌<◌, ◌≡◌, List}
-use Rattle.sloth_base.specs.declared.event.Arrival.{Arrival}
-use Rattle.sloth_base.specs.declared.step.Step.{Step}
+use Rattle.sloth_base.specs.declared.service.Arrival.{Arrival}
+use Rattle.sloth_base.specs.declared.numbers.Step.{Step}
 use Rattle.sloth_base.specs.Machine.{Core, State}
 use Rattle.rv32_machine.specs.Advance.{Goes}
 use Rattle.rv32_machine.specs.Run.{moment}

@@ -15,7 +15,7 @@ use Rattle.sloth_base.specs.declared.places.Levels.{Levels}
 use Rattle.sloth_base.specs.declared.places.Places.{Places}
 use Rattle.sloth_base.specs.declared.service.Service.TheVariants as service
 use Rattle.sloth_base.specs.MemoryMap.{vectors_base, boot_base, line_count}
-use Rattle.sloth_region.specs.declared.map.Map.{Map}
+use Rattle.sloth_region.specs.declared.region.Map.{Map}
 use Rattle.code_rules.specs.WellFormed.{WellFormed}
 use Rattle.sloth_base.specs.declared.places.Bounds.{Bounds}
 use Rattle.rv32_instr.specs.declared.InstrKind.{InstrKind}
@@ -35,7 +35,7 @@ use Rattle.service_gen.specs.Calls.{IsAnyServiceBlock}
 use Rattle.sim_relation.specs.Bounds.{AreBelow}
 use Rattle.sim_routines.specs.TickSteps.{IsTick}
 use Rattle.sim_laws.specs.Generated.{IsGenerated}
-use Rattle.sloth_link.specs.declared.datum.Datum.{Datum}
+use Rattle.sloth_link.specs.declared.linking.Datum.{Datum}
 use Rattle.mem_map.specs.Sections.{marks_of, addresses}
 use Rattle.sim_laws.specs.Zones.{build_of}
 use Rattle.sim_laws.specs.Rooms.{HasOwnMarks}

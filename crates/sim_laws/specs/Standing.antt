@@ -1,7 +1,7 @@
 -- What holds of a kernel in place at each count of a run that finds interrupts open.
 use Rattle.std.specs.Prelude.{ℕ, ◌<◌, ◌≡◌, List, true, filter, Some}
 use Rattle.sloth_base.specs.declared.image.Image.{Image}
-use Rattle.sloth_base.specs.declared.event.Arrival.{Arrival}
+use Rattle.sloth_base.specs.declared.service.Arrival.{Arrival}
 use Rattle.sloth_base.specs.Owners.{owners_in}
 use Rattle.sloth_base.specs.Machine.{State}
 use Rattle.rv32_machine.specs.Start.{start}

@@ -4,12 +4,12 @@ use Rattle.std.specs.Prelude as prelude
 use Rattle.sloth_base.specs.Named.{symbol_size}
 use Rattle.sloth_base.specs.declared.app.App.{App}
 use Rattle.sloth_base.specs.MemoryMap.{memory_base}
-use Rattle.sloth_region.specs.declared.map.Map.{Map}
+use Rattle.sloth_region.specs.declared.region.Map.{Map}
 use Rattle.sloth_region.specs.Region.{FollowWithin}
 use Rattle.rv32_expand.specs.Expansion.{symbol_address}
 use Rattle.mem_map.specs.Plan.{data_extents}
 use Rattle.mem_map.specs.Zones.{data_zone}
-use Rattle.sloth_link.specs.declared.datum.Datum.{Datum}
+use Rattle.sloth_link.specs.declared.linking.Datum.{Datum}
 use Rattle.sloth_link.specs.Linked.{datum_section}
 use Rattle.sloth_link.specs.Room.{AreIn}
 use Rattle.sloth_link.specs.Symbols.{data_of}

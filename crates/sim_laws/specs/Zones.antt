@@ -4,8 +4,8 @@ use Rattle.sloth_base.specs.Machine.{Core}
 use Rattle.sloth_base.specs.declared.app.App.{App}
 use Rattle.sloth_base.specs.declared.config.Config.{Config}
 use Rattle.sloth_base.specs.MemoryMap.{memory_base, line_count}
-use Rattle.sloth_region.specs.declared.extent.Extent.{Extent}
-use Rattle.sloth_region.specs.declared.map.Map.{Map}
+use Rattle.sloth_region.specs.declared.region.Extent.{Extent}
+use Rattle.sloth_region.specs.declared.region.Map.{Map}
 use Rattle.sloth_region.specs.Layout.{context_bytes}
 use Rattle.rv32_instr.specs.declared.block.Block.{Block}
 use Rattle.rv32_instr.specs.Range.{InRange}

@@ -37,12 +37,12 @@ pub fn kernel_is_sound()
     ensures { KernelIsSound }
 {}
 
-/// No stretch of such a run takes more counts than its weight (`event_weights`, `specs/Events`).
+/// No stretch of such a run takes more counts than its weight (`sim_induction`, `specs/Events`).
 pub fn kernel_is_weighed()
     ensures { KernelIsWeighed }
 {}
 
-/// Each event of such a run ends soon behind the one before, by its weight and items (`event_weights`, `specs/Pace`).
+/// Each event of such a run ends soon behind the one before, by its weight and items (`sim_induction`, `specs/Pace`).
 pub fn kernel_is_paced()
     ensures { KernelIsPaced }
 {}

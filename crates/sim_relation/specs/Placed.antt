@@ -1,6 +1,6 @@
 -- Code in the image, and runs of what is built.
 use Rattle.std.specs.Prelude.{ℕ, ◌+◌, ◌*◌, ◌%◌, ◌<◌, ◌≤◌, ◌≡◌, true, List, length, nat_lt, if◌then◌else◌}
-use Rattle.sloth_base.specs.declared.event.Arrival.{Arrival}
+use Rattle.sloth_base.specs.declared.service.Arrival.{Arrival}
 use Rattle.sloth_base.specs.MemoryMap.{memory_bytes}
 use Rattle.sloth_base.specs.Named.{function}
 use Rattle.rv32_expand.specs.Expansion.{expansion}

@@ -10,7 +10,7 @@ use Rattle.osek_scheduler.specs.Priority.{is_active}
 use Rattle.sim_induction.specs.Mirror.{priority_of}
 use Rattle.sloth_base.specs.PriorityLevels.{level_of}
 use Rattle.sloth_base.specs.Owners.{line_kind, owners_in}
-use Rattle.sloth_base.specs.declared.lines.LineKind.TheVariants as line_of
+use Rattle.sloth_base.specs.declared.numbers.LineKind.TheVariants as line_of
 use Rattle.sloth_base.specs.Limits.{ceiling_count}
 use Rattle.sloth_base.specs.MemoryMap.{memory_bytes, line_count}
 use Rattle.sim_relation.specs.Build.{Build}

@@ -8,7 +8,7 @@ use Rattle.osek_scheduler.specs.Steps.{settled_state, autostarted_tasks}
 use Rattle.sloth_base.specs.PriorityLevels.{level_of}
 use Rattle.sloth_base.specs.MemoryMap.{memory_base}
 use Rattle.sloth_base.specs.Owners.{line_kind, owners_in}
-use Rattle.sloth_base.specs.declared.lines.LineKind.TheVariants as line_of
+use Rattle.sloth_base.specs.declared.numbers.LineKind.TheVariants as line_of
 use Rattle.sim_relation.specs.Build.{Build}
 use Rattle.sim_relation.specs.ClockStands.{CounterLineStands, ClockStands, IsBesideClock}
 use Rattle.sim_relation.specs.DataStands.{DataStands}

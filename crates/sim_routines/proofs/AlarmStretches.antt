@@ -4,7 +4,7 @@ use Rattle.std.proofs.lemmas.Bool.{ltb-true}
 use Rattle.sloth_base.specs.Arrive.{state_arrive}
 use Rattle.sloth_base.specs.Machine.{State}
 use Rattle.sloth_base.specs.Named.{counter_of, alarm_declaration, undeclared_alarm}
-use Rattle.sloth_base.specs.declared.event.Arrival.{Arrival}
+use Rattle.sloth_base.specs.declared.service.Arrival.{Arrival}
 use Rattle.sloth_base.specs.declared.service.Service.TheVariants as service
 use Rattle.sloth_base.specs.Limits.{alarm_limit}
 use Rattle.rv32_machine.specs.Run.{state_with_arrivals}

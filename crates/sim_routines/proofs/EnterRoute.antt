@@ -3,15 +3,15 @@ use Rattle.std.proofs.Common.{◌≡◌, ℕ, suc, ◌+◌, ◌-◌, ◌*◌, �
 use Rattle.std.specs.Prelude.{◌≢◌, slice_index, IfSome, Contains}
 use Rattle.std.proofs.lemmas.Bool.{cases_Bool}
 use Rattle.std.proofs.lemmas.List.{length-set}
-use Rattle.sloth_base.specs.declared.event.Arrival.{Arrival}
-use Rattle.sloth_base.specs.declared.event.Event.TheVariants as event
+use Rattle.sloth_base.specs.declared.service.Arrival.{Arrival}
+use Rattle.sloth_base.specs.declared.service.Event.TheVariants as event
 use Rattle.sloth_base.specs.Machine.{Core, State}
 use Rattle.sloth_base.specs.Arrive.{state_arrive}
 use Rattle.sloth_base.specs.Choose.{choose}
 use Rattle.sloth_base.specs.Take.{take, line_to_take, entry_state, execution_state}
 use Rattle.sloth_base.specs.Owners.{owners_in, IsOwned}
 use Rattle.sloth_base.specs.Stretches.{Takes, later_beginning, stretch_limit}
-use Rattle.sloth_base.specs.declared.lines.Owners.{Owners}
+use Rattle.sloth_base.specs.declared.numbers.Owners.{Owners}
 use Rattle.sloth_base.proofs.Stretches.{task_entry_limit}
 use Rattle.sloth_region.specs.Layout.{cur}
 use Rattle.rv32_instr.specs.Execute.{touched}
@@ -34,7 +34,7 @@ use Rattle.vector_gen.specs.Resuming.{MayResume, ResumeEffect}
 use Rattle.vector_gen.specs.Places.{IsPrologueCode}
 use Rattle.vector_gen.proofs.BothKinds as kinds
 use Rattle.code_lengths.specs.LongestPaths.{entry_path, enter_path}
-use Rattle.event_weights.specs.Events.{has_frames, enter_counts, stretch_counts}
+use Rattle.sim_induction.specs.Events.{has_frames, enter_counts, stretch_counts}
 use Rattle.sim_induction.specs.Admits.{IsSetting, lines_at, with_admits}
 use Rattle.sim_induction.specs.Advances.{Advances}
 use Rattle.sim_induction.specs.PieceLaws.{Passed, StretchLaw, IsMeasure}

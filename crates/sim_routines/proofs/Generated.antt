@@ -8,7 +8,7 @@ use Rattle.sloth_base.specs.declared.app.Func.{Func}
 use Rattle.sloth_base.specs.declared.config.Config.{Config}
 use Rattle.sloth_base.specs.declared.config.TaskDecl.{TaskDecl}
 use Rattle.sloth_base.specs.declared.places.Levels.{Levels}
-use Rattle.sloth_region.specs.declared.map.Map.{Map}
+use Rattle.sloth_region.specs.declared.region.Map.{Map}
 use Rattle.rv32_instr.specs.declared.InstrKind.{InstrKind}
 use Rattle.rv32_expand.specs.Expansion.{item_address}
 use Rattle.sloth_base.specs.Named.{declaration, undeclared_task, body_of}

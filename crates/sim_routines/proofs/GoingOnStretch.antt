@@ -3,7 +3,7 @@ use Rattle.std.proofs.Common.{◌≡◌, ℕ, suc, ◌<◌, ◌≤◌, List, ◌
 use Rattle.std.proofs.lemmas.Bool.{ltb-true}
 use Rattle.sloth_base.specs.declared.app.Call.{Call}
 use Rattle.sloth_base.specs.declared.app.Op.TheVariants as op
-use Rattle.sloth_base.specs.declared.event.Arrival.{Arrival}
+use Rattle.sloth_base.specs.declared.service.Arrival.{Arrival}
 use Rattle.sloth_base.specs.declared.service.Service.{Service}
 use Rattle.sloth_base.specs.declared.service.Service.TheVariants as service
 use Rattle.sloth_base.specs.Arrive.{state_arrive}
@@ -15,7 +15,7 @@ use Rattle.rv32_machine.specs.Run.{state_with_arrivals}
 use Rattle.masked_code.specs.Kernel.{masking}
 use Rattle.masked_code.specs.Masked.{FromOpening}
 use Rattle.masked_code.specs.Place.{offset_state}
-use Rattle.event_weights.specs.Events.{stretch_counts}
+use Rattle.sim_induction.specs.Events.{stretch_counts}
 use Rattle.observe.specs.Observe.{View}
 use Rattle.service_gen.specs.ActivateTask.{IsActivateTaskCode, ActivateTaskEffect}
 use Rattle.service_gen.specs.ChainTask.{IsChainTaskCode, ChainTaskEffect}

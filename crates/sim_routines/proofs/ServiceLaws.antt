@@ -4,7 +4,7 @@ use Rattle.sloth_base.specs.declared.service.Service.{Service}
 use Rattle.sloth_base.specs.Arrive.{state_arrive}
 use Rattle.sloth_base.specs.Machine.{State}
 use Rattle.sloth_base.specs.Owners.{owners_in, AreTasks}
-use Rattle.event_weights.specs.Events.{stretch_counts}
+use Rattle.sim_induction.specs.Events.{stretch_counts}
 use Rattle.osek_scheduler.specs.State.{Task, System}
 use Rattle.sim_induction.specs.PieceLaws.{served_event}
 use Rattle.sim_relation.specs.Build.{Build}

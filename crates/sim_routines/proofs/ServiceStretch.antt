@@ -1,7 +1,7 @@
 -- From its opening mark on, a service is a stretch of a run, whatever lines arrive: its contract, its own law and its weight are all that is asked.
 use Rattle.std.proofs.Common.{◌≡◌, ℕ, suc, ◌+◌, ◌*◌, ◌%◌, ◌<◌, ◌≤◌, List, [], ◌∷◌, length, sym, ap, ◌∙◌, subst, arith, None, cond, ◌⊎◌, ⊎_elim, inl, inr}
 use Rattle.std.specs.Prelude.{slice_index}
-use Rattle.sloth_base.specs.declared.event.Arrival.{Arrival}
+use Rattle.sloth_base.specs.declared.service.Arrival.{Arrival}
 use Rattle.sloth_base.specs.declared.service.Service.{Service}
 use Rattle.sloth_base.specs.Choose.{choose}
 use Rattle.sloth_base.specs.Machine.{State}
@@ -9,7 +9,7 @@ use Rattle.sloth_base.specs.Arrive.{state_arrive}
 use Rattle.sloth_base.specs.Take.{line_to_take, entry_state, execution_state}
 use Rattle.sloth_base.specs.Owners.{owners_in, IsOwned, AreOwned, AreTasks}
 use Rattle.sloth_base.specs.Stretches.{Masks, stretch_limit}
-use Rattle.sloth_base.specs.declared.lines.Owners.{Owners}
+use Rattle.sloth_base.specs.declared.numbers.Owners.{Owners}
 use Rattle.sloth_base.specs.MemoryMap.{memory_base, line_count}
 use Rattle.rv32_instr.specs.declared.InstrKind.{InstrKind}
 use Rattle.sloth_region.specs.Layout.{cur}
@@ -22,7 +22,7 @@ use Rattle.masked_code.specs.Place.{offset_state, InPlace}
 use Rattle.masked_code.specs.Trace.{touched_lines, early_arrivals, late_arrivals}
 use Rattle.masked_code.proofs.Machine.{touched_at}
 use Rattle.rv32_expand.specs.Expansion.{block_address, item_address, expansion}
-use Rattle.event_weights.specs.Events.{stretch_counts}
+use Rattle.sim_induction.specs.Events.{stretch_counts}
 use Rattle.observe.specs.Observe.{View, mark_at}
 use Rattle.osek_scheduler.specs.State.{System, task}
 use Rattle.osek_scheduler.specs.Priority.{IsTop}

@@ -1,6 +1,6 @@
 -- The stretch of TerminateTask, whatever lines arrive.
 use Rattle.std.proofs.Common.{ℕ, ◌<◌, List, refl, arith}
-use Rattle.sloth_base.specs.declared.event.Arrival.{Arrival}
+use Rattle.sloth_base.specs.declared.service.Arrival.{Arrival}
 use Rattle.sloth_base.specs.declared.service.Service.TheVariants as service
 use Rattle.sloth_base.specs.Arrive.{state_arrive}
 use Rattle.sloth_base.specs.Machine.{State}

@@ -12,10 +12,10 @@ use Rattle.sloth_base.specs.Owners.{counter_line, line_kind, owners_in, IsOwned,
 use Rattle.sloth_base.specs.Stretches.{later_beginning, stretch_limit, touch_limit}
 use Rattle.sloth_base.specs.Take.{take, line_to_take, entry_state, execution_state}
 use Rattle.sloth_base.specs.declared.config.AlarmDecl.{AlarmDecl}
-use Rattle.sloth_base.specs.declared.event.Arrival.{Arrival}
-use Rattle.sloth_base.specs.declared.event.Event.TheVariants as event
-use Rattle.sloth_base.specs.declared.lines.LineKind.TheVariants as line_of
-use Rattle.sloth_base.specs.declared.step.Step.{Step}
+use Rattle.sloth_base.specs.declared.service.Arrival.{Arrival}
+use Rattle.sloth_base.specs.declared.service.Event.TheVariants as event
+use Rattle.sloth_base.specs.declared.numbers.LineKind.TheVariants as line_of
+use Rattle.sloth_base.specs.declared.numbers.Step.{Step}
 use Rattle.sloth_base.specs.Limits.{task_limit, counter_limit}
 use Rattle.sloth_base.specs.MemoryMap.{memory_base, vectors_base}
 use Rattle.sloth_base.proofs.Owners.{kind_of_counter, tasks_owned}
@@ -38,7 +38,7 @@ use Rattle.osek_scheduler.specs.State.{Clock, Task, System, task, no_counter}
 use Rattle.osek_scheduler.specs.Priority.{IsNextTick}
 use Rattle.osek_scheduler.specs.Services.{ticked_state}
 use Rattle.osek_scheduler.specs.Steps.{settled_state}
-use Rattle.raised_sections.proofs.Frames.{SameFrames, ticked_frames}
+use Rattle.osek_blocking.proofs.Frames.{SameFrames, ticked_frames}
 use Rattle.sim_induction.specs.Admits.{IsSetting, lines_at, with_admits}
 use Rattle.sim_induction.specs.Advances.{Advances}
 use Rattle.sim_induction.specs.PieceLaws.{StretchLaw, IsMeasure}

@@ -3,12 +3,12 @@ use Rattle.std.proofs.Common.{◌≡◌, ℕ, suc, ◌+◌, ◌≤◌, List, Boo
 use Rattle.std.specs.Prelude.{◌==◌, not, slice_index}
 use Rattle.sloth_base.specs.declared.app.App.{App}
 use Rattle.sloth_base.specs.declared.config.Config.{Config}
-use Rattle.sloth_base.specs.declared.event.Event.TheVariants as event
+use Rattle.sloth_base.specs.declared.service.Event.TheVariants as event
 use Rattle.sloth_base.specs.declared.service.Service.{Service}
 use Rattle.sloth_base.specs.Machine.{State}
 use Rattle.sloth_region.specs.Layout.{cur}
 use Rattle.rv32_instr.specs.Ram.{word_at}
-use Rattle.event_weights.specs.Events.{call_counts, left_counts, stretch_counts}
+use Rattle.sim_induction.specs.Events.{call_counts, left_counts, stretch_counts}
 use Rattle.osek_scheduler.specs.State.{System}
 use Rattle.osek_scheduler.specs.Services.{ServiceOutcome, GoesOn, Leaves}
 use Rattle.osek_scheduler.specs.Outcomes.{Decision, planned_system, shown_outcome, outcome_of, decision}

@@ -4,7 +4,7 @@ use Rattle.std.specs.List.{slice_get}
 use Rattle.sloth_base.specs.declared.app.Func.{Func}
 use Rattle.sloth_base.specs.declared.places.Levels.{Levels}
 use Rattle.sloth_base.specs.MemoryMap.{memory_base}
-use Rattle.sloth_region.specs.declared.map.Map.{Map}
+use Rattle.sloth_region.specs.declared.region.Map.{Map}
 use Rattle.rv32_instr.specs.declared.InstrKind.{InstrKind}
 use Rattle.sloth_base.specs.Named.{body_of}
 use Rattle.vector_gen.specs.Places.{IsTaskPrologue}

@@ -9,7 +9,7 @@ use Rattle.sloth_base.specs.Named.{counter_declaration}
 use Rattle.sloth_base.specs.Owners.{counter_line}
 use Rattle.sloth_base.specs.Take.{take}
 use Rattle.sloth_base.specs.declared.config.Config.{Config}
-use Rattle.sloth_base.specs.declared.event.Arrival.{Arrival}
+use Rattle.sloth_base.specs.declared.service.Arrival.{Arrival}
 use Rattle.code_lengths.specs.CodeLengths.{tick_length}
 use Rattle.rv32_instr.specs.declared.InstrKind.{InstrKind}
 use Rattle.rv32_instr.specs.declared.InstrKind.TheVariants.{Jal}

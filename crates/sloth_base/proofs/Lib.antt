@@ -3,3 +3,7 @@ pub mod Mapping
 pub mod Services
 pub mod Owners
 pub mod Stretches
+pub mod Kept
+pub mod Cases
+pub mod Nowhere
+pub mod Searching

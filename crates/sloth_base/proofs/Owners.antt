@@ -1,9 +1,9 @@
 -- A line has an owner exactly where it is a task's or a counter's.
 use Rattle.std.proofs.Common.{◌≡◌, ◌∙◌, ℕ, ◌-◌, ◌<◌, ◌≤◌, ◌⊎◌, inl, inr, List, [], ◌∷◌, Bool, true, false, refl, sym, ap, subst, cond, arith, ⊎_elim}
 use Rattle.std.proofs.lemmas.Bool.{cases_lt, lt-ltb, le-ltb, le-leb, ltb-true, leb-true, and_parts, and_from}
-use Rattle.sloth_base.specs.declared.lines.LineKind.{LineKind}
-use Rattle.sloth_base.specs.declared.lines.LineKind.TheVariants as line_of
-use Rattle.sloth_base.specs.declared.lines.Owners.{Owners}
+use Rattle.sloth_base.specs.declared.numbers.LineKind.{LineKind}
+use Rattle.sloth_base.specs.declared.numbers.LineKind.TheVariants as line_of
+use Rattle.sloth_base.specs.declared.numbers.Owners.{Owners}
 use Rattle.sloth_base.specs.Owners.{first_counter_line, counter_line, is_counter_line, line_kind, IsOwned, AreOwned, AreTasks}
 use Rattle.sloth_base.specs.Limits.{task_limit, counter_limit}
 use Rattle.sloth_base.specs.MemoryMap.{line_count}

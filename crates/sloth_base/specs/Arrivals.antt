@@ -1,7 +1,7 @@
 -- Arrivals of interrupt lines, in the order of an arrivals file.
 use Rattle.std.specs.Prelude.{ℕ, ◌&&◌, List, [], ◌∷◌, filter, nat_le, nat_lt, ◌≤◌, length, All}
-use Rattle.sloth_base.specs.declared.event.Arrival.{Arrival}
-use Rattle.sloth_base.specs.declared.lines.Owners.{Owners}
+use Rattle.sloth_base.specs.declared.service.Arrival.{Arrival}
+use Rattle.sloth_base.specs.declared.numbers.Owners.{Owners}
 use Rattle.sloth_base.specs.Owners.{IsOwned}
 use Rattle.sloth_base.specs.Limits.{arrival_limit, count_limit}
 

@@ -1,5 +1,5 @@
 -- When a configuration is in range: what its text may have declared.
-use Rattle.std.specs.Prelude.{◌≡◌, ℕ, ◌<◌, ◌≤◌, ◌⊎◌, not, ◌==◌, bit_and, bit_or, IsTrue, List, [], ◌∷◌, map, length, get_or, All, AllPairs, ◌≢◌}
+use Rattle.std.specs.Prelude.{◌≡◌, ℕ, ◌<◌, ◌≤◌, ◌⊎◌, not, ◌==◌, bit_and, bit_or, IsTrue, List, [], ◌∷◌, cond, map, length, get_or, All, AllPairs, ◌≢◌}
 use Rattle.sloth_base.specs.declared.config.TaskDecl.{TaskDecl}
 use Rattle.sloth_base.specs.declared.config.EventDecl.{EventDecl}
 use Rattle.sloth_base.specs.declared.config.CounterDecl.{CounterDecl}
@@ -18,6 +18,10 @@ res_scheduler_name = 82 ∷ 69 ∷ 83 ∷ 95 ∷ 83 ∷ 67 ∷ 72 ∷ 69 ∷ 68 
 -- the number of the resource RES_SCHEDULER, behind those of RESOURCE objects
 abbrev pub scheduler_number : ℕ
 scheduler_number = resource_limit
+
+-- the name of a resource
+abbrev pub resource_name : Config → ℕ → List ℕ
+resource_name config r = cond (r == scheduler_number) res_scheduler_name (get_or config.resources r [])
 
 -- The mask is the union of the masks of some of the events, of which no two share a bit.
 abbrev pub IsUnionOf : List EventDecl → ℕ → Type 0

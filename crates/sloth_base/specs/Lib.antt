@@ -20,3 +20,6 @@ pub mod Owners
 pub mod Stretches
 pub mod DeclaredNames
 pub mod Ticks
+pub mod Order
+pub mod Search
+pub mod Cases

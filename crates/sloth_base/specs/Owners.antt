@@ -3,9 +3,9 @@ use Rattle.std.specs.Prelude.{ℕ, ◌+◌, ◌-◌, ◌<◌, ◌≢◌, ◌&&�
 use Rattle.std.specs.List.{AllByRecursion}
 use Rattle.sloth_base.specs.declared.config.Config.{Config}
 use Rattle.sloth_base.specs.declared.image.Image.{Image}
-use Rattle.sloth_base.specs.declared.lines.LineKind.{LineKind}
-use Rattle.sloth_base.specs.declared.lines.LineKind.TheVariants as line_of
-use Rattle.sloth_base.specs.declared.lines.Owners.{Owners}
+use Rattle.sloth_base.specs.declared.numbers.LineKind.{LineKind}
+use Rattle.sloth_base.specs.declared.numbers.LineKind.TheVariants as line_of
+use Rattle.sloth_base.specs.declared.numbers.Owners.{Owners}
 use Rattle.sloth_base.specs.Limits.{task_limit}
 
 -- the line of the first counter; the others follow it

@@ -1,5 +1,5 @@
 //! Plain data of `sloth`: names and numbers, configurations, task code, images, states of the machine, and what is
-//! observed of a run; with copies, lists, and look-ups by number (`Config::copy`, `App::copy`, `List`, `Name`,
+//! observed of a run; with lists, and look-ups by number (`List`, `Name`,
 //! `Service::code`, `Config::task_name`, `App::function`, `Func::op`, ..).
 //!
 //! Defined here for many crates: what is in range (`specs/ConfigRange`, `specs/ImageRange`, `specs/Arrivals`); the
@@ -8,31 +8,32 @@
 //! `specs/DeclaredNames`); services and blocks (`specs/ServiceCodes`, `specs/Blocks`); events (`specs/Events`); memory
 //! (`specs/MemoryMap`); what lines are for (`specs/Owners`); how long code may stay masked (`specs/Stretches`). The
 //! limits of the program stand once, in `limits` and `specs/Limits`.
+//!
+//! Which of several faults is answered: the one of the least line, and on that line of the least number. A rule says
+//! its faults as a set of refusals, finds the least of them, and the findings of rules are merged
+//! (`least_fault::merge`, `lesser`, `fault_if`). Defined here: the order of refusals (`specs/Order`), and what a search
+//! has found (`specs/Search`).
 #![tactic(auto)]
 
 pub mod app;
 pub mod config;
 mod copy;
 pub mod declared_names;
-pub mod event;
 pub mod image;
+pub mod least_fault;
 pub mod limits;
-pub mod lines;
 pub mod list;
 mod lookups;
-pub mod memory;
 pub mod memory_map;
 pub mod name;
 pub mod numbers;
 pub mod places;
 pub mod refusal;
 pub mod service;
-pub mod step;
 
 pub use app::{AluKind, App, BranchKind, Call, Func, ImmKind, Item, Label, Op, Symbol, Width};
 pub use config::{Action, AlarmDecl, Config, CounterDecl, EventDecl, TaskDecl};
 pub use declared_names::{DeclaredNames, counter_names, task_names};
-pub use event::{Arrival, Event, Stamp, Stamped};
 pub use image::{Image, Mark, MarkKind};
 pub use limits::{
     ALARM_INSTRUCTIONS, ALARM_LIMIT, ARRIVAL_LIMIT, BODY_LIMIT, BOOT_INSTRUCTIONS, CEILING_COUNT,
@@ -40,18 +41,18 @@ pub use limits::{
     ITEM_LIMIT, MARK_LIMIT, MASK_LIMIT, NAME_LIMIT, OPERAND_LIMIT, PICTURE_LIMIT, PRIORITY_LIMIT,
     RESOURCE_LIMIT, SIZE_LIMIT, STRETCH_INSTRUCTIONS, SYMBOL_LIMIT, TASK_LIMIT, TICK_LIMIT,
 };
-pub use lines::{FIRST_COUNTER_LINE, LineKind};
-pub use list::List;
-pub use memory::{NoMemory, Result};
+pub use list::{List, NoMemory, Result};
 pub use memory_map::{
     BOOT_BASE, CONTROLLER_BASE, CONTROLLER_BYTES, ENABLED_OFFSET, LEVELS_OFFSET, LINE_COUNT,
     MEMORY_BASE, MEMORY_BYTES, MEMORY_END, VECTORS_BASE, WORD, WORDS_BASE,
 };
 pub use name::{Name, is_name};
-pub use numbers::{FuncId, Line, RES_SCHEDULER, Reg, ResId, SymId, TaskId};
+pub use numbers::{
+    FIRST_COUNTER_LINE, FuncId, Line, LineKind, RES_SCHEDULER, Reg, ResId, Step, SymId, TaskId,
+};
 pub use places::{BLOCK_COUNT, Bounds, Levels, Places, block_number, block_object, block_service};
 pub use refusal::{BuildError, Code, Part, Refusal};
 pub use service::{
-    E_OK, E_OS_LIMIT, E_OS_NOFUNC, E_OS_STATE, E_OS_VALUE, ObjectKind, Service, service_named,
+    Arrival, E_OK, E_OS_LIMIT, E_OS_NOFUNC, E_OS_STATE, E_OS_VALUE, Event, ObjectKind, Service,
+    Stamp, Stamped, service_named,
 };
-pub use step::Step;

@@ -1,7 +1,9 @@
-//! A list in a public field.
+//! A list in a public field. Want of memory.
 ghost use Rattle.std.specs.Prelude.{◌≡◌};
 
+use std::alloc::AllocError;
 use std::marker::Model;
+use thiserror::Error;
 
 /// Items in order. Contracts see the list of the items alone; reserved room is no part of it.
 #[derive(Drop)]
@@ -32,3 +34,17 @@ impl<T> List<T> {
         self.vec.as_slice()
     }
 }
+
+/// Memory was wanted and was not there.
+#[derive(Clone, Copy, Debug, Error)]
+#[error("no memory")]
+pub struct NoMemory;
+
+impl From<AllocError> for NoMemory {
+    fn from(_: AllocError) -> NoMemory {
+        NoMemory
+    }
+}
+
+/// What may fail for want of memory alone, unless another error is named.
+pub type Result<T, E = NoMemory> = std::result::Result<T, E>;

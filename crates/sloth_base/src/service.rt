@@ -1,6 +1,9 @@
 //! The operating system services and their statuses (OSEK OS 2.2.3, section 13).
+//! Arrivals, and the events that are observed in a run.
 ghost use Rattle.std.specs.Prelude.{◌≡◌, ◌<◌, ◌≤◌, IfNone, IfSome, length};
 ghost use Rattle.sloth_base.specs.ServiceCodes.{code_of, service_of, is_service, service_name, service_named, object_kind, has_mask};
+
+use crate::Line;
 
 /// The status where a service did what it was asked.
 pub const E_OK: u32 = 0;
@@ -162,4 +165,55 @@ pub fn service_named(word: &[u8]) -> Option<Service>
         }
     }
     None
+}
+
+/// An interrupt line is raised before the instruction of count `at`, 1 to `COUNT_LIMIT`.
+#[derive(Clone, Copy)]
+pub struct Arrival {
+    pub at: u32,
+    pub line: Line,
+}
+
+/// The counts of the first and the last instruction of an event.
+#[derive(Clone, Copy)]
+pub struct Stamp {
+    pub from: u32,
+    pub at: u32,
+}
+
+/// What is observed. A task or counter number of 4,294,967,295 is that of none.
+#[derive(Clone, Copy)]
+pub enum Event {
+    Boot,
+    Admit(u32),
+    Enter(u32),
+    Run {
+        task: u32,
+        func: u32,
+        item: u32,
+        result: u32,
+    },
+    Call {
+        task: u32,
+        service: Service,
+        status: u32,
+    },
+    Left {
+        task: u32,
+        service: Service,
+    },
+    Back(u32),
+    Idle,
+    Stray,
+    /// A counter's line arrived: the counter is due.
+    Due(u32),
+    /// A counter counts on, and serves its alarms.
+    Tick(u32),
+}
+
+/// An event and its counts.
+#[derive(Clone, Copy)]
+pub struct Stamped {
+    pub stamp: Stamp,
+    pub event: Event,
 }

@@ -11,14 +11,14 @@ use Rattle.sloth_base.specs.declared.image.Image.{Image}
 use Rattle.sloth_base.specs.declared.image.Mark.{Mark}
 use Rattle.sloth_base.specs.declared.places.Bounds.{Bounds}
 use Rattle.sloth_base.specs.declared.places.Levels.{Levels}
-use Rattle.sloth_region.specs.declared.extent.Extent.{Extent}
-use Rattle.sloth_region.specs.declared.map.Map.{Map}
+use Rattle.sloth_region.specs.declared.region.Extent.{Extent}
+use Rattle.sloth_region.specs.declared.region.Map.{Map}
 use Rattle.sloth_region.specs.Region.{FollowWithin}
 use Rattle.rv32_instr.specs.Range.{InRange}
 use Rattle.rv32_instr.specs.declared.block.Block.{Block}
 use Rattle.rv32_expand.specs.InPlace.{ItemsInPlace}
 use Rattle.sim_induction.specs.Sound.{Sound}
-use Rattle.event_weights.specs.Items.{length_of}
+use Rattle.sim_induction.specs.Items.{length_of}
 use Rattle.sim_induction.specs.Weighed.{Weighed}
 use Rattle.sim_induction.specs.Paced.{InPace}
 use Rattle.sim_induction.proofs.Pacing.{paced_wider}
@@ -36,7 +36,7 @@ use Rattle.mem_map.specs.Zones.{code_zone, data_zone}
 use Rattle.stack_bounds.specs.Bounds.{AreBounds}
 use Rattle.mem_map.proofs.Covering.{code_bytes_aligned, symbol_bytes_aligned}
 use Rattle.mem_map.proofs.Starts.{end_aligned, length_starts}
-use Rattle.sloth_link.specs.declared.datum.Datum.{Datum}
+use Rattle.sloth_link.specs.declared.linking.Datum.{Datum}
 use Rattle.sloth_link.specs.Image.{MayLink, all_blocks, all_data, symbol_data, memory_size}
 use Rattle.sloth_link.specs.Symbols.{alarm_data, data_of}
 use Rattle.sloth_link.specs.Linked.{AreLinked, BlockStands, HaveRoom, datum_section, sections_of}

@@ -4,11 +4,11 @@ use Rattle.std.specs.Prelude.{slice_get, slice_index}
 use Rattle.sloth_base.specs.ServiceCodes.{code_of, services, service_of}
 use Rattle.sloth_base.specs.Blocks.{block_number, block_code, block_object}
 use Rattle.sloth_base.specs.declared.config.Config.{Config}
-use Rattle.sloth_base.specs.declared.memory.NoMemory.{NoMemory}
+use Rattle.sloth_base.specs.declared.list.NoMemory.{NoMemory}
 use Rattle.sloth_base.specs.declared.places.Levels.{Levels}
 use Rattle.sloth_base.specs.declared.service.Service.{Service}
 use Rattle.code_lengths.specs.CodeLengths.{option_length}
-use Rattle.sloth_region.specs.declared.map.Map.{Map}
+use Rattle.sloth_region.specs.declared.region.Map.{Map}
 use Rattle.rv32_instr.specs.declared.block.Block.{Block}
 use Rattle.service_gen.specs.TaskBlock.{further_marks}
 use Rattle.block_parts.specs.Marks.{opening}

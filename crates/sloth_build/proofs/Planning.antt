@@ -7,7 +7,7 @@ use Rattle.sloth_base.specs.declared.config.Config.{Config}
 use Rattle.sloth_base.specs.declared.places.Bounds.{Bounds}
 use Rattle.sloth_base.specs.declared.places.Levels.{Levels}
 use Rattle.sloth_base.specs.Limits.{task_limit, level_count}
-use Rattle.sloth_region.specs.declared.map.Map.{Map}
+use Rattle.sloth_region.specs.declared.region.Map.{Map}
 use Rattle.prio_levels.specs.Levels.{AreLevels}
 use Rattle.mem_map.specs.Planned.{IsPlanned}
 use Rattle.sloth_build.specs.Gathered.{MayBuild, MayGenerate}

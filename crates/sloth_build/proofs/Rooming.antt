@@ -19,8 +19,8 @@ use Rattle.sloth_base.specs.declared.image.Mark.{Mark}
 use Rattle.sloth_base.specs.declared.places.Levels.{Levels}
 use Rattle.sloth_base.specs.declared.service.Service.{Service}
 use Rattle.sloth_base.specs.declared.service.Service.TheVariants as service
-use Rattle.sloth_region.specs.declared.extent.Extent.{Extent}
-use Rattle.sloth_region.specs.declared.map.Map.{Map}
+use Rattle.sloth_region.specs.declared.region.Extent.{Extent}
+use Rattle.sloth_region.specs.declared.region.Map.{Map}
 use Rattle.vector_gen.specs.Places.{IsTaskPrologue, start_level, first_item, frame_at}
 use Rattle.vector_gen.proofs.BothKinds.{length_is}
 use Rattle.rv32_instr.specs.declared.InstrKind.{InstrKind}

@@ -10,7 +10,7 @@ use Rattle.rv32_expand.specs.Expansion.{expansion, is_long, item_address}
 use Rattle.rv32_expand.specs.InPlace.{IsAppItem}
 use Rattle.rv32_expand.specs.Long.{size, target_of}
 use Rattle.rv32_expand.specs.Passes.{AreShortest}
-use Rattle.event_weights.specs.Items.{length_of, AreLengths}
+use Rattle.sim_induction.specs.Items.{length_of, AreLengths}
 use Rattle.sim_relation.specs.Build.{Build}
 use Rattle.sim_relation.specs.Placed.{item_words}
 use Rattle.rv32_expand.specs.Sizes.{AgreeWithSizes, AreItemSizes, IsVerified, items_before}

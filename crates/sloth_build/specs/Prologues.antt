@@ -4,7 +4,7 @@ use Rattle.sloth_base.specs.declared.app.App.{App}
 use Rattle.sloth_base.specs.declared.config.Config.{Config}
 use Rattle.sloth_base.specs.declared.places.Levels.{Levels}
 use Rattle.sloth_base.specs.Limits.{task_limit, level_count, frame_limit}
-use Rattle.sloth_region.specs.declared.map.Map.{Map}
+use Rattle.sloth_region.specs.declared.region.Map.{Map}
 use Rattle.rv32_instr.specs.declared.block.Block.{Block}
 use Rattle.code_lengths.specs.Bodies.{IsBodyPlace}
 use Rattle.vector_gen.specs.Places.{IsTaskPrologue, IsStackTop}

@@ -7,7 +7,7 @@ use Rattle.sloth_base.specs.declared.places.Levels.{Levels}
 use Rattle.sloth_base.specs.declared.service.Service.{Service}
 use Rattle.sloth_base.specs.Blocks.{block_code, block_object}
 use Rattle.code_lengths.specs.CodeLengths.{block_length}
-use Rattle.sloth_region.specs.declared.map.Map.{Map}
+use Rattle.sloth_region.specs.declared.region.Map.{Map}
 use Rattle.rv32_instr.specs.declared.block.Block.{Block}
 use Rattle.service_gen.specs.TaskBlock.{further_marks}
 use Rattle.block_parts.specs.Marks.{opening}

@@ -5,15 +5,13 @@
 //! (clauses `sound`, `weighed`, `paced`, `shows`, `items`, `bytes`). The promise: `sim_induction`, `rv32_expand`
 //! (`InPlace`), `sim_laws` (`TaskStates`); texts: `sloth_source`.
 //!
-//! Of well-formed task code and its stacks `image::image` gives such an image, each of whose pieces stands where the
+//! Of well-formed task code and its stacks `building::image` gives such an image, each of whose pieces stands where the
 //! planned map has it (`specs/ImageOf`), of blocks with no hole between them (`gathering::gather`; `specs/Gathered`).
 #![tactic(auto)]
 
-mod building;
+pub mod building;
 pub mod gathering;
-pub mod image;
 pub mod prologues;
 pub mod services;
-pub mod ticks;
 
 pub use building::{Built, build};

@@ -14,8 +14,8 @@
 pub mod program;
 pub mod top;
 
+pub use command_line::Status;
 pub use core_commands::laws;
 pub use program::{run_program, run_words};
 pub use sloth_runner::{RunEnd, Runner, Tally};
-pub use tool_answers::Status;
 pub use top::sloth_top;

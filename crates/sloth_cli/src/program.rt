@@ -10,6 +10,7 @@ ghost use Rattle.sloth_commands.specs.ToolFiles.{IsToolAnswer};
 ghost use Rattle.sloth_cli.specs.ProgramRun.{HasProgramRun};
 
 use crate::sloth_top;
+use command_line::Status;
 use core_commands::words_given;
 use debug_command::{debug_over, debug_words};
 use debug_session::{ByteReader, Transcript};
@@ -18,7 +19,6 @@ use std::alloc::Global;
 use std::env::Env;
 use std::process::ExitCode;
 use std::rt::Files;
-use tool_answers::Status;
 
 /// Runs the command of these words over untouched files and standard output: nothing read, written, said or put.
 pub fn run_over<R: Files, P: Print>(

@@ -16,14 +16,13 @@ ghost use Rattle.sloth_commands.specs.ToolAnswers.{HasToolAnswer, HasToolDoneAns
 ghost use Rattle.sloth_commands.specs.ToolFiles.{IsToolAnswer};
 ghost use Rattle.sloth_commands.specs.ToolLines.{HasToolLines};
 
-use command_line::CommandWords;
 use command_line::command::command;
 use command_line::tool::ToolWords;
+use command_line::{CommandWords, Status};
 use core_commands::{close, core_top, finish, is_tool_input, say};
 use sloth_commands::use_tool;
 use sloth_io::{Sink, Store};
 use std::alloc::Global;
-use tool_answers::Status;
 
 // The tool of these words, if they are one's.
 fn tool_of(words: &[String]) -> Option<ToolWords<'_>>

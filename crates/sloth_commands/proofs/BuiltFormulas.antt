@@ -3,7 +3,7 @@ use Rattle.std.proofs.Common.{refl}
 use Rattle.orti_text.specs.OrtiTable.{orti_table}
 use Rattle.orti_text.specs.Tables.{table_text}
 use Rattle.orti_text.proofs.OneText.{one_text}
-use Rattle.debugger_laws.proofs.Images.{images_show}
+use Rattle.debug_view.proofs.Images.{images_show}
 use Rattle.sloth_commands.specs.BuiltFormulas.{BuiltFilesAreRight}
 
 pub built-files-are-right : BuiltFilesAreRight

@@ -1,5 +1,5 @@
 -- An image that is built is of a planned map, so `debug` shows the registers of the scheduler's tasks.
-use Rattle.debugger_laws.proofs.RegisterImages.{images_show_registers}
+use Rattle.debug_view.proofs.RegisterImages.{images_show_registers}
 use Rattle.sloth_commands.specs.BuiltRegisters.{BuiltImagesShowRegisters}
 
 pub built-images-show-registers : BuiltImagesShowRegisters

@@ -4,7 +4,7 @@ use Rattle.sloth_base.specs.declared.app.App.{App}
 use Rattle.sloth_base.specs.declared.config.Config.{Config}
 use Rattle.sloth_base.specs.declared.image.Image.{Image}
 use Rattle.sloth_source.proofs.Unique.{one_meaning}
-use Rattle.response_text.specs.declared.told.Told.{Told}
+use Rattle.response_text.specs.declared.task_text.Told.{Told}
 use Rattle.response_text.specs.ResponseText.{HasLoadResponses}
 use Rattle.core_commands.specs.Top.{IsBuiltImage}
 use Rattle.sloth_commands.specs.BuiltResponses.{TellsKept, BuiltRunsKeepResponses}

@@ -3,8 +3,8 @@ use Rattle.std.proofs.Common.{◌<◌, length}
 use Rattle.std.specs.Prelude.{IfSome}
 use Rattle.sloth_base.specs.declared.app.App.{App}
 use Rattle.sloth_base.specs.declared.config.Config.{Config}
-use Rattle.sloth_base.specs.declared.event.Event.{Event}
-use Rattle.sloth_base.specs.declared.event.Event.TheVariants as event
+use Rattle.sloth_base.specs.declared.service.Event.{Event}
+use Rattle.sloth_base.specs.declared.service.Event.TheVariants as event
 use Rattle.sloth_base.specs.Events.{named_task}
 use Rattle.osek_scheduler.specs.State.{System}
 use Rattle.osek_scheduler.specs.Steps.{OsekStep}

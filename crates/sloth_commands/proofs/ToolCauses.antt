@@ -9,19 +9,19 @@ use Rattle.sloth_io.specs.Slots.{is_space_for}
 use Rattle.command_line.specs.Command.{Uses}
 use Rattle.command_line.specs.Tools.{ToolUse, IsToolUse, file_names}
 use Rattle.tool_commands.specs.Answers.{IsAnswer, input}
-use Rattle.tool_answers.specs.ImageReaders.{reads_image}
-use Rattle.tool_answers.specs.Lines.{tool_text}
-use Rattle.tool_answers.specs.declared.answer.ToolAnswer.{ToolAnswer}
-use Rattle.tool_answers.specs.declared.answer.ToolAnswer.TheVariants as tool_answer
+use Rattle.command_line.specs.ImageReaders.{reads_image}
+use Rattle.command_line.specs.Lines.{tool_text}
+use Rattle.command_line.specs.declared.answer.ToolAnswer.{ToolAnswer}
+use Rattle.command_line.specs.declared.answer.ToolAnswer.TheVariants as tool_answer
 use Rattle.command_line.proofs.ToolWords.{files-counted}
 use Rattle.tool_commands.proofs.OneAnswer.{no-image, reads-one}
 use Rattle.core_commands.specs.ImageFiles.{IsNoImage}
-use Rattle.tool_answers.specs.Statuses.{tool_status}
+use Rattle.command_line.specs.Statuses.{tool_status}
 use Rattle.sloth_commands.specs.ToolFiles.{IsToolAnswer}
 use Rattle.core_commands.specs.ToolInputs.{AreToolInputs, ReadsImageFirst, input_deliveries}
 use Rattle.core_commands.specs.Top.{World, world, FilesAfter, IsOutputWritten, IsUnwrittenOutput, IsTextTaken}
 use Rattle.core_commands.specs.Failures.{IsTellFailure, IsCommandFailure, IsPerformed}
-use Rattle.tool_answers.specs.declared.status.Status.{Status}
+use Rattle.command_line.specs.declared.status.Status.{Status}
 use Rattle.core_commands.specs.declared.failure.Failure.{Failure}
 use Rattle.core_commands.specs.declared.failure.Failure.TheVariants as failure
 use Rattle.core_commands.proofs.CallFiles.{delivered-in_call, tool-inputs-in_call, stays-behind, still}

@@ -12,21 +12,21 @@ use Rattle.command_line.specs.declared.counts.Counts.{Counts}
 use Rattle.command_line.specs.declared.tool.Tool.{Tool}
 use Rattle.command_line.proofs.Commands.{one-command}
 use Rattle.tool_commands.specs.Answers.{IsAnswer}
-use Rattle.tool_answers.specs.Lines.{tool_text}
-use Rattle.tool_answers.specs.declared.answer.Outcome.{Outcome}
-use Rattle.tool_answers.specs.declared.answer.ToolAnswer.{ToolAnswer}
-use Rattle.tool_answers.specs.declared.answer.ToolAnswer.TheVariants as tool_answer
+use Rattle.command_line.specs.Lines.{tool_text}
+use Rattle.command_line.specs.declared.answer.Outcome.{Outcome}
+use Rattle.command_line.specs.declared.answer.ToolAnswer.{ToolAnswer}
+use Rattle.command_line.specs.declared.answer.ToolAnswer.TheVariants as tool_answer
 use Rattle.tool_commands.proofs.OneAnswer.{image-or-fault, no-image, one_answer}
-use Rattle.tool_answers.specs.ImageReaders.{HasImage}
+use Rattle.command_line.specs.ImageReaders.{HasImage}
 use Rattle.core_commands.specs.ImageFiles.{IsNoImage}
-use Rattle.tool_answers.specs.Statuses.{tool_status}
+use Rattle.command_line.specs.Statuses.{tool_status}
 use Rattle.sloth_commands.specs.ToolFiles.{IsToolAnswer}
 use Rattle.core_commands.specs.ToolInputs.{AreToolInputs, ReadsImageFirst}
 use Rattle.sloth_commands.specs.ToolAnswers.{IsToolTold, IsToolStatus, OutputWorks, StandsFor, ToolWorks, HasToolAnswer, HasToolDoneAnswer}
 use Rattle.core_commands.specs.Top.{World, IsFailedRead, IsLongRead, FilesAfter, IsUnwrittenOutput, IsRequired, IsPutAnswer, IsTextTaken, IsTextBrokenOff, IsFullAnswer, IsTopAnswer}
 use Rattle.core_commands.specs.Top.{IsCommandDone, IsCommandRefused, IsCommandUnwritten, IsCommandStopped, ReadsWork, LacksTask}
-use Rattle.tool_answers.specs.declared.status.Status.{Status}
-use Rattle.tool_answers.specs.declared.status.Status.TheVariants as status
+use Rattle.command_line.specs.declared.status.Status.{Status}
+use Rattle.command_line.specs.declared.status.Status.TheVariants as status
 use Rattle.core_commands.proofs.OwnOutput.{keeps-inputs, no-usage}
 use Rattle.core_commands.specs.CommandFiles.{HasOwnOutput, IsUsageCause}
 use Rattle.core_commands.proofs.Complete.{not-missing, not-long, counted-put, no-broken-put, no-failed-write}

@@ -8,11 +8,11 @@ use Rattle.sloth_io.specs.Store.{Files, KeepsFiles, call_files}
 use Rattle.command_line.specs.Command.{Uses, IsCommand}
 use Rattle.command_line.specs.Tools.{ToolUse}
 use Rattle.command_line.proofs.Commands.{one-command}
-use Rattle.tool_answers.specs.Lines.{tool_text}
-use Rattle.tool_answers.specs.declared.answer.ToolAnswer.{ToolAnswer}
-use Rattle.tool_answers.specs.Statuses.{tool_status}
-use Rattle.tool_answers.specs.declared.status.Status.{Status}
-use Rattle.tool_answers.specs.declared.status.Status.TheVariants as status
+use Rattle.command_line.specs.Lines.{tool_text}
+use Rattle.command_line.specs.declared.answer.ToolAnswer.{ToolAnswer}
+use Rattle.command_line.specs.Statuses.{tool_status}
+use Rattle.command_line.specs.declared.status.Status.{Status}
+use Rattle.command_line.specs.declared.status.Status.TheVariants as status
 use Rattle.core_commands.specs.CommandFiles.{IsOnlyAsked, IsUsageCause}
 use Rattle.core_commands.specs.Top.{World, world, FilesAfter, IsRequired, IsTextTaken, IsPutAnswer, IsCloseAnswer, IsToolEnd}
 use Rattle.core_commands.specs.Failures.{IsReadFailure, IsTellFailure, IsCommandFailure, IsFailureEnd}

@@ -3,12 +3,12 @@ use Rattle.std.specs.Prelude.{ℕ, ◌≡◌, List}
 use Rattle.sloth_base.specs.declared.app.App.{App}
 use Rattle.sloth_base.specs.declared.config.Config.{Config}
 use Rattle.sloth_base.specs.declared.image.Image.{Image}
-use Rattle.sloth_region.specs.declared.map.Map.{Map}
+use Rattle.sloth_region.specs.declared.region.Map.{Map}
 use Rattle.sloth_source.specs.Texts.{AreAccepted}
 use Rattle.orti_text.specs.OrtiTable.{orti_table}
 use Rattle.orti_text.specs.OrtiText.{IsOrtiText}
 use Rattle.orti_text.specs.Tables.{table_text}
-use Rattle.debugger_laws.specs.RightFiles.{ShowsFormulas}
+use Rattle.debug_view.specs.RightFiles.{ShowsFormulas}
 use Rattle.core_commands.specs.Top.{IsBuiltImage}
 
 -- the file is that of this map, and wherever a run of the image finds interrupts open each formula shows what the abstract scheduler has

@@ -2,7 +2,7 @@
 use Rattle.sloth_base.specs.declared.app.App.{App}
 use Rattle.sloth_base.specs.declared.config.Config.{Config}
 use Rattle.sloth_base.specs.declared.image.Image.{Image}
-use Rattle.debugger_laws.specs.TaskRegisters.{ShowsRegisters}
+use Rattle.debug_view.specs.TaskRegisters.{ShowsRegisters}
 use Rattle.core_commands.specs.Top.{IsBuiltImage}
 
 -- wherever a run of the image finds interrupts open, they are those of the abstract scheduler, by the map by which each piece of the image stands

@@ -4,9 +4,9 @@ use Rattle.sloth_base.specs.declared.app.App.{App}
 use Rattle.sloth_base.specs.declared.config.Config.{Config}
 use Rattle.sloth_base.specs.declared.image.Image.{Image}
 use Rattle.sloth_source.specs.Texts.{AreAccepted}
-use Rattle.load_text.specs.declared.entry.Entry.{Entry}
-use Rattle.response_text.specs.declared.told.Told.{Told}
-use Rattle.response_text.specs.declared.told.Response.{Response}
+use Rattle.load_text.specs.declared.load_line.Entry.{Entry}
+use Rattle.response_text.specs.declared.task_text.Told.{Told}
+use Rattle.response_text.specs.declared.task_text.Response.{Response}
 use Rattle.response_reasons.specs.declared.reasons.Reason.{Reason}
 use Rattle.response_text.specs.Inputs.{IsLoadOf}
 use Rattle.response_text.specs.ResponseText.{told_of, KeepsResponses, IsResponseText}

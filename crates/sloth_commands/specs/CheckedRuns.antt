@@ -3,14 +3,14 @@ use Rattle.std.specs.Prelude.{ℕ, List}
 use Rattle.sloth_base.specs.Owners.{owners_in}
 use Rattle.sloth_base.specs.declared.app.App.{App}
 use Rattle.sloth_base.specs.declared.config.Config.{Config}
-use Rattle.sloth_base.specs.declared.event.Arrival.{Arrival}
+use Rattle.sloth_base.specs.declared.service.Arrival.{Arrival}
 use Rattle.sloth_base.specs.declared.image.Image.{Image}
 use Rattle.code_rules.specs.AppRange.{AppInRange}
 use Rattle.rv32_expand.specs.InPlace.{ItemsInPlace}
 use Rattle.sim_induction.specs.Sound.{AreComing, Sound}
 use Rattle.sim_relation.specs.Bounds.{AreBelow}
 use Rattle.trace_text.specs.EventNumbers.{Has32Bits}
-use Rattle.trace_text.specs.declared.printing.Form.TheVariants.{Counted}
+use Rattle.trace_text.specs.declared.summary.Form.TheVariants.{Counted}
 use Rattle.trace_check.specs.Verdicts.{Checked}
 use Rattle.sloth_runner.specs.Runner.{run_text}
 

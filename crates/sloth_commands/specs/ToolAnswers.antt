@@ -6,16 +6,16 @@ use Rattle.command_line.specs.Command.{Uses, IsCommand}
 use Rattle.command_line.specs.Tools.{ToolUse, file_names}
 use Rattle.command_line.specs.declared.tool.Tool.{Tool}
 use Rattle.tool_commands.specs.Answers.{IsAnswer, is_determined}
-use Rattle.tool_answers.specs.Lines.{tool_text}
-use Rattle.tool_answers.specs.declared.answer.ToolAnswer.{ToolAnswer}
-use Rattle.tool_answers.specs.declared.answer.ToolAnswer.TheVariants as tool_answer
-use Rattle.tool_answers.specs.Statuses.{tool_status}
+use Rattle.command_line.specs.Lines.{tool_text}
+use Rattle.command_line.specs.declared.answer.ToolAnswer.{ToolAnswer}
+use Rattle.command_line.specs.declared.answer.ToolAnswer.TheVariants as tool_answer
+use Rattle.command_line.specs.Statuses.{tool_status}
 use Rattle.core_commands.specs.CommandFiles.{HasOwnOutput}
 use Rattle.core_commands.specs.ToolInputs.{AreToolInputs}
 use Rattle.sloth_commands.specs.ToolFiles.{IsToolAnswer}
 use Rattle.core_commands.specs.Top.{World, IsTextTaken, FilesAfter, IsFullAnswer, IsBrokenOff, ReadsWork, WritesWork, PutsWork}
-use Rattle.tool_answers.specs.declared.status.Status.{Status}
-use Rattle.tool_answers.specs.declared.status.Status.TheVariants as status
+use Rattle.command_line.specs.declared.status.Status.{Status}
+use Rattle.command_line.specs.declared.status.Status.TheVariants as status
 
 -- this is the tool's answer: its status, its text whole, and what it leaves in the files
 pub record IsToolTold (a : ToolAnswer) (output : Option (List ℕ)) (old new : World) (answer : Status) : Type 0 where

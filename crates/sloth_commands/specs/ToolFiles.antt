@@ -3,7 +3,7 @@ use Rattle.std.specs.Prelude.{ℕ, ◌≡◌, List}
 use Rattle.sloth_io.specs.Store.{Files}
 use Rattle.command_line.specs.Tools.{ToolUse, file_names}
 use Rattle.tool_commands.specs.Answers.{IsAnswer}
-use Rattle.tool_answers.specs.declared.answer.ToolAnswer.{ToolAnswer}
+use Rattle.command_line.specs.declared.answer.ToolAnswer.{ToolAnswer}
 use Rattle.core_commands.specs.ToolInputs.{AreToolInputs, input_deliveries}
 
 -- the tool reads these files, and this is its answer to them

@@ -5,9 +5,9 @@ ghost use Rattle.sloth_io.specs.Store.{KeepsFiles, AreDelivered, call_files};
 ghost use Rattle.command_line.specs.Command.{Uses, words_of};
 ghost use Rattle.command_line.specs.Tools.{IsToolUse, file_names};
 ghost use Rattle.command_line.specs.Words.{use_of};
-ghost use Rattle.tool_answers.specs.Lines.{tool_text};
-ghost use Rattle.tool_answers.specs.declared.answer.ToolAnswer.TheVariants as tool_answer;
-ghost use Rattle.tool_answers.specs.Statuses.{tool_status};
+ghost use Rattle.command_line.specs.Lines.{tool_text};
+ghost use Rattle.command_line.specs.declared.answer.ToolAnswer.TheVariants as tool_answer;
+ghost use Rattle.command_line.specs.Statuses.{tool_status};
 ghost use Rattle.core_commands.specs.CommandFiles.{inputs_of, AreFirstDelivered};
 ghost use Rattle.core_commands.specs.ToolInputs.{AreToolInputs, input_deliveries};
 ghost use Rattle.core_commands.specs.Top.{world, IsTextTaken, FilesAfter, IsOutputWritten};
@@ -16,12 +16,11 @@ ghost use Rattle.sloth_commands.specs.ToolFiles.{IsToolAnswer};
 ghost use Rattle.sloth_commands.specs.ToolLines.{IsAnswerUntold, IsToldByLine, IsToolUntold};
 
 use command_line::tool::ToolWords;
-use command_line::{file_words, no_image_line, refusal_line};
+use command_line::{Outcome, Status, ToolAnswer, file_words, no_image_line, refusal_line};
 use core_commands::{Failure, fetch};
 use sloth_base::List;
 use sloth_io::{Sink, Store, put_lines};
 use std::alloc::Global;
-use tool_answers::{Outcome, Status, ToolAnswer};
 use tool_commands::{bad_trace_line, judge, no_elf_line};
 use trace_text::stopped_line;
 

@@ -5,7 +5,7 @@ use Rattle.std.specs.List.{list_all}
 use Rattle.std.specs.Str.{bytes_eq}
 use Rattle.std.proofs.lemmas.Bool.{true≢false}
 use Rattle.std.proofs.lemmas.Slice.Eq.{bytes_eq-Decides}
-use Rattle.sloth_io.specs.declared.found.Found.{Found}
+use Rattle.sloth_io.specs.declared.replaced_files.Found.{Found}
 use Rattle.sloth_io.specs.Replaced.{mode_calls, is_written_there, may_follow, owner_calls, tried_calls, calls_beside, calls_there, replacing_calls, IsReplaced, IsUnreplaced}
 use Rattle.std.specs.Io.KnownBytes.{Appends}
 use Rattle.sloth_io.specs.System.{Call, Looked, Followed, Opened, Tried, Made, Emptied, Moded, Synced, Closed, Renamed, Removed, FolderSynced, added, leaves_file, leaves_files, LeavesFile, LeavesFiles}

@@ -5,7 +5,7 @@ use Rattle.sloth_io.specs.Store.{Files}
 use Rattle.sloth_io.specs.declared.store.StoreFault.{StoreFault}
 use Rattle.sloth_io.specs.declared.store.StoreFault.TheVariants.{Failed, TooLong, Memory}
 use Rattle.sloth_io.specs.declared.file_store.SystemFiles.{SystemFiles}
-use Rattle.sloth_io.specs.declared.found.Found.{Found}
+use Rattle.sloth_io.specs.declared.replaced_files.Found.{Found}
 
 -- a store that does not tell its files, with these counts, these reads and writes, and these names of which it said that they are of one file
 abbrev pub untold_files : ℕ → ℕ → ℕ → (reads writes same : List (List ℕ × List ℕ)) → Files

@@ -1,7 +1,7 @@
 -- How a file is made to hold bytes, by the calls of the system.
 use Rattle.std.specs.Prelude.{◌≡◌, ◌≢◌, ◌==◌, ◌++◌, ◌<◌, ◌&&◌, ◌||◌, not, ℕ, List, [], ◌∷◌, Option, None, Some, Bool, true, false, nat_lt, bit_and, if◌then◌else◌, codes}
 use Rattle.std.specs.Io.KnownBytes.{Appends}
-use Rattle.sloth_io.specs.declared.found.Found.{Found}
+use Rattle.sloth_io.specs.declared.replaced_files.Found.{Found}
 use Rattle.sloth_io.specs.System.{Call, Looked, Followed, Tried, Made, Emptied, Moded, Synced, Closed, Renamed, FolderSynced, added, leaves_file}
 use Rattle.std.specs.List.{list_all}
 

@@ -3,7 +3,7 @@ use Rattle.std.specs.Prelude.{◌≡◌, ◌++◌, ℕ, List, [], ◌∷◌, Opt
 use Rattle.std.specs.List.{list_all}
 use Rattle.std.specs.Option.{option_map}
 use Rattle.std.specs.Str.{bytes_eq}
-use Rattle.sloth_io.specs.declared.found.Found.{Found}
+use Rattle.sloth_io.specs.declared.replaced_files.Found.{Found}
 
 -- A call with its names, what it gave, and the bytes of a file that was opened to be read (those that are left), to be written, or closed, where it tells
 -- them; and whether it was done.

@@ -1,5 +1,6 @@
 //! Bytes in a space that is reserved.
-ghost use Rattle.std.specs.Prelude.{◌≡◌, ◌≤◌, ◌+◌, ◌++◌, [], IfOk, length, vec_len, vec_capacity, nat_le, if◌then◌else◌};
+ghost use Rattle.std.specs.Prelude.{◌≡◌, ◌≤◌, ◌+◌, ◌++◌, [], IfOk, length, vec_len, vec_capacity, nat_le};
+ghost use Rattle.std.specs.Prelude.{if◌then◌else◌};
 
 use sloth_base::Result;
 use std::alloc::Global;

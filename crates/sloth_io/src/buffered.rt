@@ -5,7 +5,7 @@ ghost use Rattle.sloth_io.specs.Buffered.{PassesOn, BreaksOff};
 
 use crate::SinkFault;
 use crate::backlog::{Backlog, MOST};
-use crate::whole_files::write_whole;
+use crate::replaced_files::write_whole;
 use std::io::Write;
 
 /// A writer, and the bytes that were put and are not yet written to it. Behind a failure nothing is held back.
@@ -52,9 +52,10 @@ impl<W: Write> Buffered<W> {
 
     /// Puts bytes behind those that are held back, and writes where there is no room for them.
     pub fn put(&mut self, piece: &[u8]) -> Result<(), SinkFault>
-        ensures ok { OnOk result
-            (PassesOn (W.contents self.old.to) (W.contents self.new.to) (self.old.backlog ++ piece.now) self.new.backlog) }
-        ensures err { OnErr result (BreaksOff (W.contents self.old.to) (W.contents self.new.to) (self.old.backlog ++ piece.now)) }
+        ensures ok { OnOk result (PassesOn (W.contents self.old.to) (W.contents self.new.to)
+            (self.old.backlog ++ piece.now) self.new.backlog) }
+        ensures err { OnErr result
+            (BreaksOff (W.contents self.old.to) (W.contents self.new.to) (self.old.backlog ++ piece.now)) }
         ensures lost { OnErr result (self.new.backlog ≡ []) }
     {
         if piece.len() <= self.backlog.room() {
@@ -68,7 +69,8 @@ impl<W: Write> Buffered<W> {
     // Puts bytes where nothing is held back.
     fn begin(&mut self, piece: &[u8]) -> Result<(), SinkFault>
         requires { self.old.backlog ≡ [] }
-        ensures ok { OnOk result (PassesOn (W.contents self.old.to) (W.contents self.new.to) piece.now self.new.backlog) }
+        ensures ok { OnOk result
+            (PassesOn (W.contents self.old.to) (W.contents self.new.to) piece.now self.new.backlog) }
         ensures err { OnErr result (BreaksOff (W.contents self.old.to) (W.contents self.new.to) piece.now) }
         ensures lost { OnErr result (self.new.backlog ≡ []) }
     {

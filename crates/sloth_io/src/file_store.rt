@@ -1,17 +1,17 @@
 //! The system's files.
-ghost use Rattle.std.specs.Prelude.{◌≡◌, ◌≢◌, ◌<◌, ◌+◌, ℕ, List, [], ◌∷◌, Option, Some, IsTrue, true, OnErr, OnOk, length, take};
+ghost use Rattle.std.specs.Prelude.{◌≡◌, ◌≢◌, ◌<◌, ◌+◌, ℕ, List, [], ◌∷◌, Option, Some, IsTrue, true, OnErr, OnOk};
+ghost use Rattle.std.specs.Prelude.{length, take};
 ghost use Rattle.std.specs.Io.{appended_bytes};
 ghost use Rattle.sloth_io.specs.Store.{IsAppended, IsMissing, IsTooLong, IsUnwritten, IsFileWritten, MayBeOneFile};
 ghost use Rattle.sloth_io.specs.Store.{KeepsOthers, KeepsFiles, KeepsReads, said_same};
 ghost use Rattle.sloth_io.specs.FileStore.{IsGivenTo, IsWholeRest, HasPrefix, HasPrefixBeyond, HasPrefixWithin};
-ghost use Rattle.sloth_io.specs.declared.found.Found.{Found};
+ghost use Rattle.sloth_io.specs.declared.replaced_files.Found.{Found};
 ghost use Rattle.sloth_io.specs.System.{Opened, Followed, added};
 ghost use Rattle.sloth_io.specs.Replaced.{IsReplaced, IsUnreplaced};
 ghost use Rattle.sloth_io.specs.FileStore.{is_one_plain_file, shown_files, taken_bytes, untold_files, files_after_read};
 
 use crate::history::History;
-use crate::replaced_files::replace_file;
-use crate::whole_files::read_whole;
+use crate::replaced_files::{read_whole, replace_file};
 use crate::{Found, Host, Store, StoreFault, System};
 use std::alloc::Global;
 use std::rt::Files;
@@ -92,7 +92,8 @@ fn read_file<S: System>(
     ensures whole { OnOk result ((from to : S.File) × IsWholeRest (S.File.remaining from) (S.File.remaining to)
         (appended_bytes into.old.items into.new.items)
         × (S.calls system.new ≡ added (S.calls system.old) (Opened name.now (Some (S.File.remaining from)) ∷ []))) }
-    ensures asked { (from : Option (Option (List ℕ))) × (S.calls system.new ≡ added (S.calls system.old) (Opened name.now from ∷ [])) }
+    ensures asked { (from : Option (Option (List ℕ)))
+        × (S.calls system.new ≡ added (S.calls system.old) (Opened name.now from ∷ [])) }
 {
     let Some(mut file) = system.open_file(name) else {
         return Err(StoreFault::Failed);
@@ -127,14 +128,19 @@ impl<S: System> Store for SystemFiles<S> {
     ghost seen = { λ store. shown_files store };
 
     fn read(&mut self, name: &str, limit: usize, into: &mut Vec<u8>) -> Result<(), StoreFault>
-        ensures ok { OnOk result (IsAppended (shown_files self.old) (shown_files self.new) name.now limit into.old.items into.new.items) }
+        ensures ok { OnOk result
+            (IsAppended (shown_files self.old) (shown_files self.new) name.now limit into.old.items into.new.items) }
         ensures err { OnErr result (into.new.items ≡ into.old.items) }
         ensures nothing { OnErr result ((shown_files self.new).reads ≡ (shown_files self.old).reads) }
-        ensures failed { result ≡ Err StoreFault.Failed → IsMissing (shown_files self.old) (shown_files self.new) name.now }
-        ensures too_long { result ≡ Err StoreFault.TooLong → IsTooLong (shown_files self.old) (shown_files self.new) name.now limit }
+        ensures failed { result ≡ Err StoreFault.Failed → IsMissing (shown_files self.old) (shown_files self.new)
+            name.now }
+        ensures too_long { result ≡ Err StoreFault.TooLong → IsTooLong (shown_files self.old) (shown_files self.new)
+            name.now limit }
         ensures keeps { KeepsFiles (shown_files self.old) (shown_files self.new) }
-        ensures failed_reads { result ≢ Err StoreFault.Failed → (shown_files self.new).failed_reads ≡ (shown_files self.old).failed_reads }
-        ensures overlong_reads { result ≢ Err StoreFault.TooLong → (shown_files self.new).overlong_reads ≡ (shown_files self.old).overlong_reads }
+        ensures failed_reads { result ≢ Err StoreFault.Failed → (shown_files self.new).failed_reads
+            ≡ (shown_files self.old).failed_reads }
+        ensures overlong_reads { result ≢ Err StoreFault.TooLong → (shown_files self.new).overlong_reads
+            ≡ (shown_files self.old).overlong_reads }
 
         // A read is too long only where more bytes than the limit were taken from the file.
         ensures taken { OnOk result (length into.new.items ≡ length into.old.items + taken_bytes self.new) }
@@ -142,9 +148,10 @@ impl<S: System> Store for SystemFiles<S> {
 
         // What a read delivers is all left of an open file, if it tells that; only this name's file was opened.
         ensures whole { OnOk result ((from to : S.File) × IsWholeRest (S.File.remaining from) (S.File.remaining to)
-            (appended_bytes into.old.items into.new.items)
-            × (S.calls self.new.system ≡ added (S.calls self.old.system) (Opened name.now (Some (S.File.remaining from)) ∷ []))) }
-        ensures asked { (from : Option (Option (List ℕ))) × (S.calls self.new.system ≡ added (S.calls self.old.system) (Opened name.now from ∷ [])) }
+            (appended_bytes into.old.items into.new.items) × (S.calls self.new.system ≡ added (S.calls self.old.system)
+            (Opened name.now (Some (S.File.remaining from)) ∷ []))) }
+        ensures asked { (from : Option (Option (List ℕ)))
+            × (S.calls self.new.system ≡ added (S.calls self.old.system) (Opened name.now from ∷ [])) }
     {
         let before = into.len();
         let outcome = read_file(&mut self.system, name, limit, into);
@@ -156,11 +163,13 @@ impl<S: System> Store for SystemFiles<S> {
 
     fn write(&mut self, name: &str, bytes: &[u8]) -> Result<(), StoreFault>
         ensures ok { OnOk result (IsFileWritten (shown_files self.old) (shown_files self.new) name.now bytes.now) }
-        ensures failed { OnErr result (IsUnwritten (shown_files self.old) (shown_files self.new) name.now (length bytes.now)) }
+        ensures failed { OnErr result
+            (IsUnwritten (shown_files self.old) (shown_files self.new) name.now (length bytes.now)) }
         ensures only_failed { OnErr result (result ≡ Err StoreFault.Failed) }
         ensures others { KeepsOthers (shown_files self.old) (shown_files self.new) name.now }
         ensures keeps { KeepsReads (shown_files self.old) (shown_files self.new) }
-        ensures failed_writes { OnOk result ((shown_files self.new).failed_writes ≡ (shown_files self.old).failed_writes) }
+        ensures failed_writes { OnOk result
+            ((shown_files self.new).failed_writes ≡ (shown_files self.old).failed_writes) }
 
         // A write is done only where the file took all bytes.
         ensures taken { OnOk result (taken_bytes self.new ≡ length bytes.now) }
@@ -168,7 +177,8 @@ impl<S: System> Store for SystemFiles<S> {
         // Some open file, if it tells its bytes, took all of these. It had them and no others as it was closed and took
         // its name; where anything failed, a plain file of that name is as it was.
         ensures given { OnOk result (IsGivenTo S.File.contents bytes.now) }
-        ensures replaced { OnOk result (IsReplaced (S.calls self.old.system) (S.calls self.new.system) name.now bytes.now) }
+        ensures replaced { OnOk result
+            (IsReplaced (S.calls self.old.system) (S.calls self.new.system) name.now bytes.now) }
         ensures unreplaced { OnErr result (IsUnreplaced (S.calls self.old.system) (S.calls self.new.system) name.now) }
     {
         self.taken = bytes.len();
@@ -187,7 +197,8 @@ impl<S: System> Store for SystemFiles<S> {
 
         // It looks at both, behind links, and says what they are.
         ensures looked { (first second : Option Found) × (result ≡ is_one_plain_file first second)
-            × (S.calls self.new.system ≡ added (S.calls self.old.system) (Followed one.now first ∷ Followed other.now second ∷ [])) }
+            × (S.calls self.new.system ≡ added (S.calls self.old.system)
+            (Followed one.now first ∷ Followed other.now second ∷ [])) }
     {
         let first = self.system.follow(one);
         let second = self.system.follow(other);

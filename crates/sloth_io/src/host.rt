@@ -38,7 +38,7 @@ fn found(told: io::Result<Metadata>) -> Option<Found> {
 }
 
 // The folder in which a file of this name stands.
-fn folder_of(name: &str) -> &str {
+fn folder_name(name: &str) -> &str {
     match name.rsplit_once('/') {
         Some(("", _)) => "/",
         Some((folder, _)) => folder,
@@ -100,7 +100,7 @@ impl<'a, R: Files> System for Host<'a, R> {
     }
 
     fn sync_folder(&mut self, name: &str) {
-        if let Ok(folder) = File::open(self.rt, folder_of(name)) {
+        if let Ok(folder) = File::open(self.rt, folder_name(name)) {
             let _ = folder.sync_all();
         }
     }

@@ -1,7 +1,8 @@
 //! A sink in memory.
 ghost use Rattle.std.specs.Prelude.{◌≡◌, ◌≤◌, ◌++◌, [], ◌∷◌, IfOk, OnErr, OnOk, is_ok, is_err};
 ghost use Rattle.sloth_io.specs.Counts.{count_after_call};
-ghost use Rattle.sloth_io.specs.MemSink.{IsSinkCalled, IsFreshSink, limit_of, shown_output, taken_by, put_pieces, bytes_after_call, is_next_piece_taken};
+ghost use Rattle.sloth_io.specs.MemSink.{IsSinkCalled, IsFreshSink, limit_of, shown_output, taken_by, put_pieces};
+ghost use Rattle.sloth_io.specs.MemSink.{bytes_after_call, is_next_piece_taken};
 ghost use Rattle.sloth_io.specs.Sink.{output_with, GainsPart};
 
 use crate::buffer::Buffer;
@@ -22,7 +23,7 @@ pub struct MemSink {
 }
 
 // How many bytes the call of this number takes before it fails.
-fn limit_at(fails: &[(u32, u32)], call: u32) -> Option<u32>
+fn call_limit(fails: &[(u32, u32)], call: u32) -> Option<u32>
     ensures { result ≡ limit_of call fails.now }
 {
     for (number, limit) in fails {
@@ -79,7 +80,7 @@ impl Sink for MemSink {
     {
         self.pieces = self.pieces.and(b"", piece);
         self.calls = self.calls.saturating_add(1);
-        let limit = limit_at(self.fails.as_slice(), self.calls);
+        let limit = call_limit(self.fails.as_slice(), self.calls);
         let part = match limit {
             Some(limit) => &piece[..piece.len().min(limit as usize)],
             None => piece,

@@ -1,6 +1,7 @@
 //! A store in memory.
 ghost use Rattle.std.specs.Prelude.{◌≡◌, ◌≢◌, ◌≤◌, ◌<◌, IsTrue, None, Some, true, length, All};
-ghost use Rattle.std.specs.Prelude.{OnErr, OnOk, IfOk, IfSome, IfNone, IsOkUnless, MatchOption, is_ok, is_err, if◌then◌else◌};
+ghost use Rattle.std.specs.Prelude.{OnErr, OnOk, IfOk, IfSome, IfNone, IsOkUnless, MatchOption, is_ok, is_err};
+ghost use Rattle.std.specs.Prelude.{if◌then◌else◌};
 ghost use Rattle.std.specs.List.{AllPairs};
 ghost use Rattle.sloth_io.specs.Counts.{count_after_call, next_call};
 ghost use Rattle.sloth_io.specs.Slots.{bytes_named, files_with};
@@ -12,7 +13,7 @@ ghost use Rattle.sloth_io.specs.Store.{KeepsOthers, KeepsFiles, KeepsReads, said
 
 pub use crate::MemFile;
 use crate::history::History;
-use crate::slots::{Slot, bytes_of, replace, slots_of};
+use crate::slots::{Slot, made_slots, named_bytes, replace};
 use crate::{Store, StoreFault};
 use sloth_base::Result;
 use std::alloc::Global;
@@ -40,7 +41,7 @@ impl MemStore {
         ensures { IfOk result (IsFreshStore files.now fails.now) }
     {
         let fails = Vec::from_slice(alloc, fails)?;
-        let slots = slots_of(alloc, files)?;
+        let slots = made_slots(alloc, files)?;
         Ok(MemStore {
             slots,
             fails,
@@ -59,7 +60,7 @@ impl MemStore {
         ensures found { IfSome result (λ bytes. bytes_named name.now (files_of self.now) ≡ Some bytes.now) }
         ensures none { IfNone result (bytes_named name.now (files_of self.now) ≡ None) }
     {
-        bytes_of(self.slots.as_slice(), name.as_bytes())
+        named_bytes(self.slots.as_slice(), name.as_bytes())
     }
 
     // Counts a call, and says whether it is to fail.
@@ -97,7 +98,8 @@ impl MemStore {
     ) -> Result<(), StoreFault>
         ensures refused { MatchOption (fault_by fails (bytes_named name.now (files_of self.now)) limit)
             (IsOkUnless result StoreFault.Memory) (λ fault. result ≡ Err fault) }
-        ensures ok { OnOk result (IsDelivered (bytes_named name.now (files_of self.now)) limit into.old.items into.new.items) }
+        ensures ok { OnOk result
+            (IsDelivered (bytes_named name.now (files_of self.now)) limit into.old.items into.new.items) }
         ensures err { OnErr result (into.new.items ≡ into.old.items) }
     {
         if fails {
@@ -121,7 +123,8 @@ impl MemStore {
         ensures failing { self.new.fails ≡ self.old.fails }
         ensures calls { self.new.calls ≡ self.old.calls }
         ensures failed_reads { self.new.failed_reads ≡ self.old.failed_reads }
-        ensures overlong_reads { self.new.overlong_reads ≡ count_after_call (is_overlong outcome) self.old.overlong_reads }
+        ensures overlong_reads { self.new.overlong_reads ≡ count_after_call (is_overlong outcome)
+            self.old.overlong_reads }
         ensures rising { self.old.overlong_reads ≤ self.new.overlong_reads }
         ensures failed_writes { self.new.failed_writes ≡ self.old.failed_writes }
         ensures reads { self.new.reads.items ≡ reads_after outcome name.now bytes.now self.old.reads.items }
@@ -142,10 +145,12 @@ impl Store for MemStore {
     ghost seen = { λ store. shown_files store };
 
     fn read(&mut self, name: &str, limit: usize, into: &mut Vec<u8>) -> Result<(), StoreFault>
-        ensures ok { OnOk result (IsAppended (shown_files self.old) (shown_files self.new) name.now limit into.old.items into.new.items) }
+        ensures ok { OnOk result
+            (IsAppended (shown_files self.old) (shown_files self.new) name.now limit into.old.items into.new.items) }
         ensures err { OnErr result (into.new.items ≡ into.old.items) }
         ensures nothing { OnErr result ((shown_files self.new).reads ≡ (shown_files self.old).reads) }
-        ensures failed { result ≡ Err StoreFault.Failed → IsMissing (shown_files self.old) (shown_files self.new) name.now }
+        ensures failed { result ≡ Err StoreFault.Failed → IsMissing (shown_files self.old) (shown_files self.new)
+            name.now }
         ensures too_long { result ≡ Err StoreFault.TooLong →
             IsTooLong (shown_files self.old) (shown_files self.new) name.now limit }
         ensures keeps { KeepsFiles (shown_files self.old) (shown_files self.new) }
@@ -155,7 +160,8 @@ impl Store for MemStore {
         // It refuses exactly the calls that are to fail, files that are not there and files that are too long.
         ensures refused { MatchOption (read_fault self.old name.now limit)
             (IsOkUnless result StoreFault.Memory) (λ fault. result ≡ Err fault) }
-        ensures counted_failed { self.new.failed_reads ≡ count_after_call (is_next_call_failed self.old) self.old.failed_reads }
+        ensures counted_failed { self.new.failed_reads ≡ count_after_call (is_next_call_failed self.old)
+            self.old.failed_reads }
         ensures counted_overlong { self.new.overlong_reads ≡
             count_after_call (is_too_long (read_fault self.old name.now limit)) self.old.overlong_reads }
         ensures called { IsStoreCalled self.old self.new }
@@ -170,7 +176,8 @@ impl Store for MemStore {
 
     fn write(&mut self, name: &str, bytes: &[u8]) -> Result<(), StoreFault>
         ensures ok { OnOk result (IsFileWritten (shown_files self.old) (shown_files self.new) name.now bytes.now) }
-        ensures failed { OnErr result (IsUnwritten (shown_files self.old) (shown_files self.new) name.now (length bytes.now)) }
+        ensures failed { OnErr result
+            (IsUnwritten (shown_files self.old) (shown_files self.new) name.now (length bytes.now)) }
         ensures only_failed { OnErr result (result ≡ Err StoreFault.Failed) }
         ensures others { KeepsOthers (shown_files self.old) (shown_files self.new) name.now }
         ensures keeps { KeepsReads (shown_files self.old) (shown_files self.new) }

@@ -1,16 +1,17 @@
 //! Files that are written anew: until all is written, and where anything fails, what stood there stands there.
-ghost use Rattle.std.specs.Prelude.{◌≡◌, ◌≢◌, ◌++◌, [], ◌∷◌, Option, List, ℕ, IfOk, Some, None, false, true, codes, string_bytes};
-ghost use Rattle.std.specs.Io.KnownBytes.{Appends};
-ghost use Rattle.sloth_io.specs.declared.found.Found.{Found};
-ghost use Rattle.sloth_io.specs.FileStore.{IsGivenTo};
+//! What the system tells of a file. Whole transfers of bytes, in as many calls as they take.
+ghost use Rattle.std.specs.Prelude.{◌≡◌, ◌≢◌, ◌++◌, [], ◌∷◌, Option, List, ℕ, IfOk, Some, None, false, true, codes, string_bytes, ◌≤◌, OnOk, length, take};
+ghost use Rattle.std.specs.Io.KnownBytes.{Appends, Consumes, IsAtEnd};
+ghost use Rattle.sloth_io.specs.declared.replaced_files.Found.{Found};
+ghost use Rattle.sloth_io.specs.FileStore.{IsGivenTo, HasPrefix, HasPrefixBeyond, HasPrefixWithin};
 ghost use Rattle.sloth_io.specs.System.{Call, Synced, added, LeavesFile, LeavesFiles};
-ghost use Rattle.sloth_io.specs.Replaced.{is_written_there, is_users_link, has_owner, may_follow, owner_calls, tried_calls, first_mode, mode_calls};
-ghost use Rattle.sloth_io.specs.Replaced.{filling_calls, calls_in_place, calls_beside, calls_there, IsReplaced, IsUnreplaced};
+ghost use Rattle.sloth_io.specs.Replaced.{is_written_there, is_users_link, has_owner, may_follow, owner_calls, tried_calls, first_mode, mode_calls, filling_calls, calls_in_place, calls_beside, calls_there, IsReplaced, IsUnreplaced};
+ghost use Rattle.std.specs.Io.{appended_bytes};
 
-use crate::whole_files::write_whole;
-use crate::{Found, System};
+use crate::{StoreFault, System};
 use sloth_base::Result;
 use std::alloc::Global;
+use std::io::{Read, Write};
 
 // Something stands there that is no plain file, as a terminal or a link, or a plain file that has another name too.
 fn stays_there(found: Option<Found>) -> bool
@@ -44,7 +45,8 @@ fn is_of_owner(found: Option<Found>, own: Option<Found>) -> bool
 
 // A link is followed that belongs to root or to the user of this process.
 fn is_followed<S: System>(system: &mut S, found: Option<Found>) -> bool
-    ensures { (own : Option Found) × (S.calls system.new ≡ added (S.calls system.old) (owner_calls found own)) × (result ≡ may_follow found own) }
+    ensures { (own : Option Found) × (S.calls system.new ≡ added (S.calls system.old) (owner_calls found own))
+        × (result ≡ may_follow found own) }
 {
     if !needs_owner(found) {
         return true;
@@ -81,7 +83,8 @@ fn write_open<S: System>(
     bytes: &[u8],
 ) -> bool
     ensures given { result ≡ true → Appends (S.File.contents file.old) (S.File.contents file.new) bytes.now }
-    ensures done { result ≡ true → S.calls system.new ≡ added (S.calls system.old) (mode_calls found true ++ Synced true ∷ []) }
+    ensures done { result ≡ true → S.calls system.new ≡ added (S.calls system.old)
+        (mode_calls found true ++ Synced true ∷ []) }
     ensures failed { LeavesFiles (S.calls system.old) (S.calls system.new) }
 {
     if write_whole(file, bytes) < bytes.len() {
@@ -142,7 +145,8 @@ fn write_beside<S: System>(
     ensures given { result ≡ true → IsGivenTo S.File.contents bytes.now }
     ensures done { result ≡ true → (from to : Option (List ℕ)) × Appends from to bytes.now
         × (S.calls system.new ≡ added (S.calls system.old) (calls_beside found name.now beside.now from to)) }
-    ensures failed { result ≡ false → beside.now ≢ name.now → LeavesFile name.now (S.calls system.old) (S.calls system.new) }
+    ensures failed { result ≡ false → beside.now ≢ name.now → LeavesFile name.now (S.calls system.old)
+        (S.calls system.new) }
 {
     let Some(file) = system.make_file(beside, mode_before(found)) else {
         return false;
@@ -170,7 +174,8 @@ fn write_there<S: System>(system: &mut S, name: &str, bytes: &[u8]) -> bool
 // The same of a link only where root or the user of this process made it.
 fn replace_there<S: System>(system: &mut S, found: Option<Found>, name: &str, bytes: &[u8]) -> bool
     ensures given { result ≡ true → IsGivenTo S.File.contents bytes.now }
-    ensures done { result ≡ true → (own : Option Found) × (from to : Option (List ℕ)) × Appends from to bytes.now × (may_follow found own ≡ true)
+    ensures done { result ≡ true → (own : Option Found) × (from to : Option (List ℕ)) × Appends from to bytes.now
+        × (may_follow found own ≡ true)
         × (S.calls system.new ≡ added (S.calls system.old) (owner_calls found own ++ calls_there name.now from to)) }
     ensures failed { (further : List Call) × (S.calls system.new ≡ added (S.calls system.old) further) }
 {
@@ -219,4 +224,65 @@ pub fn replace_file<S: System>(system: &mut S, alloc: Global, name: &str, bytes:
         return false;
     };
     write_beside(system, name, beside.as_str(), found, bytes)
+}
+
+/// What stands under a name.
+#[derive(Clone, Copy)]
+pub struct Found {
+    /// It is a plain file: no folder, link or terminal.
+    pub plain: bool,
+    /// It is a link.
+    pub link: bool,
+    /// How many names it has.
+    pub names: u64,
+    /// Who may do what with it, in the nine lowest bits.
+    pub mode: u32,
+    /// The number of the user to whom it belongs.
+    pub owner: u32,
+    /// The disk, and the file's number there.
+    pub device: u64,
+    pub number: u64,
+}
+
+/// Reads to the end of a file, or until more bytes than the limit were taken. A read of nothing is the end.
+pub fn read_whole<F: Read>(from: &mut F, limit: usize, into: &mut Vec<u8>) -> Result<(), StoreFault>
+    ensures ok { OnOk result (HasPrefixWithin limit into.old.items into.new.items) }
+    ensures too_long { result ≡ Err StoreFault.TooLong → HasPrefixBeyond limit into.old.items into.new.items }
+    ensures front { HasPrefix into.old.items into.new.items }
+    ensures end { OnOk result (IsAtEnd (F.remaining from.new)) }
+    ensures taken { result ≢ Err StoreFault.Memory →
+        Consumes (F.remaining from.old) (F.remaining from.new) (appended_bytes into.old.items into.new.items) }
+{
+    let mut buffer = [0u8; 4096];
+    let mut left = limit;
+    loop {
+        let Ok(count) = from.read(&mut buffer) else {
+            return Err(StoreFault::Failed);
+        };
+        if count == 0 {
+            return Ok(());
+        }
+        if into.extend_from_slice(&buffer[..count]).is_err() {
+            return Err(StoreFault::Memory);
+        }
+        if count > left {
+            return Err(StoreFault::TooLong);
+        }
+        left -= count;
+    }
+}
+
+/// Writes until all is written, and says how many bytes were taken. A write of nothing is a fault, and ends it.
+pub fn write_whole<W: Write>(to: &mut W, bytes: &[u8]) -> usize
+    ensures most { result ≤ length bytes.now }
+    ensures taken { Appends (W.contents to.old) (W.contents to.new) (take result bytes.now) }
+{
+    let mut taken = 0;
+    while taken < bytes.len() {
+        match to.write(&bytes[taken..]) {
+            Ok(0) | Err(_) => return taken,
+            Ok(count) => taken += count,
+        }
+    }
+    taken
 }

@@ -36,7 +36,7 @@ impl Slot {
 }
 
 /// A slot for each of these files.
-pub fn slots_of(alloc: Global, files: &[MemFile]) -> Result<Vec<Slot>>
+pub fn made_slots(alloc: Global, files: &[MemFile]) -> Result<Vec<Slot>>
     requires { All (λ file. length file.bytes ≤ file.space) files.now }
     ensures { IfOk result (λ slots. map file_of slots.items ≡ files.now) }
 {
@@ -49,7 +49,7 @@ pub fn slots_of(alloc: Global, files: &[MemFile]) -> Result<Vec<Slot>>
 }
 
 /// The bytes of the file of a name.
-pub fn bytes_of<'a>(slots: &'a [Slot], name: &[u8]) -> Option<&'a [u8]>
+pub fn named_bytes<'a>(slots: &'a [Slot], name: &[u8]) -> Option<&'a [u8]>
     ensures found { IfSome result (λ bytes. bytes_named name.now (map file_of slots.now) ≡ Some bytes.now) }
     ensures none { IfNone result (bytes_named name.now (map file_of slots.now) ≡ None) }
 {
@@ -62,7 +62,7 @@ pub fn bytes_of<'a>(slots: &'a [Slot], name: &[u8]) -> Option<&'a [u8]>
 }
 
 // The place of the file of a name.
-fn place_of(slots: &[Slot], name: &[u8]) -> Option<usize>
+fn named_place(slots: &[Slot], name: &[u8]) -> Option<usize>
     ensures found { IfSome result (IsFilePlace name.now (map file_of slots.now)) }
     ensures within { IfSome result (λ place. place < length slots.now) }
     ensures none { IfNone result (file_named name.now (map file_of slots.now) ≡ None) }
@@ -81,7 +81,7 @@ pub fn replace(slots: &mut Vec<Slot>, name: &[u8], bytes: &[u8]) -> bool
     ensures files { map file_of slots.new.items ≡
         (if result then files_with name.now bytes.now (map file_of slots.old.items) else map file_of slots.old.items) }
 {
-    let Some(place) = place_of(slots.as_slice(), name) else {
+    let Some(place) = named_place(slots.as_slice(), name) else {
         return false;
     };
     slots[place].buffer.replace(bytes)

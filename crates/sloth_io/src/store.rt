@@ -1,6 +1,7 @@
 //! Named files.
 ghost use Rattle.std.specs.Prelude.{◌≡◌, ◌≢◌, IsTrue, true, OnErr, OnOk, length};
-ghost use Rattle.sloth_io.specs.Store.{Files, IsAppended, IsMissing, IsTooLong, IsUnwritten, IsFileWritten, MayBeOneFile};
+ghost use Rattle.sloth_io.specs.Store.{Files, IsAppended, IsMissing, IsTooLong, IsUnwritten, IsFileWritten};
+ghost use Rattle.sloth_io.specs.Store.{MayBeOneFile};
 ghost use Rattle.sloth_io.specs.Store.{KeepsOthers, KeepsFiles, KeepsReads, said_same};
 
 use thiserror::Error;
@@ -24,7 +25,8 @@ pub trait Store {
 
     /// Appends the bytes of a file of at most `limit` bytes. Want of memory may come at any call.
     fn read(&mut self, name: &str, limit: usize, into: &mut Vec<u8>) -> Result<(), StoreFault>
-        ensures ok { OnOk result (IsAppended (seen self.old) (seen self.new) name.now limit into.old.items into.new.items) }
+        ensures ok { OnOk result
+            (IsAppended (seen self.old) (seen self.new) name.now limit into.old.items into.new.items) }
         ensures err { OnErr result (into.new.items ≡ into.old.items) }
         ensures nothing { OnErr result ((seen self.new).reads ≡ (seen self.old).reads) }
         ensures failed { result ≡ Err StoreFault.Failed → IsMissing (seen self.old) (seen self.new) name.now }
@@ -32,8 +34,10 @@ pub trait Store {
         ensures keeps { KeepsFiles (seen self.old) (seen self.new) }
 
         // Only a failed read may be counted as failed, and only one that is too long as overlong.
-        ensures failed_reads { result ≢ Err StoreFault.Failed → (seen self.new).failed_reads ≡ (seen self.old).failed_reads }
-        ensures overlong_reads { result ≢ Err StoreFault.TooLong → (seen self.new).overlong_reads ≡ (seen self.old).overlong_reads };
+        ensures failed_reads { result ≢ Err StoreFault.Failed → (seen self.new).failed_reads
+            ≡ (seen self.old).failed_reads }
+        ensures overlong_reads { result ≢ Err StoreFault.TooLong → (seen self.new).overlong_reads
+            ≡ (seen self.old).overlong_reads };
 
     /// Makes a file hold exactly these bytes. After a failure that file may hold anything.
     fn write(&mut self, name: &str, bytes: &[u8]) -> Result<(), StoreFault>

@@ -1,7 +1,8 @@
 //! Calls of the system on files.
 ghost use Rattle.std.specs.Prelude.{◌≡◌, [], ◌∷◌, Option, List};
 ghost use Rattle.std.specs.Option.{option_map};
-ghost use Rattle.sloth_io.specs.System.{Call, Looked, Followed, Opened, Tried, Made, Emptied, Moded, Synced, Closed, Renamed, Removed, FolderSynced, added};
+ghost use Rattle.sloth_io.specs.System.{Call, Looked, Followed, Opened, Tried, Made, Emptied, Moded, Synced, Closed};
+ghost use Rattle.sloth_io.specs.System.{Renamed, Removed, FolderSynced, added};
 
 use crate::Found;
 use std::io::{Read, Write};
@@ -32,7 +33,8 @@ pub trait System {
 
     /// Makes a file of this mode where nothing has its name.
     fn make_file(&mut self, name: &str, mode: u32) -> Option<Self::File>
-        ensures { calls self.new ≡ added (calls self.old) (Made name.now mode (option_map Self.File.contents result) ∷ []) };
+        ensures { calls self.new ≡ added (calls self.old)
+            (Made name.now mode (option_map Self.File.contents result) ∷ []) };
 
     /// Opens a file to write it anew, or makes it.
     fn empty_file(&mut self, name: &str) -> Option<Self::File>

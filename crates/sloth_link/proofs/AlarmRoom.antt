@@ -7,7 +7,7 @@ use Rattle.sloth_base.specs.declared.config.AlarmDecl.{AlarmDecl}
 use Rattle.sloth_base.specs.Limits.{alarm_limit}
 use Rattle.sloth_base.specs.MemoryMap.{memory_base, vectors_base}
 use Rattle.rv32_instr.specs.declared.block.Block.{Block}
-use Rattle.sloth_link.specs.declared.datum.Datum.{Datum}
+use Rattle.sloth_link.specs.declared.linking.Datum.{Datum}
 use Rattle.sloth_link.specs.Symbols.{alarm_bytes, alarm_data}
 use Rattle.mem_map.specs.Sections.{Section, IsSectionInside, block_section}
 use Rattle.sloth_link.specs.Linked.{AreSectionsApart, HaveRoom, sections_of, datum_section}

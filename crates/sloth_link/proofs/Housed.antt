@@ -4,7 +4,7 @@ use Rattle.std.specs.Prelude.{All, AllPairs, map}
 use Rattle.std.proofs.lemmas.List.Elements.{All-cons}
 use Rattle.std.proofs.lemmas.List.Kept.{AllPairs-cons}
 use Rattle.sloth_base.specs.MemoryMap.{memory_base}
-use Rattle.sloth_region.specs.declared.extent.Extent.{Extent}
+use Rattle.sloth_region.specs.declared.region.Extent.{Extent}
 use Rattle.sloth_region.specs.Region.{FollowWithin}
 use Rattle.mem_map.specs.Sections.{Section, IsSectionInside, block_section}
 use Rattle.sloth_link.specs.Linked.{AreSectionsApart, sections_of, datum_section}

@@ -7,7 +7,7 @@ use Rattle.sloth_base.specs.declared.app.App.{App}
 use Rattle.sloth_base.specs.declared.config.Config.{Config}
 use Rattle.sloth_base.specs.declared.image.Image.{Image}
 use Rattle.sloth_base.specs.declared.image.Mark.{Mark}
-use Rattle.sloth_region.specs.declared.map.Map.{Map}
+use Rattle.sloth_region.specs.declared.region.Map.{Map}
 use Rattle.rv32_instr.specs.declared.block.Block.{Block}
 use Rattle.rv32_expand.specs.InPlace.{ItemsInPlace}
 use Rattle.sloth_link.specs.Image.{MayLink, all_blocks, all_data, symbol_data, memory_size}

@@ -3,7 +3,7 @@ use Rattle.std.proofs.Common.{◌≡◌, ℕ, List, [], ◌∷◌, ◌++◌, ref
 use Rattle.std.specs.Prelude.{All, map}
 use Rattle.std.proofs.lemmas.List.Elements.{All-cons, All-head, All-tail}
 use Rattle.rv32_instr.specs.declared.block.Block.{Block}
-use Rattle.sloth_link.specs.declared.datum.Datum.{Datum}
+use Rattle.sloth_link.specs.declared.linking.Datum.{Datum}
 use Rattle.mem_map.specs.Sections.{Section, IsSectionInside, block_section, linked_memory}
 use Rattle.sloth_link.specs.Linked.{HaveRoom, datum_section, sections_of}
 use Rattle.sloth_link.proofs.Written.{linked_append}

@@ -11,7 +11,7 @@ use Rattle.rv32_instr.specs.declared.InstrKind.{InstrKind}
 use Rattle.rv32_instr.specs.declared.block.Block.{Block}
 use Rattle.rv32_instr.proofs.Fits.{encode_fits}
 use Rattle.masked_code.specs.Place.{AreWritten}
-use Rattle.sloth_link.specs.declared.datum.Datum.{Datum}
+use Rattle.sloth_link.specs.declared.linking.Datum.{Datum}
 use Rattle.mem_map.specs.Sections.{code_bytes, block_section}
 use Rattle.sloth_link.specs.Linked.{datum_section, sections_of, HasSectionBytes, BlockStands, AreLinked}
 use Rattle.sloth_link.proofs.Written.{front_of, back_of, each_of}

@@ -3,7 +3,7 @@ use Rattle.std.proofs.Common.{◌≡◌, ℕ, List, ◌++◌, length, sym, ap, s
 use Rattle.std.specs.Prelude.{All, replicate, take, drop, map}
 use Rattle.std.proofs.lemmas.List.{length-replicate, take_at}
 use Rattle.rv32_instr.specs.declared.block.Block.{Block}
-use Rattle.sloth_link.specs.declared.datum.Datum.{Datum}
+use Rattle.sloth_link.specs.declared.linking.Datum.{Datum}
 use Rattle.mem_map.specs.Sections.{Section, linked_memory, block_section, IsSectionInside}
 use Rattle.sloth_link.specs.Linked.{HaveRoom, AreLinked, sections_of, datum_section}
 use Rattle.sloth_link.proofs.Written.{are_linked, length-linked, front_of, back_of, each_of}

@@ -6,14 +6,14 @@ use Rattle.sloth_base.specs.declared.app.App.{App}
 use Rattle.sloth_base.specs.declared.config.Config.{Config}
 use Rattle.sloth_base.specs.declared.image.Mark.{Mark}
 use Rattle.sloth_base.specs.MemoryMap.{memory_base, vectors_base}
-use Rattle.sloth_region.specs.declared.map.Map.{Map}
+use Rattle.sloth_region.specs.declared.region.Map.{Map}
 use Rattle.code_rules.specs.WellFormed.{WellFormed}
 use Rattle.rv32_instr.specs.declared.block.Block.{Block}
 use Rattle.rv32_instr.specs.Range.{InRange}
 use Rattle.rv32_expand.specs.InPlace.{IsBodyName}
 use Rattle.rv32_expand.specs.Sizes.{AgreeWithSizes, HasWordAddresses}
 use Rattle.mem_map.specs.Zones.{data_zone}
-use Rattle.sloth_link.specs.declared.datum.Datum.{Datum}
+use Rattle.sloth_link.specs.declared.linking.Datum.{Datum}
 use Rattle.sloth_link.specs.Items.{MarksAreOfItems, item_blocks}
 use Rattle.sloth_link.specs.Linked.{AreLinked, BlockStands, HaveRoom, HasSectionBytes, datum_section, sections_of}
 use Rattle.mem_map.specs.Sections.{HaveOwnAddresses, addresses, marks_of}

@@ -4,7 +4,7 @@ use Rattle.sloth_base.specs.MemoryMap.{memory_base}
 use Rattle.rv32_instr.specs.declared.block.Block.{Block}
 use Rattle.masked_code.specs.Place.{AreWritten}
 use Rattle.mem_map.specs.Sections.{Section, block_section, IsSectionInside}
-use Rattle.sloth_link.specs.declared.datum.Datum.{Datum}
+use Rattle.sloth_link.specs.declared.linking.Datum.{Datum}
 
 -- the bytes of a symbol, or of the words of an alarm
 abbrev pub datum_section : Datum → Section

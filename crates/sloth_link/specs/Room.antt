@@ -1,10 +1,10 @@
 -- Blocks and bytes that lie each in an extent of its own have room.
 use Rattle.std.specs.Prelude.{ℕ, ◌+◌, ◌≤◌, List, length, map, All}
 use Rattle.std.specs.List.{AllZip}
-use Rattle.sloth_region.specs.declared.extent.Extent.{Extent}
+use Rattle.sloth_region.specs.declared.region.Extent.{Extent}
 use Rattle.sloth_region.specs.Region.{FollowWithin}
 use Rattle.rv32_instr.specs.declared.block.Block.{Block}
-use Rattle.sloth_link.specs.declared.datum.Datum.{Datum}
+use Rattle.sloth_link.specs.declared.linking.Datum.{Datum}
 use Rattle.mem_map.specs.Sections.{Section, block_section}
 use Rattle.sloth_link.specs.Linked.{datum_section, HaveRoom}
 use Rattle.sloth_base.specs.MemoryMap.{memory_base}

@@ -5,7 +5,7 @@ use Rattle.sloth_base.specs.MemoryMap.{memory_base}
 use Rattle.sloth_base.specs.declared.app.Symbol.{Symbol}
 use Rattle.sloth_base.specs.declared.config.AlarmDecl.{AlarmDecl}
 use Rattle.sloth_region.specs.Layout.{alarm_left}
-use Rattle.sloth_link.specs.declared.datum.Datum.{Datum}
+use Rattle.sloth_link.specs.declared.linking.Datum.{Datum}
 
 -- the two words of an alarm as the image has them: the ticks that are left, and the cycle
 abbrev pub alarm_bytes : AlarmDecl → List ℕ

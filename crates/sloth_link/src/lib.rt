@@ -9,12 +9,8 @@
 //! (`InPlace`); the map: `mem_map` (`Zones`).
 #![tactic(auto)]
 
-mod alarms;
-pub mod datum;
 pub mod items;
 pub mod laws;
 pub mod linking;
-pub mod symbols;
-mod writing;
 
 pub use linking::link;

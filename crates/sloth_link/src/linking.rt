@@ -1,29 +1,31 @@
-//! The image of blocks of code, of the items of task code, and of its symbols.
-ghost use Rattle.std.specs.Prelude.{◌≡◌, ◌<◌, ◌≤◌, ◌+◌, ◌++◌, IfOk, All, length, replicate, ℕ, slice_index};
+//! The image of blocks of code, of the items of task code, and of its symbols. Bytes at an address.
+//! Runs of bytes, written into a memory. The data of an image. The words of alarms in an image.
+ghost use Rattle.std.specs.Prelude.{◌≡◌, ◌<◌, ◌≤◌, ◌+◌, ◌++◌, IfOk, All, length, replicate, ℕ, slice_index, map};
 ghost use Rattle.std.specs.List.Sorted.{IsPermutation, IsStrictlyIncreasing};
 ghost use Rattle.std.specs.Vec.{vec_len};
-ghost use Rattle.sloth_base.specs.MemoryMap.{vectors_base};
+ghost use Rattle.sloth_base.specs.MemoryMap.{vectors_base, memory_base};
 ghost use Rattle.sloth_base.specs.Limits.{alarm_limit};
 ghost use Rattle.rv32_instr.specs.Range.{InRange};
 ghost use Rattle.rv32_expand.specs.InPlace.{ItemsInPlace};
 ghost use Rattle.mem_map.specs.Zones.{data_zone};
 ghost use Rattle.sloth_link.specs.Image.{MayLink, HasMemory, all_blocks, all_data, memory_size};
-ghost use Rattle.mem_map.specs.Sections.{marks_of, HaveOwnAddresses, addresses, linked_memory};
+ghost use Rattle.mem_map.specs.Sections.{marks_of, HaveOwnAddresses, addresses, linked_memory, IsSectionInside};
 ghost use Rattle.sloth_link.specs.Linked.{HaveRoom, AreLinked, sections_of, BlockStands, datum_section, HasSectionBytes};
 ghost use Rattle.sloth_base.specs.DeclaredNames.{task_names, counter_names, function_names};
 ghost use Rattle.sloth_link.specs.Standing.{HasItemsInPlace};
+ghost use Rattle.sloth_link.specs.Symbols.{data_of, alarm_bytes, alarm_data};
+ghost use Rattle.sloth_region.specs.Layout.{alarm_left};
 
-use crate::alarms::alarms;
-use crate::datum::Datum;
 use crate::items::items;
-use crate::symbols::symbols;
-use crate::writing::write_data;
-use mem_map::{data_zone, marks, write_blocks};
+use mem_map::{data_zone, marks, write, write_blocks};
 use rv32_instr::{Block, Instr};
 use sloth_base::declared_names::declared_names;
-use sloth_base::{App, Config, Image, List, MEMORY_BASE, Mark, NoMemory};
-use sloth_region::Map;
+use sloth_base::{
+    AlarmDecl, App, Config, Image, List, MEMORY_BASE, Mark, NoMemory, Places, Result,
+};
+use sloth_region::{Map, alarm_left};
 use std::alloc::{AllocError, Global};
+use text_pieces::push;
 
 /// A memory and its marks.
 #[derive(Drop)]
@@ -194,5 +196,73 @@ pub fn link(
         counters: names.counters,
         memory: linked.memory,
         marks: linked.marks,
+    })
+}
+
+/// Bytes, and the address of the first.
+#[derive(Drop)]
+pub struct Datum {
+    pub at: u32,
+    pub bytes: List<u8>,
+}
+
+/// Writes each run of bytes at its address.
+pub fn write_data(memory: &mut [u8], symbols: &[Datum])
+    requires above { All (λ d. memory_base ≤ d.at) symbols.now }
+    requires inside { All (λ d. IsSectionInside (length memory.old) (datum_section d)) symbols.now }
+    ensures { memory.new ≡ linked_memory memory.old (map datum_section symbols.now) }
+{
+    for datum in symbols {
+        write(
+            memory,
+            (datum.at - MEMORY_BASE) as usize,
+            datum.bytes.items(),
+        );
+    }
+}
+
+/// The bytes of each symbol, at its address in the places.
+pub fn symbols(alloc: Global, app: &App, places: &Places) -> Result<Vec<Datum>>
+    requires { length places.now.symbols ≡ length app.now.symbols }
+    ensures { IfOk result (λ symbols. symbols.items ≡ data_of places.now.symbols app.now.symbols) }
+{
+    let mut symbols = Vec::new(alloc);
+    let declared = app.symbols.items();
+    let addresses = places.symbols.items();
+    for index in 0..declared.len() {
+        let bytes = Vec::from_slice(alloc, declared[index].bytes.items())?;
+        let datum = Datum {
+            at: addresses[index],
+            bytes: List::from_vec(bytes),
+        };
+        push(&mut symbols, datum)?;
+    }
+    Ok(symbols)
+}
+
+/// The ticks to the first expiry and the cycle of each alarm, at its words.
+pub fn alarms(alloc: Global, config: &Config) -> Result<Vec<Datum>>
+    requires { length config.now.alarms ≤ alarm_limit }
+    ensures { IfOk result (λ alarms. alarms.items ≡ alarm_data 0 config.now.alarms) }
+{
+    let mut alarms = Vec::new(alloc);
+    let declared = config.alarms.items();
+    for number in 0..declared.len() {
+        let datum = words(alloc, number as u8, &declared[number])?;
+        push(&mut alarms, datum)?;
+    }
+    Ok(alarms)
+}
+
+// The two words of an alarm with this number.
+fn words(alloc: Global, number: u8, alarm: &AlarmDecl) -> Result<Datum>
+    requires { number < 32 }
+    ensures { IfOk result (λ datum. datum ≡ record { at = memory_base + alarm_left number; bytes = alarm_bytes alarm.now }) }
+{
+    let mut bytes = Vec::from_slice(alloc, &alarm.time.to_le_bytes())?;
+    bytes.extend_from_slice(&alarm.cycle.to_le_bytes())?;
+    Ok(Datum {
+        at: MEMORY_BASE + alarm_left(number) as u32,
+        bytes: List::from_vec(bytes),
     })
 }

@@ -1,6 +1,6 @@
 -- A region of addresses, and the extents that are placed in it.
 use Rattle.std.specs.Prelude.{ℕ, ◌+◌, ◌-◌, ◌*◌, ◌/◌, ◌≤◌, List, [], ◌∷◌, All, AllPairs}
-use Rattle.sloth_region.specs.declared.extent.Extent.{Extent}
+use Rattle.sloth_region.specs.declared.region.Extent.{Extent}
 
 -- from `base` on, below `end`
 pub record Area : Type 0 where

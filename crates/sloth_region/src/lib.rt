@@ -5,16 +5,12 @@
 //! and contexts (`specs/Layout`).
 #![tactic(auto)]
 
-pub mod extent;
 pub mod layout;
-pub mod map;
 pub mod region;
 
-pub use extent::Extent;
 pub use layout::{
     BELOW_WORD, CONTEXT_BELOW, CONTEXT_BYTES, CONTEXT_CUR, CONTEXT_LEVEL, CONTEXT_PC,
     CONTROLLER_HIGH, CUR, IDLE_CONTEXT, RESUME_WORDS, WORDS_HIGH, active, alarm_cycle, alarm_left,
     counter_value, enabled_byte, events, level_byte, pending_byte, resume, saved, wait,
 };
-pub use map::Map;
-pub use region::{Full, Region};
+pub use region::{Extent, Full, Map, Region};

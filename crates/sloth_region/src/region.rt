@@ -1,8 +1,9 @@
-//! An allocator of addresses: extents one behind the other, each aligned.
+//! An allocator of addresses: extents one behind the other, each aligned. Runs of addresses.
+//! The map of an image: where everything stands.
 ghost use Rattle.std.specs.Prelude.{◌≡◌, ◌⊎◌, ◌+◌, ◌<◌, ◌≤◌, length, [], ◌∷◌, ◌++◌, IsErr, IfOk};
 ghost use Rattle.sloth_region.specs.Region.{AreApartWithin, aligned, first_free_address, Area};
 
-use crate::Extent;
+use sloth_base::{LINE_COUNT, List, Places};
 use std::marker::Model;
 
 /// The most extents of one region.
@@ -91,5 +92,45 @@ impl Region {
         ensures apart { AreApartWithin self.now.base self.now.end self.now.placed }
     {
         &self.extents[..self.count]
+    }
+}
+
+/// The `len` addresses from `base` on.
+#[derive(Clone, Copy)]
+pub struct Extent {
+    pub base: u32,
+    pub len: u32,
+}
+
+/// The map of an image. The vector words stand at the base of the vectors, and boot at the base of boot.
+pub struct Map {
+    /// All extents, in the order in which they were placed.
+    pub extents: List<Extent>,
+    /// The addresses of items, symbols and service blocks.
+    pub places: Places,
+    /// The stack of each task, in the order of the tasks: one for all basic tasks, and one for each extended task.
+    pub stacks: List<Extent>,
+    /// The address behind the part of its stack that each task has, in the order of the tasks.
+    pub tops: List<u32>,
+    /// The service words, but for the first word of RAM, which names the running task.
+    pub words: Extent,
+    /// The address of the idle loop.
+    pub idle: u32,
+    /// For each line the address of the routine to which its vector word jumps: `idle` where the line has none.
+    pub handlers: [u32; LINE_COUNT],
+}
+
+// Written out: what is derived is proved anew wherever a value is let go.
+impl Drop for Map {
+    fn drop(self) {
+        let Map {
+            extents: _,
+            places: _,
+            stacks: _,
+            tops: _,
+            words: _,
+            idle: _,
+            handlers: _,
+        } = self;
     }
 }

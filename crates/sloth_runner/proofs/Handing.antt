@@ -4,8 +4,8 @@ use Rattle.std.specs.Prelude.{slice_index}
 use Rattle.std.specs.List.{All}
 use Rattle.std.proofs.lemmas.List.{get_or-set_same, get_or-set_other, length-set}
 use Rattle.std.proofs.lemmas.Bool.Decides.{eqb_tells}
-use Rattle.sloth_base.specs.declared.step.Step.{Step}
-use Rattle.sloth_base.specs.declared.event.Stamped.{Stamped}
+use Rattle.sloth_base.specs.declared.numbers.Step.{Step}
+use Rattle.sloth_base.specs.declared.service.Stamped.{Stamped}
 use Rattle.observe.specs.declared.observing.Observer.{Observer}
 use Rattle.observe.specs.Progress.{HasProgress, remaining, view_of, arrivals_of, expected_count}
 use Rattle.sloth_runner.specs.Moments.{IsHandedOut}

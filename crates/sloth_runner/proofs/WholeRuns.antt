@@ -1,6 +1,6 @@
 -- What a run shows that does not stop.
 use Rattle.std.specs.Prelude.{Option, Some, None}
-use Rattle.sloth_runner.specs.declared.machine_states.Seen.{Seen}
+use Rattle.sloth_runner.specs.declared.task_states.Seen.{Seen}
 use Rattle.sloth_runner.specs.declared.task_states.Sight.{Sight}
 use Rattle.sloth_runner.specs.declared.task_states.Sight.TheVariants as sights
 

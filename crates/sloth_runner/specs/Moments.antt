@@ -1,9 +1,9 @@
 -- What a runner does with its machine and its observer at a moment of a run.
 use Rattle.std.specs.Prelude.{ℕ, ◌+◌, ◌<◌, List, All, [], ◌∷◌, ◌++◌, slice_index, slice_set}
 use Rattle.sloth_base.specs.Machine.{State}
-use Rattle.sloth_base.specs.declared.event.Arrival.{Arrival}
-use Rattle.sloth_base.specs.declared.event.Stamped.{Stamped}
-use Rattle.sloth_base.specs.declared.step.Step.{Step}
+use Rattle.sloth_base.specs.declared.service.Arrival.{Arrival}
+use Rattle.sloth_base.specs.declared.service.Stamped.{Stamped}
+use Rattle.sloth_base.specs.declared.numbers.Step.{Step}
 use Rattle.sloth_base.specs.MemoryMap.{line_count}
 use Rattle.rv32_machine.specs.State.{state}
 use Rattle.rv32_machine.specs.declared.machine.Machine.{Machine}

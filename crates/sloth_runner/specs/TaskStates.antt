@@ -1,7 +1,7 @@
 -- What a run shows of its tasks at a count.
 use Rattle.std.specs.Prelude.{ℕ, ◌≡◌, ◌+◌, ◌<◌, ◌≤◌, Bool, List, [], ◌∷◌, length, Option, Some, None, true, false, not, if◌then◌else◌}
 use Rattle.sloth_base.specs.declared.image.Image.{Image}
-use Rattle.sloth_base.specs.declared.event.Arrival.{Arrival}
+use Rattle.sloth_base.specs.declared.service.Arrival.{Arrival}
 use Rattle.sloth_base.specs.Machine.{State}
 use Rattle.rv32_instr.specs.Memory.{Memory, memory_of}
 use Rattle.rv32_machine.specs.Start.{start}
@@ -9,7 +9,7 @@ use Rattle.rv32_machine.specs.Run.{state_with_arrivals, state_after}
 use Rattle.osek_scheduler.specs.declared.state.TaskState.{TaskState}
 use Rattle.sloth_base.specs.Owners.{counter_line}
 use Rattle.sloth_inspect.specs.States.{states_in, running_number_in, is_pending_in, pending_lines_in, levels_in}
-use Rattle.sloth_runner.specs.declared.machine_states.Seen.{Seen}
+use Rattle.sloth_runner.specs.declared.task_states.Seen.{Seen}
 use Rattle.sloth_runner.specs.declared.runner.RunEnd.TheVariants as ends
 use Rattle.sloth_runner.specs.declared.task_states.Interrupts.{Interrupts}
 use Rattle.sloth_runner.specs.declared.task_states.Sight.{Sight}

@@ -3,7 +3,7 @@ ghost use Rattle.std.specs.Prelude.{◌≡◌, ℕ, List};
 ghost use Rattle.sloth_base.specs.declared.config.Config.{Config};
 ghost use Rattle.sloth_base.specs.declared.app.App.{App};
 ghost use Rattle.sloth_base.specs.declared.image.Image.{Image};
-ghost use Rattle.sloth_base.specs.declared.event.Arrival.{Arrival};
+ghost use Rattle.sloth_base.specs.declared.service.Arrival.{Arrival};
 ghost use Rattle.sloth_base.specs.Owners.{owners_in};
 ghost use Rattle.sim_induction.specs.Sound.{AreComing, Sound};
 ghost use Rattle.sloth_runner.specs.Runner.{run_end};

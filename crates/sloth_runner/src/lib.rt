@@ -9,10 +9,8 @@
 #![tactic(auto)]
 
 pub mod arrivals;
-pub mod counting;
 pub mod events;
 pub mod laws;
-pub mod machine_states;
 pub mod runner;
 pub mod summary;
 pub mod tally;

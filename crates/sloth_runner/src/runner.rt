@@ -8,8 +8,8 @@ ghost use Rattle.sloth_io.specs.Sink.{output_with, GainsPart};
 ghost use Rattle.trace_text.specs.Texts.{ends_idle, is_idle};
 ghost use Rattle.observe.specs.Progress.{HasProgress, remaining, view_of, arrivals_of, expected_count, arrivals_due};
 ghost use Rattle.rv32_machine.specs.Advance.{step_of};
-ghost use Rattle.sloth_base.specs.declared.step.Step.{Step as AnyStep};
-ghost use Rattle.sloth_base.specs.declared.event.Stamped.{Stamped as AnyStamped};
+ghost use Rattle.sloth_base.specs.declared.numbers.Step.{Step as AnyStep};
+ghost use Rattle.sloth_base.specs.declared.service.Stamped.{Stamped as AnyStamped};
 ghost use Rattle.sloth_runner.specs.Runner.{lines_of};
 ghost use Rattle.sloth_runner.specs.Moments.{IsHandedOut, sloth_state};
 

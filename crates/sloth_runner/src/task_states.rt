@@ -1,16 +1,16 @@
-//! The states of the tasks at a count of a run.
-ghost use Rattle.std.specs.Prelude.{◌≡◌, ◌<◌, ◌≤◌, length};
+//! The states of the tasks at a count of a run. What a machine shows of its tasks at a count.
+ghost use Rattle.std.specs.Prelude.{◌≡◌, ◌<◌, ◌≤◌, length, ◌+◌};
 ghost use Rattle.sloth_base.specs.Limits.{task_limit, count_limit};
 ghost use Rattle.sloth_runner.specs.Moments.{sloth_state};
 ghost use Rattle.sloth_runner.specs.Runner.{image_of, count_of};
-ghost use Rattle.sloth_runner.specs.TaskStates.{image_states, pending_counters_in, interrupts_in, task_levels};
+ghost use Rattle.sloth_runner.specs.TaskStates.{image_states, pending_counters_in, interrupts_in, task_levels, open_states};
+ghost use Rattle.sloth_inspect.specs.States.{states_in, running_number_in};
 
 use crate::Runner;
-pub use crate::machine_states::Seen;
-use crate::machine_states::{instructions_through, look};
-use rv32_machine::{SlothBus, Stop};
+use osek_scheduler::TaskState;
+use rv32_machine::{Machine, SlothBus, Stop};
 use sloth_base::{COUNTER_LIMIT, FIRST_COUNTER_LINE, Line, TASK_LIMIT};
-use sloth_inspect::{levels, pending};
+use sloth_inspect::{levels, pending, running, states};
 
 /// What the machine shows of interrupts at a count.
 #[derive(Clone, Copy)]
@@ -109,4 +109,46 @@ impl<'a> Runner<'a> {
             None => Sight::Booting,
         }
     }
+}
+
+/// The states of the tasks at a count, in `TASK_LIMIT` places.
+#[derive(Clone, Copy)]
+pub struct Seen {
+    pub count: u32,
+    pub tasks: [TaskState; TASK_LIMIT],
+    /// The number of the running task and 1 more, or 0 where none runs.
+    pub running: u32,
+}
+
+// What memory and the controller show of so many tasks, at a count.
+fn seen_states(bus: &mut SlothBus, count: u32, tasks: u32) -> Seen
+    requires { tasks ≤ task_limit }
+    ensures is { result ≡ record { count = count; tasks = states_in bus.old tasks; running = running_number_in bus.old } }
+    ensures same { bus.new ≡ bus.old }
+{
+    Seen {
+        count,
+        tasks: states(bus, tasks),
+        running: running(bus),
+    }
+}
+
+/// What the machine shows of so many tasks at a count, where interrupts are open.
+pub fn look(machine: &mut Machine<SlothBus>, count: u32, tasks: u32) -> Option<Seen>
+    requires { tasks ≤ task_limit }
+    ensures seen { result ≡ open_states tasks count (sloth_state machine.old) }
+    ensures same { machine.new ≡ machine.old }
+{
+    if !machine.enabled() {
+        return None;
+    }
+    Some(seen_states(machine.bus_mut(), count, tasks))
+}
+
+/// How many instructions a run has that ends with the one of this count.
+pub fn instructions_through(count: u32) -> u32
+    requires { count < 4294967295 }
+    ensures { result ≡ count + 1 }
+{
+    count + 1
 }

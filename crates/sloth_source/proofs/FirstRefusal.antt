@@ -3,16 +3,16 @@ use Rattle.std.proofs.Common.{ℕ, List, ◌⊎◌, inl, inr, refl}
 use Rattle.sloth_base.specs.declared.config.Config.{Config}
 use Rattle.sloth_base.specs.declared.app.App.{App}
 use Rattle.sloth_base.specs.declared.refusal.Refusal.{Refusal}
-use Rattle.least_fault.specs.Order.{NoFault}
-use Rattle.oil_lex.specs.Tokens.{TextFault}
+use Rattle.sloth_base.specs.Order.{NoFault}
+use Rattle.oil_parse.specs.Tokens.{TextFault}
 use Rattle.oil_parse.specs.declared.tree.OilTree.{OilTree}
 use Rattle.oil_parse.specs.Text.{HasTree, HasGrammarFault}
 use Rattle.oil_parse.proofs.Judged.{judged}
 use Rattle.oil_rules.specs.ModelFaults.{ModelFault}
-use Rattle.oil_model.specs.Configs.{config_of}
+use Rattle.oil_rules.specs.Configs.{config_of}
 use Rattle.code_rules.specs.WellFormed.{CycleFault, RuleFault}
 use Rattle.asm_lines.specs.Faults.{source_lines}
-use Rattle.asm_items.specs.Apps.{app_of}
+use Rattle.asm_parse.specs.Apps.{app_of}
 use Rattle.asm_parse.specs.AppTexts.{SourceTextFault}
 use Rattle.sloth_source.specs.OilText.{OilText, OilRefusal}
 use Rattle.sloth_source.specs.SourceText.{HasApp, SourceText, SourceRefusal}

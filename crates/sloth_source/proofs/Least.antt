@@ -6,8 +6,8 @@ use Rattle.sloth_base.specs.declared.refusal.Refusal.{Refusal}
 use Rattle.sloth_base.specs.declared.refusal.Part.{Part}
 use Rattle.sloth_base.specs.declared.refusal.Code.{Code}
 use Rattle.sloth_base.specs.declared.refusal.Code.TheVariants as code
-use Rattle.least_fault.specs.Order.{IsNoLater, number, IsLeast, NoFault}
-use Rattle.least_fault.specs.Search.{SomeFrom}
+use Rattle.sloth_base.specs.Order.{IsNoLater, number, IsLeast, NoFault}
+use Rattle.sloth_base.specs.Search.{SomeFrom}
 
 abbrev all : List Code
 all =

@@ -4,7 +4,7 @@ use Rattle.sloth_base.specs.declared.config.Config.{Config}
 use Rattle.sloth_base.specs.declared.app.App.{App}
 use Rattle.sloth_base.specs.declared.refusal.BuildError.{BuildError}
 use Rattle.sloth_base.specs.declared.refusal.BuildError.TheVariants as build_error
-use Rattle.least_fault.specs.Order.{NoFault}
+use Rattle.sloth_base.specs.Order.{NoFault}
 use Rattle.code_rules.specs.WellFormed.{RuleFault}
 use Rattle.task_verify.specs.Accepted.{VerifiedCode}
 use Rattle.sloth_source.specs.RankedTexts.{HasRanks}

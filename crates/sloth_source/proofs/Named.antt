@@ -11,7 +11,7 @@ use Rattle.asm_lines.specs.declared.source_line.SourceLine.{SourceLine}
 use Rattle.asm_scopes.specs.Bodies.{BodyText, bodies_of, body_name, is_task_body}
 use Rattle.sloth_base.specs.DeclaredNames.{task_names}
 use Rattle.asm_scopes.specs.Scopes.{scope_of}
-use Rattle.asm_items.specs.Apps.{func_of, app_of}
+use Rattle.asm_parse.specs.Apps.{func_of, app_of}
 use Rattle.asm_parse.proofs.BodiesRead.{no_body}
 use Rattle.asm_parse.proofs.Places.{stands}
 use Rattle.sloth_source.specs.SourceText.{BodiesAreNamed}

@@ -4,10 +4,10 @@ use Rattle.sloth_base.specs.declared.config.EventDecl.{EventDecl}
 use Rattle.sloth_base.specs.declared.refusal.Refusal.{Refusal}
 use Rattle.sloth_base.specs.declared.refusal.Part.TheVariants.{Oil}
 use Rattle.sloth_base.specs.declared.refusal.Code.{Code}
-use Rattle.oil_lex.specs.Pieces.{TextPiece}
-use Rattle.oil_lex.specs.declared.pieces.Meaning.{Meaning}
-use Rattle.oil_lex.specs.declared.pieces.Meaning.TheVariants as mean
-use Rattle.oil_lex.specs.Tokens.{Lexeme, FaultBy, FaultOf, TextFault, meaning, line_ends}
+use Rattle.oil_parse.specs.Pieces.{TextPiece}
+use Rattle.oil_parse.specs.declared.pieces.Meaning.{Meaning}
+use Rattle.oil_parse.specs.declared.pieces.Meaning.TheVariants as mean
+use Rattle.oil_parse.specs.Tokens.{Lexeme, FaultBy, FaultOf, TextFault, meaning, line_ends}
 use Rattle.oil_parse.specs.declared.tree.OilTree.{OilTree}
 use Rattle.oil_parse.specs.declared.tree.OilObject.{OilObject}
 use Rattle.oil_parse.specs.declared.tree.OilAttr.{OilAttr}
@@ -23,7 +23,7 @@ use Rattle.oil_rules.specs.TreeFaults.{KnownObjectFault, ObjectFault, TreeFault}
 use Rattle.oil_table.specs.declared.table.Place.{Place}
 use Rattle.oil_table.specs.declared.table.Place.TheVariants.{Alarm}
 use Rattle.oil_table.specs.Table.{place_of, block_place}
-use Rattle.oil_table.specs.declared.alarm_limits.Limits.{Limits}
+use Rattle.oil_table.specs.declared.counter_limits.Limits.{Limits}
 use Rattle.oil_table.specs.AlarmCounters.{limits_of}
 use Rattle.oil_rules.specs.Blocks.{BlockText, blocks_of}
 use Rattle.oil_rules.specs.AlarmFaults.{InsideFault, BlockFault, PartFault, AlarmFault}

@@ -3,11 +3,11 @@ use Rattle.std.proofs.Common.{◌≡◌, ◌∙◌, ℕ, List, sym, ap, inl, inr
 use Rattle.sloth_base.specs.declared.config.Config.{Config}
 use Rattle.sloth_base.specs.declared.refusal.BuildError.{BuildError}
 use Rattle.sloth_base.specs.declared.refusal.BuildError.TheVariants as error
-use Rattle.least_fault.specs.Order.{NoFault, ErrorIs}
-use Rattle.oil_lex.specs.Tokens.{Lexeme, AreTokens, TextFault}
+use Rattle.sloth_base.specs.Order.{NoFault, ErrorIs}
+use Rattle.oil_parse.specs.Tokens.{Lexeme, AreTokens, TextFault}
 use Rattle.oil_parse.specs.Faults.{GrammarFault}
 use Rattle.oil_parse.proofs.Texts.{one_tree, grammar_of}
-use Rattle.oil_model.specs.Configs.{config_of}
+use Rattle.oil_rules.specs.Configs.{config_of}
 use Rattle.sloth_source.specs.OilText.{OilText, OilErrorIs}
 
 -- a text declares one configuration

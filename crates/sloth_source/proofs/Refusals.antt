@@ -4,8 +4,8 @@ use Rattle.sloth_base.specs.declared.config.Config.{Config}
 use Rattle.sloth_base.specs.declared.app.App.{App}
 use Rattle.sloth_base.specs.declared.refusal.Refusal.{Refusal}
 use Rattle.sloth_base.specs.declared.refusal.Part.TheVariants.{Oil, Src}
-use Rattle.least_fault.specs.Order.{IsLeast, NoFault}
-use Rattle.oil_lex.specs.Tokens.{TextFault}
+use Rattle.sloth_base.specs.Order.{IsLeast, NoFault}
+use Rattle.oil_parse.specs.Tokens.{TextFault}
 use Rattle.oil_parse.specs.declared.tree.OilTree.{OilTree}
 use Rattle.oil_parse.specs.Text.{HasGrammarFault}
 use Rattle.oil_parse.proofs.Texts.{one_tree, not_both}

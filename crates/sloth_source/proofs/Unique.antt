@@ -8,7 +8,7 @@ use Rattle.oil_parse.proofs.Texts.{one_tree, not_both}
 use Rattle.oil_rules.specs.ModelFaults.{ModelFault}
 use Rattle.code_rules.specs.WellFormed.{CycleFault, RuleFault}
 use Rattle.asm_lines.specs.Faults.{source_lines}
-use Rattle.asm_items.specs.Apps.{app_of}
+use Rattle.asm_parse.specs.Apps.{app_of}
 use Rattle.sloth_source.specs.OilText.{OilText, OilRefusal}
 use Rattle.sloth_source.specs.SourceText.{HasApp, SourceText, SourceRefusal}
 use Rattle.sloth_source.specs.Texts.{AreAccepted, FirstRefusal}

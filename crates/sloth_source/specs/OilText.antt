@@ -4,12 +4,12 @@ use Rattle.sloth_base.specs.declared.config.Config.{Config}
 use Rattle.sloth_base.specs.declared.refusal.Refusal.{Refusal}
 use Rattle.sloth_base.specs.declared.refusal.BuildError.{BuildError}
 use Rattle.sloth_base.specs.declared.refusal.BuildError.TheVariants as error
-use Rattle.least_fault.specs.Order.{IsLeast, NoFault}
-use Rattle.oil_lex.specs.Tokens.{TextFault}
+use Rattle.sloth_base.specs.Order.{IsLeast, NoFault}
+use Rattle.oil_parse.specs.Tokens.{TextFault}
 use Rattle.oil_parse.specs.declared.tree.OilTree.{OilTree}
 use Rattle.oil_parse.specs.Text.{HasTree, HasGrammarFault}
 use Rattle.oil_rules.specs.ModelFaults.{ModelFault}
-use Rattle.oil_model.specs.Configs.{IsConfig}
+use Rattle.oil_rules.specs.Configs.{IsConfig}
 
 -- the text has no fault, and declares this configuration
 pub record OilText (text : List ℕ) (config : Config) : Type 0 where

@@ -3,7 +3,7 @@ use Rattle.std.specs.Prelude.{ℕ, ◌≡◌, ◌⊎◌, List}
 use Rattle.sloth_base.specs.declared.config.Config.{Config}
 use Rattle.sloth_base.specs.declared.app.App.{App}
 use Rattle.sloth_base.specs.declared.refusal.Refusal.{Refusal}
-use Rattle.least_fault.specs.Order.{IsLeast, NoFault}
+use Rattle.sloth_base.specs.Order.{IsLeast, NoFault}
 use Rattle.code_rules.specs.WellFormed.{CycleFault, RuleFault}
 use Rattle.sloth_base.specs.Named.{declaration, function, IsBodyOf}
 use Rattle.asm_parse.specs.AppTexts.{AppText, SourceTextFault}

@@ -10,17 +10,10 @@
 //! refusal of both texts. What is said of it: `specs/Checked`. The task of a name: `task_named`.
 #![tactic(auto)]
 
-mod bounding;
-mod checked_reading;
-mod configuration;
 mod laws;
-mod ranked_texts;
 mod reading;
 mod task_names;
 
-pub use checked_reading::{Checked, read_checked};
-pub use configuration::read_config;
 pub use laws::{one_meaning, one_ranked, one_verdict};
-pub use ranked_texts::{Ranked, read_ranked};
-pub use reading::{Source, read};
+pub use reading::{Checked, Ranked, Source, read, read_checked, read_config, read_ranked};
 pub use task_names::task_named;

@@ -8,7 +8,7 @@ use Rattle.sloth_base.specs.declared.app.App.{App}
 use Rattle.sloth_base.specs.declared.app.Func.{Func}
 use Rattle.sloth_base.specs.Named.{declaration, function, body_of}
 use Rattle.code_rules.specs.WellFormed.{WellFormed}
-use Rattle.call_graph.specs.declared.ranking.Ranks.{Ranks}
+use Rattle.call_graph.specs.declared.lists.Ranks.{Ranks}
 use Rattle.call_graph.specs.Ranks.{RanksOf}
 use Rattle.stack_bounds.specs.Bounds.{total, IsGreatest, context_bytes, frame_bytes, call_bytes, CallsInTurn, used_bytes, AreBounds, HaveStackRoom, IsLength}
 use Rattle.call_graph.specs.Tables.{table_entry, IsTable, task_bytes, gives_way, most_stacked, task_at}

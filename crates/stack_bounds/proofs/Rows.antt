@@ -10,7 +10,7 @@ use Rattle.sloth_base.specs.declared.app.App.{App}
 use Rattle.sloth_base.specs.declared.app.Func.{Func}
 use Rattle.sloth_base.specs.Named.{declaration, body_of, undeclared_task}
 use Rattle.code_rules.specs.WellFormed.{WellFormed}
-use Rattle.call_graph.specs.declared.ranking.Ranks.{Ranks}
+use Rattle.call_graph.specs.declared.lists.Ranks.{Ranks}
 use Rattle.call_graph.specs.Ranks.{RanksOf}
 use Rattle.stack_bounds.specs.Bounds.{total, IsGreatest, IsBasic, MayBePreempted, AreStacked, IsLength}
 use Rattle.call_graph.specs.Tables.{sum_below, gives_way, bytes_under, bytes_with_lower, most_stacked, AreStacks, task_at}

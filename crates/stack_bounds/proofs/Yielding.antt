@@ -15,7 +15,7 @@ use Rattle.code_rules.specs.AppRange.{IsOp, IsMask, mask_of}
 use Rattle.sloth_base.specs.ConfigRange.{no_event}
 use Rattle.code_rules.specs.Code.{IsItem, service_op, IsPausing, Reaches, TaskReaches, ReachesPause}
 use Rattle.code_rules.specs.WellFormed.{WellFormed, HasEvents, IsUndeclaredUse, at_item, is_undeclared_use}
-use Rattle.call_graph.specs.declared.ranking.Ranks.{Ranks}
+use Rattle.call_graph.specs.declared.lists.Ranks.{Ranks}
 use Rattle.call_graph.specs.Ranks.{RanksOf}
 use Rattle.stack_bounds.specs.Bounds.{IsBasic, ReachesSchedule, MayBePreempted}
 use Rattle.call_graph.specs.Tables.{gives_way}

@@ -1,10 +1,10 @@
-//! The most bytes that each function's calls need.
+//! The most bytes that each function's calls need. The most bytes that all basic tasks need on one stack.
 ghost use Rattle.std.specs.Prelude.{◌≡◌, ℕ, ◌<◌, max, length, get_or, IfOk};
 ghost use Rattle.sloth_base.specs.Named.{no_item};
-ghost use Rattle.call_graph.specs.Tables.{most_called, table_entry, func_of, IsTable, IsKnownCall, IsTableInLimit, AreCallable};
+ghost use Rattle.call_graph.specs.Tables.{most_called, table_entry, func_of, IsTable, IsKnownCall, IsTableInLimit, AreCallable, bytes_with_lower, most_stacked, AreStacks};
 
-use call_graph::bytes_called;
-use sloth_base::{Func, Item, NoMemory, Result};
+use call_graph::{bytes_below, bytes_called};
+use sloth_base::{Func, Item, Result, TaskDecl};
 use std::alloc::Global;
 use text_pieces::push;
 
@@ -39,8 +39,7 @@ fn deeper(alloc: Global, funcs: &[Func], table: &[u32]) -> Result<Vec<u32>>
 {
     let mut next = Vec::new(alloc);
     for func in funcs {
-        next.push(most_called(funcs, table, func.items.items()))
-            .map_err(|_| NoMemory)?;
+        push(&mut next, most_called(funcs, table, func.items.items()))?;
     }
     Ok(next)
 }
@@ -67,4 +66,30 @@ pub fn most_calls(alloc: Global, funcs: &[Func]) -> Result<Vec<u32>>
         table = deeper(alloc, funcs, &table)?;
     }
     Ok(table)
+}
+
+/// The bytes of a basic task with all that may stand below it, 0 for an extended task.
+fn bytes_with_lower(tasks: &[TaskDecl], yielding: &[bool], bytes: &[u32], number: usize) -> u32
+    requires stacks { AreStacks tasks.now yielding.now bytes.now }
+    requires known { number < length tasks.now }
+    ensures { result ≡ bytes_with_lower tasks.now yielding.now bytes.now number }
+{
+    let task = &tasks[number];
+    if task.extended {
+        0
+    } else {
+        bytes_below(tasks, yielding, bytes, task.priority) + bytes[number]
+    }
+}
+
+/// The most bytes of a basic task with all that may stand below it.
+pub fn most_stacked(tasks: &[TaskDecl], yielding: &[bool], bytes: &[u32]) -> u32
+    requires { AreStacks tasks.now yielding.now bytes.now }
+    ensures { result ≡ most_stacked tasks.now yielding.now bytes.now }
+{
+    let mut most = 0;
+    for number in 0..tasks.len() {
+        most = larger(most, bytes_with_lower(tasks, yielding, bytes, number));
+    }
+    most
 }

@@ -12,19 +12,14 @@ ghost use Rattle.call_graph.specs.Ranks.{RanksOf};
 ghost use Rattle.stack_bounds.specs.Bounds.{AreBounds};
 
 mod calls;
-mod shared_stack;
-mod stacking;
-pub mod task_bodies;
-mod tasks;
+pub mod stacking;
 
-use crate::calls::most_calls;
-use crate::shared_stack::most_stacked;
-use crate::tasks::{bytes_of_tasks, yielding_tasks};
+use crate::calls::{most_calls, most_stacked};
+use crate::stacking::{bytes_of_tasks, yielding_tasks};
 use call_graph::Ranks;
 use sloth_base::{Bounds, List, Result};
-pub use stacking::offsets;
+pub use stacking::{body_of, offsets};
 use std::alloc::Global;
-pub use task_bodies::body_of;
 use task_verify::Verified;
 
 /// The bytes each task needs at most (128 to 8,572, whole words), and all basic tasks together (at most 269,824).

@@ -1,13 +1,16 @@
-//! The parts of the shared stack.
-ghost use Rattle.std.specs.Prelude.{IfOk};
+//! The parts of the shared stack. What each task needs for itself, and which tasks may be preempted.
+//! The bodies of tasks.
+ghost use Rattle.std.specs.Prelude.{IfOk, ◌≡◌, ℕ, ◌<◌, false, length, get_or};
 ghost use Rattle.code_rules.specs.WellFormed.{WellFormed};
 ghost use Rattle.call_graph.specs.Ranks.{RanksOf};
 ghost use Rattle.stack_bounds.specs.Bounds.{AreBounds, AreParts};
+ghost use Rattle.sloth_base.specs.Named.{body_of};
+ghost use Rattle.call_graph.specs.Tables.{AreCallable, HasTaskBody, IsTableInLimit, task_at, task_bytes, gives_way};
 
-use crate::tasks::yielding_tasks;
 use call_graph::{Ranks, offsets_of_tasks, ranks};
-use sloth_base::{App, Bounds, BuildError, Config, NoMemory, Result};
+use sloth_base::{App, Bounds, BuildError, Config, Func, NoMemory, Result, TaskDecl, WORD};
 use std::alloc::Global;
+use task_verify::tasks::is_task_body;
 
 // What the calls of well-formed task code reach.
 fn reached(alloc: Global, config: &Config, app: &App) -> Result<Ranks>
@@ -22,7 +25,7 @@ fn reached(alloc: Global, config: &Config, app: &App) -> Result<Ranks>
 }
 
 // The parts, by the ranks of the functions.
-fn offsets_by(
+fn ranked_offsets(
     alloc: Global,
     config: &Config,
     app: &App,
@@ -47,5 +50,76 @@ pub fn offsets(alloc: Global, config: &Config, app: &App, bounds: &Bounds) -> Re
     ensures { IfOk result (λ offsets. AreParts config.now app.now bounds.now offsets.items) }
 {
     let ranks = reached(alloc, config, app)?;
-    offsets_by(alloc, config, app, &ranks, bounds)
+    ranked_offsets(alloc, config, app, &ranks, bounds)
+}
+
+/// The bytes of a context, 32 words: where a task goes on, what was below it, and its registers.
+const CONTEXT: u32 = 128;
+
+/// The bytes of each task: the frame of its body, the calls that need most, and a context.
+pub fn bytes_of_tasks(
+    alloc: Global,
+    funcs: &[Func],
+    table: &[u32],
+    count: usize,
+) -> Result<Vec<u32>>
+    requires frames { AreCallable funcs.now }
+    requires small { IsTableInLimit funcs.now table.now }
+    requires bodies { (t : ℕ) → t < count → HasTaskBody funcs.now t }
+    ensures count { IfOk result (λ bytes. length bytes.items ≡ count) }
+    ensures bytes { IfOk result (λ bytes. (t : ℕ) → t < count
+        → get_or bytes.items t 0 ≡ task_bytes funcs.now table.now t) }
+{
+    let mut bytes = Vec::new(alloc);
+    for task in 0..count {
+        let body = body_of(funcs, task);
+        bytes
+            .push(WORD * funcs[body].frame_words + table[body] + CONTEXT)
+            .map_err(|_| NoMemory)?;
+    }
+    Ok(bytes)
+}
+
+/// Whether it is a basic task that may be preempted, by whether its body waits or calls Schedule.
+fn gives_way(task: &TaskDecl, pauses: bool) -> bool
+    ensures { result ≡ gives_way task.now pauses }
+{
+    !task.extended && (!task.non || pauses)
+}
+
+/// Whether each task is a basic one that may be preempted, from the functions that wait or call Schedule.
+pub fn yielding_tasks(
+    alloc: Global,
+    tasks: &[TaskDecl],
+    funcs: &[Func],
+    pauses: &[bool],
+) -> Result<Vec<bool>>
+    requires bodies { (t : ℕ) → t < length tasks.now → HasTaskBody funcs.now t }
+    requires same { length pauses.now ≡ length funcs.now }
+    ensures count { IfOk result (λ yielding. length yielding.items ≡ length tasks.now) }
+    ensures yielding { IfOk result (λ yielding. (t : ℕ) → t < length tasks.now
+        → get_or yielding.items t false ≡ gives_way (task_at tasks.now t)
+        (get_or pauses.now (body_of funcs.now t) false)) }
+{
+    let mut yielding = Vec::new(alloc);
+    for (number, task) in tasks.iter().enumerate() {
+        yielding
+            .push(gives_way(task, pauses[body_of(funcs, number)]))
+            .map_err(|_| NoMemory)?;
+    }
+    Ok(yielding)
+}
+
+/// The number of the task's body. There is one.
+pub fn body_of(funcs: &[Func], task: usize) -> usize
+    requires { HasTaskBody funcs.now task }
+    ensures is { result ≡ body_of funcs.now task }
+    ensures known { result < length funcs.now }
+{
+    for (number, func) in funcs.iter().enumerate() {
+        if is_task_body(func, task) {
+            return number;
+        }
+    }
+    funcs.len()
 }

@@ -9,7 +9,7 @@ use Rattle.sloth_base.specs.declared.refusal.Part.{Part}
 use Rattle.sloth_base.specs.declared.refusal.Code.{Code}
 use Rattle.sloth_base.specs.declared.refusal.Code.TheVariants as code
 use Rattle.sloth_base.specs.declared.refusal.Refusal.{Refusal}
-use Rattle.least_fault.specs.Order.{number}
+use Rattle.sloth_base.specs.Order.{number}
 use Rattle.stage_faults.specs.declared.notes.Note.{Note}
 use Rattle.stage_faults.specs.Told.{AreAll, TellSame, note_order}
 

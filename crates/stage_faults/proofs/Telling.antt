@@ -6,8 +6,8 @@ use Rattle.std.proofs.lemmas.List.Elements.{Contains-append_left, Contains-appen
 use Rattle.sloth_base.specs.declared.refusal.Part.{Part}
 use Rattle.sloth_base.specs.declared.refusal.Code.{Code}
 use Rattle.sloth_base.specs.declared.refusal.Refusal.{Refusal}
-use Rattle.least_fault.specs.Search.{SomeFrom, Somewhere}
-use Rattle.least_fault.specs.Cases.{fault_at, CaseOf}
+use Rattle.sloth_base.specs.Search.{SomeFrom, Somewhere}
+use Rattle.sloth_base.specs.Cases.{fault_at, CaseOf}
 use Rattle.stage_faults.specs.declared.notes.Note.{Note}
 use Rattle.stage_faults.specs.Told.{IsTold, AreAll, Adds}
 

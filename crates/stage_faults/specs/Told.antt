@@ -4,8 +4,8 @@ use Rattle.std.specs.List.{Contains}
 use Rattle.sloth_base.specs.declared.refusal.Part.{Part}
 use Rattle.sloth_base.specs.declared.refusal.Code.{Code}
 use Rattle.sloth_base.specs.declared.refusal.Refusal.{Refusal}
-use Rattle.least_fault.specs.Order.{number}
-use Rattle.least_fault.specs.Cases.{fault_at}
+use Rattle.sloth_base.specs.Order.{number}
+use Rattle.sloth_base.specs.Cases.{fault_at}
 use Rattle.stage_faults.specs.declared.notes.Note.{Note}
 
 -- One of these faults has this line and code, and follows from no other.

@@ -2,10 +2,10 @@
 use Rattle.std.specs.Prelude.{ℕ, ◌+◌, Bool, true, false, ◌||◌, ◌&&◌, not, ◌⊎◌, List, [], ◌∷◌, length}
 use Rattle.sloth_base.specs.declared.refusal.Code.TheVariants as code
 use Rattle.sloth_base.specs.declared.refusal.Refusal.{Refusal}
-use Rattle.least_fault.specs.Search.{Somewhere}
+use Rattle.sloth_base.specs.Search.{Somewhere}
 use Rattle.asm_lines.specs.declared.source_line.SourceLine.{SourceLine}
 use Rattle.asm_lines.specs.declared.source_line.SourceLine.TheVariants.{Statement}
-use Rattle.asm_forms.specs.Forms.{is_operand_count}
+use Rattle.asm_lines.specs.Forms.{is_operand_count}
 use Rattle.asm_lines.specs.Grammar.{is_shapeless}
 use Rattle.asm_lines.specs.Faults.{SourceCase, is_a1, is_a2, is_a3, is_a4, after_line, is_end_inside}
 

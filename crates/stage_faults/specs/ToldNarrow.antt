@@ -4,7 +4,7 @@ use Rattle.std.specs.List.{list_any}
 use Rattle.std.specs.Str.{bytes_eq}
 use Rattle.sloth_base.specs.declared.refusal.Code.TheVariants.{A4}
 use Rattle.sloth_base.specs.declared.refusal.Refusal.{Refusal}
-use Rattle.least_fault.specs.Search.{Somewhere}
+use Rattle.sloth_base.specs.Search.{Somewhere}
 use Rattle.asm_lines.specs.Bytes.{trim_start, word_of}
 use Rattle.text_pieces.specs.Lines.{lines}
 use Rattle.asm_lines.specs.Faults.{SourceCase, source_lines}

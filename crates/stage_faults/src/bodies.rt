@@ -1,17 +1,15 @@
-//! The faults of bodies (A5 to A7).
+//! The faults of bodies (A5 to A7). The lines of earlier things, by their names.
 ghost use Rattle.std.specs.Prelude.{◌≡◌, ◌+◌, ◌<◌, ◌^◌, ◌⊎◌, length, take, All, OnOk};
 ghost use Rattle.sloth_base.specs.declared.refusal.Part.TheVariants.{Src};
-ghost use Rattle.least_fault.specs.Search.{Somewhere};
+ghost use Rattle.sloth_base.specs.Search.{Somewhere};
 ghost use Rattle.asm_scopes.specs.Statements.{label_names};
 ghost use Rattle.asm_scopes.specs.Bodies.{function_names};
 ghost use Rattle.stage_faults.specs.ToldNames.{is_header_beyond, is_line_beyond, ToldHeader, ToldBodyLine, ToldLineName, ToldBody};
 ghost use Rattle.stage_faults.specs.Told.{Adds};
 
 use crate::Note;
-use crate::earlier_lines::{Before, line_of_first, push_line};
 use crate::notes::{add_bare, add_named};
-use asm_forms::Mnemonic;
-use asm_lines::{Operand, SourceLine};
+use asm_lines::{Mnemonic, Operand, SourceLine};
 use asm_parse::{
     count_item, count_items, count_label, is_beyond, is_misnamed, is_strange, is_too_great,
 };
@@ -182,9 +180,9 @@ fn body_faults<'t>(
 ) -> Result<()>
     requires few { body.now.line + length body.now.lines < 2 ^ 32 }
     requires items { before.items + length body.now.lines < 2 ^ 64 }
-    ensures { OnOk result (Adds Src (λ r.
-        ToldHeader scope.now (take before.count scope.now.functions) before.count body.now.line body.now.header r
-        ⊎ Somewhere (ToldLineName scope.now (label_names body.now.lines) before.items body.now.line) body.now.lines r) notes.old.items notes.new.items) }
+    ensures { OnOk result (Adds Src (λ r. ToldHeader scope.now (take before.count scope.now.functions) before.count
+        body.now.line body.now.header r ⊎ Somewhere (ToldLineName scope.now (label_names body.now.lines) before.items
+        body.now.line) body.now.lines r) notes.old.items notes.new.items) }
 {
     let labels = label_names(alloc, body.lines())?;
     let number = body.line();
@@ -214,6 +212,29 @@ pub fn body_notes<'t>(
         body_faults(alloc, notes, scope, lacking, &earlier, before, body)?;
         push(&mut earlier, body.line())?;
         items += count_items(body.lines());
+    }
+    Ok(())
+}
+
+/// What stands before a line or a body: so many labels or bodies, and so many items.
+#[derive(Clone, Copy)]
+pub struct Before {
+    pub count: usize,
+    pub items: usize,
+}
+
+/// The line of the first thing of this name, if it is among the first, which stand on these lines.
+pub fn line_of_first(names: &Names, lines: &[u32], name: &[u8]) -> Option<u32> {
+    match names.number(name) {
+        Some(number) if number < lines.len() => Some(lines[number]),
+        _ => None,
+    }
+}
+
+/// One line more, where a test says so.
+pub fn push_line(lines: &mut Vec<u32>, test: bool, line: u32) -> Result<()> {
+    if test {
+        return push(lines, line);
     }
     Ok(())
 }

@@ -6,8 +6,6 @@
 #![tactic(auto)]
 
 mod bodies;
-mod earlier_lines;
-mod forms;
 mod lines;
 mod names;
 mod narrow;
@@ -18,11 +16,9 @@ mod oil_objects;
 mod oil_stage;
 mod oil_tasks;
 mod symbols;
-mod tables;
 pub mod told_list;
 
-pub use forms::line_notes;
 pub use names::name_notes;
-pub use notes::{Note, Position};
+pub use notes::{Note, Position, line_notes};
 pub use oil_stage::model_notes;
 pub use told_list::{order, put_in_order};

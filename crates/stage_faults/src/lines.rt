@@ -1,30 +1,22 @@
 //! The faults of the lines of task source (A1 to A4).
 ghost use Rattle.std.specs.Prelude.{◌≡◌, ◌<◌, ◌^◌, ◌||◌, ◌&&◌, length, not, OnOk};
 ghost use Rattle.sloth_base.specs.declared.refusal.Part.TheVariants.{Src};
-ghost use Rattle.asm_lines.specs.Grammar.{is_shapeless};
 ghost use Rattle.stage_faults.specs.Told.{Adds};
-ghost use Rattle.stage_faults.specs.ToldLines.{is_misplaced, is_told_a1, is_counted, is_told_a4, ToldLine, ToldFault};
+ghost use Rattle.stage_faults.specs.ToldLines.{is_misplaced, is_told_a1, is_told_a4, ToldLine, ToldFault};
 
 use crate::Note;
 use crate::notes::add_bare;
-use asm_forms::takes;
-use asm_lines::{SourceLine, after_line, is_a1, is_a2, is_a3, is_a4};
+use asm_lines::{SourceLine, after_line, is_a1, is_a2, is_a3, is_a4, takes};
 use sloth_base::{Code, Result};
-
-fn is_shaped(line: &SourceLine) -> bool
-    ensures { result ≡ not (is_shapeless line.now) }
-{
-    match line {
-        SourceLine::Shapeless => false,
-        _ => true,
-    }
-}
 
 // A1 that comes from the place alone, as of a statement of the other side.
 fn is_misplaced(inside: bool, line: &SourceLine) -> bool
     ensures { result ≡ is_misplaced inside line.now }
 {
-    is_shaped(line) && is_a1(inside, line)
+    match line {
+        SourceLine::Shapeless => false,
+        _ => is_a1(inside, line),
+    }
 }
 
 fn is_told_a1(inside: bool, earlier: bool, line: &SourceLine) -> bool
@@ -33,20 +25,16 @@ fn is_told_a1(inside: bool, earlier: bool, line: &SourceLine) -> bool
     is_a1(inside, line) && !(earlier && is_misplaced(inside, line))
 }
 
-fn is_counted(line: &SourceLine) -> bool
-    ensures { result ≡ is_counted line.now }
-{
-    match line {
-        SourceLine::Statement { mnemonic, operands } => takes(*mnemonic, operands.items().len()),
-        _ => false,
-    }
-}
-
 /// A4 of the operands of a line that has as many as it may have.
 pub fn is_told_a4(line: &SourceLine) -> bool
     ensures { result ≡ is_told_a4 line.now }
 {
-    is_counted(line) && is_a4(line)
+    match line {
+        SourceLine::Statement { mnemonic, operands } => {
+            takes(*mnemonic, operands.items().len()) && is_a4(line)
+        }
+        _ => false,
+    }
 }
 
 // The faults of a line, but A1 where it comes from the place alone and an earlier one did.

@@ -3,12 +3,12 @@ ghost use Rattle.std.specs.Prelude.{◌≡◌, ◌<◌, ◌^◌, map, length, If
 ghost use Rattle.std.specs.List.{list_any, take_while};
 ghost use Rattle.sloth_base.specs.ImageRange.{continues_word};
 ghost use Rattle.sloth_base.specs.declared.refusal.Part.TheVariants.{Src};
-ghost use Rattle.least_fault.specs.Search.{Somewhere};
+ghost use Rattle.sloth_base.specs.Search.{Somewhere};
 ghost use Rattle.text_pieces.specs.Names.{referent};
 ghost use Rattle.asm_lines.specs.Bytes.{is_blank, trim_start};
 ghost use Rattle.text_pieces.specs.Lines.{lines};
 ghost use Rattle.stage_faults.specs.Told.{Adds};
-ghost use Rattle.stage_faults.specs.ToldNarrow.{is_narrow, first_word, behind_word, is_word_a4, is_narrow_a4, NarrowFault};
+ghost use Rattle.stage_faults.specs.ToldNarrow.{is_narrow, first_word, behind_word, is_narrow_a4, NarrowFault};
 ghost use Rattle.stage_faults.specs.ToldLines.{is_told_a4};
 
 use crate::Note;
@@ -37,9 +37,7 @@ fn leading_blanks(text: &[u8]) -> usize
 fn word_length(text: &[u8]) -> usize
     ensures { result ≡ length (take_while continues_word text.now) }
 {
-    text.iter()
-        .take_while(|byte| continues_word(**byte))
-        .count()
+    text.iter().take_while(|b| continues_word(**b)).count()
 }
 
 fn trim_start(line: &[u8]) -> &[u8]
@@ -58,8 +56,7 @@ fn first_word(line: &[u8]) -> &[u8]
 fn behind_word(line: &[u8]) -> &[u8]
     ensures { result.now ≡ behind_word line.now }
 {
-    let text = trim_start(line);
-    after(text, word_length(text))
+    after(trim_start(line), first_word(line).len())
 }
 
 fn is_narrow(word: &[u8]) -> bool
@@ -77,21 +74,15 @@ fn any_told_a4(lines: &[SourceLine]) -> bool
     lines.iter().any(|line| is_told_a4(line))
 }
 
-fn is_word_a4(alloc: Global, line: &[u8]) -> Result<bool>
-    ensures { IfOk result (λ test. test ≡ is_word_a4 line.now) }
-{
-    let text = text!(alloc; Word(b"lw"), Word(behind_word(line)))?;
-    let lines = read_lines(alloc, &text)?;
-    Ok(any_told_a4(lines.items()))
-}
-
 fn is_narrow_a4(alloc: Global, line: &[u8]) -> Result<bool>
     ensures { IfOk result (λ test. test ≡ is_narrow_a4 line.now) }
 {
-    if is_narrow(first_word(line)) {
-        return is_word_a4(alloc, line);
+    if !is_narrow(first_word(line)) {
+        return Ok(false);
     }
-    Ok(false)
+    let text = text!(alloc; Word(b"lw"), Word(behind_word(line)))?;
+    let lines = read_lines(alloc, &text)?;
+    Ok(any_told_a4(lines.items()))
 }
 
 // ---- all lines

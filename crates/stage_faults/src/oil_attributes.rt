@@ -2,13 +2,13 @@
 ghost use Rattle.std.specs.Prelude.{◌≡◌, ◌&&◌, not, is_none, OnOk};
 ghost use Rattle.sloth_base.specs.declared.refusal.Code.TheVariants.{O8};
 ghost use Rattle.sloth_base.specs.declared.refusal.Part.TheVariants.{Oil};
-ghost use Rattle.least_fault.specs.Search.{Somewhere};
+ghost use Rattle.sloth_base.specs.Search.{Somewhere};
 ghost use Rattle.oil_table.specs.Cases.{OilCase};
 ghost use Rattle.stage_faults.specs.Told.{Adds};
 ghost use Rattle.stage_faults.specs.ToldModel.{is_at_fault, is_inside, fault_behind, ToldRow, ToldAttribute};
 
 use crate::notes::{add_following, add_named, add_placed};
-use crate::tables::Tables;
+use crate::oil_objects::Tables;
 use crate::{Note, Position};
 use oil_parse::{OilAttr, OilValue};
 use oil_rules::attribute_faults::is_unlisted;

@@ -1,7 +1,7 @@
 //! The faults in the blocks of alarms (O9 to O12).
 ghost use Rattle.std.specs.Prelude.{◌≡◌, [], OnOk};
 ghost use Rattle.sloth_base.specs.declared.refusal.Part.TheVariants.{Oil};
-ghost use Rattle.least_fault.specs.Search.{Somewhere};
+ghost use Rattle.sloth_base.specs.Search.{Somewhere};
 ghost use Rattle.oil_rules.specs.Blocks.{blocks_of};
 ghost use Rattle.oil_table.specs.AlarmCounters.{limits_of};
 ghost use Rattle.oil_rules.specs.AlarmFaults.{InsideFault, BlockFault, AlarmFault};
@@ -11,7 +11,7 @@ use crate::notes::{add_bare, add_placed};
 use crate::oil_attributes::value_word;
 use crate::{Note, Position};
 use oil_parse::{OilAttr, OilObject};
-use oil_rules::alarm_faults::is_unlisted;
+use oil_rules::blocks::is_unlisted;
 use oil_rules::{Block, NamedTask, blocks_of, lacks_part};
 use oil_table::{
     CounterLimits, EarlierUses, Limits, Place, TaskEvents, attribute_of, block_place, is_beyond,
@@ -22,15 +22,21 @@ use std::alloc::Global;
 
 // ---- a block
 
-// O10 stands at the end of its block, behind what is O10 by itself.
+// Where a fault of an attribute stands.
+#[derive(Clone, Copy)]
+struct Spot {
+    own: Position,
+    // The end of the block: O10 stands there, behind what is O10 by itself.
+    end: Position,
+}
+
 fn add_inner_fault<'t>(
     notes: &mut Vec<Note<'t>>,
     limits: Limits,
     place: Place,
     block: &NamedTask,
     before: &EarlierUses,
-    position: Position,
-    end: Position,
+    spot: Spot,
     attr: &'t OilAttr,
 ) -> Result<()>
     requires { before.now.depth ≡ 1 }
@@ -42,12 +48,12 @@ fn add_inner_fault<'t>(
     let name = attr.name.bytes();
     let row = attribute_of(place, name);
     let second = is_second(row, before, attr);
-    add_placed(notes, second, line, Code::O9, name, position)?;
+    add_placed(notes, second, line, Code::O9, name, spot.own)?;
     let unlisted = is_unlisted(place, block, attr);
     let word = value_word(&attr.value);
-    add_placed(notes, unlisted, line, Code::O10, word, end)?;
+    add_placed(notes, unlisted, line, Code::O10, word, spot.end)?;
     let beyond = is_beyond(limits, row, attr);
-    add_placed(notes, beyond, line, Code::O12, name, position)
+    add_placed(notes, beyond, line, Code::O12, name, spot.own)
 }
 
 fn add_inner_faults<'t>(
@@ -67,8 +73,16 @@ fn add_inner_faults<'t>(
     let end = head.behind(attrs.len());
     let mut before = EarlierUses::new(alloc, 1);
     for (number, attr) in attrs.iter().enumerate() {
-        let position = head.behind(number + 1);
-        add_inner_fault(notes, limits, place, block, &before, position, end, attr)?;
+        let own = head.behind(number + 1);
+        add_inner_fault(
+            notes,
+            limits,
+            place,
+            block,
+            &before,
+            Spot { own, end },
+            attr,
+        )?;
         before = before.with(&attrs[..=number], attr)?;
     }
     Ok(())

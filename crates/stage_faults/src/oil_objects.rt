@@ -1,21 +1,20 @@
-//! The faults of the objects of a tree, but those in the blocks of alarms.
+//! The faults of the objects of a tree, but those in the blocks of alarms. What the objects of a tree are judged by.
 ghost use Rattle.std.specs.Prelude.{◌≡◌, ◌&&◌, nat_lt, true, OnOk};
 ghost use Rattle.sloth_base.specs.declared.refusal.Part.TheVariants.{Oil};
-ghost use Rattle.least_fault.specs.Search.{Somewhere};
+ghost use Rattle.sloth_base.specs.Search.{Somewhere};
 ghost use Rattle.oil_table.specs.Objects.{is_of_kind, has_scheduler};
 ghost use Rattle.oil_table.specs.Events.{events_of};
 ghost use Rattle.oil_rules.specs.ObjectFaults.{is_known, KindFault};
 ghost use Rattle.stage_faults.specs.Told.{Adds};
-ghost use Rattle.stage_faults.specs.ToldModel.{is_far_above, is_told_above, ToldKnown, ToldInner, ToldObject, ToldTree};
+ghost use Rattle.stage_faults.specs.ToldModel.{is_told_above, ToldKnown, ToldInner, ToldObject, ToldTree};
 
 use crate::notes::{add_bare, add_named, add_placed};
 use crate::oil_attributes::add_attributes;
 use crate::oil_tasks::{add_events, add_of_task};
-use crate::tables::Tables;
 use crate::{Note, Position};
 use oil_parse::{OilObject, OilTree};
 use oil_rules::{Front, is_above, is_doubled, is_strange_mode, lacks_attribute};
-use oil_table::{is_nowhere, is_of_kind, place_of};
+use oil_table::{CounterLimits, EventTable, is_nowhere, is_of_kind, place_of};
 use sloth_base::{
     ALARM_LIMIT, COUNTER_LIMIT, Code, EVENT_LIMIT, NoMemory, RESOURCE_LIMIT, Result, TASK_LIMIT,
 };
@@ -29,20 +28,15 @@ fn is_behind_more(kind: &[u8], limit: usize, count: usize, object: &OilObject) -
     is_of_kind(object, kind) && limit < count
 }
 
-fn is_far_above(front: &Front, object: &OilObject) -> bool
-    ensures { result ≡ is_far_above front.now object.now }
+fn is_told_above(front: &Front, object: &OilObject) -> bool
+    ensures { result ≡ is_told_above front.now object.now }
 {
-    is_behind_more(b"TASK", TASK_LIMIT, front.tasks(), object)
+    is_above(front, object)
+        || is_behind_more(b"TASK", TASK_LIMIT, front.tasks(), object)
         || is_behind_more(b"RESOURCE", RESOURCE_LIMIT, front.resources(), object)
         || is_behind_more(b"EVENT", EVENT_LIMIT, front.events(), object)
         || is_behind_more(b"COUNTER", COUNTER_LIMIT, front.counters(), object)
         || is_behind_more(b"ALARM", ALARM_LIMIT, front.alarms(), object)
-}
-
-fn is_told_above(front: &Front, object: &OilObject) -> bool
-    ensures { result ≡ is_told_above front.now object.now }
-{
-    is_above(front, object) || is_far_above(front, object)
 }
 
 fn add_known<'t>(
@@ -73,9 +67,8 @@ fn add_known_object<'e, 't: 'e>(
     object: &'t OilObject,
 ) -> Result<()>
     requires { tables.now.counters.now ≡ tables.now.objects.now }
-    ensures { OnOk result (Adds Oil (λ r.
-        (is_known object.now ≡ true) × ToldInner tables.now.objects.now tables.now.scheduler tables.now.events.now front.now object.now r)
-        notes.old.items notes.new.items) }
+    ensures { OnOk result (Adds Oil (λ r. (is_known object.now ≡ true) × ToldInner tables.now.objects.now
+        tables.now.scheduler tables.now.events.now front.now object.now r) notes.old.items notes.new.items) }
 {
     let place = place_of(object.kind.bytes());
     if is_nowhere(place) {
@@ -137,4 +130,13 @@ pub fn add_tree<'e, 't: 'e>(
     add_objects(alloc, notes, objects, tables)?;
     let lacking = !tables.objects.has_os();
     add_named(notes, lacking, tree.cpu_line, Code::O11, b"OS", None)
+}
+
+/// All objects of a tree, the limits of its counters, whether it has the resource of the scheduler, and its events.
+#[derive(Drop)]
+pub struct Tables<'t> {
+    pub objects: &'t Front<'t>,
+    pub counters: &'t CounterLimits<'t>,
+    pub scheduler: bool,
+    pub events: &'t EventTable<'t>,
 }

@@ -8,8 +8,7 @@ ghost use Rattle.stage_faults.specs.ToldModel.{ToldModel};
 
 use crate::Note;
 use crate::oil_blocks::add_alarms;
-use crate::oil_objects::add_tree;
-use crate::tables::Tables;
+use crate::oil_objects::{Tables, add_tree};
 use oil_parse::OilTree;
 use oil_rules::Front;
 use oil_table::{CounterLimits, EventTable, TaskEvents, events_of, has_scheduler, names_of};

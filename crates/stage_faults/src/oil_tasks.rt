@@ -1,7 +1,7 @@
 //! The faults of a task's attributes that rest on other tasks and on events (O13, O15), and events without a bit (O15).
 ghost use Rattle.std.specs.Prelude.{◌≡◌, codes, OnOk};
 ghost use Rattle.sloth_base.specs.declared.refusal.Part.TheVariants.{Oil};
-ghost use Rattle.least_fault.specs.Search.{Somewhere};
+ghost use Rattle.sloth_base.specs.Search.{Somewhere};
 ghost use Rattle.oil_table.specs.Objects.{is_used};
 ghost use Rattle.oil_table.specs.Events.{BitFault};
 ghost use Rattle.oil_rules.specs.TaskFaults.{TaskFault};

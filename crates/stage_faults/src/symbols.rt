@@ -1,13 +1,13 @@
 //! The faults of symbols (A5 and A6).
 ghost use Rattle.std.specs.Prelude.{◌≡◌, ◌<◌, ◌^◌, length, take, OnOk};
 ghost use Rattle.sloth_base.specs.declared.refusal.Part.TheVariants.{Src};
-ghost use Rattle.least_fault.specs.Search.{Somewhere};
+ghost use Rattle.sloth_base.specs.Search.{Somewhere};
 ghost use Rattle.asm_scopes.specs.Statements.{symbol_names};
 ghost use Rattle.stage_faults.specs.ToldNames.{is_symbol_beyond, ToldSymbol, ToldData};
 ghost use Rattle.stage_faults.specs.Told.{Adds};
 
 use crate::Note;
-use crate::earlier_lines::{line_of_first, push_line};
+use crate::bodies::{line_of_first, push_line};
 use crate::notes::{add_bare, add_named};
 use asm_lines::SourceLine;
 use asm_parse::{bytes_of, count_data, is_taken, is_too_much};

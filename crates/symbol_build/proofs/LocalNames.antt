@@ -5,10 +5,9 @@ use Rattle.std.specs.Option.{option_map}
 use Rattle.std.proofs.lemmas.Bool.{ne_eqb, eq-eqb}
 use Rattle.std.proofs.lemmas.List.{get_or-map, length-map}
 use Rattle.code_rules.specs.AppRange.{IsResource}
-use Rattle.map_text.specs.PieceNames.{resource_name}
 use Rattle.sloth_base.proofs.Services.{of_name}
 use Rattle.sloth_base.specs.Blocks.{block_number}
-use Rattle.sloth_base.specs.ConfigRange.{InRange, scheduler_number}
+use Rattle.sloth_base.specs.ConfigRange.{InRange, resource_name, scheduler_number}
 use Rattle.sloth_base.specs.Named.{alarm_declaration, counter_declaration, declaration, undeclared_alarm, undeclared_counter, undeclared_task}
 use Rattle.sloth_base.specs.ServiceCodes.{object_kind, service_name, service_named}
 use Rattle.sloth_base.specs.declared.config.Config.{Config}

@@ -32,7 +32,7 @@ use Rattle.sloth_base.specs.declared.config.Config.{Config}
 use Rattle.sloth_base.specs.declared.places.Bounds.{Bounds}
 use Rattle.sloth_base.specs.declared.service.Service.{Service}
 use Rattle.sloth_base.specs.declared.service.Service.TheVariants as service
-use Rattle.sloth_region.specs.declared.map.Map.{Map}
+use Rattle.sloth_region.specs.declared.region.Map.{Map}
 use Rattle.map_text.specs.PieceNames.{block_symbol, service_symbol}
 use Rattle.symbol_image.specs.Symbols.{local_of, local_symbols, word_symbols}
 use Rattle.symbol_image.specs.declared.symbol.Symbol.{Symbol}

@@ -10,19 +10,19 @@ use Rattle.sloth_base.specs.declared.config.Config.{Config}
 use Rattle.sloth_base.specs.declared.refusal.Code.TheVariants as code
 use Rattle.sloth_base.specs.declared.refusal.Part.TheVariants as part
 use Rattle.sloth_base.specs.declared.refusal.Refusal.{Refusal}
-use Rattle.least_fault.specs.Cases.{fault_at}
-use Rattle.least_fault.specs.Search.{SomeFrom}
-use Rattle.asm_forms.specs.Forms.{is_body_end, is_body_start, is_outer}
-use Rattle.asm_forms.specs.declared.forms.Mnemonic.{Mnemonic}
-use Rattle.asm_forms.specs.declared.forms.Mnemonic.TheVariants as m
+use Rattle.sloth_base.specs.Cases.{fault_at}
+use Rattle.sloth_base.specs.Search.{SomeFrom}
+use Rattle.asm_lines.specs.Forms.{is_body_end, is_body_start, is_outer}
+use Rattle.asm_lines.specs.declared.forms.Mnemonic.{Mnemonic}
+use Rattle.asm_lines.specs.declared.forms.Mnemonic.TheVariants as m
 use Rattle.asm_lines.specs.Faults.{FaultAt, after_line, is_a1, is_end_inside, same_bool}
 use Rattle.asm_lines.specs.declared.source_line.SourceLine.{SourceLine}
 use Rattle.asm_lines.specs.declared.source_line.SourceLine.TheVariants.{Empty, Shapeless, Statement, Unknown}
 use Rattle.asm_scopes.specs.Bodies.{BodyText, bodies_from}
 use Rattle.asm_scopes.specs.Statements.{closes_body, label_names, opens_body}
 use Rattle.asm_scopes.specs.declared.scope.Scope.{Scope}
-use Rattle.asm_items.specs.Apps.{func_of, item_by, items_from}
-use Rattle.asm_items.specs.Operations.{op_of}
+use Rattle.asm_parse.specs.Apps.{func_of, item_by, items_from}
+use Rattle.asm_parse.specs.Operations.{op_of}
 
 -- ---- what rises
 

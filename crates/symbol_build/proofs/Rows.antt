@@ -1,7 +1,7 @@
 -- The source lines of accepted texts are rows of the standard's machine.
 use Rattle.std.proofs.Common.{◌≡◌, ◌+◌, List, inl, length, map, sym, ap, subst, arith}
 use Rattle.sloth_base.specs.declared.app.Func.{Func}
-use Rattle.asm_items.specs.Apps.{func_of}
+use Rattle.asm_parse.specs.Apps.{func_of}
 use Rattle.asm_lines.proofs.Counts.{lines_few}
 use Rattle.asm_lines.specs.Faults.{source_lines}
 use Rattle.asm_scopes.specs.Bodies.{bodies_of}

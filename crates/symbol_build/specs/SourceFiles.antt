@@ -2,7 +2,7 @@
 use Rattle.std.specs.Prelude.{ℕ, ◌≡◌, ◌≤◌, ◌<◌, ◌^◌, List, length}
 use Rattle.sloth_base.specs.Limits.{file_limit}
 use Rattle.sloth_base.specs.declared.app.App.{App}
-use Rattle.sloth_region.specs.declared.map.Map.{Map}
+use Rattle.sloth_region.specs.declared.region.Map.{Map}
 use Rattle.asm_lines.specs.Faults.{source_lines}
 use Rattle.mem_map.specs.Zones.{data_zone}
 use Rattle.symbol_image.specs.EntryTree.{HasCodeEntries}

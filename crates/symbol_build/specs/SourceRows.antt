@@ -4,7 +4,7 @@ use Rattle.sloth_base.specs.Limits.{file_limit}
 use Rattle.sloth_base.specs.declared.app.App.{App}
 use Rattle.sloth_base.specs.declared.config.Config.{Config}
 use Rattle.sloth_base.specs.declared.places.Bounds.{Bounds}
-use Rattle.sloth_region.specs.declared.map.Map.{Map}
+use Rattle.sloth_region.specs.declared.region.Map.{Map}
 use Rattle.sloth_source.specs.Texts.{AreAccepted}
 use Rattle.mem_map.specs.Planned.{IsPlanned}
 use Rattle.mem_map.specs.Zones.{data_zone}
@@ -12,7 +12,7 @@ use Rattle.symbol_image.specs.LineMachine.{HasMatrix, wanted_matrix}
 use Rattle.map_text.specs.LineRows.{line_rows}
 use Rattle.symbol_image.specs.LineSection.{line_program}
 use Rattle.symbol_image.specs.FileRows.{file_rows}
-use Rattle.symbol_image.specs.declared.file_rows.FileRow.{FileRow}
+use Rattle.symbol_image.specs.declared.line_section.FileRow.{FileRow}
 use Rattle.symbol_image.specs.declared.line_places.Place.{Place}
 use Rattle.symbol_build.specs.SymbolFiles.{source_origins}
 

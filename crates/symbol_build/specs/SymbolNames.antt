@@ -6,7 +6,7 @@ use Rattle.mem_map.specs.Planned.{IsPlanned}
 use Rattle.sloth_base.specs.declared.app.App.{App}
 use Rattle.sloth_base.specs.declared.config.Config.{Config}
 use Rattle.sloth_base.specs.declared.places.Bounds.{Bounds}
-use Rattle.sloth_region.specs.declared.map.Map.{Map}
+use Rattle.sloth_region.specs.declared.region.Map.{Map}
 use Rattle.symbol_image.specs.Symbols.{locals_of}
 use Rattle.symbol_image.specs.declared.symbol.Symbol.{Symbol}
 

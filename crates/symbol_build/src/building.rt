@@ -2,7 +2,7 @@
 ghost use Rattle.std.specs.Prelude.{◌≡◌, ◌≤◌, ◌<◌, IfErr, IfOk, length};
 ghost use Rattle.sloth_base.specs.Limits.{file_limit};
 ghost use Rattle.sloth_base.specs.declared.image.Image.{Image as AnyImage};
-ghost use Rattle.least_fault.specs.Order.{NoFault};
+ghost use Rattle.sloth_base.specs.Order.{NoFault};
 ghost use Rattle.asm_lines.specs.Faults.{SourceLinesFault, source_lines};
 ghost use Rattle.sloth_build.specs.Gathered.{MayBuild};
 ghost use Rattle.map_text.specs.Listable.{IsListable};
@@ -15,7 +15,7 @@ use asm_lines::SourceLine;
 use map_text::map_rows;
 use mem_map::plan;
 use sloth_base::{App, Bounds, BuildError, Config, List, NoMemory, Result};
-use sloth_build::image::image;
+use sloth_build::building::image;
 use sloth_region::Map;
 use sloth_source::{Source, read};
 use std::alloc::Global;

@@ -6,7 +6,7 @@ use Rattle.std.proofs.lemmas.Bool.{cases_lt, lt-ltb, le-ltb, ltb-true}
 use Rattle.std.proofs.lemmas.Bool.Decides.{eqb_tells}
 use Rattle.std.proofs.lemmas.List.Elements.{All-cons, All-nil}
 use Rattle.image_file.specs.Fields.{four_bytes}
-use Rattle.symbol_image.specs.declared.file_rows.FileRow.{FileRow}
+use Rattle.symbol_image.specs.declared.line_section.FileRow.{FileRow}
 use Rattle.symbol_image.specs.Fields.{negative_leb, signed_leb, unsigned_leb}
 use Rattle.symbol_image.specs.LineMachine.{AdvanceLine, AdvancePc, AreRisingRows, Copy, EndSequence, HasMatrix, IsOperation, MatrixRow, Operation, Registers, RetreatLine, SetAddress, SetFile, at_first, further_matrix, matrix_of, operation_bytes, wanted_matrix}
 use Rattle.symbol_image.specs.LineSection.{address_from, beginning, file_from, further_rows, line_from, line_program, place_from}

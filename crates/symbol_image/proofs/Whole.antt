@@ -9,7 +9,7 @@ use Rattle.symbol_image.specs.Entries.{all_body_bytes, all_symbol_bytes, base_ty
 use Rattle.symbol_image.specs.EntryBytes.{entries_bytes, entry_bytes, value_bytes}
 use Rattle.symbol_image.specs.Fields.{sized}
 use Rattle.map_text.specs.LineRows.{item_address}
-use Rattle.symbol_image.specs.declared.types.Types.{Types}
+use Rattle.symbol_image.specs.declared.data.Types.{Types}
 
 header : unit_header ≡ 4 ∷ 0 ∷ 0 ∷ 0 ∷ 0 ∷ 0 ∷ 4 ∷ []
 unfolding four_bytes two_bytes

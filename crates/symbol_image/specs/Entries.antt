@@ -11,9 +11,9 @@ use Rattle.symbol_image.specs.Abbreviations.{array_kind, base_type_kind, body_ki
 use Rattle.symbol_image.specs.EntryBytes.{Address, Byte, End, DwarfEntry, Location, Of, Offset, Present, Reference, Text, Value, Word, entries_bytes}
 use Rattle.symbol_image.specs.Fields.{sized}
 use Rattle.map_text.specs.LineRows.{item_address}
-use Rattle.symbol_image.specs.declared.types.Shape.{Shape}
-use Rattle.symbol_image.specs.declared.types.Shape.TheVariants as shape
-use Rattle.symbol_image.specs.declared.types.Types.{Types}
+use Rattle.symbol_image.specs.declared.data.Shape.{Shape}
+use Rattle.symbol_image.specs.declared.data.Shape.TheVariants as shape
+use Rattle.symbol_image.specs.declared.data.Types.{Types}
 
 -- ---- the unit
 

@@ -10,8 +10,8 @@ use Rattle.symbol_image.specs.Entries.{base_type, body_entry, byte_name, info_se
 use Rattle.symbol_image.specs.EntryBytes.{End, DwarfEntry, HasForms, Of, Reference, Word, entries_bytes}
 use Rattle.symbol_image.specs.Fields.{sized}
 use Rattle.map_text.specs.LineRows.{item_address, item_count}
-use Rattle.symbol_image.specs.declared.types.Shape.{Shape}
-use Rattle.symbol_image.specs.declared.types.Shape.TheVariants as shape
+use Rattle.symbol_image.specs.declared.data.Shape.{Shape}
+use Rattle.symbol_image.specs.declared.data.Shape.TheVariants as shape
 
 -- an entry's kind is one of a table
 abbrev pub HasKindIn : List Abbreviation → DwarfEntry → Type 0

@@ -2,7 +2,7 @@
 use Rattle.std.specs.Prelude.{ℕ, List, length}
 use Rattle.sloth_base.specs.declared.app.App.{App}
 use Rattle.sloth_base.specs.declared.config.Config.{Config}
-use Rattle.sloth_region.specs.declared.map.Map.{Map}
+use Rattle.sloth_region.specs.declared.region.Map.{Map}
 use Rattle.mem_map.specs.Zones.{data_zone}
 use Rattle.map_text.specs.Borders.{HasBorders}
 use Rattle.symbol_image.specs.declared.line_places.Origins.{Origins}

@@ -2,7 +2,7 @@
 use Rattle.std.specs.Prelude.{ℕ, ◌-◌, ◌==◌, cond, List, map, get_or}
 use Rattle.map_text.specs.declared.line_rows.LineRow.{LineRow}
 use Rattle.symbol_image.specs.LinePlaces.{no_place}
-use Rattle.symbol_image.specs.declared.file_rows.FileRow.{FileRow}
+use Rattle.symbol_image.specs.declared.line_section.FileRow.{FileRow}
 use Rattle.symbol_image.specs.declared.line_places.Place.{Place}
 
 -- the row of an address that comes from this file's line

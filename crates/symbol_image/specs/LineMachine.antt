@@ -2,7 +2,7 @@
 use Rattle.std.specs.Prelude.{ℕ, ◌≡◌, ◌≤◌, ◌<◌, ◌+◌, ◌-◌, ◌^◌, Bool, true, false, List, [], ◌∷◌, All}
 use Rattle.std.specs.List.{flat_map}
 use Rattle.image_file.specs.Fields.{four_bytes}
-use Rattle.symbol_image.specs.declared.file_rows.FileRow.{FileRow}
+use Rattle.symbol_image.specs.declared.line_section.FileRow.{FileRow}
 use Rattle.symbol_image.specs.Fields.{negative_leb, signed_leb, unsigned_leb}
 use Rattle.symbol_image.specs.LineSection.{beginning, line_program}
 

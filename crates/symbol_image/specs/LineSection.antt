@@ -2,7 +2,7 @@
 use Rattle.std.specs.Prelude.{ℕ, ◌-◌, ◌==◌, ltb, cond, List, [], ◌∷◌, ◌++◌}
 use Rattle.image_file.specs.Fields.{four_bytes, two_bytes}
 use Rattle.symbol_image.specs.FileRows.{row_from}
-use Rattle.symbol_image.specs.declared.file_rows.FileRow.{FileRow}
+use Rattle.symbol_image.specs.declared.line_section.FileRow.{FileRow}
 use Rattle.symbol_image.specs.Fields.{negative_leb, signed_leb, sized, text_bytes, unsigned_leb}
 
 -- the operands of the standard opcodes 1 to 12

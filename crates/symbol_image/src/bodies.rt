@@ -8,9 +8,8 @@ ghost use Rattle.symbol_image.specs.Entries.{label_entry, stands_before};
 ghost use Rattle.symbol_image.specs.EntryBytes.{entries_bytes, entry_bytes};
 ghost use Rattle.map_text.specs.LineRows.{item_count};
 
-use crate::data::put_array;
+use crate::data::{Types, put_array};
 use crate::fields::{put_bytes, put_length, put_text};
-use crate::types::Types;
 use image_file::put_u32;
 use map_text::{body_end, item_address};
 use sloth_base::{Func, Label, Places, Result};

@@ -1,11 +1,9 @@
-//! The entries of data.
+//! The entries of data. The types of data.
 ghost use Rattle.std.specs.Prelude.{◌≡◌, ◌++◌, OnOk, get_or, length};
-ghost use Rattle.symbol_image.specs.Entries.{all_symbol_bytes, array_entries, at_address, base_type, symbol_entries};
-ghost use Rattle.symbol_image.specs.Entries.{type_entries, type_place, variable_entry};
+ghost use Rattle.symbol_image.specs.Entries.{all_symbol_bytes, array_entries, at_address, base_type, symbol_entries, type_entries, type_place, variable_entry, data_shape};
 ghost use Rattle.symbol_image.specs.EntryBytes.{Location, entries_bytes, entry_bytes, value_bytes};
 
 use crate::fields::{put_bytes, put_length, put_text};
-use crate::types::{Shape, Types, data_shape};
 use image_file::put_u32;
 use sloth_base::{Result, Symbol};
 
@@ -124,4 +122,35 @@ pub fn put_symbols(
         )?;
     }
     Ok(())
+}
+
+/// Where the two base types stand: a word, and a byte.
+#[derive(Clone, Copy)]
+pub struct Types {
+    pub word: usize,
+    pub byte: usize,
+}
+
+/// What the bytes of data are: one of the base types, or so many of it.
+#[derive(Clone, Copy)]
+pub enum Shape {
+    OneWord,
+    OneByte,
+    Words(usize),
+    Bytes(usize),
+}
+
+/// What so many bytes of data are.
+pub fn data_shape(size: usize) -> Shape
+    ensures { result ≡ data_shape size }
+{
+    if size == 4 {
+        Shape::OneWord
+    } else if size == 1 {
+        Shape::OneByte
+    } else if size % 4 == 0 {
+        Shape::Words(size / 4)
+    } else {
+        Shape::Bytes(size)
+    }
 }

@@ -1,4 +1,4 @@
-//! The file of an image that debuggers read.
+//! The file of an image that debuggers read. What a file for debuggers is made from.
 ghost use Rattle.std.specs.Prelude.{◌≡◌, ◌≤◌, ◌<◌, ◌+◌, ◌^◌, ◌∷◌, [], IfOk, OnOk, codes, length};
 ghost use Rattle.sloth_base.specs.Limits.{item_limit};
 ghost use Rattle.sloth_base.specs.MemoryMap.{memory_base};
@@ -8,14 +8,11 @@ ghost use Rattle.symbol_image.specs.FrameRows.{HasFrames};
 ghost use Rattle.symbol_image.specs.HeaderViews.{AreOrdered, IsMemoryWithin};
 ghost use Rattle.symbol_image.specs.Layout.{all_laid, laid_with, padded, strings, with_names};
 ghost use Rattle.symbol_image.specs.LayoutViews.{laid_of};
-ghost use Rattle.symbol_image.specs.SymbolFile.{code_sections, data_sections, debugging_sections, entries_section};
-ghost use Rattle.symbol_image.specs.SymbolFile.{laid_file, frames_section, lines_section, loaded};
-ghost use Rattle.symbol_image.specs.SymbolFile.{part_sections, rows_of, symbol_file};
-ghost use Rattle.symbol_image.specs.SymbolFile.{symbol_section, table_sections};
+ghost use Rattle.symbol_image.specs.SymbolFile.{code_sections, data_sections, debugging_sections, entries_section, laid_file, frames_section, lines_section, loaded, part_sections, rows_of, symbol_file, symbol_section, table_sections};
 ghost use Rattle.symbol_image.specs.Symbols.{locals_of, all_symbols};
 ghost use Rattle.symbol_image.specs.WordSymbols.{HasWords};
 
-use crate::Parts;
+use crate::Origins;
 use crate::abbreviations::abbreviation_section;
 use crate::fields::put_bytes;
 use crate::frames::frame_section;
@@ -25,13 +22,14 @@ use crate::layout::{
     CONTENTS, FRONT, Laid, STRINGS, SectionFields, lay, lay_end, lay_names, lay_unloaded, none_laid,
 };
 use crate::line_section::line_section;
-use crate::piece_symbols::{push_globals, push_locals};
-use crate::symbol::Symbol;
+use crate::symbol::{Symbol, push_globals, push_locals};
 use crate::symbol_table::{Tables, symbol_tables};
 use crate::word_symbols::push_words;
 use map_text::{Borders, Range, Row, code_range, image_borders};
-use sloth_base::{MEMORY_BASE, Result, VECTORS_BASE};
+use sloth_base::{App, Config, MEMORY_BASE, Result, VECTORS_BASE};
+use sloth_region::Map;
 use std::alloc::Global;
+use std::marker::Model;
 
 /// A section is loaded and written, or loaded and executed.
 const SECTION_WRITTEN: u32 = 3;
@@ -261,4 +259,31 @@ pub fn symbol_file(alloc: Global, parts: &Parts, rows: &[Row]) -> Result<Vec<u8>
     let mut laid = none_laid(alloc)?;
     lay_parts(alloc, &mut laid, parts, &borders, rows)?;
     laid_file(alloc, &borders, &laid)
+}
+
+/// The name of the source; what it means with its configuration; the map that is planned for it; where it declares its
+/// symbols and its lines come from; and the image's memory.
+#[derive(Drop)]
+pub struct Parts<'t> {
+    pub source: &'t [u8],
+    pub config: &'t Config,
+    pub app: &'t App,
+    pub map: &'t Map,
+    pub origins: &'t Origins,
+    pub memory: &'t [u8],
+}
+
+impl<'t> Model for Parts<'t> {
+    ghost use Rattle.symbol_image.specs.FileParts.{FileParts};
+
+    ghost Value = { FileParts };
+
+    ghost view = { λ parts. record {
+      source = parts.source.now;
+      config = parts.config.now;
+      app = parts.app.now;
+      map = parts.map.now;
+      origins = parts.origins.now;
+      memory = parts.memory.now;
+    } };
 }

@@ -8,9 +8,8 @@ ghost use Rattle.symbol_image.specs.EntryBytes.{entries_bytes, entry_bytes, valu
 ghost use Rattle.map_text.specs.LineRows.{item_count};
 
 use crate::bodies::put_bodies;
-use crate::data::{put_base_type, put_symbols};
+use crate::data::{Types, put_base_type, put_symbols};
 use crate::fields::{put_bytes, put_text, sized};
-use crate::types::Types;
 use image_file::put_u32;
 use map_text::item_address;
 use sloth_base::{App, Places, Result};

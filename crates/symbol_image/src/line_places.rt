@@ -1,17 +1,15 @@
-//! Where the lines of a source come from, by its comments.
+//! Where the lines of a source come from, by its comments. In which lines a source declares its symbols.
 ghost use Rattle.std.specs.Prelude.{◌≡◌, ◌<◌, ◌++◌, IfOk, OnOk, length, map, nat_le};
 ghost use Rattle.std.specs.Char.{is_ascii_digit};
 ghost use Rattle.std.specs.List.{list_all};
 ghost use Rattle.text_pieces.specs.Names.{referent};
-ghost use Rattle.symbol_image.specs.LinePlaces.{are_shown, file_behind, is_new, is_stated};
-ghost use Rattle.symbol_image.specs.LinePlaces.{names_behind, line_origins, place_behind, place_here, quoted};
-ghost use Rattle.symbol_image.specs.LinePlaces.{stated_line, stated_name};
+ghost use Rattle.symbol_image.specs.LinePlaces.{are_shown, file_behind, is_new, is_stated, names_behind, line_origins, place_behind, place_here, quoted, stated_line, stated_name};
+ghost use Rattle.symbol_image.specs.DataLines.{data_lines};
 
-use crate::declared_lines::data_lines;
 use crate::fields::{put_bytes, put_text};
 use asm_lines::SourceLine;
-use asm_scopes::closes_body;
-use sloth_base::{List, Result};
+use asm_scopes::{closes_body, is_data};
+use sloth_base::{List, NoMemory, Result};
 use std::alloc::Global;
 use text_pieces::{Names, after, before, behind, front, has, push, same, value};
 
@@ -169,4 +167,18 @@ pub fn line_origins(alloc: Global, lines: &[&[u8]], statements: &[SourceLine]) -
         files: List::from_vec(files),
         places: List::from_vec(places),
     })
+}
+
+/// The numbers of the lines that declare symbols, from 1.
+pub fn data_lines(alloc: Global, lines: &[SourceLine]) -> Result<Vec<u32>>
+    requires { length lines.now < 4294967295 }
+    ensures { IfOk result (λ found. found.items ≡ data_lines 1 lines.now) }
+{
+    let mut found = Vec::new(alloc);
+    for n in 0..lines.len() {
+        if is_data(&lines[n]) {
+            found.push(n as u32 + 1).map_err(|_| NoMemory)?;
+        }
+    }
+    Ok(found)
 }

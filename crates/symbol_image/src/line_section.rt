@@ -1,19 +1,16 @@
-//! The section of source lines.
+//! The section of source lines. Which line of which file an address of task code comes from.
 ghost use Rattle.std.specs.Prelude.{◌≡◌, ◌≤◌, ◌++◌, IfOk, OnOk};
 ghost use Rattle.sloth_base.specs.Limits.{item_limit};
 ghost use Rattle.map_text.specs.LineRows.{item_count, line_rows};
-ghost use Rattle.symbol_image.specs.LineSection.{address_from, end_behind, file_from, further_rows};
-ghost use Rattle.symbol_image.specs.LineSection.{line_from, line_header, line_program, line_section, line_unit};
-ghost use Rattle.symbol_image.specs.LineSection.{place_from, row_behind};
+ghost use Rattle.symbol_image.specs.LineSection.{address_from, end_behind, file_from, further_rows, line_from, line_header, line_program, line_section, line_unit, place_from, row_behind};
 ghost use Rattle.symbol_image.specs.Fields.{sized};
-ghost use Rattle.symbol_image.specs.FileRows.{file_rows};
+ghost use Rattle.symbol_image.specs.FileRows.{file_rows, file_row};
 
 use crate::Origins;
 use crate::fields::{
     put_bytes, put_length, put_negative, put_signed, put_text, put_unsigned, sized,
 };
-use crate::file_rows::{FileRow, file_row};
-use crate::line_places::Place;
+use crate::line_places::{NO_PLACE, Place};
 use image_file::{put_u16, put_u32};
 use map_text::LineRow;
 use map_text::line_rows::line_rows;
@@ -171,4 +168,36 @@ pub fn line_section(
     let rows = line_rows(alloc, places, end, app.funcs.items())?;
     let unit = line_unit(alloc, source, origins, rows.as_slice(), end)?;
     sized(alloc, unit.as_slice())
+}
+
+/// An address, and the file and the line that it comes from. The source is file 1.
+#[derive(Clone, Copy)]
+pub struct FileRow {
+    pub address: u32,
+    pub file: u32,
+    pub line: u32,
+}
+
+/// The row of an address that comes from a line of the source, whose lines have these places.
+pub fn file_row(places: &[Place], row: LineRow) -> FileRow
+    ensures { result ≡ file_row places.now row }
+{
+    let place = match places.get(row.line.saturating_sub(1) as usize) {
+        Some(place) => *place,
+        None => NO_PLACE,
+    };
+    let address = row.address;
+    if place.file == 0 {
+        let line = row.line;
+        return FileRow {
+            address,
+            file: 1,
+            line,
+        };
+    }
+    FileRow {
+        address,
+        file: place.file,
+        line: place.line,
+    }
 }

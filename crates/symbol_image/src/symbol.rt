@@ -1,5 +1,13 @@
-//! A symbol of the file.
-use sloth_base::List;
+//! A symbol of the file. The symbols of the pieces of an image.
+ghost use Rattle.std.specs.Prelude.{◌≡◌, ◌++◌, OnOk};
+ghost use Rattle.std.specs.List.{flat_map};
+ghost use Rattle.map_text.specs.PieceNames.{block_symbol, joined};
+ghost use Rattle.symbol_image.specs.Symbols.{global_at, global_symbols, local_at, local_symbols};
+
+use map_text::{Kind, Row, block_symbol, copied, joined};
+use sloth_base::{App, Config, List, Result};
+use std::alloc::Global;
+use text_pieces::push;
 
 /// What stands at a symbol's address.
 #[derive(Clone, Copy)]
@@ -23,4 +31,165 @@ pub struct Symbol {
     pub size: usize,
     pub kind: SymbolKind,
     pub binding: Binding,
+}
+
+// Appends the local symbol of a row's bytes.
+fn push_local(symbols: &mut Vec<Symbol>, name: List<u8>, kind: SymbolKind, row: &Row) -> Result<()>
+    ensures { OnOk result (symbols.new.items ≡ symbols.old.items ++ local_at name kind row.now) }
+{
+    push(
+        symbols,
+        Symbol {
+            name,
+            address: row.base,
+            size: row.len as usize,
+            kind,
+            binding: Binding::Local,
+        },
+    )
+}
+
+// Appends the symbol of a kernel's piece of which there is one.
+fn push_single(
+    alloc: Global,
+    symbols: &mut Vec<Symbol>,
+    name: &[u8],
+    kind: SymbolKind,
+    row: &Row,
+) -> Result<()>
+    ensures { OnOk result (symbols.new.items ≡ symbols.old.items ++ local_at name.now kind row.now) }
+{
+    let name = copied(alloc, name)?;
+    push_local(symbols, name, kind, row)
+}
+
+// Appends the symbol of a kernel's piece for an object.
+fn push_joined(
+    alloc: Global,
+    symbols: &mut Vec<Symbol>,
+    one: &[u8],
+    other: &[u8],
+    kind: SymbolKind,
+    row: &Row,
+) -> Result<()>
+    ensures { OnOk result (symbols.new.items ≡ symbols.old.items ++ local_at (joined one.now other.now) kind row.now) }
+{
+    let name = joined(alloc, one, other)?;
+    push_local(symbols, name, kind, row)
+}
+
+// Appends the symbol of a row, if it is a piece of the kernel.
+fn push_row_local(
+    alloc: Global,
+    symbols: &mut Vec<Symbol>,
+    config: &Config,
+    row: &Row,
+) -> Result<()>
+    ensures { OnOk result (symbols.new.items ≡ symbols.old.items ++ local_symbols config.now row.now) }
+{
+    let code = SymbolKind::Function;
+    let data = SymbolKind::Object;
+    let number = row.number;
+    match row.kind {
+        Kind::Words | Kind::Code | Kind::Data | Kind::End | Kind::Between => Ok(()),
+        Kind::Vectors => push_single(alloc, symbols, b"kernel$vectors", code, row),
+        Kind::Boot => push_single(alloc, symbols, b"kernel$boot", code, row),
+        Kind::Idle => push_single(alloc, symbols, b"kernel$idle", code, row),
+        Kind::Prologue => {
+            let task = config.task_name(number);
+            push_joined(alloc, symbols, b"prologue", task, code, row)
+        }
+        Kind::Tick => {
+            let counter = config.counter_name(number);
+            push_joined(alloc, symbols, b"tick", counter, code, row)
+        }
+        Kind::Service => {
+            let name = block_symbol(alloc, config, number)?;
+            push_local(symbols, name, code, row)
+        }
+        Kind::Shared => push_single(alloc, symbols, b"kernel$stack", data, row),
+        Kind::Stack => {
+            let task = config.task_name(number);
+            push_joined(alloc, symbols, b"stack", task, data, row)
+        }
+    }
+}
+
+// Appends a global symbol of so many of a row's bytes.
+fn push_global(
+    alloc: Global,
+    symbols: &mut Vec<Symbol>,
+    name: &[u8],
+    kind: SymbolKind,
+    size: usize,
+    row: &Row,
+) -> Result<()>
+    ensures { OnOk result (symbols.new.items ≡ symbols.old.items ++ global_at name.now kind size row.now) }
+{
+    let name = copied(alloc, name)?;
+    push(
+        symbols,
+        Symbol {
+            name,
+            address: row.base,
+            size,
+            kind,
+            binding: Binding::Global,
+        },
+    )
+}
+
+// Appends the symbol of a row, if it is a body or data.
+fn push_row_global(alloc: Global, symbols: &mut Vec<Symbol>, app: &App, row: &Row) -> Result<()>
+    ensures { OnOk result (symbols.new.items ≡ symbols.old.items ++ global_symbols app.now row.now) }
+{
+    match row.kind {
+        Kind::Code => {
+            let name = app.function_name(row.number);
+            push_global(
+                alloc,
+                symbols,
+                name,
+                SymbolKind::Function,
+                row.len as usize,
+                row,
+            )
+        }
+        Kind::Data => {
+            let name = app.symbol_name(row.number);
+            let size = match app.symbols.items().get(row.number) {
+                Some(symbol) => symbol.bytes.items().len(),
+                None => 0,
+            };
+            push_global(alloc, symbols, name, SymbolKind::Object, size, row)
+        }
+        Kind::Words | Kind::Vectors | Kind::Boot | Kind::Idle | Kind::Prologue => Ok(()),
+        Kind::Tick | Kind::Service | Kind::End | Kind::Shared | Kind::Stack => Ok(()),
+        Kind::Between => Ok(()),
+    }
+}
+
+/// Appends the symbols of the kernel's pieces, in the order of the rows.
+pub fn push_locals(
+    alloc: Global,
+    symbols: &mut Vec<Symbol>,
+    config: &Config,
+    rows: &[Row],
+) -> Result<()>
+    ensures { OnOk result (symbols.new.items ≡ symbols.old.items ++ flat_map (local_symbols config.now) rows.now) }
+{
+    for row in rows {
+        push_row_local(alloc, symbols, config, row)?;
+    }
+    Ok(())
+}
+
+/// Appends the symbols of bodies and data, in the order of the rows.
+pub fn push_globals(alloc: Global, symbols: &mut Vec<Symbol>, app: &App, rows: &[Row]) -> Result<()>
+    ensures { OnOk result (symbols.new.items ≡ symbols.old.items ++ flat_map (global_symbols app.now) rows.now) }
+{
+    for row in rows {
+        push_row_global(alloc, symbols, app, row)?;
+    }
+    Ok(())
 }

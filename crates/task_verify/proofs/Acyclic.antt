@@ -1,10 +1,10 @@
 -- Where ranks fall along calls, no function lies on a cycle of calls.
 use Rattle.std.proofs.Common.{ℕ, ◌<◌, List, [], ◌∷◌, get_or, arith}
 use Rattle.sloth_base.specs.declared.app.App.{App}
-use Rattle.least_fault.specs.Order.{NoFault}
+use Rattle.sloth_base.specs.Order.{NoFault}
 use Rattle.code_rules.specs.Code.{IsCallChain}
 use Rattle.code_rules.specs.WellFormed.{CycleFault, on_cycle}
-use Rattle.call_graph.specs.declared.ranking.Ranks.{Ranks}
+use Rattle.call_graph.specs.declared.lists.Ranks.{Ranks}
 use Rattle.call_graph.specs.Ranks.{RanksOf}
 
 chain_falls : (app : App) (ranks : Ranks) → RanksOf app ranks → (f g : ℕ) (between : List ℕ) → IsCallChain app f between g

@@ -3,7 +3,7 @@ use Rattle.std.proofs.Common.{Bool, ◌≡◌, ℕ, Option, sym, ◌∙◌}
 use Rattle.std.specs.Bool.{Decides}
 use Rattle.sloth_base.specs.declared.refusal.Code.{Code}
 use Rattle.sloth_base.specs.declared.refusal.Refusal.{Refusal}
-use Rattle.least_fault.specs.Search.{IsSearchResult, fault_if}
+use Rattle.sloth_base.specs.Search.{IsSearchResult, fault_if}
 use Rattle.code_rules.specs.WellFormed.{fault_at_line}
 use Rattle.code_rules.proofs.Judged.{decided}
 

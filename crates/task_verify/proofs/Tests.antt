@@ -17,7 +17,7 @@ use Rattle.sloth_base.specs.Limits.{mask_limit}
 use Rattle.code_rules.specs.AppRange.{AppInRange, IsOp}
 use Rattle.code_rules.specs.Code.{is_followed, way, IsEnding, IsPausing, is_in, is_last}
 use Rattle.code_rules.specs.WellFormed.{IsAccessPast, IsUneven, IsMaskPast, IsRunOut, IsWrongRelease, IsSecondTake, IsLeaveWithResource, IsWrongLeave}
-use Rattle.call_graph.specs.declared.ranking.Ranks.{Ranks}
+use Rattle.call_graph.specs.declared.lists.Ranks.{Ranks}
 use Rattle.call_graph.specs.Bits.{is_member}
 use Rattle.call_graph.specs.Ranks.{RanksOf}
 use Rattle.call_graph.specs.Rows.{is_get, is_pausing}

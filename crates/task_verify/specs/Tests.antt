@@ -11,7 +11,7 @@ use Rattle.sloth_base.specs.Arithmetic.{size_of}
 use Rattle.sloth_base.specs.Named.{item_of, label_of, symbol_size}
 use Rattle.sloth_base.specs.Limits.{mask_limit}
 use Rattle.code_rules.specs.Code.{is_followed, way, is_in, is_last}
-use Rattle.call_graph.specs.declared.ranking.Ranks.{Ranks}
+use Rattle.call_graph.specs.declared.lists.Ranks.{Ranks}
 use Rattle.call_graph.specs.Bits.{is_member}
 use Rattle.call_graph.specs.Rows.{is_get, is_pausing}
 

@@ -1,6 +1,6 @@
 //! V2 to V6, V11 and V12: the items of a body, one by one.
 ghost use Rattle.std.specs.Prelude.{◌≡◌, ℕ, ◌<◌, ◌↔◌, length, IfOk};
-ghost use Rattle.least_fault.specs.Search.{IsSearchResult};
+ghost use Rattle.sloth_base.specs.Search.{IsSearchResult};
 ghost use Rattle.code_rules.specs.AppRange.{AppInRange, IsOp};
 ghost use Rattle.sloth_base.specs.Named.{item_of};
 ghost use Rattle.task_verify.specs.Ways.{IsMarked, IsReachedItem};
@@ -9,7 +9,7 @@ ghost use Rattle.task_verify.specs.Cases.{AccessFault, FlowFault, PathFault, Ite
 use crate::{
     is_access_past, is_mask_past, is_run_out, is_undeclared_use, is_uneven, is_wrong_leave, reached,
 };
-use least_fault::{fault_if, merge};
+use sloth_base::least_fault::{fault_if, merge};
 use sloth_base::{App, Code, Config, Func, Part, Refusal, Result};
 use std::alloc::Global;
 

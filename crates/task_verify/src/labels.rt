@@ -1,11 +1,11 @@
 //! The labels at each place of a body.
 ghost use Rattle.std.specs.Prelude.{◌≡◌, ◌≢◌, ℕ, ◌+◌, ◌<◌, ◌≤◌, ◌||◌, [], Some, None, length, get_or, Decides, IfOk};
-ghost use Rattle.least_fault.specs.Search.{IsSearchResult};
+ghost use Rattle.sloth_base.specs.Search.{IsSearchResult};
 ghost use Rattle.sloth_base.specs.Named.{label_of};
 ghost use Rattle.task_verify.specs.Labels.{or_else, first_label_below, last_label_below, ArePlaced};
 ghost use Rattle.task_verify.specs.Cases.{IsBehindOther, LabelFault, LabelFaults};
 
-use least_fault::{fault_if, merge};
+use sloth_base::least_fault::{fault_if, merge};
 use sloth_base::{Code, Func, Label, NoMemory, Part, Refusal, ResId, Result};
 use std::alloc::Global;
 use text_pieces::push;

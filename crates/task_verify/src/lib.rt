@@ -1,6 +1,6 @@
 //! The verifier: V2 to V12 judged exactly, and task code that keeps them.
 //!
-//! With ranks that belong to the task code, `verify` gives exactly the least of V2 to V12, or equal copies that are
+//! With ranks that belong to the task code, `verify` gives exactly the least of V2 to V12, or both, which are
 //! well formed (`Verified`, `specs/Accepted`).
 //!
 //! Of one body (where its items go on, what its labels hold, what each item may do): `body_fault` finds exactly the
@@ -9,9 +9,9 @@
 #![tactic(auto)]
 
 ghost use Rattle.std.specs.Prelude.{◌≡◌, IfErr, IfOk, OnOk};
-ghost use Rattle.least_fault.specs.Order.{NoFault, ErrorIs};
+ghost use Rattle.sloth_base.specs.Order.{NoFault, ErrorIs};
 ghost use Rattle.code_rules.specs.AppRange.{AppInRange};
-ghost use Rattle.code_rules.specs.WellFormed.{RuleFault, WellFormed};
+ghost use Rattle.code_rules.specs.WellFormed.{RuleFault};
 ghost use Rattle.call_graph.specs.Ranks.{RanksOf};
 
 // A fault of this code at the line of an item, a label or a body, where the test says so.
@@ -29,11 +29,11 @@ pub mod labels;
 pub mod reachable;
 pub mod tasks;
 pub mod verified;
-pub mod walk;
 pub mod ways;
 
 use crate::bodies::judge;
 pub use accesses::{is_access_past, is_mask_past, is_uneven};
+pub use bodies::is_fallen_into;
 use call_graph::Ranks;
 pub use held_resources::{
     held_after, held_at_label, held_by, is_held, is_leave_with_resource, is_other_list_jump,
@@ -46,32 +46,23 @@ use sloth_base::{App, BuildError, Config};
 use std::alloc::Global;
 pub use tasks::is_undeclared_use;
 pub use verified::Verified;
-pub use walk::is_fallen_into;
 pub use ways::{falls, is_run_out, is_wrong_leave, jump_of, next_of, way};
 
-fn copied(alloc: Global, config: &Config, app: &App) -> Result<Verified, BuildError>
-    requires { WellFormed config.now app.now }
-    ensures is { IfOk result (λ verified. verified ≡ record { config = config.now; app = app.now }) }
-    ensures memory { IfErr result (λ error. error ≡ BuildError.Memory) }
-{
-    Ok(Verified::new(config.copy(alloc)?, app.copy(alloc)?))
-}
-
-/// Equal copies of a configuration and its task code, where no rule of V2 to V12 has a fault; else the least fault.
+/// A configuration and its task code, where no rule of V2 to V12 has a fault; else the least fault.
 pub fn verify(
     alloc: Global,
-    config: &Config,
-    app: &App,
+    config: Config,
+    app: App,
     ranks: &Ranks,
 ) -> Result<Verified, BuildError>
-    requires in_range { AppInRange config.now app.now }
-    requires belong { RanksOf app.now ranks.now }
-    ensures accepted { IfOk result (λ verified. verified ≡ record { config = config.now; app = app.now }) }
-    ensures none { OnOk result (NoFault (RuleFault config.now app.now)) }
-    ensures refused { IfErr result (ErrorIs (RuleFault config.now app.now)) }
+    requires in_range { AppInRange config app }
+    requires belong { RanksOf app ranks.now }
+    ensures accepted { IfOk result (λ verified. verified ≡ record { config = config; app = app }) }
+    ensures none { OnOk result (NoFault (RuleFault config app)) }
+    ensures refused { IfErr result (ErrorIs (RuleFault config app)) }
 {
-    match judge(alloc, config, app, ranks)? {
+    match judge(alloc, &config, &app, ranks)? {
         Some(refusal) => Err(BuildError::Refused(refusal)),
-        None => copied(alloc, config, app),
+        None => Ok(Verified::new(config, app)),
     }
 }

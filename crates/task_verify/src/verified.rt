@@ -38,6 +38,15 @@ impl Verified {
         Verified { config, app }
     }
 
+    /// Both. Takes no memory.
+    pub fn parts(self) -> (Config, App)
+        ensures is { result ≡ (self.config, self.app) }
+        ensures well_formed { WellFormed self.config self.app }
+    {
+        let Verified { config, app } = self;
+        (config, app)
+    }
+
     /// The configuration.
     pub fn config(&self) -> &Config
         ensures is { result.now ≡ self.now.config }

@@ -2,8 +2,8 @@
 ghost use Rattle.std.specs.Prelude.{◌≡◌, ◌==◌, not, drop, take, length};
 ghost use Rattle.std.specs.List.{take_while, list_all, before_first, after_first};
 ghost use Rattle.std.specs.Str.{bytes_eq};
-ghost use Rattle.sloth_base.specs.ImageRange.{begins_word, continues_word};
-ghost use Rattle.text_pieces.specs.Bytes.{begins_name, is_name, is_byte_of};
+ghost use Rattle.sloth_base.specs.ImageRange.{continues_word};
+ghost use Rattle.text_pieces.specs.Bytes.{is_name, is_byte_of};
 
 /// What follows the first `n` bytes.
 pub fn after(text: &[u8], n: usize) -> &[u8]
@@ -78,22 +78,10 @@ fn continue_word(text: &[u8]) -> bool
     text.iter().all(|byte| continues_word(*byte))
 }
 
-fn begins_word(byte: u8) -> bool
-    ensures { result ≡ begins_word byte }
-{
-    byte.is_ascii_alphabetic() || byte == b'_'
-}
-
-fn begins_name(text: &[u8]) -> bool
-    ensures { result ≡ begins_name text.now }
-{
-    !text.is_empty() && begins_word(text[0])
-}
-
 /// A letter or `_`, then letters, digits and `_`.
 #[tactic(auto, unfolding(crate::specs::Bytes::is_name))]
 pub fn is_name(text: &[u8]) -> bool
     ensures { result ≡ is_name text.now }
 {
-    begins_name(text) && continue_word(text)
+    !text.is_empty() && (text[0].is_ascii_alphabetic() || text[0] == b'_') && continue_word(text)
 }

@@ -39,7 +39,8 @@ fn number_first<'t>(
     name: &'t [u8],
     number: usize,
 ) -> Result<()>
-    ensures { OnOk result ((word : List ℕ) → number_in first.new word ≡ with_first (number_in first.old) name.now number word) }
+    ensures { OnOk result ((word : List ℕ)
+        → number_in first.new word ≡ with_first (number_in first.old) name.now number word) }
 {
     if first.contains_key(&name) {
         return Ok(());

@@ -1,11 +1,11 @@
 -- Files have one answer of `at .. all`.
 use Rattle.std.proofs.Common.{◌≡◌, ◌∙◌, ℕ, List, refl, sym, ap, subst, ◌+◌, ◌≤◌, ◌⊎◌, inl, inr, arith}
 use Rattle.std.specs.Prelude.{codes}
-use Rattle.sloth_base.specs.declared.event.Arrival.{Arrival}
+use Rattle.sloth_base.specs.declared.service.Arrival.{Arrival}
 use Rattle.sloth_base.specs.declared.image.Image.{Image}
 use Rattle.sloth_base.specs.declared.refusal.Part.TheVariants.{Arr}
 use Rattle.sloth_base.specs.declared.refusal.Refusal.{Refusal}
-use Rattle.least_fault.specs.Order.{IsLeast, NoFault}
+use Rattle.sloth_base.specs.Order.{IsLeast, NoFault}
 use Rattle.image_file.specs.ImageText.{ImageText}
 use Rattle.image_file.specs.Faults.{IsFirstImageFault}
 use Rattle.image_file.specs.declared.fault.ImageFault.{ImageFault}
@@ -13,11 +13,11 @@ use Rattle.image_file.proofs.Faulted.{fault_is_one, none_is_both}
 use Rattle.image_file.proofs.Images.{image-unique}
 use Rattle.trace_text.specs.ArrivalsText.{ArrivalsFault, arrivals_in}
 use Rattle.sloth_source.proofs.Least.{one_least}
-use Rattle.rv32_instr.specs.declared.stop.Stop.{Stop}
+use Rattle.rv32_instr.specs.declared.effect.Stop.{Stop}
 use Rattle.sloth_inspect.specs.declared.service_words.ServiceWords.{ServiceWords}
 use Rattle.run_samples.specs.ServiceWords.{StopsBefore, words_behind}
 use Rattle.sloth_runner.specs.TaskStates.{AreStatesAt}
-use Rattle.sloth_runner.specs.declared.machine_states.Seen.{Seen}
+use Rattle.sloth_runner.specs.declared.task_states.Seen.{Seen}
 use Rattle.sloth_runner.specs.declared.runner.Halt.{Halt}
 use Rattle.sloth_runner.specs.declared.task_states.Sight.{Sight}
 use Rattle.sloth_runner.specs.declared.task_states.Sight.TheVariants as sight
@@ -26,8 +26,8 @@ use Rattle.tool_commands.specs.AtAllAnswers.{IsAllAnswer, IsAtAllAnswer, all_ans
 use Rattle.run_inputs.specs.RunInputs.{IsRunRefused}
 use Rattle.tool_commands.proofs.AtAnswers.{one-refused}
 use Rattle.run_inputs.specs.RunInputs.{AreRunInputs}
-use Rattle.tool_answers.specs.declared.answer.ToolAnswer.{ToolAnswer}
-use Rattle.tool_answers.specs.declared.answer.ToolAnswer.TheVariants as answer
+use Rattle.command_line.specs.declared.answer.ToolAnswer.{ToolAnswer}
+use Rattle.command_line.specs.declared.answer.ToolAnswer.TheVariants as answer
 use Rattle.run_inputs.proofs.Refused.{of-arrivals}
 
 -- what an answer of `at` is

@@ -1,10 +1,10 @@
 -- Files have one answer of `at`.
 use Rattle.std.proofs.Common.{◌≡◌, ◌∙◌, ℕ, List, refl, sym, ap, subst, ◌⊎◌, inl, inr}
-use Rattle.sloth_base.specs.declared.event.Arrival.{Arrival}
+use Rattle.sloth_base.specs.declared.service.Arrival.{Arrival}
 use Rattle.sloth_base.specs.declared.image.Image.{Image}
 use Rattle.sloth_base.specs.declared.refusal.Part.TheVariants.{Arr}
 use Rattle.sloth_base.specs.declared.refusal.Refusal.{Refusal}
-use Rattle.least_fault.specs.Order.{IsLeast, NoFault}
+use Rattle.sloth_base.specs.Order.{IsLeast, NoFault}
 use Rattle.image_file.specs.ImageText.{ImageText}
 use Rattle.image_file.specs.Faults.{IsFirstImageFault}
 use Rattle.image_file.specs.declared.fault.ImageFault.{ImageFault}
@@ -19,8 +19,8 @@ use Rattle.sloth_runner.proofs.RunStates.{one_sight}
 use Rattle.tool_commands.specs.AtAnswers.{IsStatesAnswer, IsAtAnswer, states_answer}
 use Rattle.run_inputs.specs.RunInputs.{IsRunRefused}
 use Rattle.run_inputs.specs.RunInputs.{AreRunInputs}
-use Rattle.tool_answers.specs.declared.answer.ToolAnswer.{ToolAnswer}
-use Rattle.tool_answers.specs.declared.answer.ToolAnswer.TheVariants as answer
+use Rattle.command_line.specs.declared.answer.ToolAnswer.{ToolAnswer}
+use Rattle.command_line.specs.declared.answer.ToolAnswer.TheVariants as answer
 use Rattle.run_inputs.proofs.Refused.{of-arrivals}
 
 -- what an answer of `at` is

@@ -8,10 +8,10 @@ use Rattle.run_inputs.specs.Inputs.{IsRefusal}
 use Rattle.trace_check.proofs.OneAnswer.{one_judged}
 use Rattle.run_inputs.proofs.Refused.{not-refused, one-way}
 use Rattle.trace_check.specs.CheckAnswers.{IsCheckAnswer, verdict_of}
-use Rattle.tool_answers.specs.declared.answer.ToolAnswer.{ToolAnswer}
-use Rattle.tool_answers.specs.declared.answer.ToolAnswer.TheVariants as answer
-use Rattle.tool_answers.specs.declared.answer.TraceFault.{TraceFault}
-use Rattle.tool_answers.specs.declared.answer.TraceFault.TheVariants as trace
+use Rattle.command_line.specs.declared.answer.ToolAnswer.{ToolAnswer}
+use Rattle.command_line.specs.declared.answer.ToolAnswer.TheVariants as answer
+use Rattle.command_line.specs.declared.answer.TraceFault.{TraceFault}
+use Rattle.command_line.specs.declared.answer.TraceFault.TheVariants as trace
 use Rattle.tool_commands.proofs.ElfAnswers.{same-outcome}
 
 no_fault : (f : TraceFault) → verdict.Yes ≡ verdict_of f → ⊥

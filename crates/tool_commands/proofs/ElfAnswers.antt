@@ -8,13 +8,13 @@ use Rattle.image_file.proofs.Faulted.{fault_is_one as one_image_fault, none_is_b
 use Rattle.image_file.proofs.Images.{image-unique}
 use Rattle.elf_image.specs.ElfText.{file_bytes, description_bytes}
 use Rattle.elf_image.specs.Faults.{IsFirstElfFault as ElfFaulty}
-use Rattle.image_file.specs.declared.elf_fault.ElfFault.{ElfFault}
+use Rattle.image_file.specs.declared.fault.ElfFault.{ElfFault}
 use Rattle.elf_image.proofs.Faulted.{elf-unique, fault_is_one as one_elf_fault, none_is_both as no_elf_and_fault}
 use Rattle.tool_commands.specs.ElfAnswers.{AreOfOneImage, IsElfAnswer, IsUnelfAnswer}
 use Rattle.tool_commands.specs.Lines.{written_line}
-use Rattle.tool_answers.specs.declared.answer.Outcome.{Outcome}
-use Rattle.tool_answers.specs.declared.answer.ToolAnswer.{ToolAnswer}
-use Rattle.tool_answers.specs.declared.answer.ToolAnswer.TheVariants as answer
+use Rattle.command_line.specs.declared.answer.Outcome.{Outcome}
+use Rattle.command_line.specs.declared.answer.ToolAnswer.{ToolAnswer}
+use Rattle.command_line.specs.declared.answer.ToolAnswer.TheVariants as answer
 
 -- a tool that writes a file was done
 pub record Wrote (P : List ℕ → Type 0) (a : ToolAnswer) : Type 0 where

@@ -6,8 +6,8 @@ use Rattle.sloth_source.proofs.RankedTexts.{one_early}
 use Rattle.holds_infer.specs.FilledSource.{IsFilledSource, HasNoLists}
 use Rattle.holds_infer.proofs.OneSource.{one_filled_source, filled_or_none, filled_or_refused, none_or_refused}
 use Rattle.tool_commands.specs.InferAnswers.{IsInferAnswer}
-use Rattle.tool_answers.specs.declared.answer.ToolAnswer.{ToolAnswer}
-use Rattle.tool_answers.specs.declared.answer.ToolAnswer.TheVariants as answer
+use Rattle.command_line.specs.declared.answer.ToolAnswer.{ToolAnswer}
+use Rattle.command_line.specs.declared.answer.ToolAnswer.TheVariants as answer
 use Rattle.tool_commands.proofs.ElfAnswers.{Wrote, same-wrote}
 
 -- the texts are refused

@@ -13,6 +13,7 @@ pub mod PictureAnswers
 pub mod RunAnswers
 pub mod SourceAnswers
 pub mod WaveAnswers
+mod ShortFiles
 mod Tasks
 pub mod UnusedAnswers
 pub mod LabelsAnswers

@@ -12,9 +12,9 @@ use Rattle.command_line.specs.declared.tool.Tool.{Tool}
 use Rattle.command_line.specs.declared.tool.Tool.TheVariants as tool
 use Rattle.elf_image.specs.ElfText.{ElfText}
 use Rattle.tool_commands.specs.Answers.{IsAnswer, OneAnswer, input}
-use Rattle.tool_answers.specs.ImageReaders.{reads_image, HasImage}
-use Rattle.tool_answers.specs.declared.answer.ToolAnswer.{ToolAnswer}
-use Rattle.tool_answers.specs.declared.answer.ToolAnswer.TheVariants as answer
+use Rattle.command_line.specs.ImageReaders.{reads_image, HasImage}
+use Rattle.command_line.specs.declared.answer.ToolAnswer.{ToolAnswer}
+use Rattle.command_line.specs.declared.answer.ToolAnswer.TheVariants as answer
 use Rattle.tool_commands.proofs.AtAllAnswers.{all-one, all-image}
 use Rattle.tool_commands.proofs.AtAnswers.{at-one, at-image}
 use Rattle.tool_commands.proofs.BoundsAnswers.{BoundsSays, LatencySays, LowerCountsSays, one_bounds, one_latency, one_lower_counts}
@@ -23,7 +23,7 @@ use Rattle.tool_commands.proofs.ElfAnswers.{Wrote, elf-one, elf-view, unelf-one}
 use Rattle.tool_commands.proofs.InferAnswers.{infer-one}
 use Rattle.tool_commands.proofs.MapAnswers.{MapSays, one_map}
 use Rattle.tool_commands.proofs.OrtiAnswers.{one_orti}
-use Rattle.tool_commands.proofs.ResponseAnswers.{one_response_answer}
+use Rattle.tool_commands.proofs.ResponseAnswers.{one_response_answer, one_task_answer}
 use Rattle.tool_commands.proofs.SharesAnswers.{SharesSays, one_shares}
 use Rattle.tool_commands.proofs.PictureAnswers.{Pictures, one_pictures}
 use Rattle.tool_commands.proofs.RunAnswers.{run-image, run-one}
@@ -55,7 +55,8 @@ one_answer tool.Map counts names inputs a b d p q =
 one_answer tool.Shares counts names inputs a b d p q =
     let oil = input inputs 0 in let src = input inputs 1 in one_source oil src (SharesSays oil src) (one_shares oil src) a b p q
 one_answer tool.Response counts names inputs a b d p q = one_response_answer (input inputs 0) (input inputs 1) (input inputs 2) a b p q
-one_answer tool.TaskResponse counts names inputs a b d p q = absurd (false≢true d)
+one_answer tool.TaskResponse counts names inputs a b d p q =
+    one_task_answer (input inputs 0) (input inputs 1) (input inputs 2) (input names 3) a b p q
 one_answer tool.Symbols counts names inputs a b d p q = absurd (false≢true d)
 one_answer tool.Orti counts names inputs a b d p q = one_orti (input inputs 0) (input inputs 1) a b p q
 one_answer tool.Why counts names inputs a b d p q = absurd (false≢true d)

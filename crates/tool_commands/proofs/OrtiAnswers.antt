@@ -7,8 +7,8 @@ use Rattle.sloth_source.proofs.Unique.{never_both}
 use Rattle.orti_text.specs.OrtiText.{IsOrtiText}
 use Rattle.orti_text.proofs.OneText.{one_text}
 use Rattle.tool_commands.specs.OrtiAnswers.{IsOrtiAnswer}
-use Rattle.tool_answers.specs.declared.answer.ToolAnswer.{ToolAnswer}
-use Rattle.tool_answers.specs.declared.answer.ToolAnswer.TheVariants as answer
+use Rattle.command_line.specs.declared.answer.ToolAnswer.{ToolAnswer}
+use Rattle.command_line.specs.declared.answer.ToolAnswer.TheVariants as answer
 use Rattle.tool_commands.proofs.ElfAnswers.{Wrote, same-wrote}
 
 module _ (oil src : List ℕ) where

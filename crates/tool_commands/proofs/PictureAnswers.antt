@@ -1,6 +1,6 @@
 -- Files have one answer of `picture`.
 use Rattle.std.proofs.Common.{ℕ, List}
-use Rattle.sloth_base.specs.declared.event.Arrival.{Arrival}
+use Rattle.sloth_base.specs.declared.service.Arrival.{Arrival}
 use Rattle.sloth_base.specs.declared.image.Image.{Image}
 use Rattle.schedule_picture.specs.Picture.{IsPictureOf}
 use Rattle.schedule_picture.proofs.OnePicture.{one_picture}

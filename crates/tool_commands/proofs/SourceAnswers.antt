@@ -4,8 +4,8 @@ use Rattle.sloth_base.specs.declared.refusal.Refusal.{Refusal}
 use Rattle.sloth_source.specs.Texts.{FirstRefusal}
 use Rattle.sloth_source.proofs.Refusals.{one_refusal}
 use Rattle.tool_commands.specs.SourceAnswers.{IsSourceAnswer}
-use Rattle.tool_answers.specs.declared.answer.ToolAnswer.{ToolAnswer}
-use Rattle.tool_answers.specs.declared.answer.ToolAnswer.TheVariants as answer
+use Rattle.command_line.specs.declared.answer.ToolAnswer.{ToolAnswer}
+use Rattle.command_line.specs.declared.answer.ToolAnswer.TheVariants as answer
 use Rattle.tool_commands.proofs.ElfAnswers.{same-outcome}
 
 -- What is said holds of one list of lines, where the texts are not refused.

@@ -1,6 +1,6 @@
 -- Files have one answer of `wave`.
 use Rattle.std.proofs.Common.{◌∙◌, ℕ, List, sym, ap}
-use Rattle.sloth_base.specs.declared.event.Arrival.{Arrival}
+use Rattle.sloth_base.specs.declared.service.Arrival.{Arrival}
 use Rattle.sloth_base.specs.declared.image.Image.{Image}
 use Rattle.run_samples.proofs.OneSample.{one-samples}
 use Rattle.wave_text.specs.Moments.{moments_of}

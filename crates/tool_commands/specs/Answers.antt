@@ -22,7 +22,7 @@ use Rattle.tool_commands.specs.OrtiAnswers.{IsOrtiAnswer}
 use Rattle.tool_commands.specs.PictureAnswers.{IsPictureAnswer}
 use Rattle.tool_commands.specs.SymbolsAnswers.{IsSymbolsAnswer}
 use Rattle.tool_commands.specs.WaveAnswers.{IsWaveAnswer}
-use Rattle.tool_answers.specs.declared.answer.ToolAnswer.{ToolAnswer}
+use Rattle.command_line.specs.declared.answer.ToolAnswer.{ToolAnswer}
 
 -- the bytes of a file, or a name, by its place in the order of the words
 abbrev pub input : List (List ℕ) → ℕ → List ℕ
@@ -61,8 +61,8 @@ IsAnswer tool.RunResponse counts names inputs answer =
     IsRunResponseAnswer (input inputs 0) (input inputs 1) (input inputs 2) (input inputs 3) (number_of counts) answer
 
 -- Its answer is determined by what it reads. Of those that are not, the text is: a reason, of several that are true, of a refusal (`why`), of lists at labels
--- and of a text of events; a walk, of several of the greatest time, of a blocking time, and a start of a response; the file of `symbols`, the text of `losses` and the
--- run of `response`, by the image too.
+-- and of a text of events; a walk, of several of the greatest time, of a blocking time; the file of `symbols`, the text of `losses` and the run of `response`, by the
+-- image too.
 abbrev pub is_determined : Tool → Bool
 is_determined tool.Elf = true
 is_determined tool.Unelf = true
@@ -81,7 +81,7 @@ is_determined tool.Shares = true
 is_determined tool.Response = true
 is_determined tool.Why = false
 is_determined tool.TaskBound = false
-is_determined tool.TaskResponse = false
+is_determined tool.TaskResponse = true
 is_determined tool.Symbols = false
 is_determined tool.Orti = true
 is_determined tool.Labels = false

@@ -1,8 +1,8 @@
 -- The answers of `at`.
 use Rattle.std.specs.Prelude.{ℕ, ◌≡◌, List, [], codes}
-use Rattle.sloth_base.specs.declared.event.Arrival.{Arrival}
+use Rattle.sloth_base.specs.declared.service.Arrival.{Arrival}
 use Rattle.sloth_base.specs.declared.image.Image.{Image}
-use Rattle.least_fault.specs.Order.{NoFault}
+use Rattle.sloth_base.specs.Order.{NoFault}
 use Rattle.image_file.specs.ImageText.{ImageText}
 use Rattle.image_file.specs.Faults.{IsFirstImageFault}
 use Rattle.trace_text.specs.ArrivalsText.{ArrivalsFault, arrivals_in}
@@ -11,8 +11,8 @@ use Rattle.sloth_runner.specs.declared.task_states.Sight.{Sight}
 use Rattle.sloth_runner.specs.declared.task_states.Sight.TheVariants as sight
 use Rattle.tool_commands.specs.StatesText.{states_text}
 use Rattle.run_inputs.specs.RunInputs.{IsRunRefused}
-use Rattle.tool_answers.specs.declared.answer.ToolAnswer.{ToolAnswer}
-use Rattle.tool_answers.specs.declared.answer.ToolAnswer.TheVariants as answer
+use Rattle.command_line.specs.declared.answer.ToolAnswer.{ToolAnswer}
+use Rattle.command_line.specs.declared.answer.ToolAnswer.TheVariants as answer
 
 -- the answer to what a run of an image shows of its tasks
 abbrev pub states_answer : Image → Sight → ToolAnswer

@@ -4,7 +4,7 @@ use Rattle.bounds_text.specs.BoundsText.{IsBoundsText}
 use Rattle.bounds_text.specs.Latency.{IsLatencyText}
 use Rattle.bounds_text.specs.LowerCounts.{IsLowerCountsText}
 use Rattle.tool_commands.specs.SourceAnswers.{IsSourceAnswer}
-use Rattle.tool_answers.specs.declared.answer.ToolAnswer.{ToolAnswer}
+use Rattle.command_line.specs.declared.answer.ToolAnswer.{ToolAnswer}
 
 -- the lines of the bounds of all tasks, or the first refusal
 abbrev pub IsBoundsAnswer : List ℕ → List ℕ → ToolAnswer → Type 0

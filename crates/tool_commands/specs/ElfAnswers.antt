@@ -6,8 +6,8 @@ use Rattle.image_file.specs.Faults.{IsFirstImageFault as ImageFaulty}
 use Rattle.elf_image.specs.ElfText.{ElfText}
 use Rattle.elf_image.specs.Faults.{IsFirstElfFault as ElfFaulty}
 use Rattle.tool_commands.specs.Lines.{written_line}
-use Rattle.tool_answers.specs.declared.answer.ToolAnswer.{ToolAnswer}
-use Rattle.tool_answers.specs.declared.answer.ToolAnswer.TheVariants as answer
+use Rattle.command_line.specs.declared.answer.ToolAnswer.{ToolAnswer}
+use Rattle.command_line.specs.declared.answer.ToolAnswer.TheVariants as answer
 
 -- the two files are of one image: an image file and its ELF file
 abbrev pub AreOfOneImage : List ℕ → List ℕ → Type 0

@@ -3,8 +3,8 @@ use Rattle.std.specs.Prelude.{ℕ, ◌≡◌, List, length}
 use Rattle.sloth_source.specs.RankedTexts.{EarlyRefusal}
 use Rattle.holds_infer.specs.FilledSource.{IsFilledSource, HasNoLists}
 use Rattle.tool_commands.specs.Lines.{written_line}
-use Rattle.tool_answers.specs.declared.answer.ToolAnswer.{ToolAnswer}
-use Rattle.tool_answers.specs.declared.answer.ToolAnswer.TheVariants as answer
+use Rattle.command_line.specs.declared.answer.ToolAnswer.{ToolAnswer}
+use Rattle.command_line.specs.declared.answer.ToolAnswer.TheVariants as answer
 
 -- the source with the list of each label filled in, the first refusal before the rules of task code, or that no lists keep them
 abbrev pub IsInferAnswer : List ℕ → List ℕ → ToolAnswer → Type 0

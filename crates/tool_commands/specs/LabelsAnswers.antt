@@ -5,10 +5,10 @@ use Rattle.sloth_base.specs.declared.refusal.Refusal.{Refusal}
 use Rattle.sloth_source.specs.RankedTexts.{EarlyRefusal}
 use Rattle.holds_infer.specs.LabelAnswers.{IsLabelAnswer}
 use Rattle.holds_infer.specs.declared.label_answers.LabelAnswer.TheVariants as label
-use Rattle.tool_answers.specs.declared.answer.ToolAnswer.{ToolAnswer}
-use Rattle.tool_answers.specs.declared.answer.ToolAnswer.TheVariants as answer
-use Rattle.tool_answers.specs.declared.status.Explanation.{Explanation}
-use Rattle.tool_answers.specs.declared.status.Explanation.TheVariants as explanation
+use Rattle.command_line.specs.declared.answer.ToolAnswer.{ToolAnswer}
+use Rattle.command_line.specs.declared.answer.ToolAnswer.TheVariants as answer
+use Rattle.command_line.specs.declared.status.Explanation.{Explanation}
+use Rattle.command_line.specs.declared.status.Explanation.TheVariants as explanation
 
 -- that the texts have a refusal before the rules of task code
 abbrev pub AreRefusedEarly : (oil src : List ℕ) → Type 0

@@ -2,8 +2,8 @@
 use Rattle.std.specs.Prelude.{ℕ, ◌≡◌, List, []}
 use Rattle.losses_text.specs.Losses.{IsLossesText}
 use Rattle.run_inputs.specs.Inputs.{IsRefusal}
-use Rattle.tool_answers.specs.declared.answer.ToolAnswer.{ToolAnswer}
-use Rattle.tool_answers.specs.declared.answer.ToolAnswer.TheVariants as answer
+use Rattle.command_line.specs.declared.answer.ToolAnswer.{ToolAnswer}
+use Rattle.command_line.specs.declared.answer.ToolAnswer.TheVariants as answer
 
 -- `losses`: what a run of the texts asks of tasks and counters, and what of it is lost; or the first refusal of the texts
 abbrev pub IsLossesAnswer : (oil src arr : List ℕ) (n : ℕ) → ToolAnswer → Type 0

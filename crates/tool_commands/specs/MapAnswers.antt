@@ -2,7 +2,7 @@
 use Rattle.std.specs.Prelude.{ℕ, List}
 use Rattle.map_text.specs.MapText.{IsMapText}
 use Rattle.tool_commands.specs.SourceAnswers.{IsSourceAnswer}
-use Rattle.tool_answers.specs.declared.answer.ToolAnswer.{ToolAnswer}
+use Rattle.command_line.specs.declared.answer.ToolAnswer.{ToolAnswer}
 
 -- the lines of what the image takes of memory, or the first refusal
 abbrev pub IsMapAnswer : List ℕ → List ℕ → ToolAnswer → Type 0

@@ -2,7 +2,7 @@
 use Rattle.std.specs.Prelude.{ℕ, List}
 use Rattle.orti_text.specs.OrtiText.{IsOrtiText}
 use Rattle.tool_commands.specs.SourceAnswers.{IsFileAnswer}
-use Rattle.tool_answers.specs.declared.answer.ToolAnswer.{ToolAnswer}
+use Rattle.command_line.specs.declared.answer.ToolAnswer.{ToolAnswer}
 
 -- the file by which debuggers find the objects of the kernel, or the first refusal
 abbrev pub IsOrtiAnswer : (oil src : List ℕ) → ToolAnswer → Type 0

@@ -3,7 +3,7 @@ use Rattle.std.specs.Prelude.{ℕ, List}
 use Rattle.command_line.specs.declared.counts.Window.{Window}
 use Rattle.schedule_picture.specs.Picture.{IsPictureOf}
 use Rattle.tool_commands.specs.RunAnswers.{IsRunAnswer}
-use Rattle.tool_answers.specs.declared.answer.ToolAnswer.{ToolAnswer}
+use Rattle.command_line.specs.declared.answer.ToolAnswer.{ToolAnswer}
 
 -- the picture of the run's part, or where and why the run stops in front of its last count; or what is wrong with the files
 abbrev pub IsPictureAnswer : (img arr : List ℕ) → Window → ToolAnswer → Type 0

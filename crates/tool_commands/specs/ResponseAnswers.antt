@@ -1,14 +1,14 @@
 -- The answers of `response`.
 use Rattle.std.specs.Prelude.{ℕ, ◌≡◌, List, [], Some, None, true, false, cond}
-use Rattle.response_text.specs.declared.told.Told.{Told}
+use Rattle.response_text.specs.declared.task_text.Told.{Told}
 use Rattle.response_text.specs.Inputs.{IsRefusal}
 use Rattle.response_text.specs.ResponseText.{IsResponseText}
 use Rattle.response_text.specs.TaskText.{IsTaskText}
 use Rattle.run_load.specs.declared.lines.ToldRun.{ToldRun}
 use Rattle.run_load.specs.RunText as run
 use Rattle.run_load.specs.RunText.{IsRunText}
-use Rattle.tool_answers.specs.declared.answer.ToolAnswer.{ToolAnswer}
-use Rattle.tool_answers.specs.declared.answer.ToolAnswer.TheVariants as answer
+use Rattle.command_line.specs.declared.answer.ToolAnswer.{ToolAnswer}
+use Rattle.command_line.specs.declared.answer.ToolAnswer.TheVariants as answer
 
 -- the lines of the responses of all tasks, with no deadline that is open; those with one; or the first refusal of the three texts
 abbrev pub IsResponseAnswer : (oil src load : List ℕ) → ToolAnswer → Type 0

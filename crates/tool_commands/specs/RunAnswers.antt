@@ -1,16 +1,16 @@
 -- The answers of tools that write what a run of an image file shows: `wave` and `picture`.
 use Rattle.std.specs.Prelude.{ℕ, ◌≡◌, List, length}
-use Rattle.sloth_base.specs.declared.event.Arrival.{Arrival}
+use Rattle.sloth_base.specs.declared.service.Arrival.{Arrival}
 use Rattle.sloth_base.specs.declared.image.Image.{Image}
 use Rattle.image_file.specs.Faults.{IsFirstImageFault}
-use Rattle.rv32_instr.specs.declared.stop.Stop.{Stop}
+use Rattle.rv32_instr.specs.declared.effect.Stop.{Stop}
 use Rattle.sloth_runner.specs.Runner.{run_end}
 use Rattle.sloth_runner.specs.declared.runner.RunEnd.TheVariants as ends
 use Rattle.run_inputs.specs.RunInputs.{AreRunInputs, IsRunRefused}
 use Rattle.tool_commands.specs.Lines.{written_line}
-use Rattle.tool_answers.specs.declared.answer.Outcome.{Outcome}
-use Rattle.tool_answers.specs.declared.answer.ToolAnswer.{ToolAnswer}
-use Rattle.tool_answers.specs.declared.answer.ToolAnswer.TheVariants as answer
+use Rattle.command_line.specs.declared.answer.Outcome.{Outcome}
+use Rattle.command_line.specs.declared.answer.ToolAnswer.{ToolAnswer}
+use Rattle.command_line.specs.declared.answer.ToolAnswer.TheVariants as answer
 
 -- the file that was written shows the run
 pub record IsDrawn (Shows : Image → List Arrival → List ℕ → Type 0) (img arr : List ℕ) (outcome : Outcome) : Type 0 where

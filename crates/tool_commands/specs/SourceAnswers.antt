@@ -3,8 +3,8 @@
 use Rattle.std.specs.Prelude.{ℕ, ◌≡◌, List, [], length}
 use Rattle.sloth_source.specs.Texts.{FirstRefusal}
 use Rattle.tool_commands.specs.Lines.{written_line}
-use Rattle.tool_answers.specs.declared.answer.ToolAnswer.{ToolAnswer}
-use Rattle.tool_answers.specs.declared.answer.ToolAnswer.TheVariants as answer
+use Rattle.command_line.specs.declared.answer.ToolAnswer.{ToolAnswer}
+use Rattle.command_line.specs.declared.answer.ToolAnswer.TheVariants as answer
 
 -- lines of which this is said, or the first refusal
 abbrev pub IsSourceAnswer : (Says : List ℕ → Type 0) (oil src : List ℕ) → ToolAnswer → Type 0

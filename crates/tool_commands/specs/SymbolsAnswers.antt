@@ -2,7 +2,7 @@
 use Rattle.std.specs.Prelude.{ℕ, List}
 use Rattle.symbol_build.specs.SymbolFiles.{IsSymbolFile}
 use Rattle.tool_commands.specs.SourceAnswers.{IsFileAnswer}
-use Rattle.tool_answers.specs.declared.answer.ToolAnswer.{ToolAnswer}
+use Rattle.command_line.specs.declared.answer.ToolAnswer.{ToolAnswer}
 
 -- the file that debuggers read of an image of the texts, the second of which has this name; or the first refusal
 abbrev pub IsSymbolsAnswer : (oil src name : List ℕ) → ToolAnswer → Type 0

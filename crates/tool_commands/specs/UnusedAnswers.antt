@@ -2,7 +2,7 @@
 use Rattle.std.specs.Prelude.{ℕ, List}
 use Rattle.shares_text.specs.UnusedText.{IsUnusedText}
 use Rattle.tool_commands.specs.SourceAnswers.{IsSourceAnswer}
-use Rattle.tool_answers.specs.declared.answer.ToolAnswer.{ToolAnswer}
+use Rattle.command_line.specs.declared.answer.ToolAnswer.{ToolAnswer}
 
 -- the lines of what nothing uses, or the first refusal
 abbrev pub IsUnusedAnswer : List ℕ → List ℕ → ToolAnswer → Type 0

@@ -5,10 +5,10 @@ use Rattle.sloth_source.specs.Texts.{FirstRefusal}
 use Rattle.bounds_text.specs.TaskBound.{IsBoundText}
 use Rattle.command_line.specs.LastLine.{refusal_line}
 use Rattle.why_text.specs.WhyLines.{AreAcceptedTexts, IsWhy}
-use Rattle.why_text.specs.declared.why.Why.TheVariants as why
-use Rattle.tool_answers.specs.declared.answer.ToolAnswer.{ToolAnswer}
-use Rattle.tool_answers.specs.declared.answer.ToolAnswer.TheVariants as answer
-use Rattle.tool_answers.specs.declared.status.Explanation.TheVariants as explanation
+use Rattle.why_text.specs.declared.explaining.Why.TheVariants as why
+use Rattle.command_line.specs.declared.answer.ToolAnswer.{ToolAnswer}
+use Rattle.command_line.specs.declared.answer.ToolAnswer.TheVariants as answer
+use Rattle.command_line.specs.declared.status.Explanation.TheVariants as explanation
 
 -- the line of the first refusal, and the lines behind it
 pub record IsExplained (oil src text : List ℕ) : Type 0 where

@@ -6,28 +6,18 @@ ghost use Rattle.sloth_base.specs.Owners.{owners_named};
 ghost use Rattle.sloth_base.specs.Limits.{file_limit};
 ghost use Rattle.sloth_runner.specs.TaskStates.{AreStatesAt};
 ghost use Rattle.sloth_runner.specs.declared.task_states.Sight.TheVariants.{At};
-ghost use Rattle.tool_commands.specs.AtAllAnswers.{IsAtAllAnswer, all_text, done};
+ghost use Rattle.tool_commands.specs.AtAllAnswers.{IsAtAllAnswer, all_text};
 ghost use Rattle.run_inputs.specs.RunInputs.{AreRunInputs};
 
-use crate::at_command::sight_of;
+use crate::at_command::sight;
 use crate::at_lines::count_line;
+use command_line::{ToolAnswer, told};
 use run_inputs::{RunInputs, Unread, read_run};
 use run_samples::{ServiceWords, WordsRead, push_system, words_at};
-use sloth_base::{Image, List, NoMemory, Result};
+use sloth_base::{Image, NoMemory, Result};
 use sloth_runner::Sight;
 use sloth_runner::task_states::Seen;
 use std::alloc::Global;
-use tool_answers::{Outcome, ToolAnswer};
-
-// The answer that is this text.
-fn text_answer(alloc: Global, text: Vec<u8>) -> ToolAnswer
-    ensures { result ≡ done text.items }
-{
-    ToolAnswer::Done(Outcome {
-        file: List::from_vec(Vec::new(alloc)),
-        text: List::from_vec(text),
-    })
-}
 
 // What is printed at a count.
 fn all_text(alloc: Global, image: &Image, seen: &Seen, words: &ServiceWords) -> Result<Vec<u8>>
@@ -52,7 +42,7 @@ fn seen_answer(alloc: Global, run: &RunInputs, k: u32, seen: &Seen) -> Result<To
     match words_at(alloc, &run.image, run.arrivals.as_slice(), seen.count)? {
         WordsRead::At(words) => {
             let text = all_text(alloc, &run.image, seen, &words)?;
-            Ok(text_answer(alloc, text))
+            Ok(told(alloc, text))
         }
         WordsRead::Stopped(halt) => Ok(ToolAnswer::Stopped {
             pc: halt.pc,
@@ -63,17 +53,17 @@ fn seen_answer(alloc: Global, run: &RunInputs, k: u32, seen: &Seen) -> Result<To
 
 // The answer to an image and arrivals that were read.
 #[tactic(auto, using(crate::proofs::AtAllAnswers::booting_is_answer, crate::proofs::AtAllAnswers::stopped_is_answer))]
-fn all_of(alloc: Global, run: &RunInputs, k: u32) -> Result<ToolAnswer>
+fn run_answer(alloc: Global, run: &RunInputs, k: u32) -> Result<ToolAnswer>
     requires format { InFormat run.now.image }
     requires arrivals { AreArrivals (owners_named run.now.image) run.now.arrivals.items }
     requires k { k ≤ 999999 }
     ensures { (img arr : Sequence ℕ) → AreRunInputs img arr run.now.image run.now.arrivals.items → IfOk result (λ answer. IsAtAllAnswer img arr k answer) }
 {
-    match sight_of(alloc, &run.image, run.arrivals.as_slice(), k)? {
+    match sight(alloc, &run.image, run.arrivals.as_slice(), k)? {
         Sight::At(seen) => seen_answer(alloc, run, k, &seen),
         Sight::Booting => {
             let text = Vec::from_slice(alloc, b"booting\n")?;
-            Ok(text_answer(alloc, text))
+            Ok(told(alloc, text))
         }
         Sight::Stopped { pc, stop } => Ok(ToolAnswer::Stopped { pc, stop }),
     }
@@ -86,7 +76,7 @@ pub fn at_all(alloc: Global, img: &[u8], arr: &[u8], k: u32) -> Result<ToolAnswe
     ensures { IfOk result (λ answer. IsAtAllAnswer img.now arr.now k answer) }
 {
     match read_run(alloc, img, arr) {
-        Ok(run) => all_of(alloc, &run, k),
+        Ok(run) => run_answer(alloc, &run, k),
         Err(Unread::NotAnImage(fault)) => Ok(ToolAnswer::NotAnImage(fault)),
         Err(Unread::Refused(refusal)) => Ok(ToolAnswer::Refused(refusal)),
         Err(Unread::NoMemory) => Err(NoMemory),

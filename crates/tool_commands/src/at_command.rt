@@ -9,11 +9,11 @@ ghost use Rattle.tool_commands.specs.AtAnswers.{IsAtAnswer, states_answer};
 ghost use Rattle.run_inputs.specs.RunInputs.{AreRunInputs};
 
 use crate::at_lines::states_text;
+use command_line::{ToolAnswer, told};
 use run_inputs::{RunInputs, Unread, read_run};
-use sloth_base::{Arrival, Image, List, NoMemory, Result};
+use sloth_base::{Arrival, Image, NoMemory, Result};
 use sloth_runner::{Runner, Sight};
 use std::alloc::Global;
-use tool_answers::{Outcome, ToolAnswer};
 
 // The answer to what a run of an image shows of its tasks.
 fn states_answer(alloc: Global, image: &Image, sight: &Sight) -> Result<ToolAnswer>
@@ -30,14 +30,11 @@ fn states_answer(alloc: Global, image: &Image, sight: &Sight) -> Result<ToolAnsw
             });
         }
     };
-    Ok(ToolAnswer::Done(Outcome {
-        file: List::from_vec(Vec::new(alloc)),
-        text: List::from_vec(text),
-    }))
+    Ok(told(alloc, text))
 }
 
 // What the run of an image with arrivals shows of its tasks.
-pub(crate) fn sight_of(alloc: Global, image: &Image, arrivals: &[Arrival], k: u32) -> Result<Sight>
+pub(crate) fn sight(alloc: Global, image: &Image, arrivals: &[Arrival], k: u32) -> Result<Sight>
     requires format { InFormat image.now }
     requires arrivals { AreArrivals (owners_named image.now) arrivals.now }
     requires k { k ≤ 999999 }
@@ -49,13 +46,13 @@ pub(crate) fn sight_of(alloc: Global, image: &Image, arrivals: &[Arrival], k: u3
 
 // The answer to an image and arrivals that were read.
 #[tactic(auto, using(crate::proofs::AtAnswers::sight_is_answer))]
-fn states_of(alloc: Global, run: &RunInputs, k: u32) -> Result<ToolAnswer>
+fn sight_answer(alloc: Global, run: &RunInputs, k: u32) -> Result<ToolAnswer>
     requires format { InFormat run.now.image }
     requires arrivals { AreArrivals (owners_named run.now.image) run.now.arrivals.items }
     requires k { k ≤ 999999 }
     ensures { (img arr : Sequence ℕ) → AreRunInputs img arr run.now.image run.now.arrivals.items → IfOk result (λ answer. IsAtAnswer img arr k answer) }
 {
-    let sight = sight_of(alloc, &run.image, run.arrivals.as_slice(), k)?;
+    let sight = sight(alloc, &run.image, run.arrivals.as_slice(), k)?;
     let answer = states_answer(alloc, &run.image, &sight)?;
     Ok(answer)
 }
@@ -67,7 +64,7 @@ pub fn at(alloc: Global, img: &[u8], arr: &[u8], k: u32) -> Result<ToolAnswer>
     ensures { IfOk result (λ answer. IsAtAnswer img.now arr.now k answer) }
 {
     match read_run(alloc, img, arr) {
-        Ok(run) => states_of(alloc, &run, k),
+        Ok(run) => sight_answer(alloc, &run, k),
         Err(Unread::NotAnImage(fault)) => Ok(ToolAnswer::NotAnImage(fault)),
         Err(Unread::Refused(refusal)) => Ok(ToolAnswer::Refused(refusal)),
         Err(Unread::NoMemory) => Err(NoMemory),

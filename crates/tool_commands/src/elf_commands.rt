@@ -1,17 +1,20 @@
-//! The commands `elf` and `unelf`.
-ghost use Rattle.std.specs.Prelude.{◌≡◌, ℕ, List as Sequence, IfOk, length};
+//! The commands `elf` and `unelf`. The command `symbols`.
+ghost use Rattle.std.specs.Prelude.{◌≡◌, ℕ, List as Sequence, IfOk, length, ◌≤◌};
 ghost use Rattle.sloth_base.specs.ImageRange.{InFormat};
 ghost use Rattle.elf_image.specs.ElfText.{ElfText};
 ghost use Rattle.image_file.specs.ImageText.{ImageText};
 ghost use Rattle.tool_commands.specs.Lines.{written_line};
 ghost use Rattle.tool_commands.specs.ElfAnswers.{IsElfAnswer, IsUnelfAnswer};
+ghost use Rattle.sloth_base.specs.Limits.{file_limit};
+ghost use Rattle.tool_commands.specs.SymbolsAnswers.{IsSymbolsAnswer};
 
 use crate::lines::written_line;
+use command_line::{Outcome, ToolAnswer};
 use elf_image::{read_elf, write_elf};
 use image_file::{ElfError, ImageError, read_image, write_image};
-use sloth_base::{Image, List, NoMemory, Result};
+use sloth_base::{BuildError, Image, List, NoMemory, Result};
 use std::alloc::Global;
-use tool_answers::{Outcome, ToolAnswer};
+use symbol_build::symbols_file;
 
 /// The outcome of a tool that writes a file.
 pub fn written(alloc: Global, file: Vec<u8>) -> Result<Outcome>
@@ -26,7 +29,7 @@ pub fn written(alloc: Global, file: Vec<u8>) -> Result<Outcome>
 }
 
 // The answer to an image that was read.
-fn elf_of(alloc: Global, image: &Image) -> Result<ToolAnswer>
+fn elf_answer(alloc: Global, image: &Image) -> Result<ToolAnswer>
     requires { InFormat image.now }
     ensures { (img : Sequence ℕ) → ImageText img image.now → IfOk result (λ answer. IsElfAnswer img answer) }
 {
@@ -39,14 +42,14 @@ pub fn elf(alloc: Global, bytes: &[u8]) -> Result<ToolAnswer>
     ensures { IfOk result (λ answer. IsElfAnswer bytes.now answer) }
 {
     match read_image(alloc, bytes) {
-        Ok(image) => elf_of(alloc, &image),
+        Ok(image) => elf_answer(alloc, &image),
         Err(ImageError::Fault(fault)) => Ok(ToolAnswer::NotAnImage(fault)),
         Err(ImageError::Memory) => Err(NoMemory),
     }
 }
 
 // The answer to an image that was read of an ELF file.
-fn unelf_of(alloc: Global, image: &Image) -> Result<ToolAnswer>
+fn unelf_answer(alloc: Global, image: &Image) -> Result<ToolAnswer>
     requires { InFormat image.now }
     ensures { (elf : Sequence ℕ) → ElfText elf image.now → IfOk result (λ answer. IsUnelfAnswer elf answer) }
 {
@@ -59,8 +62,22 @@ pub fn unelf(alloc: Global, bytes: &[u8]) -> Result<ToolAnswer>
     ensures { IfOk result (λ answer. IsUnelfAnswer bytes.now answer) }
 {
     match read_elf(alloc, bytes) {
-        Ok(image) => unelf_of(alloc, &image),
+        Ok(image) => unelf_answer(alloc, &image),
         Err(ElfError::Fault(fault)) => Ok(ToolAnswer::NotAnElf(fault)),
         Err(ElfError::Memory) => Err(NoMemory),
     }
+}
+
+/// The file that debuggers read of the image of these texts, the second of which has this name; or the first refusal.
+pub fn symbols(alloc: Global, oil: &[u8], src: &[u8], name: &[u8]) -> Result<ToolAnswer>
+    requires oil { length oil.now ≤ file_limit }
+    requires src { length src.now ≤ file_limit }
+    ensures { IfOk result (λ answer. IsSymbolsAnswer oil.now src.now name.now answer) }
+{
+    let file = match symbols_file(alloc, oil, src, name) {
+        Ok(file) => file,
+        Err(BuildError::Refused(refusal)) => return Ok(ToolAnswer::Refused(refusal)),
+        Err(BuildError::Memory) => return Err(NoMemory),
+    };
+    Ok(ToolAnswer::Done(written(alloc, file)?))
 }

@@ -7,33 +7,42 @@ ghost use Rattle.tool_commands.specs.Answers.{IsAnswer, input};
 
 use crate::at_all_command::at_all;
 use crate::at_command::at;
-use crate::bounds_command::{bounds, latency, lower_counts};
-use crate::elf_commands::{elf, unelf};
-use crate::infer_command::infer;
-use crate::labels_command::labels;
-use crate::losses_command::losses;
-use crate::map_command::map;
-use crate::orti_command::orti;
+use crate::elf_commands::{elf, symbols, unelf};
 use crate::picture_command::picture;
 use crate::response_command::{response, run_response, task_response};
-use crate::shares_command::shares;
-use crate::symbols_command::symbols;
-use crate::trace_reason_command::trace_reason;
-use crate::unused_command::unused;
+use crate::source_commands::{bounds, latency, losses, lower_counts, map, orti, shares, unused};
 use crate::wave_command::wave;
-use crate::why_command::{task_bound, why};
-use command_line::{Counts, Tool, number_of, window_of};
+use crate::why_command::{infer, labels, task_bound, trace_reason, why};
+use command_line::{Counts, Tool, ToolAnswer, number_of, window_of};
 use sloth_base::{List, Result};
 use std::alloc::Global;
-use tool_answers::ToolAnswer;
-use trace_check::check_command::check;
+use trace_check::answer::check;
 
 // A name, by its place in the order of the words.
-fn name_of(names: &[String], place: usize) -> &[u8]
+fn name(names: &[String], place: usize) -> &[u8]
     requires { place < length names.now }
     ensures { result.now ≡ input (words_of names.now) place }
 {
     names[place].as_str().as_bytes()
+}
+
+// The bytes of a file, by its place in the order of the words; none where there is no such file.
+fn bytes(inputs: &[List<u8>], place: usize) -> &[u8]
+    ensures { result.now ≡ input inputs.now place }
+{
+    match inputs.get(place) {
+        Some(file) => file.items(),
+        None => b"",
+    }
+}
+
+// The same, where all files are short.
+fn file(inputs: &[List<u8>], place: usize) -> &[u8]
+    requires { All (λ input. length input ≤ file_limit) inputs.now }
+    ensures is { result.now ≡ input inputs.now place }
+    ensures short { length result.now ≤ file_limit }
+{
+    bytes(inputs, place)
 }
 
 /// The answer of a tool with these counts, if it takes any, and these names to files of these bytes.
@@ -50,98 +59,35 @@ pub fn judge(
     requires short { All (λ input. length input ≤ file_limit) inputs.now }
     ensures { IfOk result (λ answer. IsAnswer tool counts (words_of names.now) inputs.now answer) }
 {
+    let n = number_of(counts);
+    let first = file(inputs, 0);
+    let second = file(inputs, 1);
+    let third = file(inputs, 2);
+    let fourth = file(inputs, 3);
     match tool {
-        Tool::Elf => elf(alloc, inputs[0].items()),
-        Tool::Unelf => unelf(alloc, inputs[0].items()),
-        Tool::Infer => infer(alloc, inputs[0].items(), inputs[1].items()),
-        Tool::At => at(
-            alloc,
-            inputs[0].items(),
-            inputs[1].items(),
-            number_of(counts),
-        ),
-        Tool::AtAll => at_all(
-            alloc,
-            inputs[0].items(),
-            inputs[1].items(),
-            number_of(counts),
-        ),
-        Tool::Losses => losses(
-            alloc,
-            inputs[0].items(),
-            inputs[1].items(),
-            inputs[2].items(),
-            number_of(counts),
-        ),
-        Tool::Wave => wave(
-            alloc,
-            inputs[0].items(),
-            inputs[1].items(),
-            number_of(counts),
-        ),
-        Tool::Picture => picture(
-            alloc,
-            inputs[0].items(),
-            inputs[1].items(),
-            window_of(counts),
-        ),
-        Tool::Check => check(
-            alloc,
-            inputs[0].items(),
-            inputs[1].items(),
-            inputs[2].items(),
-            inputs[3].items(),
-            number_of(counts),
-        ),
-        Tool::Bounds => bounds(alloc, inputs[0].items(), inputs[1].items()),
-        Tool::Latency => latency(alloc, inputs[0].items(), inputs[1].items()),
-        Tool::LowerCounts => lower_counts(alloc, inputs[0].items(), inputs[1].items()),
-        Tool::Map => map(alloc, inputs[0].items(), inputs[1].items()),
-        Tool::Shares => shares(alloc, inputs[0].items(), inputs[1].items()),
-        Tool::Response => response(
-            alloc,
-            inputs[0].items(),
-            inputs[1].items(),
-            inputs[2].items(),
-        ),
-        Tool::Why => why(alloc, inputs[0].items(), inputs[1].items()),
-        Tool::TaskBound => task_bound(
-            alloc,
-            inputs[0].items(),
-            inputs[1].items(),
-            name_of(names, 2),
-        ),
-        Tool::TaskResponse => task_response(
-            alloc,
-            inputs[0].items(),
-            inputs[1].items(),
-            inputs[2].items(),
-            name_of(names, 3),
-        ),
-        Tool::Symbols => symbols(
-            alloc,
-            inputs[0].items(),
-            inputs[1].items(),
-            name_of(names, 1),
-        ),
-        Tool::Orti => orti(alloc, inputs[0].items(), inputs[1].items()),
-        Tool::Labels => labels(alloc, inputs[0].items(), inputs[1].items()),
-        Tool::TraceReason => trace_reason(
-            alloc,
-            inputs[0].items(),
-            inputs[1].items(),
-            inputs[2].items(),
-            inputs[3].items(),
-            number_of(counts),
-        ),
-        Tool::Unused => unused(alloc, inputs[0].items(), inputs[1].items()),
-        Tool::RunResponse => run_response(
-            alloc,
-            inputs[0].items(),
-            inputs[1].items(),
-            inputs[2].items(),
-            inputs[3].items(),
-            number_of(counts),
-        ),
+        Tool::Elf => elf(alloc, first),
+        Tool::Unelf => unelf(alloc, first),
+        Tool::Infer => infer(alloc, first, second),
+        Tool::At => at(alloc, first, second, n),
+        Tool::AtAll => at_all(alloc, first, second, n),
+        Tool::Losses => losses(alloc, first, second, third, n),
+        Tool::Wave => wave(alloc, first, second, n),
+        Tool::Picture => picture(alloc, first, second, window_of(counts)),
+        Tool::Check => check(alloc, first, second, third, fourth, n),
+        Tool::Bounds => bounds(alloc, first, second),
+        Tool::Latency => latency(alloc, first, second),
+        Tool::LowerCounts => lower_counts(alloc, first, second),
+        Tool::Map => map(alloc, first, second),
+        Tool::Shares => shares(alloc, first, second),
+        Tool::Response => response(alloc, first, second, third),
+        Tool::Why => why(alloc, first, second),
+        Tool::TaskBound => task_bound(alloc, first, second, name(names, 2)),
+        Tool::TaskResponse => task_response(alloc, first, second, third, name(names, 3)),
+        Tool::Symbols => symbols(alloc, first, second, name(names, 1)),
+        Tool::Orti => orti(alloc, first, second),
+        Tool::Labels => labels(alloc, first, second),
+        Tool::TraceReason => trace_reason(alloc, first, second, third, fourth, n),
+        Tool::Unused => unused(alloc, first, second),
+        Tool::RunResponse => run_response(alloc, first, second, third, fourth, n),
     }
 }

@@ -1,11 +1,11 @@
 //! The lines of tools.
 ghost use Rattle.std.specs.Prelude.{◌≡◌, ◌≤◌, length};
 ghost use Rattle.tool_commands.specs.Lines.{written_line};
-ghost use Rattle.tool_answers.specs.Lines.{elf_fault_text, no_elf_line, bad_trace_line};
+ghost use Rattle.command_line.specs.Lines.{elf_fault_text, no_elf_line, bad_trace_line};
 
+use command_line::TraceFault;
 use image_file::ElfFault;
 use itoa::Buffer;
-use tool_answers::TraceFault;
 use trace_text::LineText;
 
 fn elf_fault_text(fault: ElfFault) -> &'static [u8]

@@ -9,15 +9,14 @@ ghost use Rattle.tool_commands.specs.PictureAnswers.{IsPictureAnswer};
 ghost use Rattle.run_inputs.specs.RunInputs.{AreRunInputs};
 
 use crate::elf_commands::written;
-use command_line::Window;
+use command_line::{ToolAnswer, Window};
 use run_inputs::{RunInputs, Unread, read_run};
 use schedule_picture::{Picture, draw};
 use sloth_base::{NoMemory, Result};
 use std::alloc::Global;
-use tool_answers::ToolAnswer;
 
 // The answer to an image and arrivals that were read.
-fn picture_of(alloc: Global, run: &RunInputs, window: Window) -> Result<ToolAnswer>
+fn run_answer(alloc: Global, run: &RunInputs, window: Window) -> Result<ToolAnswer>
     requires format { InFormat run.now.image }
     requires arrivals { AreArrivals (owners_named run.now.image) run.now.arrivals.items }
     requires window { IsWindow count_limit picture_limit window }
@@ -46,7 +45,7 @@ pub fn picture(alloc: Global, img: &[u8], arr: &[u8], window: Window) -> Result<
     ensures { IfOk result (λ answer. IsPictureAnswer img.now arr.now window answer) }
 {
     match read_run(alloc, img, arr) {
-        Ok(run) => picture_of(alloc, &run, window),
+        Ok(run) => run_answer(alloc, &run, window),
         Err(Unread::NotAnImage(fault)) => Ok(ToolAnswer::NotAnImage(fault)),
         Err(Unread::Refused(refusal)) => Ok(ToolAnswer::Refused(refusal)),
         Err(Unread::NoMemory) => Err(NoMemory),

@@ -4,14 +4,14 @@ ghost use Rattle.sloth_base.specs.Limits.{file_limit};
 ghost use Rattle.sloth_base.specs.Limits.{count_limit};
 ghost use Rattle.tool_commands.specs.ResponseAnswers.{IsResponseAnswer, IsTaskResponseAnswer, IsRunResponseAnswer, response_answer, run_answer};
 
+use command_line::{Outcome, ToolAnswer};
 use response_text::{Told, response_parts, response_text};
 use run_load::{ToldRun, run_text};
 use sloth_base::{BuildError, List, NoMemory, Result};
 use std::alloc::Global;
-use tool_answers::{Outcome, ToolAnswer};
 
 // What is told, as an answer.
-fn answer_of(alloc: Global, told: Told) -> ToolAnswer
+fn response_answer(alloc: Global, told: Told) -> ToolAnswer
     ensures { result ≡ response_answer told }
 {
     let Told { text, is_open } = told;
@@ -33,7 +33,7 @@ pub fn response(alloc: Global, oil: &[u8], src: &[u8], load: &[u8]) -> Result<To
     ensures { IfOk result (λ answer. IsResponseAnswer oil.now src.now load.now answer) }
 {
     match response_text(alloc, oil, src, load) {
-        Ok(told) => Ok(answer_of(alloc, told)),
+        Ok(told) => Ok(response_answer(alloc, told)),
         Err(BuildError::Refused(refusal)) => Ok(ToolAnswer::Refused(refusal)),
         Err(BuildError::Memory) => Err(NoMemory),
     }
@@ -54,7 +54,7 @@ pub fn task_response(
     ensures { IfOk result (λ answer. IsTaskResponseAnswer oil.now src.now load.now name.now answer) }
 {
     match response_parts(alloc, oil, src, load, name) {
-        Ok(Some(told)) => Ok(answer_of(alloc, told)),
+        Ok(Some(told)) => Ok(response_answer(alloc, told)),
         Ok(None) => Ok(ToolAnswer::NoTask),
         Err(BuildError::Refused(refusal)) => Ok(ToolAnswer::Refused(refusal)),
         Err(BuildError::Memory) => Err(NoMemory),

@@ -8,14 +8,14 @@ ghost use Rattle.run_inputs.specs.RunInputs.{AreRunInputs};
 ghost use Rattle.tool_commands.specs.WaveAnswers.{IsWaveAnswer};
 
 use crate::elf_commands::written;
+use command_line::ToolAnswer;
 use run_inputs::{RunInputs, Unread, read_run};
 use sloth_base::{NoMemory, Result};
 use std::alloc::Global;
-use tool_answers::ToolAnswer;
 use wave_text::{Recorded, waves};
 
 // The answer to an image and arrivals that were read.
-fn waves_of(alloc: Global, run: &RunInputs, n: u32) -> Result<ToolAnswer>
+fn run_answer(alloc: Global, run: &RunInputs, n: u32) -> Result<ToolAnswer>
     requires format { InFormat run.now.image }
     requires arrivals { AreArrivals (owners_named run.now.image) run.now.arrivals.items }
     requires n { n ≤ count_limit }
@@ -37,7 +37,7 @@ pub fn wave(alloc: Global, img: &[u8], arr: &[u8], n: u32) -> Result<ToolAnswer>
     ensures { IfOk result (λ answer. IsWaveAnswer img.now arr.now n answer) }
 {
     match read_run(alloc, img, arr) {
-        Ok(run) => waves_of(alloc, &run, n),
+        Ok(run) => run_answer(alloc, &run, n),
         Err(Unread::NotAnImage(fault)) => Ok(ToolAnswer::NotAnImage(fault)),
         Err(Unread::Refused(refusal)) => Ok(ToolAnswer::Refused(refusal)),
         Err(Unread::NoMemory) => Err(NoMemory),

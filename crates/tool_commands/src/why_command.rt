@@ -1,15 +1,23 @@
-//! The command `why`.
+//! The command `why`. The command `why` of the lists of labels. The command `infer`.
+//! The command `why` of a text of events.
 ghost use Rattle.std.specs.Prelude.{◌≡◌, ◌≤◌, codes, IfOk, length};
 ghost use Rattle.sloth_base.specs.Limits.{file_limit};
 ghost use Rattle.why_text.specs.WhyLines.{IsWhy};
-ghost use Rattle.why_text.specs.declared.why.Why.TheVariants as why_is;
+ghost use Rattle.why_text.specs.declared.explaining.Why.TheVariants as why_is;
 ghost use Rattle.tool_commands.specs.WhyAnswers.{IsExplained, IsWhyAnswer, IsTaskBoundAnswer};
+ghost use Rattle.sloth_base.specs.declared.refusal.Refusal.{Refusal as AnyRefusal};
+ghost use Rattle.sloth_source.specs.RankedTexts.{EarlyRefusal};
+ghost use Rattle.tool_commands.specs.LabelsAnswers.{IsLabelsAnswer};
+ghost use Rattle.tool_commands.specs.InferAnswers.{IsInferAnswer};
+ghost use Rattle.tool_commands.specs.TraceReasons.{IsTraceReasonAnswer};
 
+use crate::elf_commands::written;
 use bounds_text::task_bound_text;
-use command_line::refusal_line;
+use command_line::{Explanation, Outcome, ToolAnswer, refusal_line, told};
+use holds_infer::{FillError, LabelAnswer, fill_source, labels_text};
 use sloth_base::{BuildError, List, NoMemory, Refusal, Result};
 use std::alloc::Global;
-use tool_answers::{Explanation, Outcome, ToolAnswer, told};
+use trace_check::{TraceReason, explain_trace};
 use why_text::{Why, explain};
 
 // The line of a refusal, and the lines behind it.
@@ -71,5 +79,81 @@ pub fn task_bound(alloc: Global, oil: &[u8], src: &[u8], name: &[u8]) -> Result<
         Ok(None) => Ok(ToolAnswer::NoTask),
         Err(BuildError::Refused(refusal)) => Ok(ToolAnswer::Refused(refusal)),
         Err(BuildError::Memory) => Err(NoMemory),
+    }
+}
+
+fn filled(alloc: Global) -> Result<Vec<u8>>
+    ensures { IfOk result (λ text. text.items ≡ codes "filled\n") }
+{
+    let text = Vec::from_slice(alloc, b"filled\n")?;
+    Ok(text)
+}
+
+// What stands behind a refusal before the rules of task code.
+fn refused(alloc: Global, oil: &[u8], src: &[u8]) -> Result<ToolAnswer>
+    requires oil { length oil.now ≤ file_limit }
+    requires src { length src.now ≤ file_limit }
+    requires early { (refusal : AnyRefusal) × EarlyRefusal oil.now src.now refusal }
+    ensures { IfOk result (λ answer. IsLabelsAnswer oil.now src.now answer) }
+{
+    why(alloc, oil, src)
+}
+
+/// Whether lists of these texts' labels keep the rules, or why none do; or the first refusal, with what is behind it.
+pub fn labels(alloc: Global, oil: &[u8], src: &[u8]) -> Result<ToolAnswer>
+    requires oil { length oil.now ≤ file_limit }
+    requires src { length src.now ≤ file_limit }
+    ensures { IfOk result (λ answer. IsLabelsAnswer oil.now src.now answer) }
+{
+    match labels_text(alloc, oil, src)? {
+        LabelAnswer::Filled => {
+            let text = filled(alloc)?;
+            Ok(told(alloc, text))
+        },
+        LabelAnswer::NoLists(text) => Ok(ToolAnswer::Explained {
+            kind: Explanation::NoHolds,
+            text,
+        }),
+        LabelAnswer::Unjudged => refused(alloc, oil, src),
+    }
+}
+
+/// The source with all labels' lists filled in; or that none keep every rule; or the first refusal before V2 to V12.
+pub fn infer(alloc: Global, oil: &[u8], src: &[u8]) -> Result<ToolAnswer>
+    requires oil { length oil.now ≤ file_limit }
+    requires src { length src.now ≤ file_limit }
+    ensures { IfOk result (λ answer. IsInferAnswer oil.now src.now answer) }
+{
+    let file = match fill_source(alloc, oil, src) {
+        Ok(file) => file,
+        Err(FillError::Refused(refusal)) => return Ok(ToolAnswer::Refused(refusal)),
+        Err(FillError::NoHolds) => return Ok(ToolAnswer::NoHolds),
+        Err(FillError::Memory) => return Err(NoMemory),
+    };
+    Ok(ToolAnswer::Done(written(alloc, file)?))
+}
+
+/// Whether events are a run's of n instructions, or where not and what fits there; or the other texts' first refusal.
+pub fn trace_reason(
+    alloc: Global,
+    oil: &[u8],
+    src: &[u8],
+    arr: &[u8],
+    text: &[u8],
+    n: u32,
+) -> Result<ToolAnswer>
+    requires oil { length oil.now ≤ file_limit }
+    requires src { length src.now ≤ file_limit }
+    requires arr { length arr.now ≤ file_limit }
+    requires text { length text.now ≤ file_limit }
+    ensures { IfOk result (λ answer. IsTraceReasonAnswer oil.now src.now arr.now text.now n answer) }
+{
+    match explain_trace(alloc, oil, src, arr, text, n)? {
+        TraceReason::Refused(refusal) => Ok(ToolAnswer::Refused(refusal)),
+        TraceReason::Yes => Ok(told(alloc, Vec::from_slice(alloc, b"yes\n")?)),
+        TraceReason::No(text) => Ok(ToolAnswer::Explained {
+            kind: Explanation::BadTrace,
+            text,
+        }),
     }
 }

@@ -1,6 +1,6 @@
 -- Moments that rise from later on rise from earlier on.
 use Rattle.std.proofs.Common.{ℕ, List, [], ◌∷◌, ◌≤◌, arith}
-use Rattle.sloth_base.specs.declared.event.Arrival.{Arrival}
+use Rattle.sloth_base.specs.declared.service.Arrival.{Arrival}
 use Rattle.sloth_base.specs.Arrivals.{AreRisingMoments}
 
 pub weaker : (m n : ℕ) (A : List Arrival) → n ≤ m → AreRisingMoments m A → AreRisingMoments n A

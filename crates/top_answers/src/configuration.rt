@@ -6,8 +6,7 @@ use crate::rows::{Piece, Rows, Told};
 use crate::task_code::list_numbers;
 use crate::texts::short;
 use load_text::{Form, read_load};
-use oil_lex::{Token, TokenKind};
-use oil_parse::{OilObject, OilTree, OilValue};
+use oil_parse::{OilObject, OilTree, OilValue, Token, TokenKind};
 use prio_levels::assign;
 use sloth_base::{Action, AlarmDecl, Config, TaskDecl, counter_names, task_names};
 

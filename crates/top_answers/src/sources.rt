@@ -1,7 +1,7 @@
-//! Public calls on a configuration's texts and task code: copies, rules, stack bytes, generators, abstract scheduler.
+//! Public calls on a configuration's texts and task code: rules, stack bytes, generators, abstract scheduler.
 ghost use Rattle.std.specs.Prelude.{◌≡◌, ◌<◌, length};
 ghost use Rattle.call_graph.specs.Ranks.{RanksOf};
-ghost use Rattle.code_rules.specs.AppRange.{AppInRange, IsTaskCode};
+ghost use Rattle.code_rules.specs.AppRange.{IsTaskCode};
 ghost use Rattle.code_rules.specs.WellFormed.{WellFormed};
 ghost use Rattle.rv32_expand.specs.InPlace.{IsAppItem};
 ghost use Rattle.rv32_expand.specs.Sizes.{AgreeWithSizes, HasWordAddresses, IsVerified};
@@ -20,22 +20,14 @@ use rv32_instr::Block;
 use sloth_base::{App, Bounds, Config, Event, Item, Levels, Places, TaskId};
 use sloth_build::build;
 use sloth_region::Map;
-use sloth_source::read;
+use sloth_source::{read, read_checked};
 use stack_bounds::bound;
-use task_verify::{Verified, verify};
+use task_verify::Verified;
 
 // How much there is of each kind.
 fn list_sizes(rows: &mut Rows, config: &Config, app: &App) {
     let (tasks, funcs) = (config.tasks.items().len(), app.funcs.items().len());
     form!(rows; "tasks % functions % symbols %\n"; ; tasks, funcs, app.symbols.items().len())
-}
-
-// How many tasks and functions there are in copies.
-fn list_copies(rows: &mut Rows, config: &Config, app: &App) -> Told {
-    let tasks = config.copy(rows.alloc)?.tasks.items().len();
-    let funcs = app.copy(rows.alloc)?.funcs.items().len();
-    form!(rows; "copied %\ncopied %\n"; ; tasks, funcs);
-    Ok(())
 }
 
 // How many tasks and functions were verified, the stack bytes of the tasks, and of the stack that basic tasks share.
@@ -47,22 +39,6 @@ fn list_accepted(rows: &mut Rows, verified: &Verified, ranks: &Ranks) -> Told
     let bounds = bound(rows.alloc, verified, ranks)?;
     list_stacks(rows, &bounds, &[]);
     Ok(())
-}
-
-fn list_ranked(rows: &mut Rows, config: &Config, app: &App, ranks: &Ranks) -> Told
-    requires in_range { AppInRange config.now app.now }
-    requires belong { RanksOf app.now ranks.now }
-{
-    let verified = verify(rows.alloc, config, app, ranks)?;
-    list_accepted(rows, &verified, ranks)
-}
-
-// What the rules give of task code.
-fn list_judged(rows: &mut Rows, config: &Config, app: &App) -> Told
-    requires { AppInRange config.now app.now }
-{
-    let ranks = call_graph::ranks(rows.alloc, app)?;
-    list_ranked(rows, config, app, &ranks)
 }
 
 // The code of an item of the first function.
@@ -169,8 +145,6 @@ fn list_meaning(rows: &mut Rows, asked: &str, config: &Config, app: &App, bounds
     match asked {
         "sizes" => list_sizes(rows, config, app),
         "levels" => list_levels(rows, config),
-        "copies" => return list_copies(rows, config, app),
-        "judged" => return list_judged(rows, config, app),
         "generated" => return list_generated(rows, config, app, bounds),
         _ => return list_scheduler(rows, config, app),
     }
@@ -184,6 +158,10 @@ pub fn list_sources(rows: &mut Rows, asked: &str, texts: &Texts) -> Told {
         let built = build(rows.alloc, oil, src)?;
         list_sizes(rows, &built.config, &built.app);
         return Ok(());
+    }
+    if asked == "judged" {
+        let checked = read_checked(rows.alloc, oil, src)?;
+        return list_accepted(rows, &checked.verified, &checked.ranks);
     }
     let source = read(rows.alloc, oil, src)?;
     list_meaning(rows, asked, &source.config, &source.app, &source.bounds)

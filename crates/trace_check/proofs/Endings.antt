@@ -1,7 +1,7 @@
 -- Which arrivals admissions may be of, by numbers.
 use Rattle.std.specs.Prelude.{ℕ, ◌≤◌, ◌≡◌, List, true, map, take, drop, length}
-use Rattle.sloth_base.specs.declared.event.Arrival.{Arrival}
-use Rattle.sloth_base.specs.declared.event.Stamped.{Stamped}
+use Rattle.sloth_base.specs.declared.service.Arrival.{Arrival}
+use Rattle.sloth_base.specs.declared.service.Stamped.{Stamped}
 use Rattle.sloth_base.specs.declared.config.Config.{Config}
 use Rattle.osek_scheduler.specs.InTime.{longest_cut_off_stretch}
 use Rattle.trace_check.specs.Counts.{arrival_number, admit_numbers, SameCounts, last_moment, may_leave}

@@ -2,8 +2,8 @@
 use Rattle.std.proofs.Common.{ℕ, ◌+◌, ◌/◌, ◌%◌, ◌<◌, ◌≤◌, ◌⊎◌, inl, inr, List, length, take, refl, subst, arith}
 use Rattle.std.proofs.lemmas.Bool.{cases_lt}
 use Rattle.std.proofs.lemmas.List.{take_all}
-use Rattle.sloth_base.specs.declared.event.Arrival.{Arrival}
-use Rattle.sloth_base.specs.declared.event.Stamped.{Stamped}
+use Rattle.sloth_base.specs.declared.service.Arrival.{Arrival}
+use Rattle.sloth_base.specs.declared.service.Stamped.{Stamped}
 use Rattle.osek_scheduler.specs.InTime.{AreAllAdmitted, admits_at, arrivals_at}
 use Rattle.trace_check.specs.Lateness.{AreInPlace, IsFirstDifference, IsFirstMissing, IsFirstExtra, IsFirstPassing, IsFrontInPlace, IsExtra, IsMisplaced, IsMissing, IsPassed, NonePasses}
 

@@ -5,8 +5,8 @@ use Rattle.std.specs.Ordering.{nat_cmp}
 use Rattle.std.specs.List.Sorted.{IsPermutation, IsSorted}
 use Rattle.std.proofs.lemmas.Bool.{eq-eqb, ne_eqb, le-ltb, lt-ltb, cases_lt, cases_order}
 use Rattle.std.proofs.lemmas.List.Sorted.{IsNonDecreasingBy-from_sort}
-use Rattle.sloth_base.specs.declared.event.Arrival.{Arrival}
-use Rattle.sloth_base.specs.declared.event.Stamped.{Stamped}
+use Rattle.sloth_base.specs.declared.service.Arrival.{Arrival}
+use Rattle.sloth_base.specs.declared.service.Stamped.{Stamped}
 use Rattle.osek_scheduler.specs.InTime.{AreAllAdmitted, admits_at, arrivals_at}
 use Rattle.trace_check.specs.Counts.{AreLinesInRange, admit_numbers, arrival_number, least_apart, number_at, times}
 use Rattle.trace_check.specs.Lateness.{IsFirstDifference}

@@ -7,7 +7,7 @@ use Rattle.sloth_base.specs.DeclaredNames.{AreNamesOf, task_names, function_name
 use Rattle.sloth_base.specs.declared.declared_names.DeclaredNames.{DeclaredNames}
 use Rattle.sloth_base.specs.declared.config.Config.{Config}
 use Rattle.sloth_base.specs.declared.app.App.{App}
-use Rattle.sloth_base.specs.declared.event.Stamped.{Stamped}
+use Rattle.sloth_base.specs.declared.service.Stamped.{Stamped}
 use Rattle.text_pieces.specs.Bytes.{behind}
 use Rattle.osek_scheduler.specs.Runs.{OsekRun}
 use Rattle.trace_text.specs.EventLines.{counted_line}

@@ -5,8 +5,8 @@ use Rattle.std.proofs.lemmas.Bool.{true≢false, ltb-true}
 use Rattle.std.proofs.lemmas.Option.{same_Some}
 use Rattle.sloth_base.specs.Stretches.{longest_stretch}
 use Rattle.sloth_base.specs.declared.config.Config.{Config}
-use Rattle.sloth_base.specs.declared.event.Arrival.{Arrival}
-use Rattle.sloth_base.specs.declared.event.Stamped.{Stamped}
+use Rattle.sloth_base.specs.declared.service.Arrival.{Arrival}
+use Rattle.sloth_base.specs.declared.service.Stamped.{Stamped}
 use Rattle.osek_scheduler.specs.Meaning.{on_some}
 use Rattle.sloth_base.specs.Events.{admitted_line, is_boot}
 use Rattle.osek_scheduler.specs.InTime.{longest_cut_off_stretch}

@@ -3,8 +3,8 @@ use Rattle.std.proofs.Common.{◌≡◌, ◌∙◌, ℕ, List, [], ◌∷◌, �
 use Rattle.std.specs.Prelude.{All, IsTrue, Option}
 use Rattle.std.proofs.lemmas.List.{map-append}
 use Rattle.std.proofs.lemmas.List.Elements.{All-cons, All-head, All-tail}
-use Rattle.sloth_base.specs.declared.event.Arrival.{Arrival}
-use Rattle.sloth_base.specs.declared.event.Stamped.{Stamped}
+use Rattle.sloth_base.specs.declared.service.Arrival.{Arrival}
+use Rattle.sloth_base.specs.declared.service.Stamped.{Stamped}
 use Rattle.osek_scheduler.specs.InTime.{is_admit, IsSubsequence, KeepsOrder}
 use Rattle.trace_check.proofs.ScanOrder.{key_of, arrival_key, front_admits, IsOrderKeptBehind, IsOrderKept}
 use Rattle.trace_check.proofs.Subsequences.{sub_tail, sub_front}

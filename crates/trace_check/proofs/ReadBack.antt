@@ -2,7 +2,7 @@
 use Rattle.std.proofs.Common.{ℕ, ◌+◌, ◌≡◌, List, true, false, length}
 use Rattle.std.specs.Prelude.{◌==◌}
 use Rattle.sloth_base.specs.ImageRange.{AreNamesApart, AreNames}
-use Rattle.sloth_base.specs.declared.event.Stamped.{Stamped}
+use Rattle.sloth_base.specs.declared.service.Stamped.{Stamped}
 use Rattle.trace_check.specs.TraceText.{HasNoFirstLine, IsEventText}
 use Rattle.trace_check.proofs.ReadEvents.{HasRead}
 use Rattle.trace_check.proofs.TraceText.{shows_one, bad_shows_none, reads_bad}

@@ -1,6 +1,6 @@
 -- Events of a text that were read.
 use Rattle.std.specs.Prelude.{ℕ, ◌+◌, ◌≤◌, ◌≡◌, List, ◌++◌, length, All}
-use Rattle.sloth_base.specs.declared.event.Stamped.{Stamped}
+use Rattle.sloth_base.specs.declared.service.Stamped.{Stamped}
 use Rattle.trace_check.specs.TraceText.{text_of, HasLine}
 
 -- these events were read, and this is left of the text

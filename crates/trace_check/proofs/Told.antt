@@ -1,7 +1,7 @@
 -- Rows that tell of an event, and what is so of each row.
 use Rattle.std.proofs.Common.{ℕ, zero, suc, ◌<◌, ◌≤◌, ◌≡◌, ◌⊎◌, inl, inr, List, [], ◌∷◌, ◌++◌, subst, arith}
 use Rattle.std.proofs.lemmas.Bool.{cases_lt}
-use Rattle.sloth_base.specs.declared.event.Stamped.{Stamped}
+use Rattle.sloth_base.specs.declared.service.Stamped.{Stamped}
 use Rattle.trace_check.specs.NextEvents.{IsTold, IsToldBy}
 use Rattle.trace_check.specs.Rows.{rows_below}
 use Rattle.trace_check.specs.declared.rows.NextEvent.{NextEvent}

@@ -5,7 +5,7 @@ use Rattle.std.proofs.lemmas.Bool.{and_from, and_parts, cases_lt, lt-ltb, le-ltb
 use Rattle.std.specs.Int.{bit_at}
 use Rattle.std.proofs.Math.Numerals.{add-one}
 use Rattle.sloth_base.specs.MemoryMap.{line_count}
-use Rattle.sloth_base.specs.declared.event.Event.{Event}
+use Rattle.sloth_base.specs.declared.service.Event.{Event}
 use Rattle.sloth_base.specs.Events.{served_task}
 use Rattle.osek_scheduler.specs.State.{task}
 use Rattle.osek_scheduler.specs.Priority.{is_active}

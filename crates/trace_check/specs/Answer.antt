@@ -2,7 +2,7 @@
 use Rattle.std.specs.Prelude.{ℕ, List}
 use Rattle.sloth_base.specs.declared.config.Config.{Config}
 use Rattle.sloth_base.specs.declared.app.App.{App}
-use Rattle.sloth_base.specs.declared.event.Arrival.{Arrival}
+use Rattle.sloth_base.specs.declared.service.Arrival.{Arrival}
 use Rattle.trace_check.specs.TraceText.{IsFirstBad}
 use Rattle.sloth_base.specs.DeclaredNames.{task_names, counter_names, function_names}
 use Rattle.trace_check.specs.Verdicts.{Checked, IsFirstStray, IsLate}

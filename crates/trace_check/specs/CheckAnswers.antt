@@ -4,10 +4,10 @@ use Rattle.trace_check.specs.declared.verdict.Verdict.{Verdict}
 use Rattle.trace_check.specs.declared.verdict.Verdict.TheVariants as verdict
 use Rattle.trace_check.specs.TraceAnswers.{IsJudged}
 use Rattle.run_inputs.specs.Inputs.{IsRefusal}
-use Rattle.tool_answers.specs.declared.answer.ToolAnswer.{ToolAnswer}
-use Rattle.tool_answers.specs.declared.answer.ToolAnswer.TheVariants as answer
-use Rattle.tool_answers.specs.declared.answer.TraceFault.{TraceFault}
-use Rattle.tool_answers.specs.declared.answer.TraceFault.TheVariants as trace
+use Rattle.command_line.specs.declared.answer.ToolAnswer.{ToolAnswer}
+use Rattle.command_line.specs.declared.answer.ToolAnswer.TheVariants as answer
+use Rattle.command_line.specs.declared.answer.TraceFault.{TraceFault}
+use Rattle.command_line.specs.declared.answer.TraceFault.TheVariants as trace
 
 -- the verdict that tells a fault
 abbrev pub verdict_of : TraceFault → Verdict

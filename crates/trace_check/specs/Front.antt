@@ -4,7 +4,7 @@ use Rattle.sloth_base.specs.DeclaredNames.{AreNamesOf}
 use Rattle.sloth_base.specs.declared.declared_names.DeclaredNames.{DeclaredNames}
 use Rattle.sloth_base.specs.declared.config.Config.{Config}
 use Rattle.sloth_base.specs.declared.app.App.{App}
-use Rattle.sloth_base.specs.declared.event.Stamped.{Stamped}
+use Rattle.sloth_base.specs.declared.service.Stamped.{Stamped}
 use Rattle.trace_check.specs.TraceText.{HasFirstLine, HasLine, HasNoFirstLine, text_of}
 use Rattle.trace_check.specs.Walk.{IsWalked, IsWalkEnd, IsWalkStep, Walk}
 

@@ -1,7 +1,7 @@
 -- Why the events of a run are not in time.
 use Rattle.std.specs.Prelude.{ℕ, ◌+◌, ◌-◌, ◌/◌, ◌%◌, ◌<◌, ◌≤◌, ◌≡◌, ◌≢◌, List, All, AllPairs, false, get_or, length, take}
-use Rattle.sloth_base.specs.declared.event.Arrival.{Arrival}
-use Rattle.sloth_base.specs.declared.event.Stamped.{Stamped}
+use Rattle.sloth_base.specs.declared.service.Arrival.{Arrival}
+use Rattle.sloth_base.specs.declared.service.Stamped.{Stamped}
 use Rattle.osek_scheduler.specs.InTime.{AreAllAdmitted, IsOrdered, IsStamped, KeepsOrder, admits_at, arrivals_at, is_admit}
 use Rattle.trace_check.specs.declared.lateness.Lateness.{Lateness}
 use Rattle.trace_check.specs.declared.lateness.Lateness.TheVariants as late

@@ -1,9 +1,9 @@
 -- The lines of why events are not in time.
 use Rattle.std.specs.Prelude.{ℕ, ◌-◌, List, ◌++◌, codes, cond, decimal, ltb}
 use Rattle.sloth_base.specs.declared.declared_names.DeclaredNames.{DeclaredNames}
-use Rattle.sloth_base.specs.declared.event.Event.{Event}
-use Rattle.sloth_base.specs.declared.event.Event.TheVariants as event_is
-use Rattle.sloth_base.specs.declared.event.Stamped.{Stamped}
+use Rattle.sloth_base.specs.declared.service.Event.{Event}
+use Rattle.sloth_base.specs.declared.service.Event.TheVariants as event_is
+use Rattle.sloth_base.specs.declared.service.Stamped.{Stamped}
 use Rattle.sloth_base.specs.Owners.{first_counter_line}
 use Rattle.trace_text.specs.EventLines.{counted_line}
 use Rattle.trace_check.specs.declared.lateness.Lateness.{Lateness}

@@ -1,7 +1,7 @@
 -- The rows of the events that may come next behind a walk, found one after the other.
 use Rattle.std.specs.Prelude.{ℕ, zero, suc, ◌==◌, ◌&&◌, List, [], ◌++◌, Bool, true, not, cond, is_some, length, get_or, ltb, option_to_list, Option, Some, None}
-use Rattle.sloth_base.specs.declared.event.Event.{Event}
-use Rattle.sloth_base.specs.declared.event.Event.TheVariants as event
+use Rattle.sloth_base.specs.declared.service.Event.{Event}
+use Rattle.sloth_base.specs.declared.service.Event.TheVariants as event
 use Rattle.sloth_base.specs.Events.{served_task}
 use Rattle.sloth_base.specs.MemoryMap.{line_count}
 use Rattle.osek_scheduler.specs.State.{task}

@@ -1,8 +1,8 @@
 -- Events looked at one after the other, and what is kept of them to tell whether they are in time.
 use Rattle.std.specs.Prelude.{ℕ, ◌<◌, ◌≤◌, ◌≡◌, ◌⊎◌, ◌||◌, List, Bool, true, false, length, ltb, Some, None}
 use Rattle.sloth_base.specs.declared.config.Config.{Config}
-use Rattle.sloth_base.specs.declared.event.Arrival.{Arrival}
-use Rattle.sloth_base.specs.declared.event.Stamped.{Stamped}
+use Rattle.sloth_base.specs.declared.service.Arrival.{Arrival}
+use Rattle.sloth_base.specs.declared.service.Stamped.{Stamped}
 use Rattle.sloth_base.specs.Limits.{counter_limit, alarm_limit}
 use Rattle.osek_scheduler.specs.InTime.{longest_cut_off_stretch}
 use Rattle.trace_check.specs.Scan.{Scan, scan_start, scan_after_events}

@@ -2,7 +2,7 @@
 use Rattle.std.specs.Prelude.{ℕ, List}
 use Rattle.sloth_base.specs.declared.app.App.{App}
 use Rattle.sloth_base.specs.declared.config.Config.{Config}
-use Rattle.sloth_base.specs.declared.event.Arrival.{Arrival}
+use Rattle.sloth_base.specs.declared.service.Arrival.{Arrival}
 use Rattle.code_rules.specs.WellFormed.{WellFormed}
 use Rattle.sloth_source.specs.Texts.{AreAccepted}
 use Rattle.trace_check.specs.Answer.{IsVerdict}

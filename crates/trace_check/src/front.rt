@@ -10,7 +10,7 @@ ghost use Rattle.trace_check.specs.Front.{IsFront, IsLineEnd, IsLineStep};
 ghost use Rattle.trace_check.specs.TraceText.{AreReadable};
 ghost use Rattle.trace_check.specs.Walk.{IsWalked};
 
-use crate::first_line::next_event;
+use crate::late::next_event;
 use crate::lines::{push_rows, push_states};
 use crate::next_events;
 use crate::walk::Walk;

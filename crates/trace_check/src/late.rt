@@ -1,27 +1,25 @@
-//! The lines behind the verdict that events are not in time.
-ghost use Rattle.std.specs.Prelude.{◌≡◌, ◌<◌, ◌≤◌, IfOk, All, length};
-ghost use Rattle.std.specs.Prelude.{List as Items};
+//! The lines behind the verdict that events are not in time. The first event line of a text in the counted form.
+ghost use Rattle.std.specs.Prelude.{◌≡◌, ◌<◌, ◌≤◌, IfOk, All, length, List as Items, IfSome, IfNone};
 ghost use Rattle.code_rules.specs.WellFormed.{WellFormed};
 ghost use Rattle.sloth_base.specs.Arrivals.{AreArrivals};
 ghost use Rattle.sloth_base.specs.Owners.{owners_in};
-ghost use Rattle.sloth_base.specs.declared.event.Stamped.{Stamped as AnyEvent};
+ghost use Rattle.sloth_base.specs.declared.service.Stamped.{Stamped as AnyEvent};
 ghost use Rattle.osek_scheduler.specs.InTime.{AreAllAdmitted};
 ghost use Rattle.trace_check.specs.Counts.{AreLinesInRange};
 ghost use Rattle.trace_check.specs.Lateness.{AreInPlace};
 ghost use Rattle.trace_check.specs.LatenessLines.{admission_at, lateness_lines, missing_line, place_line};
 ghost use Rattle.trace_check.specs.Reasons.{AreLatenessLines, IsTimeReason};
 ghost use Rattle.trace_check.specs.Verdicts.{IsLate};
-ghost use Rattle.trace_check.specs.TraceText.{AreReadable, IsEventText};
+ghost use Rattle.trace_check.specs.TraceText.{AreReadable, IsEventText, HasFirstLine, HasNoFirstLine};
 
-use crate::first_line::next_event;
 use crate::lateness::{Lateness, lateness_reason};
 use sloth_base::declared_names::declared_names;
 use sloth_base::{
     App, Arrival, Config, DeclaredNames, Event, FIRST_COUNTER_LINE, NoMemory, Stamp, Stamped,
 };
 use std::alloc::Global;
-use text_pieces::{behind, push};
-use trace_text::{LineText, push_counts, push_event};
+use text_pieces::{before, behind, has, push};
+use trace_text::{LineText, push_counts, push_event, read_line};
 
 // The line of the first counter.
 const FIRST_COUNTER: u32 = FIRST_COUNTER_LINE as u32;
@@ -164,4 +162,21 @@ pub fn time_lines(
     let names = declared_names(alloc, config, app)?;
     let events = read_events(alloc, &names, text)?;
     late_lines(alloc, &names, arrivals, events.as_slice(), n)
+}
+
+/// The event of the first line, if an LF ends it.
+pub fn next_event(names: &DeclaredNames, text: &[u8]) -> Option<Stamped>
+    requires { AreReadable names.now }
+    ensures some { IfSome result (λ e. HasFirstLine names.now.tasks names.now.funcs names.now.counters text.now e) }
+    ensures none { IfNone result (HasNoFirstLine names.now.tasks names.now.funcs names.now.counters text.now) }
+{
+    if !has(text, b'\n') {
+        return None;
+    }
+    read_line(
+        before(text, b'\n'),
+        names.tasks.items(),
+        names.funcs.items(),
+        names.counters.items(),
+    )
 }

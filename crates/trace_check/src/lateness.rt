@@ -6,7 +6,7 @@ ghost use Rattle.osek_scheduler.specs.InTime.{AreAllAdmitted, admits_at, arrival
 ghost use Rattle.trace_check.specs.Counts.{AreLinesInRange};
 ghost use Rattle.trace_check.specs.Lateness.{AreInPlace, IsFirstDifference, IsFirstExtra, IsFirstPassing, IsFrontInPlace, IsLateness, NonePasses, Passes};
 
-use crate::differences::first_difference;
+use crate::numbers::first_difference;
 use crate::pass::{Pass, admitted_line};
 use sloth_base::{Arrival, Result, Stamped};
 use std::alloc::Global;

@@ -2,7 +2,7 @@
 ghost use Rattle.std.specs.Prelude.{◌≡◌, ℕ, List};
 ghost use Rattle.sloth_base.specs.declared.app.App.{App};
 ghost use Rattle.sloth_base.specs.declared.config.Config.{Config};
-ghost use Rattle.sloth_base.specs.declared.event.Arrival.{Arrival};
+ghost use Rattle.sloth_base.specs.declared.service.Arrival.{Arrival};
 ghost use Rattle.code_rules.specs.WellFormed.{WellFormed};
 ghost use Rattle.trace_check.specs.Answer.{IsVerdict};
 ghost use Rattle.trace_check.specs.TraceAnswers.{IsTraceAnswer};

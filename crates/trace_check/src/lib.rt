@@ -4,7 +4,7 @@
 //! `exact`); *Line* with the first line that is no event's or has no LF; *Step* with the first line with which the
 //! events are no run; *Time* where only the arrivals do not fit. Each text has one verdict (`one_verdict`;
 //! `specs/Verdicts`, `specs/Answer`). From the texts of an application: `judge_trace`, `one_answer`,
-//! `check_command::check` (`specs/TraceAnswers`, `specs/CheckAnswers`).
+//! `answer::check` (`specs/TraceAnswers`, `specs/CheckAnswers`).
 //!
 //! Events are fed one after the other: `Walk` (`specs/Walk`, `specs/Moments`), `timing` and `Pass` for arrivals, with
 //! no memory for events (`specs/Timed`, `specs/Counts`, `specs/Scan`). `explain_trace` tells for `why .. TRACE N` the
@@ -14,11 +14,8 @@
 #![tactic(auto)]
 
 pub mod answer;
-pub mod check_command;
-mod differences;
-pub mod first_line;
 mod front;
-mod late;
+pub mod late;
 pub mod lateness;
 pub mod laws;
 mod limits;
@@ -28,7 +25,6 @@ pub mod numbers;
 pub mod pass;
 mod reason;
 mod rows;
-pub mod stretches;
 pub mod timing;
 pub mod verdict;
 pub mod walk;

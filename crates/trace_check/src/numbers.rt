@@ -1,10 +1,12 @@
 //! Admissions and arrivals counted by one number for each moment and line.
-ghost use Rattle.std.specs.Prelude.{◌≡◌, ◌<◌, ◌+◌, ◌*◌, ◌++◌, [], IfOk, OnOk, map};
+//! The first moment at which admissions and arrivals differ in number.
+ghost use Rattle.std.specs.Prelude.{◌≡◌, ◌<◌, ◌+◌, ◌*◌, ◌++◌, [], IfOk, OnOk, map, All};
 ghost use Rattle.std.specs.Ordering.{nat_cmp};
 ghost use Rattle.std.specs.List.Sorted.{IsPermutation, IsSorted};
 ghost use Rattle.std.specs.Bool.{Decides};
-ghost use Rattle.trace_check.specs.Counts.{SameCounts, arrival_number, last_moment, may_leave, number_at, with_admit};
+ghost use Rattle.trace_check.specs.Counts.{SameCounts, arrival_number, last_moment, may_leave, number_at, with_admit, AreLinesInRange, admit_numbers, least_apart};
 ghost use Rattle.sloth_base.specs.Events.{admitted_line};
+ghost use Rattle.trace_check.specs.Lateness.{IsFirstDifference};
 
 use crate::pass::admitted_line;
 use sloth_base::{Arrival, Result, Stamped};
@@ -88,4 +90,52 @@ pub fn may_leave(n: u32, most: u32, ends: u32, last: u32, arrivals: &[Arrival]) 
         Some(first) => n <= first.at
             || (last < first.at && ends <= first.at && n - first.at < most),
     }
+}
+
+// The numbers of admissions.
+fn admit_numbers(alloc: Global, events: &[Stamped]) -> Result<Vec<u64>>
+    requires { All (λ e. e.stamp.at < 4294967295) events.now }
+    ensures { IfOk result (λ numbers. numbers.items ≡ admit_numbers events.now) }
+{
+    let mut numbers = Vec::new(alloc);
+    for event in events {
+        push_number(&mut numbers, event)?;
+    }
+    Ok(numbers)
+}
+
+// The lesser of the first two that differ.
+fn least_apart(ones: &[u64], others: &[u64]) -> u64
+    ensures { result ≡ least_apart ones.now others.now }
+{
+    for i in 0..ones.len() {
+        if i >= others.len() {
+            return ones[i];
+        }
+        if ones[i] != others[i] {
+            return if others[i] < ones[i] {
+                others[i]
+            } else {
+                ones[i]
+            };
+        }
+    }
+    if ones.len() < others.len() {
+        return others[ones.len()];
+    }
+    u64::MAX
+}
+
+/// The least number of a moment and line with not as many admissions as arrivals; else the greatest of 64 bits.
+pub fn first_difference(alloc: Global, arrivals: &[Arrival], events: &[Stamped]) -> Result<u64>
+    requires stamps { All (λ e. e.stamp.at < 4294967295) events.now }
+    requires admits { AreLinesInRange events.now }
+    requires lines { All (λ a. a.line < 4294967296) arrivals.now }
+    ensures { IfOk result (IsFirstDifference arrivals.now events.now) }
+{
+    let mut admits = admit_numbers(alloc, events)?;
+    let mut numbers = arrival_numbers(alloc, arrivals)?;
+    sort(&mut admits)?;
+    sort(&mut numbers)?;
+    Ok(least_apart(admits.as_slice(), numbers.as_slice()))
 }

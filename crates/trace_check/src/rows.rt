@@ -2,8 +2,8 @@
 ghost use Rattle.std.specs.Prelude.{◌≡◌, ◌<◌, ◌≤◌, ◌++◌, IfOk, List, OnOk, Some, length};
 ghost use Rattle.sloth_base.specs.declared.app.App.{App as AnyApp};
 ghost use Rattle.sloth_base.specs.declared.config.Config.{Config as AnyConfig};
-ghost use Rattle.sloth_base.specs.declared.event.Event.TheVariants as event_is;
-ghost use Rattle.sloth_base.specs.declared.event.Stamped.{Stamped as AnyEvent};
+ghost use Rattle.sloth_base.specs.declared.service.Event.TheVariants as event_is;
+ghost use Rattle.sloth_base.specs.declared.service.Stamped.{Stamped as AnyEvent};
 ghost use Rattle.sloth_base.specs.Limits.{counter_limit, task_limit};
 ghost use Rattle.trace_check.specs.Walk.{IsWalked};
 ghost use Rattle.trace_check.specs.NextEvents.{AreNextEvents};

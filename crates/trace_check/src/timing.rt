@@ -1,18 +1,23 @@
 //! Events looked at one after the other, and whether arrivals are admitted in time.
-ghost use Rattle.std.specs.Prelude.{◌≡◌, ◌<◌, ◌∷◌, ◌++◌, [], cond, IfOk, OnOk, All, List};
+//! How long a stretch may be that the end of a run cuts off.
+ghost use Rattle.std.specs.Prelude.{◌≡◌, ◌<◌, ◌∷◌, ◌++◌, [], cond, IfOk, OnOk, All, List, ◌≤◌, length};
 ghost use Rattle.std.specs.Bool.{Decides};
 ghost use Rattle.sloth_base.specs.Arrivals.{AreRisingMoments};
-ghost use Rattle.sloth_base.specs.declared.event.Stamped.{Stamped as AnyEvent};
+ghost use Rattle.sloth_base.specs.declared.service.Stamped.{Stamped as AnyEvent};
 ghost use Rattle.sloth_base.specs.Events.{is_boot};
-ghost use Rattle.sloth_base.specs.Stretches.{longest_stretch};
+ghost use Rattle.sloth_base.specs.Stretches.{longest_stretch, Boots, stretch_limit};
 ghost use Rattle.osek_scheduler.specs.InTime.{InTime};
 ghost use Rattle.trace_check.specs.Counts.{AreLinesInRange};
 ghost use Rattle.trace_check.specs.Timed.{HasFewClocks, TimedBy, is_late};
+ghost use Rattle.sloth_base.specs.Named.{alarms_of, most_alarms};
+ghost use Rattle.sloth_base.specs.Limits.{counter_limit};
 
 use crate::numbers::{are_admitted, last_moment, may_leave, push_number};
 use crate::pass::Pass;
-use crate::stretches::{boot_limit, longest_stretch};
-use sloth_base::{Arrival, Config, Event, Result, Stamped};
+use sloth_base::{
+    ALARM_INSTRUCTIONS, Arrival, BOOT_INSTRUCTIONS, Config, Event, Result, STRETCH_INSTRUCTIONS,
+    Stamped,
+};
 use std::alloc::Global;
 use std::marker::Model;
 
@@ -143,4 +148,46 @@ impl<'a> Timing<'a> {
             back,
         ))
     }
+}
+
+/// The most instructions of boot.
+pub fn boot_limit(_config: &Config) -> u32
+    ensures { result ≡ stretch_limit _config.now Boots }
+{
+    BOOT_INSTRUCTIONS
+}
+
+// How many alarms a counter has.
+fn alarm_count(config: &Config, counter: u32) -> usize
+    ensures is { result ≡ alarms_of config.now counter }
+    ensures few { result ≤ length config.now.alarms }
+{
+    let mut count = 0;
+    for alarm in config.alarms.items() {
+        if alarm.counter == counter {
+            count += 1;
+        }
+    }
+    count
+}
+
+// The most alarms of one counter.
+fn most_alarms(config: &Config) -> usize
+    requires { length config.now.counters ≤ counter_limit }
+    ensures is { result ≡ most_alarms config.now }
+    ensures few { result ≤ length config.now.alarms }
+{
+    let mut most = 0;
+    for counter in 0..config.counters.items().len() {
+        most = alarm_count(config, counter as u32).max(most);
+    }
+    most
+}
+
+/// The most instructions of any stretch behind boot.
+pub fn longest_stretch(config: &Config) -> u32
+    requires { HasFewClocks config.now }
+    ensures { result ≡ longest_stretch config.now }
+{
+    STRETCH_INSTRUCTIONS + ALARM_INSTRUCTIONS * most_alarms(config) as u32
 }

@@ -11,7 +11,7 @@ ghost use Rattle.trace_check.specs.Answer.{IsVerdict};
 ghost use Rattle.trace_check.specs.Begun.{IsBegun};
 
 use crate::Timing;
-use crate::first_line::next_event;
+use crate::late::next_event;
 use crate::walk::Walk;
 use sloth_base::declared_names::declared_names;
 use sloth_base::{App, Arrival, Config, DeclaredNames, NoMemory};

@@ -3,7 +3,7 @@ ghost use Rattle.std.specs.Prelude.{◌≡◌, ◌<◌, ◌&&◌, ◌||◌, ◌=
 ghost use Rattle.std.specs.Int.{bit_at};
 ghost use Rattle.sloth_base.specs.declared.app.App.{App as AnyApp};
 ghost use Rattle.sloth_base.specs.declared.config.Config.{Config as AnyConfig};
-ghost use Rattle.sloth_base.specs.declared.event.Stamped.{Stamped as AnyEvent};
+ghost use Rattle.sloth_base.specs.declared.service.Stamped.{Stamped as AnyEvent};
 ghost use Rattle.sloth_base.specs.MemoryMap.{line_count};
 ghost use Rattle.code_rules.specs.WellFormed.{WellFormed};
 ghost use Rattle.osek_scheduler.specs.State.{System, task as task_of};

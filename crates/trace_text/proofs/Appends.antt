@@ -2,12 +2,12 @@
 use Rattle.std.proofs.Common.{◌≡◌, List, [], ◌∷◌, ◌++◌, Bool, true, false, refl, ◌∙◌, ap}
 use Rattle.std.specs.Prelude.{◌&&◌, if◌then◌else◌}
 use Rattle.std.proofs.lemmas.Grind.{flat_map-append}
-use Rattle.sloth_base.specs.declared.event.Stamped.{Stamped}
+use Rattle.sloth_base.specs.declared.service.Stamped.{Stamped}
 use Rattle.sloth_base.specs.declared.image.Image.{Image}
 use Rattle.trace_text.specs.Lines.{line_of}
 use Rattle.trace_text.specs.Texts.{ends_idle, is_idle, lines_of, merged_events, printed_events, text_after}
-use Rattle.trace_text.specs.declared.printing.Form.{Form}
-use Rattle.trace_text.specs.declared.printing.Form.TheVariants as form
+use Rattle.trace_text.specs.declared.summary.Form.{Form}
+use Rattle.trace_text.specs.declared.summary.Form.TheVariants as form
 
 pub lines_of-append : (image : Image) (form : Form) (events more : List Stamped)
     → lines_of image form (events ++ more) ≡ lines_of image form events ++ lines_of image form more

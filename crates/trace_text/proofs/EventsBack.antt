@@ -4,9 +4,9 @@ use Rattle.std.specs.Prelude.{if◌then◌else◌, decimal, codes, bytes_eq, pos
 use Rattle.std.proofs.lemmas.Option.{none-some, same_Some}
 use Rattle.std.proofs.lemmas.Slice.Eq.{bytes_eq-Decides}
 use Rattle.sloth_base.specs.ImageRange.{AreNamesApart, AreNames}
-use Rattle.sloth_base.specs.declared.event.Event.{Event}
-use Rattle.sloth_base.specs.declared.event.Event.TheVariants as event
-use Rattle.sloth_base.specs.declared.event.Stamped.{Stamped}
+use Rattle.sloth_base.specs.declared.service.Event.{Event}
+use Rattle.sloth_base.specs.declared.service.Event.TheVariants as event
+use Rattle.sloth_base.specs.declared.service.Stamped.{Stamped}
 use Rattle.text_pieces.specs.Bytes.{is_byte_of}
 use Rattle.text_pieces.proofs.Places.{further, position-cons}
 use Rattle.trace_text.specs.EventNumbers.{IsNameNumber, IsNumberOrNone, HasEventNumbers, Has32Bits}

@@ -9,16 +9,16 @@ use Rattle.std.proofs.lemmas.List.Elements.{All-nil, All-cons, All-append, All-h
 use Rattle.std.proofs.lemmas.List.Quantifiers.{position-Some}
 use Rattle.std.proofs.Math.Nat.{min-le_left, min-le_right}
 use Rattle.sloth_base.specs.Arrivals.{AreArrivals, AreRisingMoments}
-use Rattle.sloth_base.specs.declared.event.Arrival.{Arrival}
+use Rattle.sloth_base.specs.declared.service.Arrival.{Arrival}
 use Rattle.sloth_base.specs.declared.refusal.Part.TheVariants.{Arr}
 use Rattle.sloth_base.specs.declared.refusal.Code.TheVariants.{T2, T3, T4}
 use Rattle.sloth_base.specs.Owners.{IsOwned, counter_line, first_counter_line, is_counter_line}
-use Rattle.sloth_base.specs.declared.lines.LineKind.TheVariants as line_of
-use Rattle.sloth_base.specs.declared.lines.Owners.{Owners}
+use Rattle.sloth_base.specs.declared.numbers.LineKind.TheVariants as line_of
+use Rattle.sloth_base.specs.declared.numbers.Owners.{Owners}
 use Rattle.sloth_base.specs.Limits.{count_limit, arrival_limit}
 use Rattle.sloth_base.proofs.Owners.{task_owned}
-use Rattle.least_fault.specs.Order.{NoFault}
-use Rattle.least_fault.proofs.Nowhere.{case_false}
+use Rattle.sloth_base.specs.Order.{NoFault}
+use Rattle.sloth_base.proofs.Nowhere.{case_false}
 use Rattle.trace_text.specs.ArrivalsText.{is_arrival, moment_of, line_of_either, named_among, owner_line, named_line, name_text, arrival_of, last_moment, is_outside, is_t2, is_t3, is_t4, ArrivalLineFault, owners_read}
 
 last-at : (none : ℕ) (xs : List Arrival) (k : ℕ) (d : Arrival) → length xs ≡ suc k → (slice_index_or xs k d).at ≡ last_moment none xs

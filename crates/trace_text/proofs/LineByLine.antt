@@ -10,9 +10,9 @@ use Rattle.text_pieces.specs.Names.{referent}
 use Rattle.sloth_base.specs.declared.refusal.Refusal.{Refusal}
 use Rattle.sloth_base.specs.declared.refusal.BuildError.{BuildError}
 use Rattle.sloth_base.specs.declared.refusal.BuildError.TheVariants.{Refused, Memory}
-use Rattle.least_fault.specs.Order.{IsLeast, NoFault, ErrorIs}
-use Rattle.least_fault.specs.Search.{SomeFrom, Somewhere, merge, lesser}
-use Rattle.least_fault.proofs.Kept.{Loop, loop_more}
+use Rattle.sloth_base.specs.Order.{IsLeast, NoFault, ErrorIs}
+use Rattle.sloth_base.specs.Search.{SomeFrom, Somewhere, merge, lesser}
+use Rattle.sloth_base.proofs.Kept.{Loop, loop_more}
 
 -- The lines that say something say a value each; the faults of a line are told by the values before it and by its number.
 module _ {V : Type 0} (says : List ℕ → Bool) (value : List ℕ → V) (Fault : List V → ℕ → List ℕ → Refusal → Type 0)

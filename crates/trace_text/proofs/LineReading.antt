@@ -1,6 +1,6 @@
 -- The faults of an arrivals file's lines, for what reads line after line.
 use Rattle.std.proofs.Common.{◌≡◌, ℕ, List, inl, inr, ap}
-use Rattle.sloth_base.specs.declared.event.Arrival.{Arrival}
+use Rattle.sloth_base.specs.declared.service.Arrival.{Arrival}
 use Rattle.sloth_base.specs.declared.refusal.Refusal.{Refusal}
 use Rattle.trace_text.specs.ArrivalsText.{ArrivalLineFault}
 

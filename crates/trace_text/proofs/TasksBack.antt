@@ -7,8 +7,8 @@ use Rattle.std.proofs.lemmas.Option.{slice_get-get_or, slice_get_past}
 use Rattle.std.proofs.lemmas.Slice.Eq.{bytes_eq-Decides}
 use Rattle.sloth_base.specs.Limits.{name_limit}
 use Rattle.sloth_base.specs.ImageRange.{AreNames, IsName, IsWord, begins_word, continues_word}
-use Rattle.sloth_base.specs.declared.event.Event.{Event}
-use Rattle.sloth_base.specs.declared.event.Event.TheVariants as event
+use Rattle.sloth_base.specs.declared.service.Event.{Event}
+use Rattle.sloth_base.specs.declared.service.Event.TheVariants as event
 use Rattle.sloth_base.specs.ServiceCodes.{service_name}
 use Rattle.sloth_base.proofs.Services.{of_name}
 use Rattle.sloth_base.specs.declared.service.Service.{Service}

@@ -3,15 +3,15 @@ use Rattle.std.specs.Prelude.{ℕ, ◌+◌, ◌==◌, ◌&&◌, ◌||◌, ◌⊎
 use Rattle.std.specs.Prelude.{Option, Some, None, position, is_some, unwrap_or, bytes_eq}
 use Rattle.std.specs.List.{list_all, before_first, after_first}
 use Rattle.std.specs.Char.{is_ascii_digit}
-use Rattle.sloth_base.specs.declared.event.Arrival.{Arrival}
+use Rattle.sloth_base.specs.declared.service.Arrival.{Arrival}
 use Rattle.sloth_base.specs.declared.refusal.Part.TheVariants.{Arr}
 use Rattle.sloth_base.specs.declared.refusal.Code.TheVariants as code
 use Rattle.sloth_base.specs.declared.refusal.Refusal.{Refusal}
-use Rattle.sloth_base.specs.declared.lines.Owners.{Owners}
+use Rattle.sloth_base.specs.declared.numbers.Owners.{Owners}
 use Rattle.sloth_base.specs.Owners.{counter_line}
 use Rattle.sloth_base.specs.Limits.{count_limit, arrival_limit}
-use Rattle.least_fault.specs.Search.{Somewhere}
-use Rattle.least_fault.specs.Cases.{CaseOf}
+use Rattle.sloth_base.specs.Search.{Somewhere}
+use Rattle.sloth_base.specs.Cases.{CaseOf}
 use Rattle.text_pieces.specs.Bytes.{is_name}
 use Rattle.text_pieces.specs.Digits.{value_from}
 use Rattle.text_pieces.specs.Lines.{lines}

@@ -1,7 +1,7 @@
 -- The words of events, as they are printed and as they are read.
 use Rattle.std.specs.Prelude.{ℕ, List, ◌++◌, decimal, codes, slice_get, unwrap_or, bytes_eq, if◌then◌else◌, Option, Some, None}
-use Rattle.sloth_base.specs.declared.event.Event.{Event}
-use Rattle.sloth_base.specs.declared.event.Event.TheVariants as event
+use Rattle.sloth_base.specs.declared.service.Event.{Event}
+use Rattle.sloth_base.specs.declared.service.Event.TheVariants as event
 use Rattle.sloth_base.specs.ServiceCodes.{service_name}
 
 -- the name of a number, or `-` where it names nothing, as 4,294,967,295

@@ -2,9 +2,9 @@
 use Rattle.std.specs.Prelude.{ℕ, nat_lt, Bool, ◌||◌, if◌then◌else◌, List}
 use Rattle.std.specs.Prelude.{codes, bytes_eq, position, Option, Some, None, option_and_then}
 use Rattle.sloth_base.specs.ServiceCodes.{service_named}
-use Rattle.sloth_base.specs.declared.event.Event.{Event}
-use Rattle.sloth_base.specs.declared.event.Event.TheVariants as event
-use Rattle.sloth_base.specs.declared.event.Stamped.{Stamped}
+use Rattle.sloth_base.specs.declared.service.Event.{Event}
+use Rattle.sloth_base.specs.declared.service.Event.TheVariants as event
+use Rattle.sloth_base.specs.declared.service.Stamped.{Stamped}
 use Rattle.text_pieces.specs.Digits.{value_from, capped_value}
 use Rattle.text_pieces.specs.Bytes.{before, behind}
 use Rattle.trace_text.specs.EventWords.{bare_in, single_in}

@@ -1,6 +1,6 @@
 -- The summary of a run: how many events of each kind it shows.
 use Rattle.std.specs.Prelude.{ℕ, zero, suc, ◌==◌, if◌then◌else◌, List, [], ◌∷◌, ◌++◌, count_by, decimal, codes, slice_index, map}
-use Rattle.sloth_base.specs.declared.event.Stamped.{Stamped}
+use Rattle.sloth_base.specs.declared.service.Stamped.{Stamped}
 use Rattle.trace_text.specs.EventWords.{kind_of}
 
 -- how many of these events are of a kind

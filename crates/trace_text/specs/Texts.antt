@@ -1,13 +1,13 @@
 -- Texts of lists of events.
 use Rattle.std.specs.Prelude.{ℕ, ◌&&◌, List, [], ◌∷◌, ◌++◌, Bool, true, false, if◌then◌else◌}
 use Rattle.std.specs.List.{flat_map}
-use Rattle.sloth_base.specs.declared.event.Event.{Event}
-use Rattle.sloth_base.specs.declared.event.Event.TheVariants as event
-use Rattle.sloth_base.specs.declared.event.Stamped.{Stamped}
+use Rattle.sloth_base.specs.declared.service.Event.{Event}
+use Rattle.sloth_base.specs.declared.service.Event.TheVariants as event
+use Rattle.sloth_base.specs.declared.service.Stamped.{Stamped}
 use Rattle.sloth_base.specs.declared.image.Image.{Image}
 use Rattle.trace_text.specs.Lines.{line_with}
-use Rattle.trace_text.specs.declared.printing.Form.{Form}
-use Rattle.trace_text.specs.declared.printing.Form.TheVariants as form
+use Rattle.trace_text.specs.declared.summary.Form.{Form}
+use Rattle.trace_text.specs.declared.summary.Form.TheVariants as form
 
 -- an event is that of the idle loop
 abbrev pub is_idle : Event → Bool

@@ -3,12 +3,12 @@ ghost use Rattle.std.specs.Prelude.{◌≡◌, ◌<◌, ◌≤◌, take, positio
 ghost use Rattle.std.specs.List.{list_all};
 ghost use Rattle.std.specs.Char.{is_ascii_digit};
 ghost use Rattle.sloth_base.specs.Limits.{count_limit};
-ghost use Rattle.least_fault.specs.Search.{IsSearchResult};
+ghost use Rattle.sloth_base.specs.Search.{IsSearchResult};
 ghost use Rattle.text_pieces.specs.Digits.{capped_value};
 ghost use Rattle.trace_text.specs.ArrivalsText.{is_comment, are_digits, is_arrival, moment_of, named_among, owner_line, named_line, arrival_of};
 ghost use Rattle.trace_text.specs.ArrivalsText.{last_moment, is_t1, is_t2, is_t3, is_t4, ArrivalLineFault};
 
-use least_fault::{fault_if, merge};
+use sloth_base::least_fault::{fault_if, merge};
 use sloth_base::{
     ARRIVAL_LIMIT, Arrival, COUNT_LIMIT, Code, FIRST_COUNTER_LINE, Line, Name, Part, Refusal,
     TASK_LIMIT,

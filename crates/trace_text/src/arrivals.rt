@@ -1,7 +1,7 @@
 //! Reads arrivals files.
 ghost use Rattle.std.specs.Prelude.{◌≡◌, ◌<◌, ◌^◌, ◌∷◌, [], ◌++◌, length, map, IfOk, IfErr, OnOk};
 ghost use Rattle.sloth_base.specs.Arrivals.{AreArrivals};
-ghost use Rattle.least_fault.specs.Order.{ErrorIs, NoFault};
+ghost use Rattle.sloth_base.specs.Order.{ErrorIs, NoFault};
 ghost use Rattle.text_pieces.specs.Names.{referent};
 ghost use Rattle.trace_text.specs.ArrivalsText.{arrivals_of, arrivals_in, owners_read, ArrivalLineFault, LinesFault, ArrivalsFault};
 

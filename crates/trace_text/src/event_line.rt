@@ -1,14 +1,13 @@
-//! Reading event lines.
+//! Reading event lines. Words of events read.
 ghost use Rattle.std.specs.Prelude.{◌≡◌, ℕ, ◌↔◌, Some, IfSome, length};
 ghost use Rattle.sloth_base.specs.ImageRange.{AreNames, AreNamesApart};
-ghost use Rattle.sloth_base.specs.declared.event.Stamped.{Stamped as AnyEvent};
+ghost use Rattle.sloth_base.specs.declared.service.Stamped.{Stamped as AnyEvent};
 ghost use Rattle.trace_text.specs.EventNumbers.{HasEventNumbers, IsNameNumber, IsNumberOrNone, Has32Bits};
 ghost use Rattle.trace_text.specs.EventLines.{IsLineOf, counted_line};
-ghost use Rattle.trace_text.specs.EventsRead.{admit_in, event_in, is_single, more_in, named_in, number, of_task, place};
-ghost use Rattle.trace_text.specs.EventsRead.{place_or_none, run_in, stamped_in};
+ghost use Rattle.trace_text.specs.EventsRead.{admit_in, event_in, is_single, more_in, named_in, number, of_task, place, place_or_none, run_in, stamped_in};
+ghost use Rattle.trace_text.specs.EventWords.{bare_in, single_in};
 
 use crate::arrival_line::position;
-use crate::reading::{bare_event, single_event};
 use crate::{LineText, push_counts, push_event};
 use sloth_base::{Event, Name, Stamp, Stamped, service_named};
 use text_pieces::{before, behind, same, value};
@@ -223,4 +222,37 @@ pub fn read_line(text: &[u8], tasks: &[Name], funcs: &[Name], counters: &[Name])
         return None;
     }
     Some(event)
+}
+
+/// An event that is one word.
+#[tactic(auto, unfolding(crate::specs::EventWords::bare_in))]
+pub fn bare_event(text: &[u8]) -> Option<Event>
+    ensures event { result ≡ bare_in text.now }
+    ensures numbers { (tasks functions counters : ℕ) → IfSome result (λ event. HasEventNumbers tasks functions counters event) }
+{
+    if same(text, b"boot") {
+        return Some(Event::Boot);
+    }
+    if same(text, b"idle") {
+        return Some(Event::Idle);
+    }
+    if same(text, b"stray") {
+        return Some(Event::Stray);
+    }
+    None
+}
+
+/// An event of a task alone, by its first word.
+#[tactic(auto, unfolding(crate::specs::EventWords::single_in))]
+pub fn single_event(kind: &[u8], task: u32) -> Option<Event>
+    ensures event { result ≡ single_in kind.now task }
+    ensures numbers { (tasks functions counters : ℕ) → IsNumberOrNone tasks task → IfSome result (λ event. HasEventNumbers tasks functions counters event) }
+{
+    if same(kind, b"enter") {
+        return Some(Event::Enter(task));
+    }
+    if same(kind, b"back") {
+        return Some(Event::Back(task));
+    }
+    None
 }

@@ -1,9 +1,9 @@
 //! Laws of the definitions.
 ghost use Rattle.std.specs.Prelude.{◌≡◌, ◌++◌, Bool, List};
-ghost use Rattle.sloth_base.specs.declared.event.Stamped.{Stamped};
+ghost use Rattle.sloth_base.specs.declared.service.Stamped.{Stamped};
 ghost use Rattle.sloth_base.specs.declared.image.Image.{Image};
 ghost use Rattle.trace_text.specs.Texts.{ends_idle, text_after};
-ghost use Rattle.trace_text.specs.declared.printing.Form.{Form};
+ghost use Rattle.trace_text.specs.declared.summary.Form.{Form};
 
 /// The text of a run is that of its first part, and then that of the rest.
 pub fn texts_append()

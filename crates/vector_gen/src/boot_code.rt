@@ -1,21 +1,22 @@
 //! Boot: the levels and enable bytes of the lines of tasks and counters, and the first activations.
-ghost use Rattle.std.specs.Prelude.{ℕ, ◌^◌, slice_index, ◌≡◌, ◌++◌, [], ◌<◌, ◌≤◌, IfOk, OnOk, length};
+//! The idle loop: one word that jumps to itself, with interrupts open.
+ghost use Rattle.std.specs.Prelude.{ℕ, ◌^◌, slice_index, ◌≡◌, ◌++◌, [], ◌<◌, ◌≤◌, IfOk, OnOk, length, ◌∷◌};
 ghost use Rattle.sloth_base.specs.MemoryMap.{boot_base, line_count};
 ghost use Rattle.sloth_base.specs.ConfigRange.{InRange};
 ghost use Rattle.code_lengths.specs.CodeLengths.{boot_length};
-ghost use Rattle.vector_gen.specs.Boot.{register_code, line_start_code, lines_code, counters_code, finishing_code};
-ghost use Rattle.vector_gen.specs.Boot.{IsBootCode};
+ghost use Rattle.vector_gen.specs.Boot.{register_code, line_start_code, lines_code, counters_code, finishing_code, IsBootCode};
 ghost use Rattle.sloth_base.specs.Owners.{first_counter_line};
 ghost use Rattle.sloth_base.specs.Limits.{task_limit, counter_limit, level_count};
+ghost use Rattle.vector_gen.specs.Idle.{idle_mark, IsIdleCode};
 
-use block_parts::{counter_level, raise_autostarted};
+use block_parts::{counter_level, raise_autostarted, stay};
 use masked_code::put;
 use rv32_instr::{
     Block, Instr, MEPC, MPIE, MSTATUS, X1, X2, X3, X4, ZERO, addi, csrrw, hi, lo, lui, mret, sb,
 };
 use sloth_base::{
-    BOOT_BASE, Config, CounterDecl, FIRST_COUNTER_LINE, Levels, List, NoMemory, Result, TASK_LIMIT,
-    TaskDecl,
+    BOOT_BASE, Config, CounterDecl, FIRST_COUNTER_LINE, Levels, List, Mark, MarkKind, NoMemory,
+    Result, TASK_LIMIT, TaskDecl,
 };
 use sloth_region::{
     CONTEXT_BYTES, CONTROLLER_HIGH, IDLE_CONTEXT, Map, WORDS_HIGH, enabled_byte, level_byte,
@@ -102,4 +103,28 @@ fn finish(code: &mut Vec<Instr>, idle: u32) -> Result<(), AllocError>
 {
     put!(code; lui(X4, WORDS_HIGH), addi(X2, X4, IDLE_CONTEXT + CONTEXT_BYTES), addi(X1, ZERO, MPIE),
         csrrw(ZERO, MSTATUS, X1), lui(X1, hi(idle)), addi(X1, X1, lo(idle)), csrrw(ZERO, MEPC, X1), mret())
+}
+
+/// The idle loop, under its mark.
+pub fn idle(alloc: Global, map: &Map) -> Result<Block>
+    ensures at { IfOk result (λ block. block.at ≡ map.now.idle) }
+    ensures marks { IfOk result (λ block. block.marks ≡ idle_mark map.now.idle ∷ []) }
+    ensures size { IfOk result (λ block. length block.code ≤ 256) }
+    ensures effect { IfOk result (λ block. IsIdleCode block.code) }
+{
+    let mut code = Vec::new(alloc);
+    stay(&mut code)?;
+    let mark = Mark {
+        address: map.idle,
+        kind: MarkKind::Idle,
+        a: 0,
+        b: 0,
+        c: 0,
+    };
+    let marks = Vec::from_slice(alloc, &[mark])?;
+    Ok(Block {
+        at: map.idle,
+        code: List::from_vec(code),
+        marks: List::from_vec(marks),
+    })
 }

@@ -11,12 +11,9 @@
 
 mod boot_code;
 mod fresh;
-mod idle_loop;
 mod prologue_block;
-mod resumption;
 mod vector_words;
 
-pub use boot_code::boot;
-pub use idle_loop::idle;
+pub use boot_code::{boot, idle};
 pub use prologue_block::prologue;
 pub use vector_words::vectors;

@@ -1,18 +1,20 @@
 //! The block of a prologue.
-ghost use Rattle.std.specs.Prelude.{◌≡◌, ◌+◌, ◌-◌, ◌<◌, ◌≤◌, ℕ, [], All, IfOk, slice_index, length};
+//! The parts of an extended task's prologue: where a context is kept for the task, it goes on behind its wait.
+ghost use Rattle.std.specs.Prelude.{◌≡◌, ◌+◌, ◌-◌, ◌<◌, ◌≤◌, ℕ, [], All, IfOk, slice_index, length, ◌++◌, OnOk};
 ghost use Rattle.sloth_base.specs.MemoryMap.{memory_base};
 ghost use Rattle.sloth_base.specs.Limits.{task_limit, level_count, frame_limit};
 ghost use Rattle.code_lengths.specs.Bodies.{IsBodyPlace};
 ghost use Rattle.code_lengths.specs.CodeLengths.{prologue_length, IsPrologueLength};
 ghost use Rattle.vector_gen.specs.Places.{IsStackTop, IsTaskPrologue, IsPrologueCode, frame_at};
+ghost use Rattle.vector_gen.specs.Pieces.{wait_answer_code, going_on_code, kept_context_test, context_taking_code};
 
 use crate::fresh::{mark_active, save_context, start_anew};
-use crate::resumption::take_up;
-use block_parts::start_level;
+use block_parts::{start_level, take_own};
 use code_lengths::body_of;
-use rv32_instr::{Block, Instr};
-use sloth_base::{App, Config, Levels, List, Result, TaskId};
-use sloth_region::Map;
+use masked_code::{past, put, restore};
+use rv32_instr::{A0, Block, Instr, X1, X4, ZERO, addi, beq, lw, mret};
+use sloth_base::{App, Config, E_OK, Levels, List, Result, TaskId};
+use sloth_region::{Map, resume};
 use std::alloc::{AllocError, Global};
 
 /// The prologue of a task, at the address of its line's handler in the map: 73 instructions for a basic task, 108 for
@@ -111,4 +113,45 @@ fn code_of(
     take_up(&mut code, extended, task)?;
     start_anew(&mut code, frame, words, first)?;
     Ok(code)
+}
+
+/// How many instructions take up a task's own context.
+const GOES_ON: u32 = 33;
+
+/// Takes up the context that is kept for an extended task; for a basic one none is kept.
+pub fn take_up(code: &mut Vec<Instr>, extended: bool, task: u32) -> Result<(), AllocError>
+    requires { task < task_limit }
+    ensures { OnOk result (code.new.items ≡ code.old.items ++ context_taking_code extended task) }
+{
+    if extended {
+        ask_kept(code, task)?;
+        go_on(code, task)?;
+    }
+    Ok(())
+}
+
+/// x1 := the address of the task's own context; passes what takes it up where there is none.
+fn ask_kept(code: &mut Vec<Instr>, task: u32) -> Result<(), AllocError>
+    requires { task < task_limit }
+    ensures { OnOk result (code.new.items ≡ code.old.items ++ kept_context_test task) }
+{
+    put!(code; lw(X1, X4, resume(task)), beq(X1, ZERO, past(GOES_ON)))
+}
+
+/// The task goes on behind its wait, as its context at x1 says.
+fn go_on(code: &mut Vec<Instr>, task: u32) -> Result<(), AllocError>
+    requires { task < task_limit }
+    ensures { OnOk result (code.new.items ≡ code.old.items ++ going_on_code task) }
+{
+    take_own(code, task)?;
+    restore(code, 5, 32, X1)?;
+    answer_wait(code)?;
+    Ok(())
+}
+
+/// The service that waited has done so.
+fn answer_wait(code: &mut Vec<Instr>) -> Result<(), AllocError>
+    ensures { OnOk result (code.new.items ≡ code.old.items ++ wait_answer_code) }
+{
+    put!(code; addi(A0, ZERO, E_OK as i32), mret())
 }

@@ -22,7 +22,7 @@ use Rattle.walk_sums.specs.Links.{item_ways}
 use Rattle.walk_sums.proofs.Ordering.{member, one_more}
 use Rattle.walk_sums.proofs.Counting.{any_is, none_is}
 use Rattle.sloth_base.specs.declared.app.Func.{Func}
-use Rattle.raised_sections.specs.Walks.{chains_itself}
+use Rattle.osek_blocking.specs.Walks.{chains_itself}
 use Rattle.walk_sums.specs.declared.graph.Ways.{Ways}
 use Rattle.walk_sums.specs.Search.{IsReachable}
 use Rattle.walk_sums.proofs.Leading.{inside}

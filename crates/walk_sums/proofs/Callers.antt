@@ -8,7 +8,7 @@ use Rattle.sloth_base.specs.Named.{function, operation, body_of}
 use Rattle.code_rules.specs.Code.{IsItem, IsPathStep}
 use Rattle.osek_scheduler.proofs.Facts.{Facts}
 use Rattle.osek_scheduler.proofs.Stacks.{has_body}
-use Rattle.raised_sections.specs.Walks.{Position, GoesBack, IsPositionStep, AreConsecutive, IsWalk, chains_itself}
+use Rattle.osek_blocking.specs.Walks.{Position, GoesBack, IsPositionStep, AreConsecutive, IsWalk, chains_itself}
 use Rattle.walk_sums.specs.Activations.{is_plain, IsInnerStep, ReachesItem, reaches_first, reaches_inside, reaches_behind, ReachesCall}
 use Rattle.walk_sums.proofs.LevelsAt.{leads_cases}
 use Rattle.walk_sums.proofs.Reached.{called_known, reached_inside}

@@ -18,8 +18,8 @@ use Rattle.sloth_base.specs.ConfigRange.{no_event}
 use Rattle.code_rules.specs.AppRange.{IsMask, mask_of, AreEvents}
 use Rattle.code_rules.specs.Code.{IsItem}
 use Rattle.osek_scheduler.proofs.Facts.{Facts}
-use Rattle.raised_sections.specs.Walks.{Position, IsWalk}
-use Rattle.raised_sections.specs.Sections.{operation_at}
+use Rattle.osek_blocking.specs.Walks.{Position, IsWalk}
+use Rattle.osek_blocking.specs.Sections.{operation_at}
 use Rattle.bound_rules.specs.declared.weights.BodyWeights.{BodyWeights}
 use Rattle.bound_rules.specs.Weights.{going_weight}
 use Rattle.walk_sums.specs.Weights.{going_at, ending_at, sum_of}

@@ -9,8 +9,8 @@ use Rattle.sloth_base.specs.declared.app.Op.TheVariants as op
 use Rattle.sloth_base.specs.Named.{body_of}
 use Rattle.code_rules.specs.Code.{IsItem}
 use Rattle.osek_scheduler.proofs.Facts.{Facts}
-use Rattle.raised_sections.specs.Walks.{Place, Position, place, GoesBack, IsPositionStep, AreConsecutive, IsWalk, first_position}
-use Rattle.raised_sections.specs.Sections.{operation_at}
+use Rattle.osek_blocking.specs.Walks.{Place, Position, place, GoesBack, IsPositionStep, AreConsecutive, IsWalk, first_position}
+use Rattle.osek_blocking.specs.Sections.{operation_at}
 use Rattle.bound_rules.specs.declared.weights.BodyWeights.{BodyWeights}
 use Rattle.bound_rules.specs.Weights.{going_weight, ending_weight}
 use Rattle.walk_sums.specs.Weights.{going_at, sum_of}

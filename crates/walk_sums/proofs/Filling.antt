@@ -6,8 +6,8 @@ use Rattle.sloth_base.specs.declared.app.Func.{Func}
 use Rattle.sloth_base.specs.Named.{function, item_of}
 use Rattle.task_verify.specs.Ways.{HasBodyLabel}
 use Rattle.walk_sums.specs.declared.graph.Ways.{Ways}
-use Rattle.bound_rules.specs.declared.bodies.Body.{Body}
-use Rattle.bound_rules.specs.declared.sizes.Summary.{Summary}
+use Rattle.bound_rules.specs.declared.bound.Body.{Body}
+use Rattle.bound_rules.specs.declared.bound.Summary.{Summary}
 use Rattle.bound_rules.specs.declared.weights.BodyWeights.{BodyWeights}
 use Rattle.bound_rules.specs.Weights.{no_weights}
 use Rattle.bound_rules.specs.Summaries.{IsCountedUp}

@@ -4,8 +4,8 @@ use Rattle.sloth_base.specs.declared.config.Config.{Config}
 use Rattle.sloth_base.specs.declared.app.App.{App}
 use Rattle.sloth_base.specs.Named.{operation}
 use Rattle.osek_scheduler.proofs.Facts.{Facts}
-use Rattle.raised_sections.specs.Walks.{Position, AreConsecutive}
-use Rattle.raised_sections.specs.Sections.{is_counted, IsSection, size_of_section}
+use Rattle.osek_blocking.specs.Walks.{Position, AreConsecutive}
+use Rattle.osek_blocking.specs.Sections.{is_counted, IsSection, size_of_section}
 use Rattle.walk_sums.specs.Weights.{item_weights, sum_of}
 use Rattle.walk_sums.proofs.ItemWeights.{going_is, ending_is}
 use Rattle.walk_sums.proofs.Callers.{Walked, stands_on, item_at, walked_to}

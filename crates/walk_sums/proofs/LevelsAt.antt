@@ -11,8 +11,8 @@ use Rattle.sloth_base.specs.Named.{declaration}
 use Rattle.code_rules.specs.WellFormed.{held_list_before}
 use Rattle.osek_scheduler.specs.Priority.{greatest, ceiling, highest_priority}
 use Rattle.osek_scheduler.specs.Apart.{static_priority}
-use Rattle.raised_sections.specs.Walks.{Position, place, GoesBack, GoesOnInside, LeadsTo}
-use Rattle.raised_sections.specs.Sections.{held_list_along, priority_at}
+use Rattle.osek_blocking.specs.Walks.{Position, place, GoesBack, GoesOnInside, LeadsTo}
+use Rattle.osek_blocking.specs.Sections.{held_list_along, priority_at}
 use Rattle.bound_rules.specs.Items.{reaches_level}
 use Rattle.walk_sums.specs.Activations.{ceiling_before, is_raised, called_level, is_plain, level_behind}
 

@@ -10,10 +10,10 @@ use Rattle.sloth_base.specs.Named.{function, operation}
 use Rattle.sloth_base.specs.Limits.{size_limit}
 use Rattle.code_rules.specs.Code.{IsItem, IsPathStep}
 use Rattle.osek_scheduler.proofs.Facts.{Facts}
-use Rattle.raised_sections.specs.Walks.{chains_itself}
+use Rattle.osek_blocking.specs.Walks.{chains_itself}
 use Rattle.walk_sums.specs.declared.graph.Ways.{Ways}
-use Rattle.bound_rules.specs.declared.bodies.Body.{Body}
-use Rattle.bound_rules.specs.declared.sizes.Summary.{Summary}
+use Rattle.bound_rules.specs.declared.bound.Body.{Body}
+use Rattle.bound_rules.specs.declared.bound.Summary.{Summary}
 use Rattle.walk_sums.specs.Graph.{ways_of, HasWay, AreInside}
 use Rattle.walk_sums.specs.Loops.{HasWeighingLoop}
 use Rattle.walk_sums.specs.Trails.{size_of_trail, IsEnded, IsLongest}

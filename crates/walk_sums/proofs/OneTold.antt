@@ -1,10 +1,10 @@
 -- One thing is told of a greatest sum.
 use Rattle.std.proofs.Common.{◌≡◌, ℕ, suc, ◌<◌, ◌≤◌, ◌⊎◌, List, refl, ap, arith, ⊎_elim}
 use Rattle.sloth_base.specs.Limits.{count_limit}
-use Rattle.raised_sections.specs.Walks.{Position}
+use Rattle.osek_blocking.specs.Walks.{Position}
 use Rattle.bound_rules.specs.declared.weights.BodyWeights.{BodyWeights}
-use Rattle.walk_sums.specs.declared.sum.Sum.{Sum}
-use Rattle.walk_sums.specs.declared.sum.Sum.TheVariants as sum
+use Rattle.walk_sums.specs.declared.sections.Sum.{Sum}
+use Rattle.walk_sums.specs.declared.sections.Sum.TheVariants as sum
 use Rattle.walk_sums.specs.Weights.{sum_of}
 use Rattle.walk_sums.specs.Told.{SomeReaches, IsGreatestSum, ReachesLimit, IsToldSum}
 

@@ -4,7 +4,7 @@ use Rattle.sloth_base.specs.declared.app.App.{App}
 use Rattle.sloth_base.specs.declared.app.Op.{Op}
 use Rattle.sloth_base.specs.declared.app.Op.TheVariants as op
 use Rattle.sloth_base.specs.Named.{function}
-use Rattle.raised_sections.specs.Walks.{Position, place, GoesOnInside, LeadsTo, IsPositionStep, chains_itself}
+use Rattle.osek_blocking.specs.Walks.{Position, place, GoesOnInside, LeadsTo, IsPositionStep, chains_itself}
 use Rattle.walk_sums.specs.Activations.{is_plain, IsInnerStep}
 
 -- a plain operation leads to where a path of its function goes on

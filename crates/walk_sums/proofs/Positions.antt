@@ -1,6 +1,6 @@
 -- Stacks that are one position.
 use Rattle.std.proofs.Common.{◌≡◌, ℕ, suc, ◌<◌, List, [], ◌∷◌, length, get_or, refl, ap, ◌∙◌, arith}
-use Rattle.raised_sections.specs.Walks.{Position}
+use Rattle.osek_blocking.specs.Walks.{Position}
 use Rattle.walk_sums.specs.declared.standing.Standing.{Standing}
 use Rattle.walk_sums.specs.Positions.{place_of, position_on, position_of}
 

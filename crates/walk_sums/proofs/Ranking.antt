@@ -6,7 +6,7 @@ use Rattle.std.proofs.lemmas.List.{length-set, length-append, get_or_append_left
 use Rattle.std.proofs.Math.Seq.{get_or-append_seam, take-append_seam}
 use Rattle.sloth_base.specs.declared.app.App.{App}
 use Rattle.code_rules.specs.Code.{is_in, HasCall}
-use Rattle.call_graph.specs.declared.ranking.Ranks.{Ranks}
+use Rattle.call_graph.specs.declared.lists.Ranks.{Ranks}
 use Rattle.call_graph.specs.Ranks.{RanksOf}
 use Rattle.walk_sums.specs.Graph.{HasMark}
 use Rattle.walk_sums.specs.CallOrder.{IsCallOrder, IsLeastRank, lesser_of, lesser}

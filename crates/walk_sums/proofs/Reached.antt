@@ -8,7 +8,7 @@ use Rattle.sloth_base.specs.Named.{function, operation}
 use Rattle.code_rules.specs.Code.{IsItem, IsPathStep, HasCall, is_followed}
 use Rattle.osek_scheduler.proofs.Facts.{Facts}
 use Rattle.osek_scheduler.proofs.Held.{falls_inside}
-use Rattle.raised_sections.specs.Walks.{chains_itself}
+use Rattle.osek_blocking.specs.Walks.{chains_itself}
 use Rattle.walk_sums.specs.declared.graph.Ways.{Ways}
 use Rattle.walk_sums.specs.Graph.{ways_of, HasMark}
 use Rattle.walk_sums.specs.Search.{IsReachable, reachable_first, reachable_on}

@@ -10,9 +10,9 @@ use Rattle.sloth_base.specs.Named.{body_of}
 use Rattle.sloth_base.specs.Limits.{size_limit}
 use Rattle.osek_scheduler.proofs.Facts.{Facts}
 use Rattle.osek_scheduler.proofs.Stacks.{has_body}
-use Rattle.raised_sections.specs.Walks.{Position, IsWalk}
-use Rattle.raised_sections.specs.Sections.{operation_at}
-use Rattle.bound_rules.specs.declared.sizes.Summary.{Summary}
+use Rattle.osek_blocking.specs.Walks.{Position, IsWalk}
+use Rattle.osek_blocking.specs.Sections.{operation_at}
+use Rattle.bound_rules.specs.declared.bound.Summary.{Summary}
 use Rattle.bound_rules.specs.declared.weights.BodyWeights.{BodyWeights}
 use Rattle.bound_rules.specs.Summaries.{summary_of}
 use Rattle.walk_sums.specs.Weights.{ending_at, sum_of}

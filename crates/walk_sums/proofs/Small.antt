@@ -8,7 +8,7 @@ use Rattle.sloth_base.specs.declared.app.Op.TheVariants as op
 use Rattle.sloth_base.specs.Named.{item_of}
 use Rattle.sloth_base.specs.Limits.{size_limit}
 use Rattle.walk_sums.specs.declared.graph.Ways.{Ways}
-use Rattle.bound_rules.specs.declared.sizes.Summary.{Summary}
+use Rattle.bound_rules.specs.declared.bound.Summary.{Summary}
 use Rattle.walk_sums.specs.Trails.{AreSizes, AreSizesInLimit, IsLongest}
 use Rattle.bound_rules.specs.declared.weights.BodyWeights.{BodyWeights}
 use Rattle.walk_sums.specs.Computed.{going_size, ending_size, leaving_size}

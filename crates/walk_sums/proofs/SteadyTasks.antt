@@ -6,7 +6,7 @@ use Rattle.sloth_base.specs.declared.config.Config.{Config}
 use Rattle.sloth_base.specs.declared.app.App.{App}
 use Rattle.sloth_base.specs.Named.{body_of, declaration}
 use Rattle.code_rules.specs.WellFormed.{WellFormed}
-use Rattle.bound_rules.specs.declared.sizes.Summary.{Summary}
+use Rattle.bound_rules.specs.declared.bound.Summary.{Summary}
 use Rattle.bound_rules.specs.Summaries.{summary_of}
 use Rattle.walk_sums.proofs.Bodily.{facts_of}
 use Rattle.walk_sums.specs.declared.kinds.Kind.TheVariants as kinds

@@ -8,7 +8,7 @@ use Rattle.code_rules.specs.Code.{HasCall, is_in}
 use Rattle.code_rules.specs.WellFormed.{WellFormed}
 use Rattle.walk_sums.proofs.Bodily.{facts_of}
 use Rattle.walk_sums.proofs.Reached.{called_known}
-use Rattle.bound_rules.specs.declared.sizes.Summary.{Summary}
+use Rattle.bound_rules.specs.declared.bound.Summary.{Summary}
 use Rattle.bound_rules.specs.declared.weights.BodyWeights.{BodyWeights}
 use Rattle.walk_sums.specs.CallOrder.{IsCallOrder}
 use Rattle.bound_rules.specs.Summaries.{summary_of, unknown, IsCountedUp}

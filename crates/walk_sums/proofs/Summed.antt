@@ -11,8 +11,8 @@ use Rattle.sloth_base.specs.Limits.{size_limit}
 use Rattle.code_rules.specs.Code.{IsItem, HasCall}
 use Rattle.call_graph.specs.Tables.{max_below}
 use Rattle.stack_bounds.proofs.Below.{max_below-at, max_below-some, last_or_before}
-use Rattle.bound_rules.specs.declared.bodies.Body.{Body}
-use Rattle.bound_rules.specs.declared.sizes.Summary.{Summary}
+use Rattle.bound_rules.specs.declared.bound.Body.{Body}
+use Rattle.bound_rules.specs.declared.bound.Summary.{Summary}
 use Rattle.bound_rules.specs.Items.{reaches_level}
 use Rattle.bound_rules.specs.declared.weights.BodyWeights.{BodyWeights}
 use Rattle.bound_rules.specs.Weights.{joined}

@@ -13,9 +13,9 @@ use Rattle.stack_bounds.proofs.Bodies.{bodies_of}
 use Rattle.osek_scheduler.specs.Apart.{static_priority}
 use Rattle.osek_scheduler.proofs.Facts.{Facts}
 use Rattle.osek_scheduler.proofs.Stacks.{has_body}
-use Rattle.raised_sections.specs.Walks.{Position, place}
-use Rattle.raised_sections.specs.Sections.{priority_at, is_schedule, OnlyLastSchedules, IsSection, IsLower}
-use Rattle.bound_rules.specs.declared.sizes.Summary.{Summary}
+use Rattle.osek_blocking.specs.Walks.{Position, place}
+use Rattle.osek_blocking.specs.Sections.{priority_at, is_schedule, OnlyLastSchedules, IsSection, IsLower}
+use Rattle.bound_rules.specs.declared.bound.Summary.{Summary}
 use Rattle.bound_rules.specs.declared.weights.BodyWeights.{BodyWeights}
 use Rattle.bound_rules.specs.Summaries.{summary_of}
 use Rattle.bound_rules.specs.Tasks.{task_summary}
@@ -24,8 +24,8 @@ use Rattle.walk_sums.proofs.LevelsAt.{L, level_raised, level_called}
 use Rattle.walk_sums.proofs.LowerLevels.{level_is}
 use Rattle.walk_sums.specs.declared.kinds.Kind.{Kind}
 use Rattle.walk_sums.specs.declared.kinds.Kind.TheVariants as kinds
-use Rattle.walk_sums.specs.declared.sum.Sum.{Sum}
-use Rattle.walk_sums.specs.declared.sum.Sum.TheVariants as sum
+use Rattle.walk_sums.specs.declared.sections.Sum.{Sum}
+use Rattle.walk_sums.specs.declared.sections.Sum.TheVariants as sum
 use Rattle.walk_sums.specs.Rounds.{OnlyLast, IsPart, IsFirst, Anywhere, IsTurn}
 use Rattle.walk_sums.specs.Early.{position_line, BeginsAt, IsEarlySection, IsToldEarly}
 use Rattle.walk_sums.specs.Kinds.{stops, MayFollow, IsEarly, MayOpen, MayOpenPart}

@@ -13,10 +13,10 @@ use Rattle.sloth_base.specs.Options.{is_number}
 use Rattle.sloth_base.specs.ServiceCodes.{is_service}
 use Rattle.code_rules.specs.Code.{IsItem, is_followed, ends_for_good}
 use Rattle.std.proofs.lemmas.Bool.{false≢true}
-use Rattle.raised_sections.specs.Walks.{Position, place, IsPositionStep, AreConsecutive, IsWalk, chains_itself}
+use Rattle.osek_blocking.specs.Walks.{Position, place, IsPositionStep, AreConsecutive, IsWalk, chains_itself}
 use Rattle.std.proofs.lemmas.List.{append_assoc}
-use Rattle.raised_sections.specs.Sections.{operation_at}
-use Rattle.raised_sections.proofs.Reached.{IsReached, walk_on, reached_next, reached_first}
+use Rattle.osek_blocking.specs.Sections.{operation_at}
+use Rattle.osek_blocking.proofs.Reached.{IsReached, walk_on, reached_next, reached_first}
 use Rattle.bound_rules.specs.declared.weights.BodyWeights.{BodyWeights}
 use Rattle.bound_rules.specs.Weights.{going_weight}
 use Rattle.walk_sums.specs.Weights.{going_at, ending_at, sum_of, AreWeights}

@@ -8,7 +8,7 @@ use Rattle.sloth_base.specs.Named.{function}
 use Rattle.code_rules.specs.Code.{IsItem, IsPathStep}
 use Rattle.code_rules.specs.WellFormed.{held_list_before}
 use Rattle.osek_scheduler.specs.Priority.{greatest, ceiling}
-use Rattle.raised_sections.specs.Walks.{chains_itself}
+use Rattle.osek_blocking.specs.Walks.{chains_itself}
 use Rattle.bound_rules.specs.Items.{reaches_level}
 
 -- ---- where the task is raised

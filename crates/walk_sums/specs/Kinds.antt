@@ -8,8 +8,8 @@ use Rattle.sloth_base.specs.declared.service.Service.TheVariants as service
 use Rattle.sloth_base.specs.Named.{function, item_of, operation}
 use Rattle.sloth_base.specs.ServiceCodes.{is_service}
 use Rattle.code_rules.specs.Code.{IsItem}
-use Rattle.raised_sections.specs.Walks.{Position, chains_itself}
-use Rattle.raised_sections.specs.Sections.{is_schedule}
+use Rattle.osek_blocking.specs.Walks.{Position, chains_itself}
+use Rattle.osek_blocking.specs.Sections.{is_schedule}
 use Rattle.walk_sums.specs.Activations.{ReachesItem}
 use Rattle.walk_sums.specs.declared.kinds.Kind.{Kind}
 use Rattle.walk_sums.specs.declared.kinds.Kind.TheVariants as kind

@@ -6,7 +6,7 @@ use Rattle.sloth_base.specs.Named.{function}
 use Rattle.sloth_base.specs.Limits.{size_limit}
 use Rattle.code_rules.specs.Code.{HasCall}
 use Rattle.code_rules.specs.WellFormed.{WellFormed}
-use Rattle.bound_rules.specs.declared.sizes.Summary.{Summary}
+use Rattle.bound_rules.specs.declared.bound.Summary.{Summary}
 use Rattle.bound_rules.specs.declared.weights.BodyWeights.{BodyWeights}
 use Rattle.bound_rules.specs.Summaries.{summary_of, AreCountedUp}
 use Rattle.walk_sums.specs.declared.kinds.Kind.{Kind}

@@ -8,7 +8,7 @@ use Rattle.sloth_base.specs.declared.app.Op.TheVariants as op
 use Rattle.sloth_base.specs.Named.{function, item_of}
 use Rattle.code_rules.specs.Code.{HasCall}
 use Rattle.call_graph.specs.Reached.{any_below}
-use Rattle.bound_rules.specs.declared.bodies.Body.{Body}
+use Rattle.bound_rules.specs.declared.bound.Body.{Body}
 use Rattle.walk_sums.specs.Graph.{HasMark}
 use Rattle.walk_sums.specs.Activations.{ceiling_before, ReachesItem, CanReturn}
 

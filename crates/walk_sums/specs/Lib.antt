@@ -16,7 +16,6 @@ pub mod Computed
 pub mod Shapes
 pub mod Known
 pub mod Lists
-pub mod WeighedCode
 pub mod Counted
 pub mod Clears
 pub mod Told

@@ -1,6 +1,6 @@
 -- Positions as stacks of functions in progress, the outermost first.
 use Rattle.std.specs.Prelude.{false, List, [], ◌∷◌}
-use Rattle.raised_sections.specs.Walks.{Place, place, Position}
+use Rattle.osek_blocking.specs.Walks.{Place, place, Position}
 use Rattle.walk_sums.specs.declared.standing.Point.{Point}
 use Rattle.walk_sums.specs.declared.standing.Standing.{Standing}
 

@@ -8,8 +8,8 @@ use Rattle.sloth_base.specs.declared.app.Op.TheVariants as op
 use Rattle.sloth_base.specs.declared.service.Service.TheVariants as service
 use Rattle.sloth_base.specs.Named.{declaration}
 use Rattle.sloth_base.specs.ServiceCodes.{is_service}
-use Rattle.raised_sections.specs.Walks.{Position, IsWalk}
-use Rattle.raised_sections.specs.Sections.{operation_at, is_schedule}
+use Rattle.osek_blocking.specs.Walks.{Position, IsWalk}
+use Rattle.osek_blocking.specs.Sections.{operation_at, is_schedule}
 
 -- ---- reached items
 

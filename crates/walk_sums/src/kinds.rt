@@ -4,7 +4,7 @@ ghost use Rattle.walk_sums.specs.Rounds.{is_wait};
 ghost use Rattle.walk_sums.specs.Kinds.{clears, stops, is_behind_wait, may_begin, is_going};
 
 use bound_rules::{is_marked, is_schedule};
-use raised_sections::chains_itself;
+use osek_blocking::chains_itself;
 use sloth_base::{Func, Op, Service};
 
 /// Which parts of walks: behind which operations none goes on, and where they begin besides the first item of a body.

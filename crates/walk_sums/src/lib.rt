@@ -1,7 +1,7 @@
 //! The greatest sums along the walks of task code, for any weights of items, 0 among them.
 //!
 //! Task code that is walked is one value, `Walks`: well formed, its functions in an order of calls, and what is known
-//! of each body; with weights and sums it is `Weighed`. Of it, exactly: the turns of a task, the rounds into which its
+//! of each body. Of it, exactly: the turns of a task, the rounds into which its
 //! WaitEvents cut them, and its raised sections (`turn_sum`, `round_sums`, `sums_above`, `section_sums`,
 //! `early_section_sum`); or that a cycle has a weight, so that there is none. Sums are found function by function
 //! (`whole_sums`, `own_sums`), each body in an order of finish or in passes (`Caller`). What tasks do on their walks is
@@ -10,7 +10,7 @@
 //!
 //! What is told: `specs/Told`, `specs/Sections`, `specs/Rounds`, `specs/Early`; parts of walks: `specs/Kinds`,
 //! `specs/Parts`; when sums are right: `specs/Known`. The search: `specs/Graph`, `specs/Trails`, `specs/Search`,
-//! `specs/Loops`. Walks: `raised_sections`.
+//! `specs/Loops`. Walks: `osek_blocking`.
 #![tactic(auto)]
 
 pub mod bodies;
@@ -18,7 +18,6 @@ mod caller;
 pub mod ceilings;
 pub mod clean;
 pub mod counted;
-pub mod early;
 pub mod graph;
 pub mod items;
 pub mod kinds;
@@ -34,12 +33,9 @@ pub mod sections;
 mod settle;
 mod shape;
 pub mod standing;
-pub mod steady;
-pub mod sum;
 mod summary;
 pub mod tasks;
 pub mod walks;
-pub mod weighed;
 pub mod weights;
 
 pub use bodies::numbered_function;
@@ -49,10 +45,8 @@ pub use kinds::Kind;
 pub use levels::numbered_body;
 pub use links::is_next_item;
 pub use order::callees_first;
-pub use sections::greatest_sum;
+pub use sections::{Sum, greatest_sum};
 pub use standing::{Point, Standing, is_same, is_standing};
-pub use sum::Sum;
 pub use tasks::RoundSums;
 pub use walks::{Walks, known_code};
-pub use weighed::Weighed;
 pub use weights::item_weights;

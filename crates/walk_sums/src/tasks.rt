@@ -3,7 +3,7 @@ ghost use Rattle.std.specs.Prelude.{◌≡◌, ◌<◌, None, Some, length};
 ghost use Rattle.sloth_base.specs.Named.{body_of};
 ghost use Rattle.code_rules.specs.WellFormed.{WellFormed};
 ghost use Rattle.osek_scheduler.specs.Apart.{static_priority};
-ghost use Rattle.raised_sections.specs.Sections.{IsLower, IsSection};
+ghost use Rattle.osek_blocking.specs.Sections.{IsLower, IsSection};
 ghost use Rattle.call_graph.specs.Tables.{HasTaskBody};
 ghost use Rattle.bound_rules.specs.Summaries.{summary_of};
 ghost use Rattle.walk_sums.specs.declared.kinds.Kind.TheVariants as kinds;

@@ -1,4 +1,4 @@
-//! Task code that is walked, as one value.
+//! Task code that is walked, as one value. The greatest sums of raised sections that begin early in the source text.
 ghost use Rattle.std.specs.Prelude.{◌≡◌, ◌<◌, length, IfOk};
 ghost use Rattle.sloth_base.specs.Named.{body_of, declaration};
 ghost use Rattle.code_rules.specs.WellFormed.{WellFormed};
@@ -7,10 +7,14 @@ ghost use Rattle.osek_scheduler.specs.Apart.{static_priority};
 ghost use Rattle.walk_sums.specs.CallOrder.{IsCallOrder};
 ghost use Rattle.walk_sums.specs.KnownBodies.{AreKnownBodies};
 ghost use Rattle.walk_sums.specs.WalkedCode.{IsWalked, IsKnownCode, walked_code};
+ghost use Rattle.osek_blocking.specs.Sections.{IsLower};
+ghost use Rattle.walk_sums.specs.Weights.{AreWeights};
+ghost use Rattle.walk_sums.specs.Early.{IsToldEarly};
 
 use crate::bodies::bodies;
-use crate::callees_first;
-use bound_rules::Body;
+use crate::tasks::told_section;
+use crate::{Kind, Sum, callees_first};
+use bound_rules::{Body, BodyWeights};
 use call_graph::Ranks;
 use sloth_base::{App, Config, List, Result, TaskDecl};
 use stack_bounds::body_of;
@@ -178,5 +182,27 @@ impl<'a> Walks<'a> {
         ensures known { result < length self.now.app.funcs }
     {
         body_of(self.app().funcs.items(), task)
+    }
+}
+
+impl Walks<'_> {
+    /// The greatest sum, by these weights, of the raised sections of a task for task `above`, of which it is a lower
+    /// one, that begin at an item of this source line or a lesser one; `Endless` where those of all lines have none.
+    pub fn early_section_sum(
+        &self,
+        weights: &[BodyWeights],
+        above: usize,
+        task: usize,
+        line: u32,
+    ) -> Result<Sum>
+        requires weights { AreWeights self.now.app weights.now }
+        requires above { above < length self.now.config.tasks }
+        requires lower { IsLower self.now.config above task }
+        ensures { IfOk result (IsToldEarly self.now.config self.now.app weights.now above task line) }
+    {
+        let kind = Kind::EarlySections(line);
+        let whole = self.whole_sums(weights, kind)?;
+        let own = self.own_sums(weights, kind, self.priority(above), &whole)?;
+        Ok(told_section(self.config(), self.app(), &whole, &own, task))
     }
 }

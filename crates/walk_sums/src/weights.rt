@@ -1,6 +1,6 @@
 //! The weights that count items.
 ghost use Rattle.std.specs.Prelude.{◌≡◌, cond, map, not, IfOk};
-ghost use Rattle.raised_sections.specs.Sections.{is_counted};
+ghost use Rattle.osek_blocking.specs.Sections.{is_counted};
 ghost use Rattle.walk_sums.specs.Weights.{item_weight, body_weights, item_weights, AreWeights};
 
 use bound_rules::BodyWeights;

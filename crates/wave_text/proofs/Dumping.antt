@@ -4,12 +4,12 @@ use Rattle.std.specs.Prelude.{Bool, true, false, if◌then◌else◌}
 use Rattle.std.proofs.lemmas.Bool.Decides.{eqb_tells}
 use Rattle.std.proofs.lemmas.List.{flat_map_more}
 use Rattle.std.proofs.Math.Numerals.{add-one}
-use Rattle.wave_text.specs.declared.moments.Moment.{Moment}
+use Rattle.wave_text.specs.declared.recording.Moment.{Moment}
 use Rattle.wave_text.specs.declared.dump.Dump.{Dump}
 use Rattle.wave_text.specs.declared.signals.Scope.{Scope}
 use Rattle.wave_text.specs.declared.signals.Width.{Width}
 use Rattle.wave_text.specs.Changes.{DumpEntry, same_value, change_entries, scope_changes, moment_entries, with_moment, stands_behind}
-use Rattle.wave_text.specs.Signals.{first_code, width_of, value_of, KeepValues}
+use Rattle.wave_text.specs.Signals.{first_code, signal_width, signal_value, KeepValues}
 use Rattle.wave_text.specs.Text.{entry_line, entry_lines}
 use Rattle.wave_text.specs.Waves.{HasNewEntries}
 
@@ -85,19 +85,19 @@ unfolding scope_changes
 gets-no-tasks d s old new = gets-none d
 
 task-more : (s : Scope) (old new : Option Moment) (k : ℕ)
-    → scope_changes s old new (k + 1) ≡ scope_changes s old new k ++ change_entries (first_code s + k) (width_of s) (value_of s old k) (value_of s new k)
+    → scope_changes s old new (k + 1) ≡ scope_changes s old new k ++ change_entries (first_code s + k) (signal_width s) (signal_value s old k) (signal_value s new k)
 unfolding scope_changes
 task-more s old new k = ap (scope_changes s old new) (add-one k)
 
 pub gets-task : (a b c : Dump) (s : Scope) (old new : Option Moment) (k code : ℕ) (w : Width) (x y : Option ℕ) → HasNewEntries a b (scope_changes s old new k)
-    → code ≡ first_code s → w ≡ width_of s → x ≡ value_of s old k → y ≡ value_of s new k → HasNewEntries b c (change_entries (code + k) w x y) → HasNewEntries a c (scope_changes s old new (k + 1))
+    → code ≡ first_code s → w ≡ signal_width s → x ≡ signal_value s old k → y ≡ signal_value s new k → HasNewEntries b c (change_entries (code + k) w x y) → HasNewEntries a c (scope_changes s old new (k + 1))
 gets-task a b c s old new k code w x y h at wide from to i =
     let P : List DumpEntry → Type 0 = HasNewEntries a c in
     let G : ℕ → Type 0 = λ n. HasNewEntries b c (change_entries (n + k) w x y) in
     let H : Width → Type 0 = λ v. HasNewEntries b c (change_entries (first_code s + k) v x y) in
-    let own : HasNewEntries b c (change_entries (first_code s + k) (width_of s) (value_of s old k) (value_of s new k)) =
-    gets-values b c (first_code s + k) (width_of s) x y (value_of s old k) (value_of s new k) from to (subst H wide (subst G at i)) in
-    subst P (sym (task-more s old new k)) (gets-both a b c (scope_changes s old new k) (change_entries (first_code s + k) (width_of s) (value_of s old k) (value_of s new k)) h own)
+    let own : HasNewEntries b c (change_entries (first_code s + k) (signal_width s) (signal_value s old k) (signal_value s new k)) =
+    gets-values b c (first_code s + k) (signal_width s) x y (signal_value s old k) (signal_value s new k) from to (subst H wide (subst G at i)) in
+    subst P (sym (task-more s old new k)) (gets-both a b c (scope_changes s old new k) (change_entries (first_code s + k) (signal_width s) (signal_value s old k) (signal_value s new k)) h own)
 
 -- signals that keep their values
 same-value : (x : Option ℕ) → same_value x x ≡ true
@@ -108,10 +108,10 @@ no-changes : (s : Scope) (old new : Option Moment) (k : ℕ) → KeepValues s k 
 unfolding scope_changes
 no-changes s old new zero keeps = refl
 no-changes s old new (suc k) keeps =
-    let same : same_value (value_of s old k) (value_of s new k) ≡ true =
-    ap (same_value (value_of s old k)) (sym (keeps k (omega arith))) ∙ same-value (value_of s old k) in
-    ap (λ l. l ++ change_entries (first_code s + k) (width_of s) (value_of s old k) (value_of s new k)) (no-changes s old new k (λ t l. keeps t (omega arith)))
-    ∙ ap (λ b. if b then [] else DumpEntry.change (first_code s + k) (width_of s) (value_of s new k) ∷ []) same
+    let same : same_value (signal_value s old k) (signal_value s new k) ≡ true =
+    ap (same_value (signal_value s old k)) (sym (keeps k (omega arith))) ∙ same-value (signal_value s old k) in
+    ap (λ l. l ++ change_entries (first_code s + k) (signal_width s) (signal_value s old k) (signal_value s new k)) (no-changes s old new k (λ t l. keeps t (omega arith)))
+    ∙ ap (λ b. if b then [] else DumpEntry.change (first_code s + k) (signal_width s) (signal_value s new k) ∷ []) same
 
 pub gets-kept : (d : Dump) (s : Scope) (old new : Option Moment) (k : ℕ) → KeepValues s k old new → HasNewEntries d d (scope_changes s old new k)
 gets-kept d s old new k keeps = let P : List DumpEntry → Type 0 = HasNewEntries d d in subst P (sym (no-changes s old new k keeps)) (gets-none d)

@@ -3,16 +3,16 @@ use Rattle.std.proofs.Common.{◌≡◌, ◌≤◌, ◌<◌, ◌+◌, ◌∙◌,
 use Rattle.std.specs.Prelude.{Bool, true, false, ◌==◌, nat_le, if◌then◌else◌, slice_get}
 use Rattle.std.proofs.lemmas.Bool.{cases_lt, false≢true}
 use Rattle.std.proofs.lemmas.Bool.Decides.{eqb_tells, leb_tells}
-use Rattle.sloth_base.specs.declared.lines.Owners.{Owners}
+use Rattle.sloth_base.specs.declared.numbers.Owners.{Owners}
 use Rattle.sloth_base.specs.Limits.{task_limit, counter_limit}
-use Rattle.wave_text.specs.declared.moments.Moment.{Moment}
+use Rattle.wave_text.specs.declared.recording.Moment.{Moment}
 use Rattle.wave_text.specs.declared.signals.Scope.{Scope}
 use Rattle.wave_text.specs.declared.signals.Scope.TheVariants as scope
 use Rattle.wave_text.specs.declared.signals.Width.{Width}
 use Rattle.wave_text.specs.declared.signals.Width.TheVariants as width
 use Rattle.wave_text.specs.Changes.{DumpEntry, same_value, change_entries, kernel_changes, clock_changes, changes, scope_changes, with_moment, entries, entries_from}
 use Rattle.wave_text.specs.Reading.{value_behind, value_at, ReadsBack}
-use Rattle.wave_text.specs.Signals.{first_code, level_signal, masked_code, signal_count, alarm_count, width_of, value_of, level_value, masked_value}
+use Rattle.wave_text.specs.Signals.{first_code, level_signal, masked_code, signal_count, alarm_count, signal_width, signal_value, level_value, masked_value}
 
 -- ---- tests
 
@@ -59,9 +59,9 @@ module _ (code at : ℕ) where
   -- ---- a scope
 
   task-more : (s : Scope) (old new : Option Moment) (n : ℕ) (rest : List DumpEntry) → scope_changes s old new (suc n) ++ rest
-      ≡ scope_changes s old new n ++ (change_entries (first_code s + n) (width_of s) (value_of s old n) (value_of s new n) ++ rest)
+      ≡ scope_changes s old new n ++ (change_entries (first_code s + n) (signal_width s) (signal_value s old n) (signal_value s new n) ++ rest)
   unfolding scope_changes
-  task-more s old new n rest = append_assoc (scope_changes s old new n) (change_entries (first_code s + n) (width_of s) (value_of s old n) (value_of s new n)) rest
+  task-more s old new n rest = append_assoc (scope_changes s old new n) (change_entries (first_code s + n) (signal_width s) (signal_value s old n) (signal_value s new n)) rest
 
   no-task : (s : Scope) (old new : Option Moment) (rest : List DumpEntry) → scope_changes s old new 0 ++ rest ≡ rest
   unfolding scope_changes
@@ -71,28 +71,28 @@ module _ (code at : ℕ) where
       → V v (scope_changes s old new n ++ rest) ≡ V v rest
   other-scope s old new zero v rest apart = ap (V v) (no-task s old new rest)
   other-scope s old new (suc n) v rest apart =
-      let own : List DumpEntry = change_entries (first_code s + n) (width_of s) (value_of s old n) (value_of s new n) in
+      let own : List DumpEntry = change_entries (first_code s + n) (signal_width s) (signal_value s old n) (signal_value s new n) in
       ap (V v) (task-more s old new n rest) ∙ other-scope s old new n v (own ++ rest) (λ t l. apart t (omega arith))
-      ∙ other-change (first_code s + n) (width_of s) (value_of s old n) (value_of s new n) v rest (apart n (omega arith))
+      ∙ other-change (first_code s + n) (signal_width s) (signal_value s old n) (signal_value s new n) v rest (apart n (omega arith))
 
 -- the signal of a task
 own-scope : (s : Scope) (old new : Option Moment) (n task at : ℕ) (rest : List DumpEntry) → task < n
-    → value_behind (first_code s + task) at (value_of s old task) (scope_changes s old new n ++ rest) ≡ value_behind (first_code s + task) at (value_of s new task) rest
+    → value_behind (first_code s + task) at (signal_value s old task) (scope_changes s old new n ++ rest) ≡ value_behind (first_code s + task) at (signal_value s new task) rest
 own-scope s old new zero task at rest below = absurd (omega arith)
 own-scope s old new (suc n) task at rest below =
     let code : ℕ = first_code s + task in
-    let last : List DumpEntry = change_entries (first_code s + n) (width_of s) (value_of s old n) (value_of s new n) in
+    let last : List DumpEntry = change_entries (first_code s + n) (signal_width s) (signal_value s old n) (signal_value s new n) in
     let V : Option ℕ → List DumpEntry → Option ℕ = value_behind code at in
-    ap (V (value_of s old task)) (task-more code at s old new n rest)
+    ap (V (signal_value s old task)) (task-more code at s old new n rest)
     ∙ ⊎_elim
     (λ (l : task < n).
     own-scope s old new n task at (last ++ rest) l
-    ∙ other-change code at (first_code s + n) (width_of s) (value_of s old n) (value_of s new n) (value_of s new task) rest (λ (e : first_code s + n ≡ first_code s + task). omega arith))
+    ∙ other-change code at (first_code s + n) (signal_width s) (signal_value s old n) (signal_value s new n) (signal_value s new task) rest (λ (e : first_code s + n ≡ first_code s + task). omega arith))
     (λ (l : n ≤ task).
     let same : n ≡ task = omega arith in
-    let P : ℕ → Type 0 = λ m. V (value_of s old task) (change_entries (first_code s + m) (width_of s) (value_of s old m) (value_of s new m) ++ rest) ≡ V (value_of s new task) rest in
-    other-scope code at s old new n (value_of s old task) (last ++ rest) (λ t below_n (e : first_code s + t ≡ first_code s + task). omega arith)
-    ∙ subst P (sym same) (own-change code at (width_of s) (value_of s old task) (value_of s new task) rest))
+    let P : ℕ → Type 0 = λ m. V (signal_value s old task) (change_entries (first_code s + m) (signal_width s) (signal_value s old m) (signal_value s new m) ++ rest) ≡ V (signal_value s new task) rest in
+    other-scope code at s old new n (signal_value s old task) (last ++ rest) (λ t below_n (e : first_code s + t ≡ first_code s + task). omega arith)
+    ∙ subst P (sym same) (own-change code at (signal_width s) (signal_value s old task) (signal_value s new task) rest))
     (cases_lt task n)
 
 -- ---- all signals
@@ -132,34 +132,34 @@ module _ (owners : Owners) (few : owners.tasks ≤ task_limit) (at : ℕ) (old n
       ∙ other-change code at masked_code width.One (masked_value old) (masked_value new) v rest (λ (e : 124 ≡ code). omega arith)
 
   of-state : (task : ℕ) → task < owners.tasks
-      → value_behind (33 + task) at (value_of scope.State old task) (kernel_changes owners old new ++ rest) ≡ value_behind (33 + task) at (value_of scope.State new task) rest
+      → value_behind (33 + task) at (signal_value scope.State old task) (kernel_changes owners old new ++ rest) ≡ value_behind (33 + task) at (signal_value scope.State new task) rest
   of-state task l =
-      let v : Option ℕ = value_of scope.State new task in
-      ap (value_behind (33 + task) at (value_of scope.State old task)) (parts A B C F D E rest)
+      let v : Option ℕ = signal_value scope.State new task in
+      ap (value_behind (33 + task) at (signal_value scope.State old task)) (parts A B C F D E rest)
       ∙ own-scope scope.State old new owners.tasks task at (B ++ (C ++ (F ++ (D ++ (E ++ rest))))) l
       ∙ other-scope (33 + task) at scope.Runs old new owners.tasks v (C ++ (F ++ (D ++ (E ++ rest)))) (λ t b (e : 63 + t ≡ 33 + task). omega arith)
       ∙ other-scope (33 + task) at scope.Pending old new owners.tasks v (F ++ (D ++ (E ++ rest))) (λ t b (e : 93 + t ≡ 33 + task). omega arith)
       ∙ behind-tasks (33 + task) v (omega arith)
 
   of-runs : (task : ℕ) → task < owners.tasks
-      → value_behind (63 + task) at (value_of scope.Runs old task) (kernel_changes owners old new ++ rest) ≡ value_behind (63 + task) at (value_of scope.Runs new task) rest
+      → value_behind (63 + task) at (signal_value scope.Runs old task) (kernel_changes owners old new ++ rest) ≡ value_behind (63 + task) at (signal_value scope.Runs new task) rest
   of-runs task l =
-      let v : Option ℕ = value_of scope.Runs new task in
-      ap (value_behind (63 + task) at (value_of scope.Runs old task)) (parts A B C F D E rest)
-      ∙ other-scope (63 + task) at scope.State old new owners.tasks (value_of scope.Runs old task) (B ++ (C ++ (F ++ (D ++ (E ++ rest))))) (λ t b (e : 33 + t ≡ 63 + task). omega arith)
+      let v : Option ℕ = signal_value scope.Runs new task in
+      ap (value_behind (63 + task) at (signal_value scope.Runs old task)) (parts A B C F D E rest)
+      ∙ other-scope (63 + task) at scope.State old new owners.tasks (signal_value scope.Runs old task) (B ++ (C ++ (F ++ (D ++ (E ++ rest))))) (λ t b (e : 33 + t ≡ 63 + task). omega arith)
       ∙ own-scope scope.Runs old new owners.tasks task at (C ++ (F ++ (D ++ (E ++ rest)))) l
       ∙ other-scope (63 + task) at scope.Pending old new owners.tasks v (F ++ (D ++ (E ++ rest))) (λ t b (e : 93 + t ≡ 63 + task). omega arith)
       ∙ behind-tasks (63 + task) v (omega arith)
 
   of-pending : (task : ℕ) → task < owners.tasks
-      → value_behind (93 + task) at (value_of scope.Pending old task) (kernel_changes owners old new ++ rest) ≡ value_behind (93 + task) at (value_of scope.Pending new task) rest
+      → value_behind (93 + task) at (signal_value scope.Pending old task) (kernel_changes owners old new ++ rest) ≡ value_behind (93 + task) at (signal_value scope.Pending new task) rest
   of-pending task l =
-      let v : Option ℕ = value_of scope.Pending old task in
+      let v : Option ℕ = signal_value scope.Pending old task in
       ap (value_behind (93 + task) at v) (parts A B C F D E rest)
       ∙ other-scope (93 + task) at scope.State old new owners.tasks v (B ++ (C ++ (F ++ (D ++ (E ++ rest))))) (λ t b (e : 33 + t ≡ 93 + task). omega arith)
       ∙ other-scope (93 + task) at scope.Runs old new owners.tasks v (C ++ (F ++ (D ++ (E ++ rest)))) (λ t b (e : 63 + t ≡ 93 + task). omega arith)
       ∙ own-scope scope.Pending old new owners.tasks task at (F ++ (D ++ (E ++ rest))) l
-      ∙ behind-tasks (93 + task) (value_of scope.Pending new task) (omega arith)
+      ∙ behind-tasks (93 + task) (signal_value scope.Pending new task) (omega arith)
 
   -- the tasks' scopes, for another signal
   behind-scopes : (code : ℕ) (v : Option ℕ) (more : List DumpEntry) → 123 ≤ code → value_behind code at v (A ++ (B ++ (C ++ more))) ≡ value_behind code at v more
@@ -169,11 +169,11 @@ module _ (owners : Owners) (few : owners.tasks ≤ task_limit) (at : ℕ) (old n
       ∙ other-scope code at scope.Pending old new owners.tasks v more (λ t b (e : 93 + t ≡ code). omega arith)
 
   of-counter : (counter : ℕ) → counter < owners.counters
-      → value_behind (125 + counter) at (value_of scope.Counters old counter) (kernel_changes owners old new ++ rest) ≡ value_behind (125 + counter) at (value_of scope.Counters new counter) rest
+      → value_behind (125 + counter) at (signal_value scope.Counters old counter) (kernel_changes owners old new ++ rest) ≡ value_behind (125 + counter) at (signal_value scope.Counters new counter) rest
   of-counter counter l =
-      let v : Option ℕ = value_of scope.Counters new counter in
-      ap (value_behind (125 + counter) at (value_of scope.Counters old counter)) (parts A B C F D E rest)
-      ∙ behind-scopes (125 + counter) (value_of scope.Counters old counter) (F ++ (D ++ (E ++ rest))) (omega arith)
+      let v : Option ℕ = signal_value scope.Counters new counter in
+      ap (value_behind (125 + counter) at (signal_value scope.Counters old counter)) (parts A B C F D E rest)
+      ∙ behind-scopes (125 + counter) (signal_value scope.Counters old counter) (F ++ (D ++ (E ++ rest))) (omega arith)
       ∙ own-scope scope.Counters old new owners.counters counter at (D ++ (E ++ rest)) l
       ∙ other-change (125 + counter) at level_signal width.Eight (level_value old) (level_value new) v (E ++ rest) (λ (e : 123 ≡ 125 + counter). omega arith)
       ∙ other-change (125 + counter) at masked_code width.One (masked_value old) (masked_value new) v rest (λ (e : 124 ≡ 125 + counter). omega arith)
@@ -228,19 +228,19 @@ module _ (owners : Owners) (at : ℕ) (old new : Option Moment) (rest : List Dum
   of-kernel code v w below follows = ap (value_behind code at v) all-parts ∙ follows ∙ behind-clock code w below
 
   of-value : owners.tasks ≤ task_limit → owners.counters ≤ counter_limit → (counter : ℕ) → counter < owners.counters
-      → value_behind (127 + counter) at (value_of scope.Values old counter) (changes owners old new ++ rest) ≡ value_behind (127 + counter) at (value_of scope.Values new counter) rest
+      → value_behind (127 + counter) at (signal_value scope.Values old counter) (changes owners old new ++ rest) ≡ value_behind (127 + counter) at (signal_value scope.Values new counter) rest
   of-value few counters counter l =
-      ap (value_behind (127 + counter) at (value_of scope.Values old counter)) all-parts
-      ∙ behind-kernel owners few at old new (G ++ (H ++ rest)) (127 + counter) (value_of scope.Values old counter) counters (omega arith)
+      ap (value_behind (127 + counter) at (signal_value scope.Values old counter)) all-parts
+      ∙ behind-kernel owners few at old new (G ++ (H ++ rest)) (127 + counter) (signal_value scope.Values old counter) counters (omega arith)
       ∙ own-scope scope.Values old new owners.counters counter at (H ++ rest) l
-      ∙ other-scope (127 + counter) at scope.Alarms old new (alarm_count owners.counters) (value_of scope.Values new counter) rest (λ t b (e : 129 + t ≡ 127 + counter). omega arith)
+      ∙ other-scope (127 + counter) at scope.Alarms old new (alarm_count owners.counters) (signal_value scope.Values new counter) rest (λ t b (e : 129 + t ≡ 127 + counter). omega arith)
 
   of-alarm : owners.tasks ≤ task_limit → owners.counters ≤ counter_limit → (alarm : ℕ) → alarm < alarm_count owners.counters
-      → value_behind (129 + alarm) at (value_of scope.Alarms old alarm) (changes owners old new ++ rest) ≡ value_behind (129 + alarm) at (value_of scope.Alarms new alarm) rest
+      → value_behind (129 + alarm) at (signal_value scope.Alarms old alarm) (changes owners old new ++ rest) ≡ value_behind (129 + alarm) at (signal_value scope.Alarms new alarm) rest
   of-alarm few counters alarm l =
-      ap (value_behind (129 + alarm) at (value_of scope.Alarms old alarm)) all-parts
-      ∙ behind-kernel owners few at old new (G ++ (H ++ rest)) (129 + alarm) (value_of scope.Alarms old alarm) counters (omega arith)
-      ∙ other-scope (129 + alarm) at scope.Values old new owners.counters (value_of scope.Alarms old alarm) (H ++ rest) (λ t b (e : 127 + t ≡ 129 + alarm). omega arith)
+      ap (value_behind (129 + alarm) at (signal_value scope.Alarms old alarm)) all-parts
+      ∙ behind-kernel owners few at old new (G ++ (H ++ rest)) (129 + alarm) (signal_value scope.Alarms old alarm) counters (omega arith)
+      ∙ other-scope (129 + alarm) at scope.Values old new owners.counters (signal_value scope.Alarms old alarm) (H ++ rest) (λ t b (e : 127 + t ≡ 129 + alarm). omega arith)
       ∙ own-scope scope.Alarms old new (alarm_count owners.counters) alarm at rest l
 
 -- the changes that stand behind those of the kernel's signals
@@ -249,28 +249,28 @@ clock-and owners old new rest =
     scope_changes scope.Values old new owners.counters ++ (scope_changes scope.Alarms old new (alarm_count owners.counters) ++ rest)
 
 scope-followed : (owners : Owners) → owners.tasks ≤ task_limit → owners.counters ≤ counter_limit → (s : Scope) (place : ℕ) → place < signal_count owners s
-    → IsFollowed owners (first_code s + place) (λ moment. value_of s moment place)
+    → IsFollowed owners (first_code s + place) (λ moment. signal_value s moment place)
 scope-followed owners few counters scope.State task l = record {
   follows = λ at old new rest.
-      of-kernel owners at old new rest (33 + task) (value_of scope.State old task) (value_of scope.State new task) (omega arith)
+      of-kernel owners at old new rest (33 + task) (signal_value scope.State old task) (signal_value scope.State new task) (omega arith)
       (of-state owners few at old new (clock-and owners old new rest) task l);
   unknown = refl;
 }
 scope-followed owners few counters scope.Runs task l = record {
   follows = λ at old new rest.
-      of-kernel owners at old new rest (63 + task) (value_of scope.Runs old task) (value_of scope.Runs new task) (omega arith)
+      of-kernel owners at old new rest (63 + task) (signal_value scope.Runs old task) (signal_value scope.Runs new task) (omega arith)
       (of-runs owners few at old new (clock-and owners old new rest) task l);
   unknown = refl;
 }
 scope-followed owners few counters scope.Pending task l = record {
   follows = λ at old new rest.
-      of-kernel owners at old new rest (93 + task) (value_of scope.Pending old task) (value_of scope.Pending new task) (omega arith)
+      of-kernel owners at old new rest (93 + task) (signal_value scope.Pending old task) (signal_value scope.Pending new task) (omega arith)
       (of-pending owners few at old new (clock-and owners old new rest) task l);
   unknown = refl;
 }
 scope-followed owners few counters scope.Counters counter l = record {
   follows = λ at old new rest.
-      of-kernel owners at old new rest (125 + counter) (value_of scope.Counters old counter) (value_of scope.Counters new counter) (omega arith)
+      of-kernel owners at old new rest (125 + counter) (signal_value scope.Counters old counter) (signal_value scope.Counters new counter) (omega arith)
       (of-counter owners few at old new (clock-and owners old new rest) counter l);
   unknown = refl;
 }
@@ -355,7 +355,7 @@ signal-reads owners code val follow xs k below =
 
 pub reads-back : (owners : Owners) (moments : List Moment) (k : ℕ) → owners.tasks ≤ task_limit → owners.counters ≤ counter_limit → k < length moments → ReadsBack owners moments k
 reads-back owners moments k few counters below = record {
-  of_scope = λ s place l. signal-reads owners (first_code s + place) (λ moment. value_of s moment place) (scope-followed owners few counters s place l) moments k below;
+  of_scope = λ s place l. signal-reads owners (first_code s + place) (λ moment. signal_value s moment place) (scope-followed owners few counters s place l) moments k below;
   of_level = signal-reads owners level_signal level_value (level-followed owners few) moments k below;
   of_masked = signal-reads owners masked_code masked_value (masked-followed owners few) moments k below;
 }

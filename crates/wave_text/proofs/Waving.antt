@@ -4,9 +4,9 @@ use Rattle.std.specs.Prelude.{Bool, true, false, ◌==◌, if◌then◌else◌, 
 use Rattle.std.proofs.lemmas.Bool.{cases_lt}
 use Rattle.std.proofs.lemmas.Bool.Decides.{eqb_tells}
 use Rattle.std.proofs.lemmas.List.{length-append, length-map, map-append}
-use Rattle.sloth_base.specs.declared.event.Arrival.{Arrival}
+use Rattle.sloth_base.specs.declared.service.Arrival.{Arrival}
 use Rattle.sloth_base.specs.declared.image.Image.{Image}
-use Rattle.sloth_base.specs.declared.lines.Owners.{Owners}
+use Rattle.sloth_base.specs.declared.numbers.Owners.{Owners}
 use Rattle.sloth_base.specs.Owners.{owners_named}
 use Rattle.rv32_machine.specs.Start.{start}
 use Rattle.rv32_machine.proofs.Runs.{stop_none}
@@ -18,12 +18,12 @@ use Rattle.run_samples.specs.declared.samples.Sampler.{Sampler}
 use Rattle.run_samples.specs.Samples.{AreSamples, IsSample, IsSampling, sampled_image, sampled_arrivals, sampled_count}
 use Rattle.sloth_runner.specs.TaskStates.{AreMasked, AreLastStates, IsLast}
 use Rattle.run_samples.specs.ServiceWords.{words_behind}
-use Rattle.sloth_runner.specs.declared.machine_states.Seen.{Seen}
+use Rattle.sloth_runner.specs.declared.task_states.Seen.{Seen}
 use Rattle.run_samples.proofs.OneSample.{samples-more}
 use Rattle.sloth_runner.proofs.RunStates.{one-last}
 use Rattle.sloth_inspect.specs.declared.service_words.ServiceWords.{ServiceWords}
 use Rattle.wave_text.specs.declared.dump.Dump.{Dump}
-use Rattle.wave_text.specs.declared.moments.Moment.{Moment}
+use Rattle.wave_text.specs.declared.recording.Moment.{Moment}
 use Rattle.wave_text.specs.Changes.{DumpEntry, changes, entries_from, with_moment}
 use Rattle.wave_text.specs.Header.{header}
 use Rattle.wave_text.specs.Text.{entry_line, entry_lines}

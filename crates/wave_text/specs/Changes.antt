@@ -1,12 +1,12 @@
 -- The changes of signals in time.
 use Rattle.std.specs.Prelude.{ℕ, zero, suc, ◌+◌, ◌==◌, Bool, true, false, cond, if◌then◌else◌, List, [], ◌∷◌, ◌++◌, length, Option, Some, None}
-use Rattle.sloth_base.specs.declared.lines.Owners.{Owners}
-use Rattle.wave_text.specs.declared.moments.Moment.{Moment}
+use Rattle.sloth_base.specs.declared.numbers.Owners.{Owners}
+use Rattle.wave_text.specs.declared.recording.Moment.{Moment}
 use Rattle.wave_text.specs.declared.signals.Scope.{Scope}
 use Rattle.wave_text.specs.declared.signals.Scope.TheVariants as scope
 use Rattle.wave_text.specs.declared.signals.Width.{Width}
 use Rattle.wave_text.specs.declared.signals.Width.TheVariants as width
-use Rattle.wave_text.specs.Signals.{first_code, level_signal, masked_code, width_of, alarm_count, value_of, level_value, masked_value}
+use Rattle.wave_text.specs.Signals.{first_code, level_signal, masked_code, signal_width, alarm_count, signal_value, level_value, masked_value}
 
 -- what a dump says: it is this moment from here on, or a signal has this value from here on
 pub data DumpEntry : Type 0 where
@@ -28,7 +28,7 @@ change_entries code width old new = if same_value old new then [] else DumpEntry
 unfoldable pub scope_changes : Scope → (old new : Option Moment) → ℕ → List DumpEntry
 scope_changes s old new zero = []
 scope_changes s old new (suc task) =
-    scope_changes s old new task ++ change_entries (first_code s + task) (width_of s) (value_of s old task) (value_of s new task)
+    scope_changes s old new task ++ change_entries (first_code s + task) (signal_width s) (signal_value s old task) (signal_value s new task)
 
 -- those of the signals of tasks, lines and the kernel
 abbrev pub kernel_changes : Owners → (old new : Option Moment) → List DumpEntry

@@ -6,7 +6,7 @@ use Rattle.wave_text.specs.declared.signals.Scope.{Scope}
 use Rattle.wave_text.specs.declared.signals.Scope.TheVariants as scope
 use Rattle.wave_text.specs.declared.signals.Width.{Width}
 use Rattle.wave_text.specs.declared.signals.Width.TheVariants as width
-use Rattle.wave_text.specs.Signals.{first_code, width_of, code_text}
+use Rattle.wave_text.specs.Signals.{first_code, signal_width, code_text}
 
 -- the name of a scope; the counters' lines stand in that of pending lines
 abbrev pub scope_name : Scope → List ℕ
@@ -32,7 +32,7 @@ variable_line width code name =
 -- those of a scope, for the first of these names, so many of them
 unfoldable pub variable_lines : Scope → List (List ℕ) → ℕ → List ℕ
 variable_lines s names zero = []
-variable_lines s names (suc task) = variable_lines s names task ++ variable_line (width_of s) (first_code s + task) (get_or names task [])
+variable_lines s names (suc task) = variable_lines s names task ++ variable_line (signal_width s) (first_code s + task) (get_or names task [])
 
 -- the line that opens a scope
 unfoldable pub scope_line : Scope → List ℕ
@@ -50,7 +50,7 @@ alarm_name alarm = codes "alarm" ++ decimal alarm
 -- the signals of the first alarms, so many of them
 unfoldable pub alarm_lines : ℕ → List ℕ
 alarm_lines zero = []
-alarm_lines (suc alarm) = alarm_lines alarm ++ variable_line (width_of scope.Alarms) (first_code scope.Alarms + alarm) (alarm_name alarm)
+alarm_lines (suc alarm) = alarm_lines alarm ++ variable_line (signal_width scope.Alarms) (first_code scope.Alarms + alarm) (alarm_name alarm)
 
 -- the scopes of these counters' values and of the alarms, where there are counters
 unfoldable pub clock_text : (counters : List (List ℕ)) → List ℕ

@@ -1,13 +1,13 @@
 -- What waves show of a count: its sample, and what the service words said when the tasks were seen.
 use Rattle.std.specs.Prelude.{ℕ, ◌==◌, Bool, false, if◌then◌else◌, List, map, replicate, Option, Some, None}
 use Rattle.sloth_base.specs.Limits.{task_limit, counter_limit, alarm_limit}
-use Rattle.sloth_base.specs.declared.event.Arrival.{Arrival}
+use Rattle.sloth_base.specs.declared.service.Arrival.{Arrival}
 use Rattle.sloth_base.specs.declared.image.Image.{Image}
 use Rattle.sloth_inspect.specs.declared.service_words.ServiceWords.{ServiceWords}
 use Rattle.run_samples.specs.ServiceWords.{words_behind}
-use Rattle.sloth_runner.specs.declared.machine_states.Seen.{Seen}
+use Rattle.sloth_runner.specs.declared.task_states.Seen.{Seen}
 use Rattle.run_samples.specs.declared.samples.Sample.{Sample}
-use Rattle.wave_text.specs.declared.moments.Moment.{Moment}
+use Rattle.wave_text.specs.declared.recording.Moment.{Moment}
 
 -- words that say 0
 abbrev pub no_words : ServiceWords

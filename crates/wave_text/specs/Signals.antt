@@ -2,11 +2,11 @@
 use Rattle.std.specs.Prelude.{ℕ, ◌≡◌, ◌<◌, ◌≤◌, ◌+◌, ◌-◌, ◌==◌, nat_lt, Bool, false, cond, if◌then◌else◌, List, [], ◌∷◌, Option, Some, None, get_or}
 use Rattle.std.specs.Option.{option_map}
 use Rattle.osek_scheduler.specs.declared.state.TaskState.TheVariants as mode
-use Rattle.sloth_base.specs.declared.lines.Owners.{Owners}
+use Rattle.sloth_base.specs.declared.numbers.Owners.{Owners}
 use Rattle.sloth_base.specs.Limits.{task_limit, counter_limit, alarm_limit}
 use Rattle.sloth_inspect.specs.StateNumbers.{state_number}
-use Rattle.sloth_runner.specs.declared.machine_states.Seen.{Seen}
-use Rattle.wave_text.specs.declared.moments.Moment.{Moment}
+use Rattle.sloth_runner.specs.declared.task_states.Seen.{Seen}
+use Rattle.wave_text.specs.declared.recording.Moment.{Moment}
 use Rattle.wave_text.specs.declared.signals.Scope.{Scope}
 use Rattle.wave_text.specs.declared.signals.Scope.TheVariants as scope
 use Rattle.wave_text.specs.declared.signals.Width.{Width}
@@ -38,13 +38,13 @@ abbrev pub IsPrintable : ℕ → Type 0
 IsPrintable byte = (33 ≤ byte) × (byte ≤ 126)
 
 -- how many binary digits the signals of a scope have
-abbrev pub width_of : Scope → Width
-width_of scope.State = width.Two
-width_of scope.Runs = width.One
-width_of scope.Pending = width.One
-width_of scope.Counters = width.One
-width_of scope.Values = width.ThirtyTwo
-width_of scope.Alarms = width.ThirtyTwo
+abbrev pub signal_width : Scope → Width
+signal_width scope.State = width.Two
+signal_width scope.Runs = width.One
+signal_width scope.Pending = width.One
+signal_width scope.Counters = width.One
+signal_width scope.Values = width.ThirtyTwo
+signal_width scope.Alarms = width.ThirtyTwo
 
 -- how many alarms have a signal: all that there may be, or none where no counter ticks
 abbrev pub alarm_count : (counters : ℕ) → ℕ
@@ -87,18 +87,18 @@ number_seen seen number = option_map (λ (s : Seen). number) seen
 -- The value of a signal at a moment: the number of a task's state, whether it is the running task, whether its line or that of a counter is
 -- pending, a counter's value, the ticks that an alarm has left. All but what is pending are of the last count that found interrupts open, and
 -- unknown where none did.
-abbrev pub value_in : Scope → Moment → ℕ → Option ℕ
-value_in scope.State moment task = state_value moment.sample.seen task
-value_in scope.Runs moment task = running_value moment.sample.seen task
-value_in scope.Pending moment task = Some (bit (get_or moment.sample.interrupts.pending task false))
-value_in scope.Counters moment counter = Some (bit (get_or moment.sample.interrupts.counters_pending counter false))
-value_in scope.Values moment counter = number_seen moment.sample.seen (get_or moment.words.counters counter 0)
-value_in scope.Alarms moment alarm = number_seen moment.sample.seen (get_or moment.words.alarms alarm 0)
+abbrev pub moment_value : Scope → Moment → ℕ → Option ℕ
+moment_value scope.State moment task = state_value moment.sample.seen task
+moment_value scope.Runs moment task = running_value moment.sample.seen task
+moment_value scope.Pending moment task = Some (bit (get_or moment.sample.interrupts.pending task false))
+moment_value scope.Counters moment counter = Some (bit (get_or moment.sample.interrupts.counters_pending counter false))
+moment_value scope.Values moment counter = number_seen moment.sample.seen (get_or moment.words.counters counter 0)
+moment_value scope.Alarms moment alarm = number_seen moment.sample.seen (get_or moment.words.alarms alarm 0)
 
 -- the same, and before the first moment it is unknown
-abbrev pub value_of : Scope → Option Moment → ℕ → Option ℕ
-value_of s None place = None
-value_of s (Some moment) place = value_in s moment place
+abbrev pub signal_value : Scope → Option Moment → ℕ → Option ℕ
+signal_value s None place = None
+signal_value s (Some moment) place = moment_value s moment place
 
 -- the value of `level`
 abbrev pub level_value : Option Moment → Option ℕ
@@ -110,4 +110,4 @@ masked_value moment = option_map (λ (m : Moment). bit m.sample.interrupts.maske
 
 -- the first signals of a scope keep their values from one moment to the next
 abbrev pub KeepValues : Scope → (count : ℕ) → (before after : Option Moment) → Type 0
-KeepValues s count before after = (place : ℕ) → place < count → value_of s before place ≡ value_of s after place
+KeepValues s count before after = (place : ℕ) → place < count → signal_value s before place ≡ signal_value s after place

@@ -1,6 +1,6 @@
 -- The waves of a run.
 use Rattle.std.specs.Prelude.{ℕ, ◌≡◌, List, ◌++◌, length}
-use Rattle.sloth_base.specs.declared.event.Arrival.{Arrival}
+use Rattle.sloth_base.specs.declared.service.Arrival.{Arrival}
 use Rattle.sloth_base.specs.declared.image.Image.{Image}
 use Rattle.sloth_base.specs.Owners.{owners_named}
 use Rattle.run_samples.specs.declared.samples.Sample.{Sample}
@@ -8,7 +8,7 @@ use Rattle.run_samples.specs.Samples.{AreSamples}
 use Rattle.sloth_runner.specs.Runner.{run_end}
 use Rattle.sloth_runner.specs.declared.runner.RunEnd.TheVariants as ends
 use Rattle.wave_text.specs.declared.dump.Dump.{Dump}
-use Rattle.wave_text.specs.declared.moments.Moment.{Moment}
+use Rattle.wave_text.specs.declared.recording.Moment.{Moment}
 use Rattle.wave_text.specs.declared.recording.Recorded.{Recorded}
 use Rattle.wave_text.specs.declared.recording.Recorded.TheVariants as recorded
 use Rattle.wave_text.specs.Changes.{DumpEntry, entries, with_moment, stands_behind}

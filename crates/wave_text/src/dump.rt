@@ -1,20 +1,22 @@
 //! The changes of signals, written as they come.
 ghost use Rattle.std.specs.Prelude.{◌≡◌, ◌≤◌, ◌++◌, ◌+◌, true, false, Some, None, OnOk};
 ghost use Rattle.sloth_base.specs.Limits.{task_limit, counter_limit, alarm_limit};
-ghost use Rattle.wave_text.specs.Changes.{DumpEntry, same_value, change_entries, kernel_changes, changes, scope_changes, moment_entries, with_moment};
-ghost use Rattle.wave_text.specs.Text.{digit, byte_digits, word_digits, value_text, signal_end, entry_line, entry_lines};
+ghost use Rattle.wave_text.specs.Changes.{DumpEntry, same_value, change_entries, kernel_changes, changes};
+ghost use Rattle.wave_text.specs.Changes.{scope_changes, moment_entries, with_moment};
+ghost use Rattle.wave_text.specs.Text.{digit, byte_digits, word_digits, value_text, signal_end, entry_line};
+ghost use Rattle.wave_text.specs.Text.{entry_lines};
 ghost use Rattle.wave_text.specs.Signals.{most_signals, alarm_count};
 ghost use Rattle.wave_text.specs.declared.signals.Scope.TheVariants.{Values, Alarms};
 ghost use Rattle.wave_text.specs.Waves.{HasNewEntries};
 
 use crate::keeping::keeps;
-use crate::moments::Moment;
+use crate::recording::Moment;
 use crate::signals::{
-    LEVEL, MASKED, Scope, Width, alarm_count, first_code, level_value, masked_value, value_of,
-    width_of,
+    LEVEL, MASKED, Scope, Width, alarm_count, first_code, level_value, masked_value, signal_value,
+    signal_width,
 };
 use sloth_base::Result;
-use sloth_base::lines::Owners;
+use sloth_base::numbers::Owners;
 use text_pieces::line;
 use text_pieces::pieces::Piece::{Number, Word};
 
@@ -157,7 +159,8 @@ pub struct Dump {
 impl Dump {
     // Appends the line of the moment.
     fn stamp(&mut self) -> Result<()>
-        ensures text { OnOk result (self.new.text.items ≡ self.old.text.items ++ entry_line (DumpEntry.moment self.old.count)) }
+        ensures text { OnOk result (self.new.text.items
+            ≡ self.old.text.items ++ entry_line (DumpEntry.moment self.old.count)) }
         ensures count { OnOk result (self.new.count ≡ self.old.count) }
         ensures stamped { OnOk result (self.new.stamped ≡ true) }
     {
@@ -168,7 +171,8 @@ impl Dump {
 
     // Appends it unless it stands.
     fn stand(&mut self) -> Result<()>
-        ensures text { OnOk result (self.new.text.items ≡ self.old.text.items ++ entry_lines (moment_entries self.old.count self.old.stamped)) }
+        ensures text { OnOk result (self.new.text.items
+            ≡ self.old.text.items ++ entry_lines (moment_entries self.old.count self.old.stamped)) }
         ensures count { OnOk result (self.new.count ≡ self.old.count) }
         ensures stamped { OnOk result (self.new.stamped ≡ true) }
     {
@@ -213,9 +217,9 @@ impl Dump {
         for place in 0..count {
             self.change(
                 first_code(scope) + place as u8,
-                width_of(scope),
-                value_of(scope, before, place),
-                value_of(scope, after, place),
+                signal_width(scope),
+                signal_value(scope, before, place),
+                signal_value(scope, after, place),
             )?;
         }
         Ok(())
@@ -255,7 +259,8 @@ impl Dump {
     ) -> Result<()>
         requires { counters ≤ counter_limit }
         ensures { OnOk result (HasNewEntries self.old self.new
-            (scope_changes Values before.now after.now counters ++ scope_changes Alarms before.now after.now (alarm_count counters))) }
+            (scope_changes Values before.now after.now counters
+            ++ scope_changes Alarms before.now after.now (alarm_count counters))) }
     {
         self.scope(Scope::Values, counters, before, after)?;
         self.scope(Scope::Alarms, alarm_count(counters), before, after)?;
@@ -273,7 +278,8 @@ impl Dump {
         requires tasks { owners.now.tasks ≤ task_limit }
         requires counters { owners.now.counters ≤ counter_limit }
         ensures { OnOk result
-            (self.new.text.items ≡ self.old.text.items ++ entry_lines (with_moment count false (changes owners.now before.now after.now))) }
+            (self.new.text.items
+            ≡ self.old.text.items ++ entry_lines (with_moment count false (changes owners.now before.now after.now))) }
     {
         self.count = count;
         self.stamped = false;

@@ -2,11 +2,12 @@
 ghost use Rattle.std.specs.Prelude.{◌≡◌, ◌≤◌, ◌<◌, ◌+◌, ◌++◌, IfOk, OnOk, All, length};
 ghost use Rattle.sloth_base.specs.ImageRange.{InFormat, IsName};
 ghost use Rattle.sloth_base.specs.Limits.{task_limit, counter_limit, alarm_limit, name_limit};
-ghost use Rattle.wave_text.specs.Header.{scope_name, width_digit, variable_line, variable_lines, scope_line, scope_text, alarm_name, alarm_lines, clock_text, header};
-ghost use Rattle.wave_text.specs.Signals.{code_text, first_code, width_of};
+ghost use Rattle.wave_text.specs.Header.{scope_name, width_digit, variable_line, variable_lines, scope_line};
+ghost use Rattle.wave_text.specs.Header.{scope_text, alarm_name, alarm_lines, clock_text, header};
+ghost use Rattle.wave_text.specs.Signals.{code_text, first_code, signal_width};
 ghost use Rattle.wave_text.specs.declared.signals.Scope.TheVariants.{Alarms};
 
-use crate::signals::{Scope, Width, first_code, width_of};
+use crate::signals::{Scope, Width, first_code, signal_width};
 use sloth_base::{ALARM_LIMIT, Image, Name, Result};
 use std::alloc::Global;
 use trace_text::LineText;
@@ -87,7 +88,7 @@ fn push_variables(text: &mut Vec<u8>, scope: Scope, names: &[Name]) -> Result<()
 {
     for task in 0..names.len() {
         let line = variable_line(
-            width_of(scope),
+            signal_width(scope),
             first_code(scope) + task as u8,
             names[task].bytes(),
         );
@@ -112,11 +113,11 @@ fn alarm_name(alarm: u32) -> LineText
 fn push_alarm(text: &mut Vec<u8>, alarm: usize) -> Result<()>
     requires { alarm < alarm_limit }
     ensures { OnOk result (text.new.items ≡ text.old.items
-        ++ variable_line (width_of Alarms) (first_code Alarms + alarm) (alarm_name alarm)) }
+        ++ variable_line (signal_width Alarms) (first_code Alarms + alarm) (alarm_name alarm)) }
 {
     let name = alarm_name(alarm as u32);
     let line = variable_line(
-        width_of(Scope::Alarms),
+        signal_width(Scope::Alarms),
         first_code(Scope::Alarms) + alarm as u8,
         name.bytes(),
     );

@@ -1,21 +1,23 @@
 //! Whether signals keep their values: told by one look at the parts of two moments, since most counts change nothing.
-ghost use Rattle.std.specs.Prelude.{ℕ, ◌≡◌, ◌<◌, ◌≤◌, IsTrue, false, get_or};
-ghost use Rattle.sloth_base.specs.Limits.{task_limit, counter_limit, alarm_limit};
+ghost use Rattle.std.specs.Prelude.{ℕ, ◌≡◌, ◌<◌, ◌≤◌, IsTrue, false, get_or, length};
+ghost use Rattle.sloth_base.specs.Limits.{task_limit};
 ghost use Rattle.osek_scheduler.specs.declared.state.TaskState.TheVariants as mode;
 ghost use Rattle.sloth_inspect.specs.StateNumbers.{state_number};
-ghost use Rattle.wave_text.specs.Signals.{KeepValues, most_signals, state_value, running_value, number_seen, value_in};
+ghost use Rattle.wave_text.specs.Signals.{KeepValues, most_signals, state_value, running_value, number_seen};
+ghost use Rattle.wave_text.specs.Signals.{moment_value};
 
-use crate::moments::Moment;
+use crate::recording::Moment;
 use crate::signals::Scope;
 use osek_scheduler::TaskState;
-use sloth_base::{ALARM_LIMIT, COUNTER_LIMIT, TASK_LIMIT};
+use sloth_base::TASK_LIMIT;
 use sloth_inspect::state_number;
 use sloth_runner::task_states::Seen;
 
 // Whether the states of the tasks have the same numbers.
 fn same_states(tasks: usize, one: &[TaskState; TASK_LIMIT], other: &[TaskState; TASK_LIMIT]) -> bool
     requires { tasks ≤ task_limit }
-    ensures { IsTrue result → (t : ℕ) → t < tasks → state_number (get_or one.now t mode.Suspended) ≡ state_number (get_or other.now t mode.Suspended) }
+    ensures { IsTrue result → (t : ℕ) → t < tasks → state_number (get_or one.now t mode.Suspended)
+        ≡ state_number (get_or other.now t mode.Suspended) }
 {
     for task in 0..tasks {
         if state_number(one[task]) != state_number(other[task]) {
@@ -25,56 +27,26 @@ fn same_states(tasks: usize, one: &[TaskState; TASK_LIMIT], other: &[TaskState; 
     true
 }
 
-// Whether the same lines are pending.
-fn same_pending(tasks: usize, one: &[bool; TASK_LIMIT], other: &[bool; TASK_LIMIT]) -> bool
-    requires { tasks ≤ task_limit }
-    ensures { IsTrue result → (t : ℕ) → t < tasks → get_or one.now t false ≡ get_or other.now t false }
+// Whether the first lines of two lists are the same, pending or not.
+fn same_flags(count: usize, one: &[bool], other: &[bool]) -> bool
+    requires { (count ≤ length one.now) × (count ≤ length other.now) }
+    ensures { IsTrue result → (t : ℕ) → t < count → get_or one.now t false ≡ get_or other.now t false }
 {
-    for task in 0..tasks {
-        if one[task] != other[task] {
+    for place in 0..count {
+        if one[place] != other[place] {
             return false;
         }
     }
     true
 }
 
-// Whether the same lines of counters are pending.
-fn same_counters(
-    counters: usize,
-    one: &[bool; COUNTER_LIMIT],
-    other: &[bool; COUNTER_LIMIT],
-) -> bool
-    requires { counters ≤ counter_limit }
-    ensures { IsTrue result → (t : ℕ) → t < counters → get_or one.now t false ≡ get_or other.now t false }
+// Whether the first numbers of two lists are the same.
+fn same_numbers(count: usize, one: &[u32], other: &[u32]) -> bool
+    requires { (count ≤ length one.now) × (count ≤ length other.now) }
+    ensures { IsTrue result → (t : ℕ) → t < count → get_or one.now t 0 ≡ get_or other.now t 0 }
 {
-    for counter in 0..counters {
-        if one[counter] != other[counter] {
-            return false;
-        }
-    }
-    true
-}
-
-// Whether the counters have the same values.
-fn same_values(counters: usize, one: &[u32; COUNTER_LIMIT], other: &[u32; COUNTER_LIMIT]) -> bool
-    requires { counters ≤ counter_limit }
-    ensures { IsTrue result → (t : ℕ) → t < counters → get_or one.now t 0 ≡ get_or other.now t 0 }
-{
-    for counter in 0..counters {
-        if one[counter] != other[counter] {
-            return false;
-        }
-    }
-    true
-}
-
-// Whether the alarms have the same ticks left.
-fn same_alarms(alarms: usize, one: &[u32; ALARM_LIMIT], other: &[u32; ALARM_LIMIT]) -> bool
-    requires { alarms ≤ alarm_limit }
-    ensures { IsTrue result → (t : ℕ) → t < alarms → get_or one.now t 0 ≡ get_or other.now t 0 }
-{
-    for alarm in 0..alarms {
-        if one[alarm] != other[alarm] {
+    for place in 0..count {
+        if one[place] != other[place] {
             return false;
         }
     }
@@ -115,46 +87,28 @@ fn keeps_running(before: &Option<Seen>, after: &Option<Seen>) -> bool
     }
 }
 
-// Whether the first counters have the values that they had, and the tasks were seen.
-fn keeps_words(counters: usize, before: &Moment, after: &Moment) -> bool
-    requires { counters ≤ counter_limit }
-    ensures { IsTrue result → (t : ℕ) → t < counters
-        → number_seen before.now.sample.seen (get_or before.now.words.counters t 0) ≡ number_seen after.now.sample.seen (get_or after.now.words.counters t 0) }
-{
-    both_seen(&before.sample.seen, &after.sample.seen)
-        && same_values(counters, &before.words.counters, &after.words.counters)
-}
-
-// The same of the first alarms.
-fn keeps_alarms(alarms: usize, before: &Moment, after: &Moment) -> bool
-    requires { alarms ≤ alarm_limit }
-    ensures { IsTrue result → (t : ℕ) → t < alarms
-        → number_seen before.now.sample.seen (get_or before.now.words.alarms t 0) ≡ number_seen after.now.sample.seen (get_or after.now.words.alarms t 0) }
-{
-    both_seen(&before.sample.seen, &after.sample.seen)
-        && same_alarms(alarms, &before.words.alarms, &after.words.alarms)
-}
-
 // The same of two moments, for the first signals.
 fn keeps_values(scope: Scope, count: usize, before: &Moment, after: &Moment) -> bool
     requires { count ≤ most_signals scope }
-    ensures { IsTrue result → (t : ℕ) → t < count → value_in scope before.now t ≡ value_in scope after.now t }
+    ensures { IsTrue result → (t : ℕ) → t < count → moment_value scope before.now t ≡ moment_value scope after.now t }
 {
     match scope {
         Scope::State => keeps_states(count, &before.sample.seen, &after.sample.seen),
         Scope::Runs => keeps_running(&before.sample.seen, &after.sample.seen),
-        Scope::Pending => same_pending(
+        Scope::Pending => same_flags(
             count,
             &before.sample.interrupts.pending,
             &after.sample.interrupts.pending,
         ),
-        Scope::Counters => same_counters(
+        Scope::Counters => same_flags(
             count,
             &before.sample.interrupts.counters_pending,
             &after.sample.interrupts.counters_pending,
         ),
-        Scope::Values => keeps_words(count, before, after),
-        Scope::Alarms => keeps_alarms(count, before, after),
+        Scope::Values => both_seen(&before.sample.seen, &after.sample.seen)
+            && same_numbers(count, &before.words.counters, &after.words.counters),
+        Scope::Alarms => both_seen(&before.sample.seen, &after.sample.seen)
+            && same_numbers(count, &before.words.alarms, &after.words.alarms),
     }
 }
 

@@ -1,14 +1,15 @@
 //! Laws of waves.
 ghost use Rattle.std.specs.Prelude.{ℕ, ◌≡◌, ◌<◌, ◌≤◌, List, All, length};
-ghost use Rattle.sloth_base.specs.declared.lines.Owners.{Owners};
+ghost use Rattle.sloth_base.specs.declared.numbers.Owners.{Owners};
 ghost use Rattle.sloth_base.specs.Limits.{task_limit, counter_limit};
-ghost use Rattle.wave_text.specs.declared.moments.Moment.{Moment};
+ghost use Rattle.wave_text.specs.declared.recording.Moment.{Moment};
 ghost use Rattle.wave_text.specs.Reading.{ReadsBack};
 ghost use Rattle.wave_text.specs.Signals.{code_text, IsPrintable};
 
 /// A dump of moments gives each signal at each count the value that it has at the moment of the count.
 pub fn waves_read_back()
-    ensures { (owners : Owners) (moments : List Moment) (k : ℕ) → owners.tasks ≤ task_limit → owners.counters ≤ counter_limit → k < length moments →
+    ensures { (owners : Owners) (moments : List Moment) (k : ℕ) → owners.tasks ≤ task_limit
+        → owners.counters ≤ counter_limit → k < length moments →
         ReadsBack owners moments k }
 {}
 

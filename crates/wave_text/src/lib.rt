@@ -11,8 +11,7 @@ mod dump;
 mod header;
 mod keeping;
 pub mod laws;
-pub mod moments;
-mod recording;
+pub mod recording;
 pub mod signals;
 
 pub use recording::{Recorded, waves};

@@ -1,18 +1,20 @@
 //! The waves of a run.
-ghost use Rattle.std.specs.Prelude.{◌≤◌, IfOk};
+//! What waves show of a count: its sample, and what the service words said when the tasks were seen.
+ghost use Rattle.std.specs.Prelude.{◌≤◌, IfOk, ◌≡◌};
 ghost use Rattle.sloth_base.specs.ImageRange.{InFormat};
 ghost use Rattle.sloth_base.specs.Arrivals.{AreArrivals};
 ghost use Rattle.sloth_base.specs.Owners.{owners_named};
 ghost use Rattle.sloth_base.specs.Limits.{count_limit};
 ghost use Rattle.wave_text.specs.Waves.{AreWaves};
+ghost use Rattle.wave_text.specs.Moments.{no_words, is_open, words_behind_look};
 
 use crate::dump::Dump;
 use crate::header::header;
-use crate::moments::{Moment, no_words, words_behind_look};
-use run_samples::Sampler;
-use sloth_base::lines::Owners;
-use sloth_base::{Arrival, Image, NoMemory};
+use run_samples::{Sample, Sampler, ServiceWords};
+use sloth_base::numbers::Owners;
+use sloth_base::{ALARM_LIMIT, Arrival, COUNTER_LIMIT, Image, NoMemory, TASK_LIMIT};
 use sloth_runner::Halt;
+use sloth_runner::task_states::Seen;
 use std::alloc::Global;
 
 /// The waves of a run, or where and why it stops.
@@ -60,4 +62,50 @@ pub fn waves(
     }
     dump.end(n)?;
     Ok(Recorded::Text(dump.text))
+}
+
+/// A count of a run.
+#[derive(Clone, Copy)]
+pub struct Moment {
+    pub sample: Sample,
+    /// The service words at the count at which the tasks were seen, 0 where they were not.
+    pub words: ServiceWords,
+}
+
+/// Words that say 0.
+pub fn no_words() -> ServiceWords
+    ensures { result ≡ no_words }
+{
+    ServiceWords {
+        events: [0; TASK_LIMIT],
+        counters: [0; COUNTER_LIMIT],
+        alarms: [0; ALARM_LIMIT],
+    }
+}
+
+// Whether the tasks were seen at this count.
+fn is_open(seen: &Option<Seen>, count: u32) -> bool
+    ensures { result ≡ is_open seen.now count }
+{
+    match seen {
+        Some(seen) => seen.count == count,
+        None => false,
+    }
+}
+
+/// The words of a count of which this is the sample: those that it shows, where the tasks are seen there, and else
+/// those of the count before.
+pub fn words_behind_look(
+    sample: &Sample,
+    count: u32,
+    before: &ServiceWords,
+    now: &ServiceWords,
+) -> ServiceWords
+    ensures { result ≡ words_behind_look sample.now count before.now now.now }
+{
+    if is_open(&sample.seen, count) {
+        *now
+    } else {
+        *before
+    }
 }

@@ -1,9 +1,10 @@
 //! The signals of waves, and their values.
 ghost use Rattle.std.specs.Prelude.{◌≡◌, ◌≤◌, ◌<◌};
 ghost use Rattle.sloth_base.specs.Limits.{alarm_limit};
-ghost use Rattle.wave_text.specs.Signals.{first_code, width_of, most_signals, alarm_count, number_seen, value_in, value_of, level_value, masked_value};
+ghost use Rattle.wave_text.specs.Signals.{first_code, signal_width, most_signals, alarm_count, number_seen};
+ghost use Rattle.wave_text.specs.Signals.{moment_value, signal_value, level_value, masked_value};
 
-use crate::moments::Moment;
+use crate::recording::Moment;
 use sloth_base::ALARM_LIMIT;
 use sloth_inspect::state_number;
 use sloth_runner::task_states::Seen;
@@ -53,20 +54,18 @@ pub fn first_code(scope: Scope) -> u8
 }
 
 /// How many digits the signals of a scope have.
-pub fn width_of(scope: Scope) -> Width
-    ensures { result ≡ width_of scope }
+pub fn signal_width(scope: Scope) -> Width
+    ensures { result ≡ signal_width scope }
 {
     match scope {
         Scope::State => Width::Two,
-        Scope::Runs => Width::One,
-        Scope::Pending => Width::One,
-        Scope::Counters => Width::One,
-        Scope::Values => Width::ThirtyTwo,
-        Scope::Alarms => Width::ThirtyTwo,
+        Scope::Runs | Scope::Pending | Scope::Counters => Width::One,
+        Scope::Values | Scope::Alarms => Width::ThirtyTwo,
     }
 }
 
-/// The number of signals of alarms beside so many counters: that of all possible alarms, or 0 where no counter ticks.
+/// How many signals of alarms there are beside so many counters: those of all alarms that there may be, or none where
+/// no counter ticks.
 pub fn alarm_count(counters: usize) -> usize
     ensures is { result ≡ alarm_count counters }
     ensures few { result ≤ alarm_limit }
@@ -85,9 +84,9 @@ fn number_seen(seen: &Option<Seen>, number: u32) -> Option<u32>
 }
 
 // The value of a signal at a moment, by its place in the scope.
-fn value_in(scope: Scope, moment: &Moment, place: usize) -> Option<u32>
+fn moment_value(scope: Scope, moment: &Moment, place: usize) -> Option<u32>
     requires { place < most_signals scope }
-    ensures { result ≡ value_in scope moment.now place }
+    ensures { result ≡ moment_value scope moment.now place }
 {
     match scope {
         Scope::State => match &moment.sample.seen {
@@ -106,12 +105,12 @@ fn value_in(scope: Scope, moment: &Moment, place: usize) -> Option<u32>
 }
 
 /// The same; before the first moment it has none.
-pub fn value_of(scope: Scope, moment: &Option<Moment>, place: usize) -> Option<u32>
+pub fn signal_value(scope: Scope, moment: &Option<Moment>, place: usize) -> Option<u32>
     requires { place < most_signals scope }
-    ensures { result ≡ value_of scope moment.now place }
+    ensures { result ≡ signal_value scope moment.now place }
 {
     match moment {
-        Some(moment) => value_in(scope, moment, place),
+        Some(moment) => moment_value(scope, moment, place),
         None => None,
     }
 }

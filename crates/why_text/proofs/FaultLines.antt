@@ -4,7 +4,7 @@ use Rattle.sloth_base.specs.declared.config.Config.{Config}
 use Rattle.sloth_base.specs.declared.refusal.BuildError.TheVariants as error
 use Rattle.sloth_base.specs.declared.refusal.Part.{Part}
 use Rattle.sloth_base.specs.declared.refusal.Refusal.{Refusal}
-use Rattle.least_fault.specs.Order.{ErrorIs}
+use Rattle.sloth_base.specs.Order.{ErrorIs}
 use Rattle.asm_lines.specs.Faults.{SourceLinesFault}
 use Rattle.sloth_source.specs.OilText.{OilText, OilErrorIs}
 use Rattle.sloth_source.proofs.Readings.{one_configuration}

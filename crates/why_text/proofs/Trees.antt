@@ -6,8 +6,8 @@ use Rattle.sloth_base.specs.declared.refusal.BuildError.TheVariants as error
 use Rattle.sloth_base.specs.declared.refusal.Part.{Part}
 use Rattle.sloth_base.specs.declared.refusal.Part.TheVariants.{Oil}
 use Rattle.sloth_base.specs.declared.refusal.Refusal.{Refusal}
-use Rattle.least_fault.specs.Order.{NoFault, ErrorIs}
-use Rattle.oil_lex.specs.Tokens.{Lexeme, AreTokens, TextFault}
+use Rattle.sloth_base.specs.Order.{NoFault, ErrorIs}
+use Rattle.oil_parse.specs.Tokens.{Lexeme, AreTokens, TextFault}
 use Rattle.oil_parse.specs.declared.tree.OilTree.{OilTree}
 use Rattle.oil_parse.specs.Faults.{GrammarFault}
 use Rattle.oil_parse.specs.Text.{HasTree}

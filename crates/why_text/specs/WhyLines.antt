@@ -9,7 +9,7 @@ use Rattle.sloth_base.specs.declared.refusal.BuildError.TheVariants as error
 use Rattle.sloth_base.specs.declared.refusal.Part.TheVariants.{Oil, Src}
 use Rattle.sloth_base.specs.declared.refusal.Refusal.{Refusal}
 use Rattle.sloth_base.specs.Named.{function}
-use Rattle.least_fault.specs.Order.{NoFault}
+use Rattle.sloth_base.specs.Order.{NoFault}
 use Rattle.asm_lines.specs.Faults.{source_lines, SourceLinesFault}
 use Rattle.oil_parse.specs.declared.tree.OilTree.{OilTree}
 use Rattle.oil_parse.specs.Text.{HasTree}
@@ -28,8 +28,8 @@ use Rattle.why_text.specs.NameLines.{AreFaultLines, AreNamedLines}
 use Rattle.why_text.specs.RuleLines.{witness_lines, cycle_line}
 use Rattle.why_text.specs.declared.explaining.Cause.{Cause}
 use Rattle.why_text.specs.declared.explaining.Cause.TheVariants as cause
-use Rattle.why_text.specs.declared.why.Why.{Why}
-use Rattle.why_text.specs.declared.why.Why.TheVariants as why
+use Rattle.why_text.specs.declared.explaining.Why.{Why}
+use Rattle.why_text.specs.declared.explaining.Why.TheVariants as why
 
 -- The lines tell a witness of the refusal.
 pub record HasWitnessLines (config : Config) (app : App) (r : Refusal) (lines : List ℕ) : Type 0 where

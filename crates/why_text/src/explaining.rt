@@ -1,4 +1,4 @@
-//! The lines behind a refusal.
+//! The lines behind a refusal. What the command `why` answers.
 ghost use Rattle.std.specs.Prelude.{◌≡◌, ◌<◌, ◌≤◌, ◌⊎◌, length, [], Some, IfOk, IfSome, IfNone};
 ghost use Rattle.sloth_base.specs.declared.config.Config.{Config};
 ghost use Rattle.sloth_base.specs.Named.{function};
@@ -8,7 +8,7 @@ ghost use Rattle.call_graph.specs.Ranks.{RanksOf};
 ghost use Rattle.sloth_source.specs.OilText.{OilText};
 ghost use Rattle.sloth_source.specs.SourceText.{HasApp};
 ghost use Rattle.sloth_source.specs.RankedTexts.{HasRanks};
-ghost use Rattle.why_text.specs.WhyLines.{TellsFault, TellsNames, TellsCycle, IsCycleOn, HasCycleIn, HasWitnessLines, code_cause, lines_limit, AreLinesBy, AreWhyLines};
+ghost use Rattle.why_text.specs.WhyLines.{TellsFault, TellsNames, TellsCycle, IsCycleOn, HasCycleIn, HasWitnessLines, code_cause, lines_limit, AreLinesBy, AreWhyLines, IsWhy};
 
 use crate::meaning::oil_text;
 use crate::named_events::named_events;
@@ -19,7 +19,7 @@ use asm_parse::parse_app;
 use call_graph::Ranks;
 use fault_witnesses::{cycle_calls, fault_witness};
 use sloth_base::{App, BuildError, Code, Config, List, NoMemory, Refusal, Result};
-use sloth_source::{Ranked, read_config, read_ranked};
+use sloth_source::{Ranked, read, read_config, read_ranked};
 use std::alloc::Global;
 
 fn no_lines(alloc: Global) -> List<u8>
@@ -278,4 +278,28 @@ pub fn lines_behind(alloc: Global, oil: &[u8], src: &[u8], refusal: Refusal) -> 
     ensures { IfOk result (AreWhyLines oil.now src.now refusal) }
 {
     cause_lines(alloc, code_cause(refusal.code), oil, src, refusal)
+}
+
+/// What is said of a configuration and its task code.
+#[derive(Drop)]
+pub enum Why {
+    Accepted,
+    /// The first refusal, and the lines behind it.
+    Refused { refusal: Refusal, lines: List<u8> },
+}
+
+/// That the texts are accepted, or their first refusal and what stands behind it; texts of at most 4,294,967,294 bytes.
+pub fn explain(alloc: Global, oil: &[u8], src: &[u8]) -> Result<Why>
+    requires oil { length oil.now < 4294967295 }
+    requires src { length src.now < 4294967295 }
+    ensures { IfOk result (IsWhy oil.now src.now) }
+{
+    match read(alloc, oil, src) {
+        Ok(_) => Ok(Why::Accepted),
+        Err(BuildError::Refused(refusal)) => {
+            let lines = lines_behind(alloc, oil, src, refusal)?;
+            Ok(Why::Refused { refusal, lines })
+        },
+        Err(BuildError::Memory) => Err(NoMemory),
+    }
 }

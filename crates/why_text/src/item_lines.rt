@@ -1,18 +1,19 @@
-//! The lines of an item that breaks a rule.
+//! The lines of an item that breaks a rule. Lines of a word and a name or a number.
 ghost use Rattle.std.specs.Prelude.{◌≡◌, ◌++◌, ◌<◌, length, Some, OnOk};
-ghost use Rattle.why_text.specs.RuleLines.{symbol_lines, size_lines, falls_out, run_out_lines, target_lines, op_object, last_lines, release_lines, op_callee, culprit_item, called_lines, taken_lines, left_lines, is_of_resource, lacked_lines, user_calls, user_lines};
+ghost use Rattle.why_text.specs.RuleLines.{symbol_lines, size_lines, falls_out, run_out_lines, target_lines, op_object, last_lines, release_lines, op_callee, culprit_item, called_lines, taken_lines, left_lines, is_of_resource, lacked_lines, user_calls, user_lines, word_line, name_line, number_line};
 
 use crate::call_lines::push_calls;
 use crate::numbered::{
     event_name, func_line, func_name, item_line, item_op, label_holds, resource_name, symbol_name,
     symbol_size,
 };
-use crate::pieces::{push_count_line, push_line, push_name, push_number_line};
 use crate::{label_name, push_list_line};
 use fault_witnesses::{Calls, Link, User, chain_end};
 use sloth_base::{App, Config, Func, Item, Op, Result, Service};
 use std::alloc::Global;
 use task_verify::{falls, held_by, way};
+use text_pieces::line;
+use text_pieces::pieces::Piece::{Count, Number, Word};
 
 fn push_symbol(text: &mut Vec<u8>, app: &App, symbol: u32) -> Result<()>
     ensures { OnOk result (text.new.items ≡ text.old.items ++ symbol_lines app.now symbol) }
@@ -220,4 +221,32 @@ pub fn push_user(
         },
         None => Ok(()),
     }
+}
+
+/// A line of a word and a name.
+pub fn push_line<'x>(text: &mut Vec<u8>, word: &'x [u8], name: &'x [u8]) -> Result<()>
+    ensures { OnOk result (text.new.items ≡ text.old.items ++ word_line word.now name.now) }
+{
+    line!(text; Word(word), Word(b" "), Word(name), Word(b"\n"))
+}
+
+/// The line `name`.
+pub fn push_name(text: &mut Vec<u8>, name: &[u8]) -> Result<()>
+    ensures { OnOk result (text.new.items ≡ text.old.items ++ name_line name.now) }
+{
+    push_line(text, b"name", name)
+}
+
+/// A line of a word and a number.
+pub fn push_number_line(text: &mut Vec<u8>, word: &[u8], number: u32) -> Result<()>
+    ensures { OnOk result (text.new.items ≡ text.old.items ++ number_line word.now number) }
+{
+    line!(text; Word(word), Word(b" "), Number(number), Word(b"\n"))
+}
+
+/// A line of a word and a count.
+pub fn push_count_line(text: &mut Vec<u8>, word: &[u8], count: usize) -> Result<()>
+    ensures { OnOk result (text.new.items ≡ text.old.items ++ number_line word.now count) }
+{
+    line!(text; Word(word), Word(b" "), Count(count), Word(b"\n"))
 }

@@ -10,7 +10,7 @@
 mod among_lines;
 mod call_lines;
 mod earlier;
-mod explaining;
+pub mod explaining;
 mod item_lines;
 mod lacking;
 mod meaning;
@@ -19,13 +19,9 @@ mod named_faults;
 mod naming;
 mod numbered;
 mod oil_names;
-mod pieces;
-mod priorities;
 mod rule_lines;
 mod way_lines;
-pub mod why;
 
-pub use explaining::{ranked_texts, told_fault};
+pub use explaining::{Why, explain, ranked_texts, told_fault};
 pub use numbered::{label_line, label_name, resource_name};
 pub use way_lines::{push_list_line, push_way_line};
-pub use why::{Why, explain};

@@ -1,7 +1,6 @@
 //! The events that a statement names.
 
-use asm_forms::Mnemonic;
-use asm_lines::{Operand, SourceLine};
+use asm_lines::{Mnemonic, Operand, SourceLine};
 use asm_scopes::{Kind, kind_of, written};
 use sloth_base::{Config, Result};
 use std::alloc::Global;

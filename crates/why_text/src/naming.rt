@@ -1,15 +1,15 @@
 //! The lines behind a refusal of names and forms: the name that it concerns, and each fault of its stage.
 ghost use Rattle.std.specs.Prelude.{◌≡◌, ◌<◌, ◌^◌, ◌++◌, length, IsTrue, IfOk, IfErr, IfSome, OnOk};
 ghost use Rattle.sloth_base.specs.declared.refusal.Part.TheVariants.{Src};
-ghost use Rattle.least_fault.specs.Order.{ErrorIs};
+ghost use Rattle.sloth_base.specs.Order.{ErrorIs};
 ghost use Rattle.asm_lines.specs.Faults.{source_lines, SourceLinesFault};
 ghost use Rattle.stage_faults.specs.ToldNames.{ToldName};
 ghost use Rattle.why_text.specs.NameLines.{first_lines, is_word, HasName, IsNamed, TellsNotes, AreFaultLines};
 ghost use Rattle.why_text.specs.WhyLines.{TellsForms, TellsNamesFor};
 
 use crate::among_lines::{is_word, push_told};
+use crate::item_lines::{push_name, push_number_line};
 use crate::oil_names::is_refusal_fault;
-use crate::pieces::{push_name, push_number_line};
 use asm_lines::{SourceLine, read};
 use asm_scopes::bodies_of;
 use sloth_base::{BuildError, Config, List, NoMemory, Refusal, Result};

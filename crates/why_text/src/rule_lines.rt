@@ -9,10 +9,9 @@ ghost use Rattle.why_text.specs.RuleLines.{own_lines, held_lines, item_lines, li
 
 use crate::call_lines::push_calls;
 use crate::item_lines::{
-    push_left, push_release, push_run_out, push_size, push_taken, push_target, push_user,
+    push_left, push_name, push_release, push_run_out, push_size, push_taken, push_target, push_user,
 };
 use crate::numbered::{func_line, func_name};
-use crate::pieces::push_name;
 use crate::push_list_line;
 use crate::way_lines::{push_front, push_shown_way, push_start, push_way};
 use fault_witnesses::{Link, Place, Way, Witness, held_entering, held_list, label_before};

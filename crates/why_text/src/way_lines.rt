@@ -2,8 +2,8 @@
 ghost use Rattle.std.specs.Prelude.{◌≡◌, ◌++◌, OnOk};
 ghost use Rattle.why_text.specs.RuleLines.{item_words, start_lines, way_line, way_lines, shown_way_lines, resource_words, list_words, list_line, behind_lines};
 
+use crate::item_lines::push_number_line;
 use crate::numbered::{item_line, resource_name};
-use crate::pieces::push_number_line;
 use crate::{label_line, label_name};
 use fault_witnesses::Way;
 use sloth_base::{Config, Func, Result};

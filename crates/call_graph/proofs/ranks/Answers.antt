@@ -1,8 +1,8 @@
 use Rattle.std.proofs.Common.{◌≡◌, ◌∙◌, ◌<◌, length, ap, subst, sym, List, ℕ}
 use Rattle.sloth_base.specs.declared.app.App.{App}
 use Rattle.sloth_base.specs.declared.app.Func.{Func}
-use Rattle.least_fault.specs.Order.{NoFault, IsLeast}
-use Rattle.least_fault.proofs.Kept.{least_same}
+use Rattle.sloth_base.specs.Order.{NoFault, IsLeast}
+use Rattle.sloth_base.proofs.Kept.{least_same}
 use Rattle.code_rules.specs.WellFormed.{CycleFault}
 use Rattle.std.specs.Bool.{Decides}
 use Rattle.call_graph.specs.Cycles.{RowCycle}

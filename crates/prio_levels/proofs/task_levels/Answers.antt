@@ -12,7 +12,7 @@ loop-number-preserved c =
     let k = c.loop-number.invariant in
     record {
       done = λ t d h. grind (arith, common_steps, k.done t d);
-      rest = λ t h below. get_or-set_other c.loop-number.levels c.loop-number.number t c.level_of.result 0 (λ e. omega (arith, e)) ∙ k.rest t (omega arith) below;
+      rest = λ t h below. get_or-set_other c.loop-number.levels c.loop-number.number t c.level.result 0 (λ e. omega (arith, e)) ∙ k.rest t (omega arith) below;
       whole = grind (arith, common_steps);
     }
 

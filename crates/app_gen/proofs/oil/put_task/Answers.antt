@@ -16,9 +16,9 @@ returns c =
     let old = c.args.text.now.items in
     let i = c.args.task in
     let same =
-    regrouped (codes "TASK T") (decimal i) (codes " { PRIORITY = ") (decimal (i + 1)) (codes "; SCHEDULE = ") c.schedule_of.result.now (codes "; ACTIVATION = 1; AUTOSTART = ")
-    c.autostart_of.result.now (codes "; RESOURCE = R") (decimal (i % 4)) (codes ";") in
+    regrouped (codes "TASK T") (decimal i) (codes " { PRIORITY = ") (decimal (i + 1)) (codes "; SCHEDULE = ") c.schedule_word.result.now (codes "; ACTIVATION = 1; AUTOSTART = ")
+    c.autostart_value.result.now (codes "; RESOURCE = R") (decimal (i % 4)) (codes ";") in
     let event = behind old _ _ _ (event_attribute i) (c.in_ok-line.ensures ∙ ap (λ t. old ++ t) same) c.in_ok-put_event_attribute.ensures in
     on_ok_weaker c.line-2.result
-    (λ h. rw (← c.schedule_of.ensures, ← c.autostart_of.ensures) (behind old _ _ _ (codes " };\n") event h))
+    (λ h. rw (← c.schedule_word.ensures, ← c.autostart_value.ensures) (behind old _ _ _ (codes " };\n") event h))
     c.line-2.ensures

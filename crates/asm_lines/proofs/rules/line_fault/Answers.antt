@@ -1,9 +1,9 @@
 use Rattle.std.proofs.Common.{◌⊎◌}
 use Rattle.sloth_base.specs.declared.refusal.Code.TheVariants.{A1, A2, A3, A4}
-use Rattle.least_fault.proofs.Kept.{both_are}
+use Rattle.sloth_base.proofs.Kept.{both_are}
 use Rattle.asm_lines.specs.Faults.{SourceCase, is_a1, is_a2, is_a3, is_a4}
 use Rattle.sloth_base.specs.declared.refusal.Part.TheVariants.{Src}
-use Rattle.least_fault.proofs.Cases.{case_found}
+use Rattle.sloth_base.proofs.Cases.{case_found}
 use Rattle.asm_lines.proofs.rules.line_fault.Goals as goal
 
 pub returns : goal.returns

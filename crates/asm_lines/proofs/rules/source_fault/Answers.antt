@@ -4,11 +4,11 @@ use Rattle.std.proofs.lemmas.List.{length-take-le}
 use Rattle.std.proofs.lemmas.List.Sums.{fold_more}
 use Rattle.std.proofs.Math.Seq.{take-length}
 use Rattle.sloth_base.specs.declared.refusal.Code.TheVariants.{A1}
-use Rattle.least_fault.specs.Search.{IsSearchResult, Somewhere}
-use Rattle.least_fault.proofs.Kept.{loop_more, loop_end, both_are}
+use Rattle.sloth_base.specs.Search.{IsSearchResult, Somewhere}
+use Rattle.sloth_base.proofs.Kept.{loop_more, loop_end, both_are}
 use Rattle.asm_lines.specs.Faults.{FaultAt, LineFault, SourceCase, after_line, is_end_inside}
 use Rattle.sloth_base.specs.declared.refusal.Part.TheVariants.{Src}
-use Rattle.least_fault.proofs.Cases.{case_found}
+use Rattle.sloth_base.proofs.Cases.{case_found}
 use Rattle.asm_lines.proofs.rules.source_fault.Goals as goal
 
 pub loop-n-preserved : goal.loop-n-preserved

@@ -1,7 +1,7 @@
 use Rattle.std.proofs.Common.{◌∙◌, ℕ, List, ap, subst, take}
 use Rattle.asm_lines.specs.declared.source_line.SourceLine.{SourceLine}
-use Rattle.least_fault.specs.Search.{IsSearchResult, Somewhere}
-use Rattle.least_fault.proofs.Kept.{both_are}
+use Rattle.sloth_base.specs.Search.{IsSearchResult, Somewhere}
+use Rattle.sloth_base.proofs.Kept.{both_are}
 use Rattle.asm_scopes.specs.Statements.{label_names}
 use Rattle.asm_parse.specs.NameFaults.{HeaderFault, LineNameFault}
 use Rattle.asm_parse.proofs.body_faults.body_fault.Goals as goal

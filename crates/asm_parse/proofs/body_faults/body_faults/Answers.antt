@@ -2,8 +2,8 @@ use Rattle.std.proofs.Common.{◌≡◌, ◌∙◌, ◌⊎◌, ℕ, ◌+◌, ◌
 use Rattle.std.proofs.lemmas.List.{length-take-le}
 use Rattle.std.specs.Prelude.{count_by}
 use Rattle.asm_lines.specs.declared.source_line.SourceLine.{SourceLine}
-use Rattle.least_fault.specs.Search.{IsSearchResult, Somewhere}
-use Rattle.least_fault.proofs.Kept.{loop_more, loop_end}
+use Rattle.sloth_base.specs.Search.{IsSearchResult, Somewhere}
+use Rattle.sloth_base.proofs.Kept.{loop_more, loop_end}
 use Rattle.asm_scopes.specs.Statements.{is_item, label_names}
 use Rattle.asm_scopes.specs.Bodies.{BodyText, body_name, function_names}
 use Rattle.asm_parse.specs.NameFaults.{items_in, HeaderFault, LineNameFault, BodyNameFault}

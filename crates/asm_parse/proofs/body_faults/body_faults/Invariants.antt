@@ -1,6 +1,6 @@
 use Rattle.std.proofs.Common.{◌≡◌, ◌≤◌, ◌*◌, take}
 use Rattle.std.specs.List.{sum_by}
-use Rattle.least_fault.proofs.Kept.{Loop}
+use Rattle.sloth_base.proofs.Kept.{Loop}
 use Rattle.asm_parse.specs.NameFaults.{items_in, BodyNameFault}
 use Rattle.asm_parse.proofs.body_faults.body_faults.Given as goal
 

@@ -3,8 +3,8 @@ use Rattle.std.specs.List.{list_any}
 use Rattle.std.specs.Str.{bytes_eq}
 use Rattle.sloth_base.specs.declared.refusal.Code.TheVariants.{A5, A6, A7}
 use Rattle.sloth_base.specs.declared.refusal.Part.TheVariants.{Src}
-use Rattle.least_fault.proofs.Kept.{both_are}
-use Rattle.least_fault.proofs.Cases.{case_found}
+use Rattle.sloth_base.proofs.Kept.{both_are}
+use Rattle.sloth_base.proofs.Cases.{case_found}
 use Rattle.asm_lines.specs.Faults.{SourceCase}
 use Rattle.asm_scopes.specs.Statements.{name_of}
 use Rattle.asm_parse.specs.NameFaults.{is_too_great, is_strange}

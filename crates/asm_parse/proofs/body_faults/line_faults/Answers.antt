@@ -2,8 +2,8 @@ use Rattle.std.proofs.Common.{◌≡◌, ◌∙◌, ℕ, ◌+◌, List, ap, sym,
 use Rattle.std.specs.Prelude.{if◌then◌else◌}
 use Rattle.std.proofs.Math.Nat.{add_assoc}
 use Rattle.std.proofs.lemmas.List.{length-take-le}
-use Rattle.least_fault.specs.Search.{IsSearchResult}
-use Rattle.least_fault.proofs.Kept.{loop_more}
+use Rattle.sloth_base.specs.Search.{IsSearchResult}
+use Rattle.sloth_base.proofs.Kept.{loop_more}
 use Rattle.asm_scopes.specs.Statements.{is_label, is_item, name_of, label_names}
 use Rattle.asm_parse.specs.NameFaults.{BodyLineFault, LineNameFault}
 use Rattle.asm_parse.proofs.Fronts.{count_more, kept_front}

@@ -1,5 +1,5 @@
 use Rattle.std.proofs.Common.{◌≡◌, ◌+◌, take, count_by}
-use Rattle.least_fault.proofs.Kept.{Loop}
+use Rattle.sloth_base.proofs.Kept.{Loop}
 use Rattle.asm_scopes.specs.Statements.{is_label, is_item}
 use Rattle.asm_parse.specs.NameFaults.{LineNameFault}
 use Rattle.asm_parse.proofs.body_faults.line_faults.Given as goal

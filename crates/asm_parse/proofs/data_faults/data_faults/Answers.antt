@@ -2,8 +2,8 @@ use Rattle.std.proofs.Common.{◌≡◌, ◌∙◌, ℕ, ◌+◌, List, ap, sym,
 use Rattle.std.specs.Prelude.{if◌then◌else◌}
 use Rattle.std.specs.List.{sum_by}
 use Rattle.std.proofs.lemmas.List.{length-take-le}
-use Rattle.least_fault.specs.Search.{IsSearchResult}
-use Rattle.least_fault.proofs.Kept.{loop_more}
+use Rattle.sloth_base.specs.Search.{IsSearchResult}
+use Rattle.sloth_base.proofs.Kept.{loop_more}
 use Rattle.asm_scopes.specs.Statements.{is_data, name_of, symbol_names}
 use Rattle.asm_parse.specs.NameFaults.{bytes_of, SymbolFault, DataFault}
 use Rattle.asm_parse.proofs.Fronts.{sum_more, count_more, kept_front}
@@ -14,13 +14,13 @@ loop-n-preserved c =
     let xs = c.args.lines.now in
     let i = c.loop-n.n in
     let x = c.index-lines-n.result in
-    let m = c.symbol_fault.result in
+    let m = c.symbol_fault-found.result in
     let k = c.loop-n.invariant in
     let front = take i xs in
     let names : take c.loop-n.count c.args.symbols.now ≡ symbol_names front =
     ap (take c.loop-n.count) c.requires.symbols ∙ ap (λ (n : ℕ). take n (symbol_names xs)) k.counted ∙ kept_front is_data name_of xs i in
     let place : i ≡ length front = sym (length-take-le i xs c.loop-n.auto.n-end) in
-    let one = subst (λ (e : List (List ℕ)). IsSearchResult (SymbolFault e c.loop-n.count c.loop-n.bytes (i + 1) x) m) names c.symbol_fault.ensures in
+    let one = subst (λ (e : List (List ℕ)). IsSearchResult (SymbolFault e c.loop-n.count c.loop-n.bytes (i + 1) x) m) names c.symbol_fault-found.ensures in
     let two = subst (λ (n : ℕ). IsSearchResult (SymbolFault (symbol_names front) n c.loop-n.bytes (i + 1) x) m) k.counted one in
     let three = subst (λ (n : ℕ). IsSearchResult (SymbolFault (symbol_names front) (count_by is_data front) n (i + 1) x) m) k.summed two in
     let found = subst (λ (n : ℕ). IsSearchResult (SymbolFault (symbol_names front) (count_by is_data front) (sum_by bytes_of front) (n + 1) x) m) place three in

@@ -1,7 +1,7 @@
 use Rattle.std.proofs.Common.{◌≡◌, ◌≤◌, ◌*◌, take, count_by}
 use Rattle.std.specs.List.{sum_by}
 use Rattle.sloth_base.specs.Limits.{operand_limit}
-use Rattle.least_fault.proofs.Kept.{Loop}
+use Rattle.sloth_base.proofs.Kept.{Loop}
 use Rattle.asm_scopes.specs.Statements.{is_data}
 use Rattle.asm_parse.specs.NameFaults.{bytes_of, DataFault}
 use Rattle.asm_parse.proofs.data_faults.data_faults.Given as goal

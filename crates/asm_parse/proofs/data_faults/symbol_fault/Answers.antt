@@ -1,8 +1,8 @@
 use Rattle.std.proofs.Common.{take}
 use Rattle.sloth_base.specs.declared.refusal.Code.TheVariants.{A5, A6}
 use Rattle.sloth_base.specs.declared.refusal.Part.TheVariants.{Src}
-use Rattle.least_fault.proofs.Kept.{both_are}
-use Rattle.least_fault.proofs.Cases.{case_found}
+use Rattle.sloth_base.proofs.Kept.{both_are}
+use Rattle.sloth_base.proofs.Cases.{case_found}
 use Rattle.asm_lines.specs.Faults.{SourceCase}
 use Rattle.asm_parse.specs.NameFaults.{is_taken, is_too_much}
 use Rattle.asm_parse.proofs.data_faults.symbol_fault.Goals as goal

@@ -1,8 +1,8 @@
 use Rattle.std.proofs.Common.{List, sym, subst}
 use Rattle.asm_scopes.specs.Bodies.{BodyText}
 use Rattle.asm_scopes.specs.Scopes.{scope_of}
-use Rattle.asm_items.specs.Numbered.{IsNumbered}
-use Rattle.asm_items.proofs.Numbering.{numbered}
+use Rattle.asm_parse.specs.Numbered.{IsNumbered}
+use Rattle.asm_parse.proofs.Numbering.{numbered}
 use Rattle.asm_parse.proofs.parsing.app_of_bodies.Goals as goal
 
 pub app_of-requires-clause-numbered : goal.app_of-requires-clause-numbered

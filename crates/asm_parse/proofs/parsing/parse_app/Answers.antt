@@ -1,10 +1,10 @@
 use Rattle.std.proofs.lemmas.Result.{err_from_is_err_and}
 use Rattle.std.proofs.Common.{◌∙◌, ap, subst, length, List, arith}
-use Rattle.least_fault.specs.Order.{NoFault, IsLeast}
+use Rattle.sloth_base.specs.Order.{NoFault, IsLeast}
 use Rattle.asm_lines.specs.declared.source_line.SourceLine.{SourceLine}
 use Rattle.asm_lines.proofs.Counts.{lines_few}
 use Rattle.asm_parse.specs.NameFaults.{NameFault}
-use Rattle.asm_items.specs.Apps.{app_of}
+use Rattle.asm_parse.specs.Apps.{app_of}
 use Rattle.asm_parse.proofs.Range.{text_in_range}
 use Rattle.asm_parse.proofs.Stages.{earlier_error, later, none}
 use Rattle.asm_parse.proofs.parsing.parse_app.Goals as goal

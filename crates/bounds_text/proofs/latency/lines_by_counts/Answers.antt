@@ -4,7 +4,7 @@ use Rattle.sloth_base.specs.declared.config.Config.{Config}
 use Rattle.sloth_base.specs.declared.app.App.{App}
 use Rattle.sloth_base.specs.ConfigRange.{InRange}
 use Rattle.code_rules.specs.WellFormed.{WellFormed}
-use Rattle.walk_sums.specs.declared.sum.Sum.{Sum}
+use Rattle.walk_sums.specs.declared.sections.Sum.{Sum}
 use Rattle.bounds_text.specs.Latency.{AreAllLines}
 use Rattle.bounds_text.proofs.KeptLatency.{has_latency}
 use Rattle.bounds_text.proofs.latency.lines_by_counts.Goals as goal

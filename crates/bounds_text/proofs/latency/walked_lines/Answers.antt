@@ -1,7 +1,7 @@
 use Rattle.std.proofs.Common.{List, sym, subst}
 use Rattle.sloth_base.specs.declared.app.App.{App}
 use Rattle.bound_rules.specs.declared.weights.BodyWeights.{BodyWeights}
-use Rattle.event_weights.specs.Items.{AreLengths}
+use Rattle.sim_induction.specs.Items.{AreLengths}
 use Rattle.walk_sums.specs.Weights.{AreWeights}
 use Rattle.run_counts.specs.Counts.{AreCountsBy}
 use Rattle.bounds_text.specs.Bounds.{AreToldBounds}

@@ -2,7 +2,7 @@ use Rattle.std.proofs.Common.{◌≡◌, ◌∙◌, ℕ, List, length, ap, subst
 use Rattle.std.proofs.lemmas.Result.{IfOk-weaker}
 use Rattle.sloth_base.specs.declared.config.Config.{Config}
 use Rattle.sloth_base.specs.declared.config.TaskDecl.{TaskDecl}
-use Rattle.walk_sums.specs.declared.sum.Sum.{Sum}
+use Rattle.walk_sums.specs.declared.sections.Sum.{Sum}
 use Rattle.bounds_text.specs.LowerCounts.{heaviest, count_lines}
 use Rattle.bounds_text.proofs.KeptCounts.{has_counts}
 use Rattle.bounds_text.proofs.lower_counts.lines_by_counts.Goals as goal

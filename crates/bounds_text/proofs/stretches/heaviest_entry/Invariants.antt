@@ -1,6 +1,6 @@
 use Rattle.std.proofs.Common.{◌≡◌, ◌≤◌, false}
 use Rattle.call_graph.specs.Tables.{max_below}
-use Rattle.event_weights.specs.Events.{enter_counts}
+use Rattle.sim_induction.specs.Events.{enter_counts}
 use Rattle.bounds_text.proofs.stretches.heaviest_entry.Given as goal
 
 abbrev pub invariant-loop-task : goal.invariant-loop-task

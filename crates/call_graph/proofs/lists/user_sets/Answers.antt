@@ -7,6 +7,6 @@ use Rattle.call_graph.proofs.lists.user_sets.Goals as goal
 pub loop-number-preserved : goal.loop-number-preserved
 loop-number-preserved c =
     let h =
-    held_more ℕ (λ f x. (t : ℕ) → is_member x t ≡ used_by c.args.funcs.now c.args.rows.now f t) c.loop-number.list.items c.push.new.list.items c.users_of.result 0 c.loop-number.number
-    c.loop-number.invariant.count (λ f lt t. c.loop-number.invariant.sets f t lt) c.in_ok-push.ensures c.users_of.ensures in
+    held_more ℕ (λ f x. (t : ℕ) → is_member x t ≡ used_by c.args.funcs.now c.args.rows.now f t) c.loop-number.list.items c.push.new.list.items c.reaching_tasks.result 0 c.loop-number.number
+    c.loop-number.invariant.count (λ f lt t. c.loop-number.invariant.sets f t lt) c.in_ok-push.ensures c.reaching_tasks.ensures in
     record { count = h.count; sets = λ f t lt. h.each f lt t }

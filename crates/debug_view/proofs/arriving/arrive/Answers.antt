@@ -1,6 +1,6 @@
 use Rattle.std.proofs.Common.{List, ◌∙◌, ap, map, take, drop}
 use Rattle.sloth_base.specs.Arrive.{state_arrive}
-use Rattle.sloth_base.specs.declared.event.Arrival.{Arrival}
+use Rattle.sloth_base.specs.declared.service.Arrival.{Arrival}
 use Rattle.rv32_machine.specs.State.{state}
 use Rattle.debug_view.proofs.Standing.{due_front}
 use Rattle.debug_view.proofs.arriving.arrive.Goals as goal

@@ -1,6 +1,6 @@
 use Rattle.std.proofs.Common.{◌∙◌, ap}
 use Rattle.sloth_runner.specs.Runner.{run_text, given_arrivals}
-use Rattle.trace_text.specs.declared.printing.Form.TheVariants as form
+use Rattle.trace_text.specs.declared.summary.Form.TheVariants as form
 use Rattle.debug_view.proofs.SinkTexts.{taken_whole}
 use Rattle.debug_view.proofs.tracing.run_sink.Goals as goal
 

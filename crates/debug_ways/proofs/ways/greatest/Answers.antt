@@ -2,7 +2,7 @@ use Rattle.std.proofs.Common.{◌≡◌, ◌≤◌, ◌<◌, ◌-◌, ◌+◌, �
 use Rattle.std.specs.Prelude.{Option, unwrap_or}
 use Rattle.debug_ways.specs.Cursor.{cursor_run}
 use Rattle.debug_ways.specs.Runs.{Run}
-use Rattle.debug_ways.specs.Ways.{Tests, ends_back, greatest_below, last_of}
+use Rattle.debug_ways.specs.Ways.{Tests, ends_back, greatest_below, last_hit}
 use Rattle.debug_ways.proofs.Searching.{window-of}
 use Rattle.debug_ways.proofs.ways.greatest.Goals as goal
 
@@ -13,7 +13,7 @@ returns-in-Some-clause-count g c =
     let from : ℕ = c.saturating_sub-from.result in
     let to : ℕ = c.loop-to.to in
     let below : from ≤ to = omega (arith, c.saturating_sub-from.ensures) in
-    let last = c.last_between.ensures.last ∙ ap (λ (x : Run). last_of (ends_back x t) (to - from) from) c.loop-to.invariant.run in
+    let last = c.last_between.ensures.last ∙ ap (λ (x : Run). last_hit (ends_back x t) (to - from) from) c.loop-to.invariant.run in
     let all = window-of (ends_back r t) from to c.last_between.result below last in
     sym (all ∙ ap (λ (o : Option ℕ). unwrap_or o (greatest_below (ends_back r t) from)) c.in-Some.is) ∙ c.loop-to.invariant.greatest
 
@@ -24,7 +24,7 @@ loop-to-preserved g c =
     let from : ℕ = c.saturating_sub-from.result in
     let to : ℕ = c.loop-to.to in
     let below : from ≤ to = omega (arith, c.saturating_sub-from.ensures) in
-    let last = c.last_between.ensures.last ∙ ap (λ (x : Run). last_of (ends_back x t) (to - from) from) c.loop-to.invariant.run in
+    let last = c.last_between.ensures.last ∙ ap (λ (x : Run). last_hit (ends_back x t) (to - from) from) c.loop-to.invariant.run in
     let all = window-of (ends_back r t) from to c.last_between.result below last in
     record {
       run = c.last_between.ensures.run ∙ c.loop-to.invariant.run;

@@ -11,12 +11,12 @@ loop-count-preserved g c =
     let t : Tests = g.H.Hits.tests c.args.hits.now in
     let k : ℕ = c.loop-count.count in
     let inv = c.loop-count.invariant in
-    let found = c.found_at-found.ensures in
+    let found = c.count_tests-found.ensures in
     let x : Run = cursor_run g.M.Machine.run c.loop-count.cursor in
-    let ends = ends_back_at r x t k c.found_at-found.result.0 c.loop-count.guarded found.stops inv.run inv.guarded in
+    let ends = ends_back_at r x t k c.count_tests-found.result.0 c.loop-count.guarded found.stops inv.run inv.guarded in
     record {
       below = below_more _ k c.args.to c.loop-count.last c.later-last.result c.later-last.ensures (omega (arith, c.loop-count-test.true)) inv.below;
       run = found.run ∙ inv.run;
-      guarded = guarded_more r x t k c.found_at-found.result.1 found.guards inv.run;
+      guarded = guarded_more r x t k c.count_tests-found.result.1 found.guards inv.run;
       last = last_more (ends_back r t) c.args.from k _ c.loop-count.last c.later-last.result (omega arith) ends inv.last c.later-last.ensures;
     }

@@ -1,9 +1,9 @@
 use Rattle.std.proofs.Common.{◌⊎◌}
 use Rattle.sloth_base.specs.declared.refusal.Part.TheVariants.{Load}
 use Rattle.sloth_base.specs.declared.refusal.Code.TheVariants.{L1, L2, L3, L4}
-use Rattle.least_fault.specs.Cases.{CaseOf}
-use Rattle.least_fault.proofs.Kept.{both_are}
-use Rattle.least_fault.proofs.Cases.{case_found}
+use Rattle.sloth_base.specs.Cases.{CaseOf}
+use Rattle.sloth_base.proofs.Kept.{both_are}
+use Rattle.sloth_base.proofs.Cases.{case_found}
 use Rattle.load_text.specs.LoadText.{is_l1, is_l2, is_l3, is_l4}
 use Rattle.load_text.proofs.load_line.line_fault.Goals as goal
 

@@ -1,7 +1,7 @@
 use Rattle.std.proofs.Common.{◌∙◌, sym, ap, subst, List, ◌++◌, ◌∷◌, []}
-use Rattle.least_fault.specs.Order.{NoFault}
+use Rattle.sloth_base.specs.Order.{NoFault}
 use Rattle.trace_text.specs.ArrivalsText.{owners_read}
-use Rattle.load_text.specs.declared.entry.Entry.{Entry}
+use Rattle.load_text.specs.declared.load_line.Entry.{Entry}
 use Rattle.load_text.specs.LoadText.{LineFault}
 use Rattle.load_text.specs.Loads.{IsLoad}
 use Rattle.load_text.proofs.Kept.{number-fits, one-more}

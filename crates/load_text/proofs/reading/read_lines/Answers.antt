@@ -3,7 +3,7 @@ use Rattle.std.specs.Borrow.{Bor}
 use Rattle.std.proofs.lemmas.Result.{err_from_is_err_and}
 use Rattle.text_pieces.specs.Names.{referent}
 use Rattle.trace_text.proofs.LineByLine.{next-of, values-more, one-sound, first-error}
-use Rattle.load_text.specs.declared.entry.Entry.{Entry}
+use Rattle.load_text.specs.declared.load_line.Entry.{Entry}
 use Rattle.load_text.specs.LoadText.{is_entry, entry_of, entries_of, LineFault}
 use Rattle.load_text.proofs.FaultLines.{fault_line}
 use Rattle.load_text.proofs.reading.read_lines.Goals as goal

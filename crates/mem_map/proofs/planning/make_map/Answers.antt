@@ -1,7 +1,7 @@
 use Rattle.std.proofs.Common.{◌≤◌, ◌<◌, ◌+◌, ◌∙◌, ℕ, List, length, sym, ap, subst, drop, arith}
 use Rattle.std.specs.Prelude.{All, map, slice_index_or}
 use Rattle.sloth_base.specs.declared.config.TaskDecl.{TaskDecl}
-use Rattle.sloth_region.specs.declared.extent.Extent.{Extent}
+use Rattle.sloth_region.specs.declared.region.Extent.{Extent}
 use Rattle.mem_map.specs.Starts.{end_of}
 use Rattle.mem_map.specs.Plan.{symbol_bytes}
 use Rattle.mem_map.proofs.Planned.{AreEnds, few_starts, few_ticks, starts_small, ticks_small, sizes_small, code_short, ticks_above, services_above, items_above, counts_few, symbols_few, symbols_short, ends_are}

@@ -1,6 +1,6 @@
 use Rattle.std.proofs.Common.{◌≡◌, true, map}
 use Rattle.std.proofs.lemmas.Result.{err_from_is_err_and}
-use Rattle.oil_lex.specs.Tokens.{lexeme}
+use Rattle.oil_parse.specs.Tokens.{lexeme}
 use Rattle.oil_parse.proofs.Loop.{reads_at, stuck_at, reads_end, unfinished, refused, whole, within_by}
 use Rattle.oil_parse.proofs.parser.parse.Goals as goal
 

@@ -1,6 +1,6 @@
 use Rattle.std.proofs.Common.{drop}
 use Rattle.std.specs.Prelude.{map}
-use Rattle.oil_lex.specs.Tokens.{lexeme}
+use Rattle.oil_parse.specs.Tokens.{lexeme}
 use Rattle.oil_parse.proofs.Loop.{Reads, Within}
 use Rattle.oil_parse.proofs.parser.parse.Given as goal
 

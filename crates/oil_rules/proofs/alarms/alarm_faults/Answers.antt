@@ -2,9 +2,9 @@ use Rattle.std.proofs.Common.{◌≡◌, ◌∙◌, ap, sym, true}
 use Rattle.std.specs.Prelude.{codes}
 use Rattle.sloth_base.specs.declared.refusal.Code.TheVariants.{O11}
 use Rattle.sloth_base.specs.declared.refusal.Part.TheVariants.{Oil}
-use Rattle.least_fault.specs.Search.{Somewhere}
-use Rattle.least_fault.proofs.Cases.{case_found}
-use Rattle.least_fault.proofs.Kept.{both_are, finds_if}
+use Rattle.sloth_base.specs.Search.{Somewhere}
+use Rattle.sloth_base.proofs.Cases.{case_found}
+use Rattle.sloth_base.proofs.Kept.{both_are, finds_if}
 use Rattle.oil_table.specs.AlarmCounters.{limits_of}
 use Rattle.oil_table.specs.Cases.{OilCase}
 use Rattle.oil_table.specs.Objects.{is_of_kind}

@@ -1,6 +1,6 @@
 use Rattle.std.proofs.Common.{List, subst}
 use Rattle.std.proofs.lemmas.Result.{IfOk-weaker}
-use Rattle.least_fault.specs.Search.{IsSearchResult, Somewhere}
+use Rattle.sloth_base.specs.Search.{IsSearchResult, Somewhere}
 use Rattle.oil_parse.specs.declared.tree.OilObject.{OilObject}
 use Rattle.oil_rules.specs.AlarmFaults.{AlarmFault}
 use Rattle.oil_rules.proofs.alarms.faults_of_alarms.Goals as goal

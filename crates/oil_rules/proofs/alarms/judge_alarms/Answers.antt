@@ -1,4 +1,4 @@
-use Rattle.least_fault.proofs.Kept.{loop_more, loop_end}
+use Rattle.sloth_base.proofs.Kept.{loop_more, loop_end}
 use Rattle.oil_rules.specs.AlarmFaults.{AlarmFault}
 use Rattle.oil_rules.proofs.alarms.judge_alarms.Goals as goal
 

@@ -1,4 +1,4 @@
-use Rattle.least_fault.proofs.Kept.{Loop}
+use Rattle.sloth_base.proofs.Kept.{Loop}
 use Rattle.oil_rules.specs.AlarmFaults.{AlarmFault}
 use Rattle.oil_rules.proofs.alarms.judge_alarms.Given as goal
 

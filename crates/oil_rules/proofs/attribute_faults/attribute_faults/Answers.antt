@@ -1,7 +1,7 @@
 use Rattle.std.proofs.Common.{◌∙◌, Option, List, ap, sym, subst, take}
 use Rattle.std.proofs.lemmas.List.Sums.{fold_more}
-use Rattle.least_fault.specs.Search.{IsSearchResult}
-use Rattle.least_fault.proofs.Kept.{loop_more, loop_end}
+use Rattle.sloth_base.specs.Search.{IsSearchResult}
+use Rattle.sloth_base.proofs.Kept.{loop_more, loop_end}
 use Rattle.oil_parse.specs.declared.tree.OilAttr.{OilAttr}
 use Rattle.oil_table.specs.declared.table.Attribute.{Attribute}
 use Rattle.oil_table.specs.declared.table.Place.TheVariants.{Nowhere}

@@ -1,12 +1,12 @@
 use Rattle.std.proofs.Common.{◌∙◌, ◌⊎◌, ap}
 use Rattle.std.specs.Prelude.{is_none}
 use Rattle.sloth_base.specs.declared.refusal.Code.TheVariants.{O8, O9, O10, O12}
-use Rattle.least_fault.proofs.Kept.{both_are}
+use Rattle.sloth_base.proofs.Kept.{both_are}
 use Rattle.oil_table.specs.Cases.{OilCase}
 use Rattle.oil_table.specs.Uses.{is_second}
 use Rattle.oil_rules.specs.AttributeFaults.{refers_to_none, is_refused}
 use Rattle.sloth_base.specs.declared.refusal.Part.TheVariants.{Oil}
-use Rattle.least_fault.proofs.Cases.{case_found}
+use Rattle.sloth_base.proofs.Cases.{case_found}
 use Rattle.oil_rules.proofs.attribute_faults.row_fault.Goals as goal
 
 pub returns : goal.returns

@@ -1,5 +1,5 @@
 use Rattle.std.proofs.Common.{◌∙◌, ap, subst}
-use Rattle.least_fault.specs.Search.{IsSearchResult, Somewhere}
+use Rattle.sloth_base.specs.Search.{IsSearchResult, Somewhere}
 use Rattle.oil_table.specs.declared.table.Place.{Place}
 use Rattle.oil_table.specs.declared.table.Place.TheVariants as place
 use Rattle.oil_table.specs.Table.{block_place}

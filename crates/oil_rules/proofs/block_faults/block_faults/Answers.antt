@@ -1,4 +1,4 @@
-use Rattle.least_fault.proofs.Kept.{loop_more, loop_end}
+use Rattle.sloth_base.proofs.Kept.{loop_more, loop_end}
 use Rattle.oil_rules.specs.AlarmFaults.{BlockFault}
 use Rattle.oil_rules.proofs.block_faults.block_faults.Goals as goal
 

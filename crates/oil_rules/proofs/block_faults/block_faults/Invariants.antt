@@ -1,4 +1,4 @@
-use Rattle.least_fault.proofs.Kept.{Loop}
+use Rattle.sloth_base.proofs.Kept.{Loop}
 use Rattle.oil_rules.specs.AlarmFaults.{BlockFault}
 use Rattle.oil_rules.proofs.block_faults.block_faults.Given as goal
 

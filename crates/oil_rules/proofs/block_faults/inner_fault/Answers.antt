@@ -1,8 +1,8 @@
 use Rattle.std.proofs.Common.{◌∙◌, ◌⊎◌, Option, ap}
 use Rattle.sloth_base.specs.declared.refusal.Code.TheVariants.{O9, O10, O12}
 use Rattle.sloth_base.specs.declared.refusal.Part.TheVariants.{Oil}
-use Rattle.least_fault.proofs.Kept.{both_are}
-use Rattle.least_fault.proofs.Cases.{case_found}
+use Rattle.sloth_base.proofs.Kept.{both_are}
+use Rattle.sloth_base.proofs.Cases.{case_found}
 use Rattle.oil_table.specs.declared.table.Attribute.{Attribute}
 use Rattle.oil_table.specs.Cases.{OilCase}
 use Rattle.oil_table.specs.Table.{attribute_of}

@@ -1,6 +1,6 @@
 use Rattle.std.proofs.Common.{◌∙◌, List, subst}
-use Rattle.least_fault.specs.Search.{IsSearchResult, Somewhere}
-use Rattle.least_fault.proofs.Kept.{loop_more, loop_end}
+use Rattle.sloth_base.specs.Search.{IsSearchResult, Somewhere}
+use Rattle.sloth_base.proofs.Kept.{loop_more, loop_end}
 use Rattle.oil_parse.specs.declared.tree.OilAttr.{OilAttr}
 use Rattle.oil_rules.specs.AlarmFaults.{InsideFault}
 use Rattle.oil_rules.proofs.block_faults.inner_faults.Goals as goal

@@ -1,5 +1,5 @@
 use Rattle.std.proofs.Common.{◌≡◌, take}
-use Rattle.least_fault.proofs.Kept.{Loop}
+use Rattle.sloth_base.proofs.Kept.{Loop}
 use Rattle.oil_rules.specs.AlarmFaults.{InsideFault}
 use Rattle.oil_rules.proofs.block_faults.inner_faults.Given as goal
 

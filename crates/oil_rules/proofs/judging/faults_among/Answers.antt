@@ -1,15 +1,15 @@
 use Rattle.std.proofs.Common.{◌∙◌, ◌⊎◌, Bool, ap, subst, not, List}
 use Rattle.sloth_base.specs.declared.config.EventDecl.{EventDecl}
 use Rattle.sloth_base.specs.declared.refusal.Code.TheVariants.{O11}
-use Rattle.least_fault.specs.Search.{IsSearchResult, Somewhere}
-use Rattle.least_fault.proofs.Kept.{both_are}
+use Rattle.sloth_base.specs.Search.{IsSearchResult, Somewhere}
+use Rattle.sloth_base.proofs.Kept.{both_are}
 use Rattle.oil_parse.specs.declared.tree.OilObject.{OilObject}
 use Rattle.oil_table.specs.Cases.{OilCase}
 use Rattle.oil_table.specs.Objects.{has_scheduler}
 use Rattle.oil_table.specs.Events.{events_of, BitFault}
 use Rattle.oil_rules.specs.TreeFaults.{ObjectFault, lacks_os}
 use Rattle.sloth_base.specs.declared.refusal.Part.TheVariants.{Oil}
-use Rattle.least_fault.proofs.Cases.{case_found}
+use Rattle.sloth_base.proofs.Cases.{case_found}
 use Rattle.oil_rules.proofs.judging.faults_among.Goals as goal
 
 pub returns : goal.returns

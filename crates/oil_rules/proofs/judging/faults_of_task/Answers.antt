@@ -1,7 +1,7 @@
 use Rattle.std.proofs.Common.{◌≡◌, ◌∙◌, sym, subst, true, List}
 use Rattle.std.specs.Prelude.{codes}
-use Rattle.least_fault.specs.Search.{IsSearchResult, Somewhere}
-use Rattle.least_fault.proofs.Kept.{finds_if}
+use Rattle.sloth_base.specs.Search.{IsSearchResult, Somewhere}
+use Rattle.sloth_base.proofs.Kept.{finds_if}
 use Rattle.oil_parse.specs.declared.tree.OilAttr.{OilAttr}
 use Rattle.oil_table.specs.Objects.{is_of_kind}
 use Rattle.oil_rules.specs.TaskFaults.{TaskFault}

@@ -1,6 +1,6 @@
 use Rattle.std.proofs.Common.{List, subst}
-use Rattle.least_fault.specs.Search.{IsSearchResult, Somewhere}
-use Rattle.least_fault.proofs.Kept.{both_are}
+use Rattle.sloth_base.specs.Search.{IsSearchResult, Somewhere}
+use Rattle.sloth_base.proofs.Kept.{both_are}
 use Rattle.oil_parse.specs.declared.tree.OilObject.{OilObject}
 use Rattle.oil_rules.specs.TreeFaults.{TreeFault}
 use Rattle.oil_rules.specs.AlarmFaults.{AlarmFault}

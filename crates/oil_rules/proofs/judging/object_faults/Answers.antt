@@ -1,6 +1,6 @@
 use Rattle.std.proofs.Common.{◌≡◌, true, take, subst, List}
-use Rattle.least_fault.specs.Search.{IsSearchResult}
-use Rattle.least_fault.proofs.Kept.{loop_more, loop_end, both_are}
+use Rattle.sloth_base.specs.Search.{IsSearchResult}
+use Rattle.sloth_base.proofs.Kept.{loop_more, loop_end, both_are}
 use Rattle.oil_parse.specs.declared.tree.OilObject.{OilObject}
 use Rattle.oil_rules.specs.ObjectFaults.{is_known, KindFault}
 use Rattle.oil_rules.specs.TreeFaults.{KnownObjectFault, ObjectFault}

@@ -1,10 +1,10 @@
 use Rattle.std.proofs.Common.{◌⊎◌}
 use Rattle.sloth_base.specs.declared.refusal.Code.TheVariants.{O9, O11, O12, O14}
-use Rattle.least_fault.proofs.Kept.{both_are}
+use Rattle.sloth_base.proofs.Kept.{both_are}
 use Rattle.oil_table.specs.Cases.{OilCase}
 use Rattle.oil_rules.specs.ObjectFaults.{is_doubled, lacks_attribute, is_strange_mode, is_above}
 use Rattle.sloth_base.specs.declared.refusal.Part.TheVariants.{Oil}
-use Rattle.least_fault.proofs.Cases.{case_found}
+use Rattle.sloth_base.proofs.Cases.{case_found}
 use Rattle.oil_rules.proofs.object_faults.known_fault.Goals as goal
 
 pub returns : goal.returns

@@ -1,12 +1,12 @@
 use Rattle.std.proofs.Common.{◌∙◌, ap}
 use Rattle.std.specs.Prelude.{◌&&◌, not, codes}
 use Rattle.sloth_base.specs.declared.refusal.Code.TheVariants.{O13, O15}
-use Rattle.least_fault.proofs.Kept.{both_are}
+use Rattle.sloth_base.proofs.Kept.{both_are}
 use Rattle.oil_table.specs.Cases.{OilCase}
 use Rattle.oil_table.specs.Objects.{is_use, number_of}
 use Rattle.oil_rules.specs.TaskFaults.{is_taken, repeats_priority, shares_bit}
 use Rattle.sloth_base.specs.declared.refusal.Part.TheVariants.{Oil}
-use Rattle.least_fault.proofs.Cases.{case_found}
+use Rattle.sloth_base.proofs.Cases.{case_found}
 use Rattle.oil_rules.proofs.task_faults.task_fault.Goals as goal
 
 pub returns : goal.returns

@@ -1,8 +1,8 @@
 use Rattle.std.proofs.Common.{◌∙◌, ap, sym, subst, take, ◌+◌}
 use Rattle.std.specs.Prelude.{◌||◌, codes}
 use Rattle.std.proofs.lemmas.List.Folds.{list_any_more}
-use Rattle.least_fault.specs.Search.{IsSearchResult}
-use Rattle.least_fault.proofs.Kept.{loop_more, loop_end}
+use Rattle.sloth_base.specs.Search.{IsSearchResult}
+use Rattle.sloth_base.proofs.Kept.{loop_more, loop_end}
 use Rattle.oil_parse.specs.declared.tree.OilAttr.{OilAttr}
 use Rattle.oil_table.specs.Objects.{is_use, is_used}
 use Rattle.oil_rules.specs.References.{ReferenceContext}

@@ -1,10 +1,10 @@
 use Rattle.std.proofs.Common.{◌∙◌, ap, sym, take}
 use Rattle.std.proofs.lemmas.List.Sums.{fold_more}
 use Rattle.sloth_base.specs.declared.refusal.Code.TheVariants.{O15}
-use Rattle.least_fault.specs.Search.{fault_if}
-use Rattle.least_fault.proofs.Kept.{loop_more, loop_end, finds_true_is}
+use Rattle.sloth_base.specs.Search.{fault_if}
+use Rattle.sloth_base.proofs.Kept.{loop_more, loop_end, finds_true_is}
 use Rattle.sloth_base.specs.declared.refusal.Part.TheVariants.{Oil}
-use Rattle.least_fault.specs.Cases.{fault_at}
+use Rattle.sloth_base.specs.Cases.{fault_at}
 use Rattle.oil_table.specs.Events.{number_masks, taken_bits_before, taken_more, lacks_bit, BitFault}
 use Rattle.oil_table.proofs.events.events_without_bit.Goals as goal
 

@@ -1,5 +1,5 @@
 use Rattle.std.proofs.Common.{◌≡◌, take}
-use Rattle.least_fault.proofs.Kept.{Loop}
+use Rattle.sloth_base.proofs.Kept.{Loop}
 use Rattle.oil_table.specs.Events.{taken_bits_before, BitFault}
 use Rattle.oil_table.proofs.events.events_without_bit.Given as goal
 

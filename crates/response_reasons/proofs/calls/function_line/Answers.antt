@@ -2,7 +2,7 @@ use Rattle.std.proofs.Common.{◌≡◌, ◌∙◌, ◌+◌, ◌<◌, List, leng
 use Rattle.sloth_base.specs.declared.app.App.{App}
 use Rattle.sloth_base.specs.declared.app.Func.{Func}
 use Rattle.sloth_base.specs.Named.{function}
-use Rattle.bound_rules.specs.declared.bodies.Body.{Body}
+use Rattle.bound_rules.specs.declared.bound.Body.{Body}
 use Rattle.run_windows.specs.RunWindows.{IsLeastOf}
 use Rattle.run_windows.proofs.Leasts.{Below, none_below, one_below_more}
 use Rattle.walk_sums.specs.KnownBodies.{no_body}

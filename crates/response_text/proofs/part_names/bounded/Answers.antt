@@ -5,7 +5,7 @@ use Rattle.walk_sums.specs.declared.tasks.RoundSums.{RoundSums}
 use Rattle.run_costs.specs.CostsOf.{AreEach}
 use Rattle.run_costs.specs.Makings.{AreRoundSums}
 use Rattle.run_costs.specs.Tables.{no_sums}
-use Rattle.response_text.specs.declared.named.Bounded.{Bounded}
+use Rattle.response_text.specs.declared.part_lines.Bounded.{Bounded}
 use Rattle.response_text.specs.PartNames.{unbounded, bounded_by}
 use Rattle.response_text.proofs.part_names.bounded.Goals as goal
 

@@ -3,8 +3,8 @@ use Rattle.std.specs.Prelude.{Decides}
 use Rattle.std.proofs.lemmas.Result.{IfOk-weaker}
 use Rattle.sloth_base.specs.declared.config.Config.{Config}
 use Rattle.sloth_base.specs.declared.app.App.{App}
-use Rattle.response_text.specs.declared.told.Told.{Told}
-use Rattle.response_text.specs.declared.told.Response.{Response}
+use Rattle.response_text.specs.declared.task_text.Told.{Told}
+use Rattle.response_text.specs.declared.task_text.Response.{Response}
 use Rattle.walk_sums.specs.Rounds.{IsClean}
 use Rattle.run_windows.specs.Costs.{comes}
 use Rattle.response_text.specs.Reasons.{IsReason}

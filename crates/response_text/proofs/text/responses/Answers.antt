@@ -1,7 +1,7 @@
 use Rattle.std.proofs.Common.{◌≡◌, ◌<◌, ◌≤◌, List, length, subst, arith}
 use Rattle.call_graph.proofs.Growing.{held_more}
 use Rattle.run_windows.specs.declared.costs.TaskCosts.{TaskCosts}
-use Rattle.response_text.specs.declared.told.Response.{Response}
+use Rattle.response_text.specs.declared.task_text.Response.{Response}
 use Rattle.response_text.specs.Lines.{no_response}
 use Rattle.response_text.specs.ResponseText.{IsTaskResponse, AreResponses}
 use Rattle.response_text.proofs.text.responses.Goals as goal

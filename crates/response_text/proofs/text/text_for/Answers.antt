@@ -1,7 +1,7 @@
 use Rattle.std.proofs.Common.{List, sym, subst}
 use Rattle.std.proofs.lemmas.Result.{IfOk-weaker}
 use Rattle.sloth_base.specs.declared.config.Config.{Config}
-use Rattle.load_text.specs.declared.entry.Entry.{Entry}
+use Rattle.load_text.specs.declared.load_line.Entry.{Entry}
 use Rattle.response_text.specs.Inputs.{IsLoadOf}
 use Rattle.response_text.specs.ResponseText.{HasResponses}
 use Rattle.sloth_base.specs.DeclaredNames.{task_names, counter_names}

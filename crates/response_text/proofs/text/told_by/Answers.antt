@@ -3,8 +3,8 @@ use Rattle.std.proofs.lemmas.Result.{IfOk-weaker}
 use Rattle.sloth_base.specs.declared.config.Config.{Config}
 use Rattle.sloth_base.specs.declared.app.App.{App}
 use Rattle.response_reasons.specs.declared.reasons.Reason.{Reason}
-use Rattle.response_text.specs.declared.told.Told.{Told}
-use Rattle.response_text.specs.declared.told.Response.{Response}
+use Rattle.response_text.specs.declared.task_text.Told.{Told}
+use Rattle.response_text.specs.declared.task_text.Response.{Response}
 use Rattle.response_text.specs.Reasons.{AreReasons}
 use Rattle.response_text.specs.ResponseText.{AreResponses, told_of, HasResponses}
 use Rattle.response_text.proofs.Keeping.{runs_keep}

@@ -1,4 +1,6 @@
-use Rattle.std.proofs.Common.{◌≡◌, ◌∙◌, ◌++◌, Bool, List, length, take, drop, ap, sym, subst, arith}
+use Rattle.std.proofs.Common.{◌≡◌, ◌∙◌, ◌++◌, Bool, List, length, take, drop, ap, sym, subst, ⊎_elim, false, arith}
+use Rattle.std.proofs.lemmas.Bool.{cases_lt}
+use Rattle.std.proofs.lemmas.List.{get_or_past}
 use Rattle.std.proofs.Math.Seq.{take-append_seam}
 use Rattle.run_costs.specs.Coming.{AreInAll, AreComing, IsSettled}
 use Rattle.run_costs.proofs.Closing.{none_in, settled_coming}
@@ -37,5 +39,7 @@ loop-marks-preserved c =
 pub loop-marks-init : goal.loop-marks-init
 loop-marks-init c = record {
   count = c.in_ok-marks.ensures.count ∙ c.tasks.ensures.is;
-  within = none_in c.args.walks.now.config c.args.walks.now.app c.args.load.now c.in_ok-marks.marks.items c.in_ok-marks.ensures.none;
+  within = none_in c.args.walks.now.config c.args.walks.now.app c.args.load.now c.in_ok-marks.marks.items
+      (λ t. let count = c.in_ok-marks.ensures.count in
+      ⊎_elim (λ lt. c.in_ok-marks.ensures.clear t lt) (λ le. get_or_past c.in_ok-marks.marks.items t false (omega (arith, count, le))) (cases_lt t c.tasks.result));
 }

@@ -3,7 +3,7 @@ use Rattle.sloth_base.specs.declared.config.Config.{Config}
 use Rattle.sloth_base.specs.declared.app.App.{App}
 use Rattle.bound_rules.specs.declared.weights.BodyWeights.{BodyWeights}
 use Rattle.walk_sums.specs.Weights.{AreWeights}
-use Rattle.event_weights.specs.Items.{AreLengths}
+use Rattle.sim_induction.specs.Items.{AreLengths}
 use Rattle.run_counts.specs.Counts.{AreCounts}
 use Rattle.run_costs.specs.RunRecord.{late_of}
 use Rattle.run_costs.proofs.Taking.{run_take_counts}

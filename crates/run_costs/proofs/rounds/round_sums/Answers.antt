@@ -1,10 +1,24 @@
-use Rattle.std.proofs.Common.{arith, false, get_or, length, subst, ◌≤◌, ℕ}
+use Rattle.std.proofs.Common.{List, None, arith, false, get_or, inl, inr, length, refl, subst, sym, ◌≤◌, ℕ}
 use Rattle.sloth_base.specs.Named.{declaration}
 use Rattle.walk_sums.specs.declared.tasks.RoundSums.{RoundSums}
 use Rattle.run_costs.specs.Rounds.{AreRounds}
-use Rattle.run_costs.specs.Tables.{no_sums}
+use Rattle.bound_rules.specs.declared.bound.Summary.{Summary}
+use Rattle.walk_sums.specs.declared.kinds.Kind.TheVariants as kinds
+use Rattle.walk_sums.specs.Known.{AreSums}
+use Rattle.run_costs.specs.Tables.{no_sums, AreTurns}
 use Rattle.run_costs.proofs.Growing.{each_more, each_of}
 use Rattle.run_costs.proofs.rounds.round_sums.Goals as goal
+
+pub whole_sums-requires-clause-summed : goal.whole_sums-requires-clause-summed
+whole_sums-requires-clause-summed c = inr (inl (refl, inr refl))
+
+pub task_rounds-sum-requires-clause-rounds : goal.task_rounds-sum-requires-clause-rounds
+task_rounds-sum-requires-clause-rounds c =
+    subst (λ (l : List Summary). AreSums c.args.walks.now.config c.args.walks.now.app c.args.weights.now kinds.Rounds None l) (sym c.deref.ensures.value) c.in_ok-rounds.ensures
+
+pub task_rounds-sum-requires-clause-turns : goal.task_rounds-sum-requires-clause-turns
+task_rounds-sum-requires-clause-turns c =
+    subst (λ (l : List Summary). AreTurns c.args.walks.now.config c.args.walks.now.app c.args.weights.now c.args.clean.now l) (sym c.deref-in-loop-task.ensures.value) c.in_ok-turns.ensures
 
 pub loop-task-preserved : goal.loop-task-preserved
 loop-task-preserved c =

@@ -1,16 +1,12 @@
 use Rattle.std.proofs.Common.{◌∙◌, ℕ, ◌<◌, ◌≤◌, List, length, get_or, ap, sym, subst, arith}
-use Rattle.walk_sums.specs.declared.sum.Sum.{Sum}
-use Rattle.walk_sums.specs.Sections.{no_sum, IsSumFor, AreToldSums}
-use Rattle.walk_sums.specs.WeighedCode.{WeighedCode}
+use Rattle.walk_sums.specs.declared.sections.Sum.{Sum}
+use Rattle.walk_sums.specs.Sections.{no_sum, IsSumFor}
 use Rattle.run_windows.specs.declared.costs.SectionCosts.{SectionCosts}
 use Rattle.run_windows.specs.Costs.{no_section}
 use Rattle.run_costs.specs.CostsOf.{IsTaskSection}
 use Rattle.run_costs.proofs.Growing.{each_more, each_of}
 use Rattle.run_costs.proofs.Sectioning.{sections_are}
 use Rattle.run_costs.proofs.sections.sections.Goals as goal
-
-pub sums_above-requires : goal.sums_above-requires
-sums_above-requires c = subst (λ (w : WeighedCode). c.args.above < length w.walks.config.tasks) (sym c.new.ensures) c.requires.above
 
 pub loop-task-preserved : goal.loop-task-preserved
 loop-task-preserved c =
@@ -20,7 +16,7 @@ loop-task-preserved c =
     let task = c.loop-task.task in
     let sums = c.in_ok-sums.sums.items in
     let inside = subst (λ (n : ℕ). task < n) c.tasks-task-end.ensures.is c.loop-task-test.true in
-    let told = subst (λ (v : WeighedCode). AreToldSums v.walks.config v.walks.app v.weights above sums) c.new.ensures c.in_ok-sums.ensures in
+    let told = c.in_ok-sums.ensures in
     let here = subst (IsSumFor w.config w.app weights above task) (sym (c.numbered_sum.ensures ∙ ap (λ (l : List Sum). get_or l task no_sum) c.deref.ensures.value))
     (told.each task inside) in
     each_more SectionCosts (IsTaskSection w.config w.app weights above) c.loop-task.list.items c.push.new.list.items c.summed_sections.result no_section task c.loop-task.invariant c.in_ok-push.ensures

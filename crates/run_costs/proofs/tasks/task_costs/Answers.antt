@@ -1,9 +1,10 @@
-use Rattle.std.proofs.Common.{◌∙◌, ℕ, Bool, Option, None, false, true, cond, ap, sym, subst}
+use Rattle.std.proofs.Common.{◌∙◌, ℕ, Bool, Option, None, false, true, cond, get_or, ap, sym, subst}
 use Rattle.std.specs.Prelude.{Decides}
 use Rattle.sloth_base.specs.Named.{declaration}
 use Rattle.sloth_base.specs.declared.config.TaskDecl.{TaskDecl}
 use Rattle.sloth_base.specs.declared.service.Service.TheVariants as service
 use Rattle.walk_sums.specs.Rounds.{IsClean}
+use Rattle.walk_sums.specs.declared.tasks.RoundSums.{RoundSums}
 use Rattle.walk_sums.proofs.Bodily.{facts_of}
 use Rattle.run_costs.specs.Rounds.{AreRounds, round_cost}
 use Rattle.run_costs.specs.RunCosts.{round_entry, has_raised_waits}
@@ -16,7 +17,7 @@ returns c =
     let w = c.args.walks.now in
     let task = c.args.task in
     let clean = c.is_marked-is_clean.ensures in
-    let told = c.task_rounds-sums.result in
+    let told = c.numbered_sums-sums.result in
     let cut = c.is_marked-is_clean.result in
     let well_formed = c.task-declared.ensures.well_formed in
     let waits = reaches c.args.services.now service.WaitEvent task in
@@ -29,7 +30,9 @@ returns c =
       is_cut = c.is_cut.ensures;
       distance = search;
       told = told;
-      rounds = subst (λ (b : Bool). AreRounds w.app b (declaration w.config task).extended task c.args.weights.now told) (sym clean) c.task_rounds-sums.ensures;
+      rounds = subst (λ (b : Bool). AreRounds w.app b (declaration w.config task).extended task c.args.weights.now told) (sym clean)
+          (subst (λ (s : RoundSums). AreRounds w.app (get_or c.args.clean.now task false) (declaration w.config task).extended task c.args.weights.now s) (sym c.numbered_sums-sums.ensures)
+          (c.requires.rounds.each task c.requires.inside));
       first = c.round_cost-first.ensures ∙ ap (λ (n : ℕ). round_cost n c.work_of-work.result told.first) c.round_entry-entry.ensures
           ∙ ap (λ (o : Option ℕ). round_cost (round_entry w.config w.app cut false task) o told.first) c.work_of-work.ensures;
       next = c.round_cost-next.ensures ∙ ap (λ (n : ℕ). round_cost n c.work_of-work.result told.later) c.round_entry-resumed.ensures

@@ -1,9 +1,15 @@
-use Rattle.std.proofs.Common.{arith, length, subst, ◌≤◌, ℕ}
+use Rattle.std.proofs.Common.{List, arith, length, subst, sym, ◌≤◌, ℕ}
+use Rattle.walk_sums.specs.declared.tasks.RoundSums.{RoundSums}
+use Rattle.run_costs.specs.Makings.{AreRoundSums}
 use Rattle.run_windows.specs.declared.costs.TaskCosts.{TaskCosts}
 use Rattle.run_windows.specs.Costs.{no_task}
 use Rattle.run_costs.specs.RunCosts.{AreRunTaskCosts}
 use Rattle.run_costs.proofs.Growing.{each_more, each_of}
 use Rattle.run_costs.proofs.tasks.tasks.Goals as goal
+
+pub task_costs-costs-requires-clause-rounds : goal.task_costs-costs-requires-clause-rounds
+task_costs-costs-requires-clause-rounds c =
+    subst (λ (l : List RoundSums). AreRoundSums c.args.walks.now.config c.args.walks.now.app c.args.clean.now c.args.weights.now l) (sym c.deref.ensures.value) c.in_ok-rounds.ensures
 
 pub loop-task-preserved : goal.loop-task-preserved
 loop-task-preserved c =

@@ -1,6 +1,6 @@
 use Rattle.std.proofs.Common.{ℕ, ◌+◌}
 use Rattle.sloth_base.specs.Named.{item_of}
-use Rattle.event_weights.specs.Items.{length_of, ending_counts}
+use Rattle.sim_induction.specs.Items.{length_of, ending_counts}
 use Rattle.call_graph.proofs.Growing.{grown}
 use Rattle.run_counts.proofs.weights.ending_list.Goals as goal
 

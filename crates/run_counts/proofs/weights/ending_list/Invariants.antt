@@ -1,6 +1,6 @@
 use Rattle.std.proofs.Common.{◌≡◌, ℕ, ◌+◌, ◌<◌, length, get_or}
 use Rattle.sloth_base.specs.Named.{item_of}
-use Rattle.event_weights.specs.Items.{length_of, ending_counts}
+use Rattle.sim_induction.specs.Items.{length_of, ending_counts}
 use Rattle.run_counts.proofs.weights.ending_list.Given as goal
 
 abbrev pub invariant-loop-item : goal.invariant-loop-item

@@ -1,6 +1,6 @@
 use Rattle.std.proofs.Common.{◌∙◌, ◌++◌, ap, refl}
 use Rattle.run_load.specs.RunLines.{cuts_of, seen_line}
-use Rattle.response_text.specs.declared.told.Response.{Response}
+use Rattle.response_text.specs.declared.task_text.Response.{Response}
 use Rattle.run_load.proofs.SeenLines.{no-lines, lines-more, above-more}
 use Rattle.run_load.proofs.lines.seen_tasks.Goals as goal
 

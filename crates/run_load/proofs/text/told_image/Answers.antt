@@ -2,8 +2,8 @@ use Rattle.std.proofs.Common.{◌≡◌, ◌∙◌, ℕ, List, length, Option, a
 use Rattle.std.specs.Prelude.{Decides}
 use Rattle.std.proofs.lemmas.Result.{IfOk-weaker}
 use Rattle.sim_induction.specs.Sound.{events_of}
-use Rattle.sloth_base.specs.declared.event.Stamped.{Stamped}
-use Rattle.response_text.specs.declared.told.Response.{Response}
+use Rattle.sloth_base.specs.declared.service.Stamped.{Stamped}
+use Rattle.response_text.specs.declared.task_text.Response.{Response}
 use Rattle.response_text.specs.ResponseText.{AreResponses}
 use Rattle.run_load.specs.RunLines.{cuts_of, told_run}
 use Rattle.run_load.specs.RunText.{KeepsLoad, HasToldRun}

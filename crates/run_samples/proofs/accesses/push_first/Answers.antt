@@ -1,7 +1,7 @@
 use Rattle.std.proofs.Common.{List, ◌∙◌, ◌++◌, ap, replicate}
 use Rattle.std.proofs.lemmas.Result.{on_ok_weaker}
 use Rattle.sloth_base.specs.MemoryMap.{line_count}
-use Rattle.sloth_base.specs.declared.event.Arrival.{Arrival}
+use Rattle.sloth_base.specs.declared.service.Arrival.{Arrival}
 use Rattle.run_samples.specs.Accesses.{arrival_accesses}
 use Rattle.run_samples.proofs.accesses.push_first.Goals as goal
 

@@ -1,14 +1,21 @@
+use Rattle.std.proofs.Common.{Option, sym, subst}
+use Rattle.run_windows.specs.declared.window.Longest.{Longest}
+use Rattle.run_windows.specs.Longest.{IsLongerIf}
 use Rattle.std.specs.Prelude.{true, false}
 use Rattle.run_windows.proofs.Within.{longer_start, no_start}
 use Rattle.run_windows.proofs.responses.longer_start.Goals as goal
 
-pub returns-in-Some-window_number-clause-longer : goal.returns-in-Some-window_number-clause-longer
-returns-in-Some-window_number-clause-longer c there =
-    longer_start c.args.longest c.args.late c.args.costs.now c.args.h c.args.start c.args.most c.longer-most.result c.longer.result c.in-Some.opening c.in-Some-window_number.serving
-    there c.in-Some.ensures.number c.in-Some-window_number.ensures.number c.longer-most.ensures c.longer.ensures
+pub returns-clause-longer : goal.returns-clause-longer
+returns-clause-longer c there =
+    longer_start c.args.longest c.args.late c.args.costs.now c.args.h c.args.start c.args.most c.longer-most.result c.longer.result c.in_ok-opening.opening c.in_ok-serving.serving
+    there c.in_ok-opening.ensures.number c.in_ok-serving.ensures.number c.longer-most.ensures c.longer.ensures
 
-pub returns-in-None-clause-longer : goal.returns-in-None-clause-longer
-returns-in-None-clause-longer c there = no_start c.args.longest c.args.late c.args.costs.now c.args.h true c.args.start there c.in-None.ensures.number
+pub returns-in_err-opening-clause-longer : goal.returns-in_err-opening-clause-longer
+returns-in_err-opening-clause-longer c there =
+    subst (λ (o : Option Longest). IsLongerIf c.args.longest c.args.late c.args.costs.now c.args.h c.args.start c.args.most o) (sym c.from_residual.ensures)
+    (no_start c.args.longest c.args.late c.args.costs.now c.args.h true c.args.start there c.in_err-opening.ensures.number)
 
-pub returns-in-None-window_number-clause-longer : goal.returns-in-None-window_number-clause-longer
-returns-in-None-window_number-clause-longer c there = no_start c.args.longest c.args.late c.args.costs.now c.args.h false c.args.start there c.in-None-window_number.ensures.number
+pub returns-in_err-serving-clause-longer : goal.returns-in_err-serving-clause-longer
+returns-in_err-serving-clause-longer c there =
+    subst (λ (o : Option Longest). IsLongerIf c.args.longest c.args.late c.args.costs.now c.args.h c.args.start c.args.most o) (sym c.from_residual-in_err-serving.ensures)
+    (no_start c.args.longest c.args.late c.args.costs.now c.args.h false c.args.start there c.in_err-serving.ensures.number)

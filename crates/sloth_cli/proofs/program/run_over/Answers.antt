@@ -4,7 +4,7 @@ use Rattle.sloth_io.specs.Store.{Files}
 use Rattle.sloth_io.specs.FileStore.{shown_files}
 use Rattle.core_commands.specs.CommandFiles.{ReadsInOrder}
 use Rattle.sloth_io.specs.OutSink.{IsPassedOn, shown_output, accepted_bytes, given_bytes}
-use Rattle.tool_answers.specs.declared.status.Status.TheVariants as status
+use Rattle.command_line.specs.declared.status.Status.TheVariants as status
 use Rattle.core_commands.proofs.Shipped.{ran}
 use Rattle.sloth_commands.specs.ToolFiles.{IsToolAnswer}
 use Rattle.sloth_cli.proofs.program.run_over.Goals as goal

@@ -3,7 +3,7 @@ use Rattle.std.specs.Prelude.{All}
 use Rattle.std.specs.List.Sorted.{IsPermutation}
 use Rattle.rv32_instr.specs.Range.{InRange}
 use Rattle.rv32_instr.specs.declared.block.Block.{Block}
-use Rattle.sloth_link.specs.declared.datum.Datum.{Datum}
+use Rattle.sloth_link.specs.declared.linking.Datum.{Datum}
 use Rattle.sloth_link.specs.Image.{all_blocks, all_data, symbol_data, memory_size}
 use Rattle.sloth_link.specs.Linked.{AreLinked, BlockStands, HaveRoom, HasSectionBytes, datum_section, sections_of}
 use Rattle.mem_map.specs.Sections.{HaveOwnAddresses, marks_of}

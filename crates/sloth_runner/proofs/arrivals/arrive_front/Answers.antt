@@ -1,6 +1,6 @@
 use Rattle.std.proofs.Common.{List, ◌∙◌, ap, map}
 use Rattle.sloth_base.specs.Arrive.{state_arrive}
-use Rattle.sloth_base.specs.declared.event.Arrival.{Arrival}
+use Rattle.sloth_base.specs.declared.service.Arrival.{Arrival}
 use Rattle.sloth_runner.specs.Moments.{sloth_state}
 use Rattle.sloth_runner.proofs.arrivals.arrive_front.Goals as goal
 

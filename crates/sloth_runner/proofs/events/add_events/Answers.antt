@@ -1,6 +1,6 @@
 use Rattle.std.proofs.Common.{◌∙◌, List, [], ◌∷◌, ◌++◌, append_assoc, append-nil, refl, sym, ap}
 use Rattle.observe.specs.Progress.{remaining}
-use Rattle.sloth_base.specs.declared.event.Stamped.{Stamped}
+use Rattle.sloth_base.specs.declared.service.Stamped.{Stamped}
 use Rattle.sloth_runner.proofs.Handing.{handing-init, handing-more, handed-out}
 use Rattle.sloth_runner.proofs.events.add_events.Goals as goal
 

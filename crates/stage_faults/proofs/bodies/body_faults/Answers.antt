@@ -2,7 +2,7 @@ use Rattle.std.proofs.Common.{◌∙◌, ℕ, List, ap, subst, take}
 use Rattle.std.proofs.lemmas.Result.{on_ok_weaker}
 use Rattle.sloth_base.specs.declared.refusal.Part.TheVariants.{Src}
 use Rattle.asm_lines.specs.declared.source_line.SourceLine.{SourceLine}
-use Rattle.least_fault.specs.Search.{Somewhere}
+use Rattle.sloth_base.specs.Search.{Somewhere}
 use Rattle.asm_scopes.specs.Statements.{label_names}
 use Rattle.stage_faults.specs.ToldNames.{ToldHeader, ToldLineName}
 use Rattle.stage_faults.specs.Told.{Adds}

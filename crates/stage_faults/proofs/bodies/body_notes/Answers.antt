@@ -3,7 +3,7 @@ use Rattle.std.proofs.lemmas.List.{length-take-le}
 use Rattle.std.specs.Prelude.{count_by}
 use Rattle.sloth_base.specs.declared.refusal.Part.TheVariants.{Src}
 use Rattle.asm_lines.specs.declared.source_line.SourceLine.{SourceLine}
-use Rattle.least_fault.specs.Search.{Somewhere}
+use Rattle.sloth_base.specs.Search.{Somewhere}
 use Rattle.asm_scopes.specs.Statements.{is_item, label_names}
 use Rattle.asm_scopes.specs.Bodies.{BodyText, body_name, function_names}
 use Rattle.asm_parse.specs.NameFaults.{items_in}

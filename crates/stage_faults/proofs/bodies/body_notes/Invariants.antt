@@ -1,7 +1,7 @@
 use Rattle.std.proofs.Common.{◌≡◌, ◌≤◌, ◌*◌, take}
 use Rattle.std.specs.List.{sum_by}
 use Rattle.sloth_base.specs.declared.refusal.Part.TheVariants.{Src}
-use Rattle.least_fault.specs.Search.{Somewhere}
+use Rattle.sloth_base.specs.Search.{Somewhere}
 use Rattle.asm_parse.specs.NameFaults.{items_in}
 use Rattle.stage_faults.specs.ToldNames.{ToldBody}
 use Rattle.stage_faults.specs.Told.{Adds}

@@ -1,6 +1,6 @@
 use Rattle.std.proofs.Common.{◌≡◌, ◌+◌, take, count_by}
 use Rattle.sloth_base.specs.declared.refusal.Part.TheVariants.{Src}
-use Rattle.least_fault.specs.Search.{Somewhere}
+use Rattle.sloth_base.specs.Search.{Somewhere}
 use Rattle.asm_scopes.specs.Statements.{is_label, is_item}
 use Rattle.stage_faults.specs.ToldNames.{ToldLineName}
 use Rattle.stage_faults.specs.Told.{Adds}

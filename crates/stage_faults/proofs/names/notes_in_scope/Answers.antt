@@ -3,7 +3,7 @@ use Rattle.std.specs.Prelude.{All}
 use Rattle.std.proofs.lemmas.List.Elements.{All-weaker}
 use Rattle.sloth_base.specs.declared.refusal.Code.TheVariants.{A7}
 use Rattle.sloth_base.specs.declared.refusal.Part.TheVariants.{Src}
-use Rattle.least_fault.specs.Search.{Somewhere}
+use Rattle.sloth_base.specs.Search.{Somewhere}
 use Rattle.asm_lines.specs.Faults.{SourceCase}
 use Rattle.asm_scopes.specs.declared.scope.Scope.{Scope}
 use Rattle.asm_scopes.specs.Bodies.{BodyText, bodies_of}

@@ -1,6 +1,6 @@
 use Rattle.std.proofs.Common.{map, take}
 use Rattle.sloth_base.specs.declared.refusal.Part.TheVariants.{Src}
-use Rattle.least_fault.specs.Search.{Somewhere}
+use Rattle.sloth_base.specs.Search.{Somewhere}
 use Rattle.text_pieces.specs.Names.{referent}
 use Rattle.stage_faults.specs.Told.{Adds}
 use Rattle.stage_faults.specs.ToldNarrow.{NarrowFault}

@@ -3,7 +3,7 @@ use Rattle.std.specs.Prelude.{codes}
 use Rattle.std.proofs.lemmas.Result.{on_ok_weaker}
 use Rattle.sloth_base.specs.declared.refusal.Code.TheVariants.{O11}
 use Rattle.sloth_base.specs.declared.refusal.Part.TheVariants.{Oil}
-use Rattle.least_fault.specs.Search.{Somewhere}
+use Rattle.sloth_base.specs.Search.{Somewhere}
 use Rattle.oil_table.specs.Cases.{OilCase}
 use Rattle.oil_table.specs.Objects.{is_of_kind}
 use Rattle.oil_rules.specs.Blocks.{blocks_of}

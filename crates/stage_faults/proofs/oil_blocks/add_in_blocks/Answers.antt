@@ -1,9 +1,9 @@
 use Rattle.std.proofs.Common.{◌∙◌, List, ap, subst}
 use Rattle.std.proofs.lemmas.Result.{on_ok_weaker}
 use Rattle.sloth_base.specs.declared.refusal.Part.TheVariants.{Oil}
-use Rattle.least_fault.specs.Search.{Somewhere}
+use Rattle.sloth_base.specs.Search.{Somewhere}
 use Rattle.oil_parse.specs.declared.tree.OilObject.{OilObject}
-use Rattle.oil_table.specs.declared.alarm_limits.Limits.{Limits}
+use Rattle.oil_table.specs.declared.counter_limits.Limits.{Limits}
 use Rattle.oil_rules.specs.Blocks.{BlockText, blocks_of}
 use Rattle.oil_table.specs.AlarmCounters.{limits_of}
 use Rattle.oil_rules.specs.AlarmFaults.{BlockFault}

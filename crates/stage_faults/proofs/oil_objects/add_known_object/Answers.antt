@@ -1,10 +1,10 @@
 use Rattle.std.proofs.Common.{◌≡◌, ◌∙◌, ◌⊎◌, ap, sym, subst, not, true, false, List}
 use Rattle.std.proofs.lemmas.Result.{on_ok_weaker}
 use Rattle.sloth_base.specs.declared.refusal.Part.TheVariants.{Oil}
-use Rattle.least_fault.specs.Search.{Somewhere}
+use Rattle.sloth_base.specs.Search.{Somewhere}
 use Rattle.oil_parse.specs.declared.tree.OilAttr.{OilAttr}
 use Rattle.oil_parse.specs.declared.tree.OilObject.{OilObject}
-use Rattle.oil_table.specs.declared.alarm_limits.Limits.{Limits}
+use Rattle.oil_table.specs.declared.counter_limits.Limits.{Limits}
 use Rattle.oil_table.specs.declared.table.Place.{Place}
 use Rattle.oil_table.specs.Table.{place_of, is_nowhere}
 use Rattle.oil_rules.specs.ObjectFaults.{is_known}

@@ -2,7 +2,7 @@ use Rattle.std.proofs.Common.{◌∙◌, ap, sym, List}
 use Rattle.std.specs.Prelude.{map}
 use Rattle.sloth_base.specs.declared.config.EventDecl.{EventDecl}
 use Rattle.oil_table.specs.Events.{number_masks}
-use Rattle.oil_model.proofs.RangeEvents.{event_names}
+use Rattle.oil_rules.proofs.RangeEvents.{event_names}
 use Rattle.stage_faults.proofs.oil_stage.notes_with_events.Goals as goal
 
 pub new-events-requires : goal.new-events-requires

@@ -1,6 +1,6 @@
 use Rattle.std.proofs.Common.{◌≡◌, take}
 use Rattle.sloth_base.specs.declared.refusal.Part.TheVariants.{Oil}
-use Rattle.least_fault.specs.Search.{Somewhere}
+use Rattle.sloth_base.specs.Search.{Somewhere}
 use Rattle.oil_table.specs.Events.{taken_bits_before, BitFault}
 use Rattle.stage_faults.specs.Told.{Adds}
 use Rattle.stage_faults.proofs.oil_tasks.add_events.Given as goal

@@ -1,7 +1,7 @@
 use Rattle.std.proofs.Common.{◌≡◌, take}
 use Rattle.std.specs.Prelude.{codes}
 use Rattle.sloth_base.specs.declared.refusal.Part.TheVariants.{Oil}
-use Rattle.least_fault.specs.Search.{Somewhere}
+use Rattle.sloth_base.specs.Search.{Somewhere}
 use Rattle.oil_table.specs.Objects.{is_used}
 use Rattle.oil_rules.specs.TaskFaults.{TaskFault}
 use Rattle.stage_faults.specs.Told.{Adds}

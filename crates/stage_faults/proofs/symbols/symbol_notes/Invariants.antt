@@ -2,7 +2,7 @@ use Rattle.std.proofs.Common.{◌≡◌, ◌≤◌, ◌*◌, take, count_by}
 use Rattle.std.specs.List.{sum_by}
 use Rattle.sloth_base.specs.Limits.{operand_limit}
 use Rattle.sloth_base.specs.declared.refusal.Part.TheVariants.{Src}
-use Rattle.least_fault.specs.Search.{Somewhere}
+use Rattle.sloth_base.specs.Search.{Somewhere}
 use Rattle.asm_scopes.specs.Statements.{is_data}
 use Rattle.asm_parse.specs.NameFaults.{bytes_of}
 use Rattle.stage_faults.specs.ToldNames.{ToldData}

@@ -4,8 +4,8 @@ use Rattle.std.proofs.lemmas.Bool.{eqb-true, eq-eqb}
 use Rattle.sloth_base.specs.declared.app.Func.{Func}
 use Rattle.sloth_base.specs.declared.app.Item.{Item}
 use Rattle.sloth_base.specs.declared.refusal.Code.TheVariants as code
-use Rattle.least_fault.specs.Search.{IsSearchResult}
-use Rattle.least_fault.proofs.Kept.{both_are, finds_same}
+use Rattle.sloth_base.specs.Search.{IsSearchResult}
+use Rattle.sloth_base.proofs.Kept.{both_are, finds_same}
 use Rattle.sloth_base.specs.Named.{no_function, no_label}
 use Rattle.code_rules.specs.WellFormed.{BodyFault}
 use Rattle.task_verify.proofs.Tested.{tested}

@@ -1,8 +1,8 @@
 use Rattle.std.proofs.Common.{◌⊎◌, subst}
 use Rattle.sloth_base.specs.declared.app.Item.{Item}
 use Rattle.sloth_base.specs.declared.refusal.Code.TheVariants as code
-use Rattle.least_fault.specs.Search.{IsSearchResult}
-use Rattle.least_fault.proofs.Kept.{both_are}
+use Rattle.sloth_base.specs.Search.{IsSearchResult}
+use Rattle.sloth_base.proofs.Kept.{both_are}
 use Rattle.code_rules.specs.WellFormed.{IsRunOut, IsWrongLeave, IsUndeclaredUse}
 use Rattle.task_verify.proofs.Tested.{tested}
 use Rattle.task_verify.specs.Cases.{BodyCase}

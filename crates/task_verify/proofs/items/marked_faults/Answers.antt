@@ -1,6 +1,6 @@
 use Rattle.std.proofs.Common.{◌<◌, ◌≤◌, ◌⊎◌, List, length, subst}
 use Rattle.sloth_base.specs.declared.app.Item.{Item}
-use Rattle.least_fault.proofs.Kept.{both_are}
+use Rattle.sloth_base.proofs.Kept.{both_are}
 use Rattle.code_rules.proofs.Judged.{judged_more, judged_end}
 use Rattle.task_verify.specs.Cases.{AccessFault, FlowFault, PathFault, ItemFault}
 use Rattle.task_verify.proofs.items.marked_faults.Goals as goal

@@ -1,7 +1,7 @@
 use Rattle.std.proofs.Common.{false, not, get_or, subst}
 use Rattle.sloth_base.specs.declared.app.Item.{Item}
 use Rattle.sloth_base.specs.declared.refusal.Code.TheVariants as code
-use Rattle.least_fault.specs.Search.{IsSearchResult}
+use Rattle.sloth_base.specs.Search.{IsSearchResult}
 use Rattle.code_rules.specs.WellFormed.{IsUnreached}
 use Rattle.code_rules.proofs.Judged.{decided}
 use Rattle.task_verify.specs.Cases.{BodyCase}

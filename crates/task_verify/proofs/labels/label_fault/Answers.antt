@@ -4,7 +4,7 @@ use Rattle.std.specs.Bool.{Decides}
 use Rattle.std.proofs.lemmas.Bool.Decides.{Decides-or}
 use Rattle.sloth_base.specs.declared.app.Label.{Label}
 use Rattle.sloth_base.specs.declared.refusal.Code.TheVariants as code
-use Rattle.least_fault.specs.Search.{IsSearchResult}
+use Rattle.sloth_base.specs.Search.{IsSearchResult}
 use Rattle.task_verify.proofs.Tested.{tested}
 use Rattle.task_verify.specs.Cases.{BodyCase, IsBehindOther, IsStartWithResource}
 use Rattle.task_verify.proofs.Lists.{label_is}

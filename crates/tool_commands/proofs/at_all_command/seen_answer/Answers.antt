@@ -12,5 +12,5 @@ returns-in_ok-text-in-At c img arr is =
     let R : WordsRead → Type 0 = λ w. AreWordsRead run.image c.as_slice.result.now seen.count w in
     let read : words ≡ words_behind run.image c.as_slice.result.now seen.count = subst R c.in-At.is c.in_ok-words.ensures in
     let there : words ≡ words_behind run.image run.arrivals.items seen.count = read ∙ ap (λ a. words_behind run.image a seen.count) c.as_slice.ensures.value in
-    seen_is_answer img arr c.args.k run.image run.arrivals.items seen words c.in_ok-text-in-At.text.items c.text_answer.result is c.requires.seen there
-    c.in_ok-text-in-At.ensures c.text_answer.ensures
+    seen_is_answer img arr c.args.k run.image run.arrivals.items seen words c.in_ok-text-in-At.text.items c.told.result is c.requires.seen there
+    c.in_ok-text-in-At.ensures c.told.ensures

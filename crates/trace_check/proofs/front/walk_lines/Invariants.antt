@@ -1,7 +1,7 @@
 use Rattle.std.proofs.Common.{◌≡◌, [], List, length}
 use Rattle.sloth_base.specs.declared.app.App.{App}
 use Rattle.sloth_base.specs.declared.config.Config.{Config}
-use Rattle.sloth_base.specs.declared.event.Stamped.{Stamped}
+use Rattle.sloth_base.specs.declared.service.Stamped.{Stamped}
 use Rattle.trace_check.proofs.ReadEvents.{HasRead}
 use Rattle.trace_check.specs.Walk.{IsWalked}
 use Rattle.trace_check.proofs.front.walk_lines.Given as goal

@@ -1,5 +1,5 @@
 use Rattle.std.proofs.Common.{◌∙◌, ◌++◌, ◌∷◌, [], List, ℕ, length, sym, ap, subst, arith}
-use Rattle.sloth_base.specs.declared.event.Stamped.{Stamped}
+use Rattle.sloth_base.specs.declared.service.Stamped.{Stamped}
 use Rattle.trace_check.proofs.ReadEvents.{HasRead}
 use Rattle.trace_check.proofs.TraceText.{reads_more, reads_nothing, reads_shorter}
 use Rattle.trace_check.proofs.ReadBack.{all_shown, none_bad}

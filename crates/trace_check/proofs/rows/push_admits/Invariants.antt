@@ -1,5 +1,5 @@
 use Rattle.std.proofs.Common.{◌≡◌, ◌++◌, Some}
-use Rattle.sloth_base.specs.declared.event.Event.TheVariants as event
+use Rattle.sloth_base.specs.declared.service.Event.TheVariants as event
 use Rattle.trace_check.specs.Rows.{rows_below, rows_of}
 use Rattle.trace_check.proofs.rows.push_admits.Given as goal
 

@@ -1,6 +1,6 @@
 use Rattle.std.proofs.Common.{◌≡◌, ◌++◌, ℕ, List, Some, length, subst}
 use Rattle.std.proofs.lemmas.Result.{on_ok_weaker}
-use Rattle.sloth_base.specs.declared.event.Event.TheVariants as event
+use Rattle.sloth_base.specs.declared.service.Event.TheVariants as event
 use Rattle.trace_check.specs.Walk.{Walk}
 use Rattle.trace_check.specs.declared.rows.NextEvent.{NextEvent}
 use Rattle.trace_check.specs.Rows.{rows_below, rows_of, task_rows}

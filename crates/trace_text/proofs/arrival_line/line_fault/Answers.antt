@@ -1,9 +1,9 @@
 use Rattle.std.proofs.Common.{◌⊎◌}
 use Rattle.sloth_base.specs.declared.refusal.Part.TheVariants.{Arr}
 use Rattle.sloth_base.specs.declared.refusal.Code.TheVariants.{T1, T2, T3, T4}
-use Rattle.least_fault.specs.Cases.{CaseOf}
-use Rattle.least_fault.proofs.Kept.{both_are}
-use Rattle.least_fault.proofs.Cases.{case_found}
+use Rattle.sloth_base.specs.Cases.{CaseOf}
+use Rattle.sloth_base.proofs.Kept.{both_are}
+use Rattle.sloth_base.proofs.Cases.{case_found}
 use Rattle.trace_text.specs.ArrivalsText.{is_t1, is_t2, is_t3, is_t4}
 use Rattle.trace_text.proofs.arrival_line.line_fault.Goals as goal
 

@@ -3,7 +3,7 @@ use Rattle.std.specs.Prelude.{◌==◌, OnOk, IfErr}
 use Rattle.std.proofs.lemmas.List.{length-map}
 use Rattle.std.proofs.lemmas.List.Sums.{count_by-le-length}
 use Rattle.text_pieces.proofs.LineCounts.{lines_count}
-use Rattle.least_fault.specs.Order.{NoFault, ErrorIs}
+use Rattle.sloth_base.specs.Order.{NoFault, ErrorIs}
 use Rattle.text_pieces.specs.Names.{referent}
 use Rattle.trace_text.specs.ArrivalsText.{LinesFault}
 use Rattle.trace_text.proofs.arrivals.read_arrivals.Goals as goal

@@ -1,7 +1,7 @@
 use Rattle.std.proofs.Common.{arith, ◌∙◌, sym, ap, subst, List, ◌++◌, ◌∷◌, []}
-use Rattle.sloth_base.specs.declared.event.Arrival.{Arrival}
+use Rattle.sloth_base.specs.declared.service.Arrival.{Arrival}
 use Rattle.sloth_base.specs.Arrivals.{AreArrivals}
-use Rattle.least_fault.specs.Order.{NoFault}
+use Rattle.sloth_base.specs.Order.{NoFault}
 use Rattle.trace_text.specs.ArrivalsText.{ArrivalLineFault, owners_read}
 use Rattle.trace_text.proofs.Kept.{last-fits, moment-fits, one-more}
 use Rattle.trace_text.proofs.arrivals.read_line.Goals as goal

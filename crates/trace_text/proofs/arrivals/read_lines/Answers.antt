@@ -1,7 +1,7 @@
 use Rattle.std.proofs.Common.{◌∙◌, ℕ, ◌++◌, ◌∷◌, [], List, ap, map, get_or}
 use Rattle.std.specs.Borrow.{Bor}
 use Rattle.std.proofs.lemmas.Result.{err_from_is_err_and}
-use Rattle.sloth_base.specs.declared.event.Arrival.{Arrival}
+use Rattle.sloth_base.specs.declared.service.Arrival.{Arrival}
 use Rattle.text_pieces.specs.Names.{referent}
 use Rattle.trace_text.specs.ArrivalsText.{is_arrival, arrival_of, arrivals_of, ArrivalLineFault}
 use Rattle.trace_text.proofs.LineByLine.{next-of, values-more, one-sound, first-error}

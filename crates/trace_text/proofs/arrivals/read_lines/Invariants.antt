@@ -1,6 +1,6 @@
 use Rattle.std.proofs.Common.{◌≡◌, map, take, None}
 use Rattle.sloth_base.specs.Arrivals.{AreArrivals}
-use Rattle.least_fault.proofs.Kept.{Loop}
+use Rattle.sloth_base.proofs.Kept.{Loop}
 use Rattle.text_pieces.specs.Names.{referent}
 use Rattle.trace_text.specs.ArrivalsText.{arrivals_of, ArrivalFaultAt, owners_read}
 use Rattle.trace_text.proofs.arrivals.read_lines.Given as goal

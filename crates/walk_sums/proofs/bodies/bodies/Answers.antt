@@ -1,5 +1,5 @@
 use Rattle.std.proofs.Common.{ℕ, ◌≡◌, ◌∙◌, ◌≤◌, ◌<◌, List, length, get_or, subst, arith}
-use Rattle.bound_rules.specs.declared.bodies.Body.{Body}
+use Rattle.bound_rules.specs.declared.bound.Body.{Body}
 use Rattle.walk_sums.specs.KnownBodies.{IsKnownBody, no_body}
 use Rattle.call_graph.proofs.Growing.{held_more}
 use Rattle.sloth_base.specs.declared.app.Func.{Func}

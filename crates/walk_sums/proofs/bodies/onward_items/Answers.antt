@@ -1,6 +1,6 @@
 use Rattle.std.proofs.Common.{Bool, not, false}
 use Rattle.sloth_base.specs.Named.{item_of}
-use Rattle.raised_sections.specs.Walks.{chains_itself}
+use Rattle.osek_blocking.specs.Walks.{chains_itself}
 use Rattle.call_graph.proofs.Growing.{grown}
 use Rattle.walk_sums.proofs.bodies.onward_items.Goals as goal
 

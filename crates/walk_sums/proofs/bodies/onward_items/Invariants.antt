@@ -1,6 +1,6 @@
 use Rattle.std.proofs.Common.{◌≡◌, ℕ, ◌<◌, length, get_or, not, false}
 use Rattle.sloth_base.specs.Named.{item_of}
-use Rattle.raised_sections.specs.Walks.{chains_itself}
+use Rattle.osek_blocking.specs.Walks.{chains_itself}
 use Rattle.walk_sums.proofs.bodies.onward_items.Given as goal
 
 abbrev pub invariant-loop-number : goal.invariant-loop-number

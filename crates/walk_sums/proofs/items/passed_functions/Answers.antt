@@ -1,5 +1,5 @@
 use Rattle.std.proofs.Common.{Bool, false, refl}
-use Rattle.bound_rules.specs.declared.sizes.Summary.{Summary}
+use Rattle.bound_rules.specs.declared.bound.Summary.{Summary}
 use Rattle.bound_rules.specs.Summaries.{summary_of, unknown}
 use Rattle.walk_sums.specs.Computed.{is_passed}
 use Rattle.call_graph.proofs.Growing.{grown}

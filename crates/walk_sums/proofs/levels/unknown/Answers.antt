@@ -1,4 +1,4 @@
-use Rattle.bound_rules.specs.declared.sizes.Summary.{Summary}
+use Rattle.bound_rules.specs.declared.bound.Summary.{Summary}
 use Rattle.bound_rules.specs.Summaries.{unknown}
 use Rattle.call_graph.proofs.Growing.{filled_more}
 use Rattle.walk_sums.proofs.levels.unknown.Goals as goal

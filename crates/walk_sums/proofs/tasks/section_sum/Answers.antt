@@ -1,6 +1,6 @@
 use Rattle.std.proofs.Common.{sym, subst}
 use Rattle.walk_sums.proofs.Bodily.{facts_of}
-use Rattle.raised_sections.specs.Sections.{IsSection}
+use Rattle.osek_blocking.specs.Sections.{IsSection}
 use Rattle.walk_sums.specs.Told.{IsToldSum}
 use Rattle.walk_sums.proofs.Telling.{section_told, task_body}
 use Rattle.walk_sums.proofs.tasks.section_sum.Goals as goal

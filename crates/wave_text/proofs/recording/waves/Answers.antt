@@ -1,8 +1,8 @@
 use Rattle.std.proofs.Common.{◌≡◌, ◌∙◌, ◌++◌, ℕ, List, Some, length, ap, subst, arith}
 use Rattle.std.specs.Prelude.{false}
 use Rattle.wave_text.specs.declared.dump.Dump.{Dump}
-use Rattle.sloth_base.specs.declared.lines.Owners.{Owners}
-use Rattle.wave_text.specs.declared.moments.Moment.{Moment}
+use Rattle.sloth_base.specs.declared.numbers.Owners.{Owners}
+use Rattle.wave_text.specs.declared.recording.Moment.{Moment}
 use Rattle.wave_text.specs.Changes.{changes, with_moment}
 use Rattle.wave_text.specs.Text.{entry_lines}
 use Rattle.wave_text.proofs.Waving.{IsDumping, dumping-none, dumping-more, waves-whole}

@@ -1,6 +1,6 @@
 use Rattle.std.proofs.Common.{map}
 use Rattle.std.proofs.lemmas.Result.{IfErr-weaker, err_from_is_err_and}
-use Rattle.oil_lex.specs.Tokens.{lexeme}
+use Rattle.oil_parse.specs.Tokens.{lexeme}
 use Rattle.why_text.proofs.Trees.{text_refused, grammar_refused}
 use Rattle.why_text.proofs.meaning.parsed.Goals as goal
 

@@ -1,5 +1,5 @@
 use Rattle.std.proofs.Common.{subst}
-use Rattle.least_fault.specs.Order.{ErrorIs}
+use Rattle.sloth_base.specs.Order.{ErrorIs}
 use Rattle.asm_lines.specs.Faults.{SourceLinesFault}
 use Rattle.why_text.proofs.FaultLines.{no_names_for}
 use Rattle.why_text.proofs.naming.names_text.Goals as goal

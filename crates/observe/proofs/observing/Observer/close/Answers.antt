@@ -1,6 +1,6 @@
 use Rattle.std.proofs.Common.{◌∙◌, List, Some, None, ap, take}
-use Rattle.sloth_base.specs.declared.event.Arrival.{Arrival}
-use Rattle.sloth_base.specs.declared.event.Event.{Event}
+use Rattle.sloth_base.specs.declared.service.Arrival.{Arrival}
+use Rattle.sloth_base.specs.declared.service.Event.{Event}
 use Rattle.observe.specs.Observe.{stamp}
 use Rattle.observe.specs.Progress.{Progress, arrivals_within, progress_of}
 use Rattle.observe.proofs.observing.Observer.close.Goals as goal

@@ -4,7 +4,7 @@ use Rattle.std.specs.Str.{bytes_eq}
 use Rattle.std.proofs.lemmas.List.{get_or_read}
 use Rattle.oil_parse.specs.declared.tree.OilObject.{OilObject}
 use Rattle.oil_table.specs.Objects.{is_declaration}
-use Rattle.oil_table.specs.declared.alarm_limits.Limits.{Limits}
+use Rattle.oil_table.specs.declared.counter_limits.Limits.{Limits}
 use Rattle.oil_table.specs.AlarmCounters.{limits_given}
 use Rattle.oil_table.proofs.Indexes.{limits_within, limits_some, limits_none}
 use Rattle.oil_table.proofs.counter_limits.CounterLimits.limits_of_word.Goals as goal

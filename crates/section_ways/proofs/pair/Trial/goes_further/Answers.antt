@@ -2,7 +2,7 @@ use Rattle.std.proofs.Common.{◌≡◌, false, subst}
 use Rattle.std.proofs.lemmas.Result.{IfOk-weaker}
 use Rattle.sloth_base.specs.declared.app.App.{App}
 use Rattle.sloth_base.specs.Named.{operation}
-use Rattle.raised_sections.specs.Sections.{is_schedule}
+use Rattle.osek_blocking.specs.Sections.{is_schedule}
 use Rattle.section_ways.proofs.Advances.{section_step_as}
 use Rattle.section_ways.proofs.pair.Trial.goes_further.Goals as goal
 

@@ -1,7 +1,7 @@
 use Rattle.std.proofs.Common.{◌≡◌, true, ◌∙◌, sym, subst}
 use Rattle.sloth_base.specs.declared.app.App.{App}
 use Rattle.sloth_base.specs.Named.{operation}
-use Rattle.raised_sections.specs.Sections.{is_counted}
+use Rattle.osek_blocking.specs.Sections.{is_counted}
 use Rattle.section_ways.proofs.Advances.{raised_there}
 use Rattle.section_ways.proofs.pair.Trial.stands_there.Goals as goal
 

@@ -2,7 +2,7 @@ use Rattle.std.proofs.Common.{◌≡◌, false, refl, subst}
 use Rattle.sloth_base.specs.declared.app.App.{App}
 use Rattle.sloth_base.specs.Named.{function, item_of}
 use Rattle.code_rules.specs.Code.{IsPathStep}
-use Rattle.raised_sections.specs.Walks.{chains_itself}
+use Rattle.osek_blocking.specs.Walks.{chains_itself}
 use Rattle.section_ways.proofs.Advances.{stayed_as}
 use Rattle.section_ways.proofs.pair.Trial.stay.Goals as goal
 

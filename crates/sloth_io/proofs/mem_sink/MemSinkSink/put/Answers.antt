@@ -7,13 +7,13 @@ use Rattle.sloth_io.proofs.mem_sink.MemSinkSink.put.Goals as goal
 
 pub returns-clause-err : goal.returns-clause-err
 returns-clause-err c =
-    part-taken c.limit_at-limit.result c.append.result c.args.self.now.buffer.bytes.items c.append.new.self.bytes.items c.args.piece.now
+    part-taken c.call_limit-limit.result c.append.result c.args.self.now.buffer.bytes.items c.append.new.self.bytes.items c.args.piece.now
     c.args.self.now.buffer.space c.append.new.self.space c.saturating_add-self.result c.args.self.now.faults c.saturating_add-self-2.result
     c.args.self.now.fails.items
     (elim c.match-limit.branch [ in-Some w ↦ grind (arith, common_steps) | in-None w ↦ grind (arith, common_steps) ])
     (elim c.match-limit.branch [ in-Some w ↦ grind (arith, common_steps) | in-None w ↦ grind (arith, common_steps) ])
     c.append.ensures.space
-    (rw c.as_slice.ensures.value at c.limit_at-limit.ensures)
+    (rw c.as_slice.ensures.value at c.call_limit-limit.ensures)
     (elim c.else-append.branch [
       | else-append-via-then-append+else-is_none w ↦ grind (arith, common_steps)
       | else-append-via-else-append w ↦ grind (arith, common_steps)

@@ -1,7 +1,7 @@
 use Rattle.std.proofs.Common.{◌≡◌, List, take, set, [], ◌∷◌, ◌++◌, ◌+◌, ◌<◌, sym, ap, subst, ◌∙◌, arith}
 use Rattle.std.proofs.lemmas.List.{take_more_set}
 use Rattle.std.proofs.lemmas.Grind.{common_steps}
-use Rattle.sloth_region.specs.declared.extent.Extent.{Extent}
+use Rattle.sloth_region.specs.declared.region.Extent.{Extent}
 use Rattle.sloth_region.specs.Region.{first_free_address, FollowWithin}
 use Rattle.sloth_region.proofs.Placed.{first_free-append, follow-append}
 use Rattle.sloth_region.proofs.region.Region.place.Goals as goal

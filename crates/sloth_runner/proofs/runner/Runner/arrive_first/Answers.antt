@@ -1,5 +1,5 @@
 use Rattle.std.proofs.Common.{List, ◌∙◌, ap, take, drop, subst, sym}
-use Rattle.sloth_base.specs.declared.event.Arrival.{Arrival}
+use Rattle.sloth_base.specs.declared.service.Arrival.{Arrival}
 use Rattle.sloth_runner.specs.Moments.{AreLines}
 use Rattle.sloth_runner.specs.Runner.{count_of, image_of}
 use Rattle.sloth_runner.proofs.Turning.{arrived-is, lines-drop}

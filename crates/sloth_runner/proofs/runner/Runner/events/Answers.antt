@@ -1,7 +1,7 @@
 use Rattle.std.proofs.Common.{◌≡◌, ◌∙◌, ℕ, ◌+◌, List, ◌++◌, ap, refl, sym, subst, arith}
 use Rattle.observe.specs.Progress.{remaining}
 use Rattle.sim_induction.specs.Sound.{events_of}
-use Rattle.sloth_base.specs.declared.event.Stamped.{Stamped}
+use Rattle.sloth_base.specs.declared.service.Stamped.{Stamped}
 use Rattle.sloth_runner.specs.Runner.{IsAdvance, image_of, given_arrivals, count_of}
 use Rattle.sloth_runner.proofs.RunInvariants.{IsBehindRun}
 use Rattle.sloth_runner.specs.declared.runner.Runner.{Runner}

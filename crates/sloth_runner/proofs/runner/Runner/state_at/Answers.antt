@@ -7,7 +7,7 @@ use Rattle.sloth_base.specs.Machine.{State}
 use Rattle.sloth_base.specs.Take.{execution_state}
 use Rattle.sloth_base.specs.declared.image.Image.{Image}
 use Rattle.sloth_runner.specs.declared.runner.Runner.{Runner}
-use Rattle.sloth_runner.specs.declared.machine_states.Seen.{Seen}
+use Rattle.sloth_runner.specs.declared.task_states.Seen.{Seen}
 use Rattle.sloth_runner.specs.Runner.{HasRun, HasArrived, HasExecuted, image_of, given_arrivals, count_of}
 use Rattle.sloth_runner.specs.Moments.{sloth_state}
 use Rattle.sloth_runner.specs.TaskStates.{IsLast, AreStatesAt, image_states}

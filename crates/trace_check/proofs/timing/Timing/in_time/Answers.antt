@@ -1,6 +1,6 @@
 use Rattle.std.proofs.Common.{◌∙◌, List, Bool, length, map, take, drop, false, true, sym, ap, subst}
 use Rattle.std.specs.Bool.{Decides}
-use Rattle.sloth_base.specs.declared.event.Arrival.{Arrival}
+use Rattle.sloth_base.specs.declared.service.Arrival.{Arrival}
 use Rattle.trace_check.specs.Counts.{SameCounts, arrival_number, last_moment, may_leave}
 use Rattle.trace_check.specs.Timed.{KeptPass, is_late}
 use Rattle.trace_check.proofs.Decided.{late_in_time, others_in_time, decided}

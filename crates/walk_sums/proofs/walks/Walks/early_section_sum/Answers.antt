@@ -2,7 +2,7 @@ use Rattle.std.proofs.Common.{◌∙◌, ℕ, List, Some, ap, sym, subst}
 use Rattle.sloth_base.specs.declared.config.Config.{Config}
 use Rattle.sloth_base.specs.declared.app.App.{App}
 use Rattle.call_graph.specs.Tables.{HasTaskBody}
-use Rattle.bound_rules.specs.declared.sizes.Summary.{Summary}
+use Rattle.bound_rules.specs.declared.bound.Summary.{Summary}
 use Rattle.walk_sums.specs.declared.kinds.Kind.TheVariants as kinds
 use Rattle.walk_sums.specs.Early.{IsToldEarly}
 use Rattle.walk_sums.specs.Known.{AreSums}

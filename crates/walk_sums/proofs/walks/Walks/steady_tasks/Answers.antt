@@ -4,7 +4,7 @@ use Rattle.std.proofs.lemmas.Result.{IfOk-weaker}
 use Rattle.sloth_base.specs.declared.config.Config.{Config}
 use Rattle.sloth_base.specs.declared.app.App.{App}
 use Rattle.code_rules.specs.WellFormed.{WellFormed}
-use Rattle.bound_rules.specs.declared.sizes.Summary.{Summary}
+use Rattle.bound_rules.specs.declared.bound.Summary.{Summary}
 use Rattle.walk_sums.specs.Rounds.{IsSteady}
 use Rattle.walk_sums.specs.Clears.{AreSteadyMarks}
 use Rattle.walk_sums.proofs.SteadyTasks.{marks_decide}

@@ -1,5 +1,5 @@
 use Rattle.std.proofs.Common.{ℕ, ◌+◌, ◌<◌, List, get_or, length, set, take, None, refl, sym, subst, arith}
-use Rattle.bound_rules.specs.declared.sizes.Summary.{Summary}
+use Rattle.bound_rules.specs.declared.bound.Summary.{Summary}
 use Rattle.walk_sums.specs.declared.kinds.Kind.TheVariants as kinds
 use Rattle.walk_sums.specs.Known.{IsBefore, IsSummary, caller_code}
 use Rattle.walk_sums.proofs.OrderSummaries.{AreSummariesOf}

@@ -11,5 +11,5 @@ loop-place-init c = gets-no-tasks c.args.self.now c.args.scope c.args.before.now
 pub loop-place-preserved : goal.loop-place-preserved
 loop-place-preserved c =
     gets-task c.args.self.now c.loop-place.self c.change.new.self c.args.scope c.args.before.now c.args.after.now c.loop-place.place c.first_code.result
-    c.width_of.result c.value_of.result c.value_of-in-loop-place.result c.loop-place.invariant c.first_code.ensures.is c.width_of.ensures c.value_of.ensures
-    c.value_of-in-loop-place.ensures c.in_ok-change.ensures
+    c.signal_width.result c.signal_value.result c.signal_value-in-loop-place.result c.loop-place.invariant c.first_code.ensures.is c.signal_width.ensures c.signal_value.ensures
+    c.signal_value-in-loop-place.ensures c.in_ok-change.ensures

@@ -1,5 +1,0 @@
-use Rattle.call_graph.proofs.Sets.{has_one_more}
-use Rattle.call_graph.proofs.bits.with.Goals as goal
-
-pub returns : goal.returns
-returns c = λ k. has_one_more 64 c.args.set c.args.member k c.requires

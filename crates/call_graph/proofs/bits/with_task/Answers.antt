@@ -1,5 +1,0 @@
-use Rattle.call_graph.proofs.Sets.{has_one_more}
-use Rattle.call_graph.proofs.bits.with_task.Goals as goal
-
-pub returns : goal.returns
-returns c = λ k. has_one_more 32 c.args.set c.args.task k c.requires

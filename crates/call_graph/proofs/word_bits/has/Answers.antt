@@ -1,5 +1,0 @@
-use Rattle.call_graph.proofs.Sets.{has_is}
-use Rattle.call_graph.proofs.word_bits.has.Goals as goal
-
-pub returns : goal.returns
-returns c = has_is c.args.set c.args.member

@@ -1,5 +1,0 @@
-use Rattle.call_graph.proofs.Sets.{has_or}
-use Rattle.call_graph.proofs.word_bits.union.Goals as goal
-
-pub returns : goal.returns
-returns c = λ k. has_or c.args.one c.args.other k

@@ -1,9 +1,0 @@
-pub mod Values
-pub mod Open
-pub mod RightNumbers
-pub mod Table
-pub mod Images
-pub mod Contexts
-pub mod Places
-pub mod TaskRegisters
-pub mod RegisterImages

@@ -1,3 +1,0 @@
-pub mod RightValues
-pub mod RightFiles
-pub mod TaskRegisters

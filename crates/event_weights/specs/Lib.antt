@@ -1,3 +1,0 @@
-pub mod Items
-pub mod Events
-pub mod Pace

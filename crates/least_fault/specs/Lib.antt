@@ -1,3 +1,0 @@
-pub mod Order
-pub mod Search
-pub mod Cases

@@ -1,4 +1,0 @@
-pub mod Lengths
-pub mod Fronts
-pub mod Cuts
-pub mod Words

@@ -1,5 +1,0 @@
-pub mod Bytes
-pub mod Pieces
-pub mod Tokens
-pub mod Front
-pub mod Cutting

@@ -1,6 +1,0 @@
-use Rattle.std.proofs.Common.{◌≡◌, take}
-use Rattle.oil_model.specs.Configs.{resource_names}
-use Rattle.oil_model.proofs.config.resource_names.Given as goal
-
-abbrev pub invariant-loop-object : goal.invariant-loop-object
-invariant-loop-object l = l.names.items ≡ resource_names (take l.object-index l.objects)

@@ -1,3 +1,0 @@
-pub mod Clocks
-pub mod Configs
-pub mod Trees

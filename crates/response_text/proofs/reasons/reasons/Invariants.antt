@@ -1,5 +1,0 @@
-use Rattle.response_text.specs.Reasons.{AreReasons}
-use Rattle.response_text.proofs.reasons.reasons.Given as goal
-
-abbrev pub invariant-loop-task : goal.invariant-loop-task
-invariant-loop-task l = AreReasons l.walks.config l.walks.app l.costs l.responses l.task l.reasons.items

@@ -1,9 +1,0 @@
-use Rattle.std.proofs.Common.{◌≡◌, ℕ, ◌+◌, drop}
-use Rattle.run_windows.specs.Windows.{Numbers, numbers_of, round_counts, IsAtMost}
-use Rattle.run_windows.specs.Cycles.{AreRatesOf, IsCurve}
-use Rattle.run_windows.proofs.curves.round_curve.Given as goal
-
-abbrev pub invariant-loop-k : goal.invariant-loop-k
-invariant-loop-k l =
-    (more : ℕ) (m : Numbers) → ((k : ℕ) → IsAtMost (numbers_of l.numbers k) (m k)) → ((k : ℕ) → AreRatesOf (numbers_of l.rates k) more (m k))
-    → (y : ℕ) × IsCurve l.total more y × (y + round_counts m l.k (drop l.k l.tasks) ≡ round_counts m 0 l.tasks)

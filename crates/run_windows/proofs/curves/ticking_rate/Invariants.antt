@@ -1,0 +1,9 @@
+use Rattle.std.proofs.Common.{◌≡◌, ℕ, ◌+◌, drop}
+use Rattle.run_windows.specs.Arrivals.{ticking}
+use Rattle.run_windows.specs.Cycles.{IsRate}
+use Rattle.run_windows.proofs.curves.ticking_rate.Given as goal
+
+abbrev pub invariant-loop-c : goal.invariant-loop-c
+invariant-loop-c l =
+    (counts : ℕ) → (y : ℕ) × IsRate l.total counts y
+    × (y + ticking l.boot l.sets l.task counts l.alarms l.c (drop l.c l.counters) ≡ ticking l.boot l.sets l.task counts l.alarms 0 l.counters)

@@ -1,5 +1,0 @@
-use Rattle.run_windows.specs.Cycles.{AreMultiples}
-use Rattle.run_windows.proofs.cycles.reach.Given as goal
-
-abbrev pub invariant-loop-turn : goal.invariant-loop-turn
-invariant-loop-turn l = AreMultiples l.costs l.window l.sets l.t l.marks

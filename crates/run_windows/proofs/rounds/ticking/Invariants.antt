@@ -1,0 +1,10 @@
+use Rattle.std.proofs.Common.{◌≡◌, ◌+◌, ◌≤◌, drop}
+use Rattle.run_windows.specs.Costs.{greatest_sum, capped}
+use Rattle.run_windows.specs.Arrivals.{ticking}
+use Rattle.run_windows.proofs.rounds.ticking.Given as goal
+
+abbrev pub invariant-loop-c : goal.invariant-loop-c
+invariant-loop-c l = record {
+  within : l.total ≤ greatest_sum;
+  is : capped (l.total + ticking l.boot l.sets l.task l.counts l.alarms l.c (drop l.c l.counters)) ≡ capped (ticking l.boot l.sets l.task l.counts l.alarms 0 l.counters);
+}

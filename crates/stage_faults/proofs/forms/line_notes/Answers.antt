@@ -1,5 +1,0 @@
-use Rattle.std.proofs.Common.{◌∙◌}
-use Rattle.stage_faults.proofs.forms.line_notes.Goals as goal
-
-pub faults-requires-clause-lines : goal.faults-requires-clause-lines
-faults-requires-clause-lines c = c.items.ensures ∙ c.in_ok-lines.ensures

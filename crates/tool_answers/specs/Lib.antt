@@ -1,3 +1,0 @@
-pub mod ImageReaders
-pub mod Lines
-pub mod Statuses

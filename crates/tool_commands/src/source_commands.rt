@@ -1,0 +1,110 @@
+//! The commands that print what two texts mean: `bounds` alone and with `latency` or `counts`, `map`, `shares`, `unused`; and `losses`.
+//! The command `orti`.
+ghost use Rattle.std.specs.Prelude.{◌≤◌, IfOk, length};
+ghost use Rattle.sloth_base.specs.Limits.{count_limit, file_limit};
+ghost use Rattle.tool_commands.specs.BoundsAnswers.{IsBoundsAnswer, IsLatencyAnswer, IsLowerCountsAnswer};
+ghost use Rattle.tool_commands.specs.LossesAnswers.{IsLossesAnswer};
+ghost use Rattle.tool_commands.specs.MapAnswers.{IsMapAnswer};
+ghost use Rattle.tool_commands.specs.SharesAnswers.{IsSharesAnswer};
+ghost use Rattle.tool_commands.specs.UnusedAnswers.{IsUnusedAnswer};
+ghost use Rattle.tool_commands.specs.OrtiAnswers.{IsOrtiAnswer};
+
+use crate::elf_commands::written;
+use bounds_text::{bounds_text, latency_lines, lower_count_lines};
+use command_line::{ToolAnswer, told};
+use losses_text::losses_text;
+use map_text::map_text;
+use orti_text::orti_text;
+use shares_text::{shares_text, unused_text};
+use sloth_base::{BuildError, NoMemory, Result};
+use std::alloc::Global;
+
+// The answer of lines, or of the refusal of the texts.
+macro_rules! lines_answer {
+    ($alloc:expr, $lines:expr) => {
+        match $lines {
+            Ok(text) => Ok(told($alloc, text)),
+            Err(BuildError::Refused(refusal)) => Ok(ToolAnswer::Refused(refusal)),
+            Err(BuildError::Memory) => Err(NoMemory),
+        }
+    };
+}
+
+/// How much work of lower tasks may stand between each task's becoming Ready and its entry; or the first refusal.
+pub fn bounds(alloc: Global, oil: &[u8], src: &[u8]) -> Result<ToolAnswer>
+    requires oil { length oil.now ≤ file_limit }
+    requires src { length src.now ≤ file_limit }
+    ensures { IfOk result (λ answer. IsBoundsAnswer oil.now src.now answer) }
+{
+    lines_answer!(alloc, bounds_text(alloc, oil, src))
+}
+
+/// The same, and how long the task of highest priority may wait for its entry; or the first refusal.
+pub fn latency(alloc: Global, oil: &[u8], src: &[u8]) -> Result<ToolAnswer>
+    requires oil { length oil.now ≤ file_limit }
+    requires src { length src.now ≤ file_limit }
+    ensures { IfOk result (λ answer. IsLatencyAnswer oil.now src.now answer) }
+{
+    lines_answer!(alloc, latency_lines(alloc, oil, src))
+}
+
+/// How many counts of lower tasks may stand between each task's becoming Ready and its entry; or the first refusal.
+pub fn lower_counts(alloc: Global, oil: &[u8], src: &[u8]) -> Result<ToolAnswer>
+    requires oil { length oil.now ≤ file_limit }
+    requires src { length src.now ≤ file_limit }
+    ensures { IfOk result (λ answer. IsLowerCountsAnswer oil.now src.now answer) }
+{
+    lines_answer!(alloc, lower_count_lines(alloc, oil, src))
+}
+
+/// What the image of these texts takes of memory, and what its tasks need of the stacks; or the first refusal.
+pub fn map(alloc: Global, oil: &[u8], src: &[u8]) -> Result<ToolAnswer>
+    requires oil { length oil.now ≤ file_limit }
+    requires src { length src.now ≤ file_limit }
+    ensures { IfOk result (λ answer. IsMapAnswer oil.now src.now answer) }
+{
+    lines_answer!(alloc, map_text(alloc, oil, src))
+}
+
+/// Which data the tasks of these texts share, and what keeps their accesses apart; or the first refusal.
+pub fn shares(alloc: Global, oil: &[u8], src: &[u8]) -> Result<ToolAnswer>
+    requires oil { length oil.now ≤ file_limit }
+    requires src { length src.now ≤ file_limit }
+    ensures { IfOk result (λ answer. IsSharesAnswer oil.now src.now answer) }
+{
+    lines_answer!(alloc, shares_text(alloc, oil, src))
+}
+
+/// What nothing in these texts uses, and the tasks that nothing activates; or the first refusal.
+pub fn unused(alloc: Global, oil: &[u8], src: &[u8]) -> Result<ToolAnswer>
+    requires oil { length oil.now ≤ file_limit }
+    requires src { length src.now ≤ file_limit }
+    ensures { IfOk result (λ answer. IsUnusedAnswer oil.now src.now answer) }
+{
+    lines_answer!(alloc, unused_text(alloc, oil, src))
+}
+
+/// What n instructions of a run of these texts ask of tasks and counters, and what of it is lost; or the first refusal.
+pub fn losses(alloc: Global, oil: &[u8], src: &[u8], arr: &[u8], n: u32) -> Result<ToolAnswer>
+    requires oil { length oil.now ≤ file_limit }
+    requires src { length src.now ≤ file_limit }
+    requires arr { length arr.now ≤ file_limit }
+    requires n { n ≤ count_limit }
+    ensures { IfOk result (λ answer. IsLossesAnswer oil.now src.now arr.now n answer) }
+{
+    lines_answer!(alloc, losses_text(alloc, oil, src, arr, n))
+}
+
+/// The file by which debuggers find the objects of the kernel of these texts; or the first refusal.
+pub fn orti(alloc: Global, oil: &[u8], src: &[u8]) -> Result<ToolAnswer>
+    requires oil { length oil.now ≤ file_limit }
+    requires src { length src.now ≤ file_limit }
+    ensures { IfOk result (λ answer. IsOrtiAnswer oil.now src.now answer) }
+{
+    let file = match orti_text(alloc, oil, src) {
+        Ok(file) => file,
+        Err(BuildError::Refused(refusal)) => return Ok(ToolAnswer::Refused(refusal)),
+        Err(BuildError::Memory) => return Err(NoMemory),
+    };
+    Ok(ToolAnswer::Done(written(alloc, file)?))
+}
