@@ -1,16 +1,23 @@
-//! Pieces of code that several services have. x3 and x4 hold the addresses of the controller and of memory.
+//! Pieces of code that several services have, and their marks. x3 and x4 hold the addresses of the controller and of
+//! memory.
 ghost use Rattle.std.specs.Prelude.{◌≡◌, ◌<◌, ◌++◌, OnOk};
 ghost use Rattle.sloth_base.specs.Limits.{task_limit};
-ghost use Rattle.block_parts.specs.Pieces.{opening_code, ending_code, looking_code, raising_code, level_back_code};
-ghost use Rattle.block_parts.specs.Pieces.{back_code, ok_level_back_code};
+ghost use Rattle.sloth_base.specs.ServiceCodes.{code_of};
+ghost use Rattle.masked_code.specs.Kernel.{leaving_code, taking_up_code};
+ghost use Rattle.block_parts.specs.Marks.{opening, back_mark};
+ghost use Rattle.block_parts.specs.Pieces.{opening_code, ending_code, looking_code, raising_code, back_code};
+ghost use Rattle.block_parts.specs.Pieces.{ok_level_back_code};
 
-use masked_code::{X5, put};
+use masked_code::{X5, past, put, restore};
 use rv32_instr::{
-    A0, Instr, MEPC, MIE, MSTATUS, PLEVEL, X1, X3, X4, X31, ZERO, add, addi, csrrci, csrrw, lbu,
-    lw, mret, sb, slli, sltu, sw,
+    A0, Instr, MEPC, MIE, MSTATUS, PLEVEL, X1, X2, X3, X4, X31, ZERO, add, addi, beq, csrrci,
+    csrrw, lbu, lw, mret, sb, slli, sltu, sw,
 };
-use sloth_base::E_OK;
-use sloth_region::{CUR, active, enabled_byte, pending_byte};
+use sloth_base::{E_OK, Mark, MarkKind, Service};
+use sloth_region::{
+    BELOW_WORD, CONTEXT_BELOW, CONTEXT_BYTES, CONTEXT_CUR, CONTEXT_LEVEL, CONTEXT_PC, CUR, active,
+    enabled_byte, pending_byte,
+};
 use std::alloc::AllocError;
 
 /// The running task's pending byte, from `cur` behind the controller's address, as `cur` is its number and 1 more.
@@ -22,7 +29,7 @@ pub const OWN_ACTIVE: i32 = -8;
 /// Its events, from there.
 pub const OWN_EVENTS: i32 = -4;
 
-/// How many instructions `look_at` adds.
+/// How many instructions `look` adds.
 pub const LOOK: u32 = 5;
 
 /// How many instructions `go_back` adds.
@@ -44,7 +51,7 @@ pub fn end(code: &mut Vec<Instr>) -> Result<(), AllocError>
 }
 
 /// x1 := 1 where the task is Suspended, else 0. Uses a0.
-pub fn look_at(code: &mut Vec<Instr>, task: u8) -> Result<(), AllocError>
+pub fn look(code: &mut Vec<Instr>, task: u8) -> Result<(), AllocError>
     requires { task < task_limit }
     ensures { OnOk result (code.new.items ≡ code.old.items ++ looking_code task) }
 {
@@ -67,18 +74,60 @@ pub fn go_back(code: &mut Vec<Instr>) -> Result<(), AllocError>
     put!(code; csrrw(ZERO, MEPC, X31), mret())
 }
 
-/// At the level in x1.
-fn go_back_at(code: &mut Vec<Instr>) -> Result<(), AllocError>
-    ensures { OnOk result (code.new.items ≡ code.old.items ++ level_back_code) }
+/// Back to the caller, at the level in x1, with the status E_OK.
+pub fn answer_ok(code: &mut Vec<Instr>) -> Result<(), AllocError>
+    ensures { OnOk result (code.new.items ≡ code.old.items ++ ok_level_back_code) }
 {
-    put!(code; csrrw(ZERO, PLEVEL, X1))?;
+    put!(code; addi(A0, ZERO, E_OK as i32), csrrw(ZERO, PLEVEL, X1))?;
     go_back(code)
 }
 
-/// Back to the caller, at the level in x1, with the status E_OK.
-pub fn go_on(code: &mut Vec<Instr>) -> Result<(), AllocError>
-    ensures { OnOk result (code.new.items ≡ code.old.items ++ ok_level_back_code) }
+/// The registers of a context: x5 to x31.
+const REGISTERS: u32 = 27;
+
+/// Goes back to what runs below, as its context says.
+pub fn leave(code: &mut Vec<Instr>) -> Result<(), AllocError>
+    ensures { OnOk result (code.new.items ≡ code.old.items ++ leaving_code) }
 {
-    put!(code; addi(A0, ZERO, E_OK as i32))?;
-    go_back_at(code)
+    take_up(code)?;
+    // Passes what restores the registers where the idle loop runs below.
+    put!(code; beq(X5, ZERO, past(REGISTERS)))?;
+    restore(code, 5, 32, X1)?;
+    put!(code; mret())?;
+    Ok(())
+}
+
+/// What the context says of all but the registers; its `cur` stays in x5.
+fn take_up(code: &mut Vec<Instr>) -> Result<(), AllocError>
+    ensures { OnOk result (code.new.items ≡ code.old.items ++ taking_up_code) }
+{
+    put!(code; lw(X1, X4, BELOW_WORD), lw(X2, X1, CONTEXT_PC), csrrw(ZERO, MEPC, X2), lw(X2, X1, CONTEXT_LEVEL),
+        csrrw(ZERO, PLEVEL, X2), lw(X5, X1, CONTEXT_CUR), sw(X5, X4, CUR), lw(X2, X1, CONTEXT_BELOW),
+        sw(X2, X4, BELOW_WORD), addi(X2, X1, CONTEXT_BYTES))
+}
+
+/// The mark on the instruction with which a service begins.
+pub fn opening(address: u32, service: Service) -> Mark
+    ensures { result ≡ opening address (code_of service) }
+{
+    Mark {
+        address,
+        kind: MarkKind::Opening,
+        a: service.code(),
+        b: 0,
+        c: 0,
+    }
+}
+
+/// The mark on the instruction with which a task comes back from Schedule.
+pub fn back_mark(address: u32) -> Mark
+    ensures { result ≡ back_mark address }
+{
+    Mark {
+        address,
+        kind: MarkKind::Back,
+        a: 0,
+        b: 0,
+        c: 0,
+    }
 }

@@ -39,14 +39,6 @@ pub fn look_unless_later(code: &mut Vec<Instr>, task: u8, later: bool) -> Result
     if later {
         return Ok(());
     }
-    look(code, task)
-}
-
-/// The task's bit becomes 1 where the task isn't Suspended.
-fn look(code: &mut Vec<Instr>, task: u8) -> Result<(), AllocError>
-    requires { task < task_limit }
-    ensures { OnOk result (code.new.items ≡ code.old.items ++ look_code task) }
-{
     put!(code; lui(X4, CONTROLLER_HIGH), lbu(X1, X4, enabled_byte(task)), xori(X1, X1, 1),
         lbu(X4, X4, pending_byte(task)), or(X1, X1, X4), lui(X4, WORDS_HIGH), lw(X4, X4, active(task)),
         or(X1, X1, X4), slli(X1, X1, task), or(X3, X3, X1))

@@ -1,7 +1,5 @@
-//! What is told of a task: the summary of its body, and the bound by a greatest size.
-//! The summaries of functions that are called. What is known of a body before any level.
-//! Levels that are reached, and items with which no section goes on.
-//! The greatest sizes of parts of sections, function by function.
+//! What is known of bodies before any level; the greatest sizes of parts of sections, function by function; the summary
+//! of a task's body, and the bound that is told of a greatest size.
 ghost use Rattle.std.specs.Prelude.{◌≡◌, ◌<◌, length};
 ghost use Rattle.call_graph.specs.Tables.{HasTaskBody};
 ghost use Rattle.bound_rules.specs.Tasks.{task_summary, told};
@@ -61,10 +59,7 @@ pub fn told(most: u32) -> Bound
 pub fn summary_of(table: &[Summary], func: FuncId) -> Summary
     ensures { result ≡ summary_of table.now func }
 {
-    match table.get(func.0 as usize) {
-        Some(summary) => *summary,
-        None => UNKNOWN,
-    }
+    table.get(func.0 as usize).copied().unwrap_or(UNKNOWN)
 }
 
 /// The summary of the function that item `number` calls.

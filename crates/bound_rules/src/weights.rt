@@ -42,18 +42,12 @@ pub fn size_behind(items: &[Item], table: &[u32], number: usize) -> u32
 pub fn is_marked(marks: &[bool], number: usize) -> bool
     ensures { result ≡ get_or marks.now number false }
 {
-    match marks.get(number) {
-        Some(mark) => *mark,
-        None => false,
-    }
+    marks.get(number).copied().unwrap_or(false)
 }
 
 /// The number of this one, 0 where the table has none.
 pub fn number_at(table: &[u32], number: usize) -> u32
     ensures { result ≡ get_or table.now number 0 }
 {
-    match table.get(number) {
-        Some(entry) => *entry,
-        None => 0,
-    }
+    table.get(number).copied().unwrap_or(0)
 }

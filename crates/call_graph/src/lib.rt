@@ -1,13 +1,7 @@
 //! Which functions call which: no function may call itself by way of others (V1), and of each is known what its calls
 //! reach.
-//!
-//! `ranks` gives each function a rank above those of the functions that it calls, with the resources, the waits and the
-//! tasks that it reaches, exactly; or the least of V1, the functions on a cycle of calls (`specs/Reached`,
-//! `specs/Ranks`, `specs/Cycles`, `specs/Gathered`). Calls and reaching: `code_rules` (`Code`, `WellFormed`).
-//!
-//! The tables by function and by task: rows of bits closed, where a row has exactly what chains of rows lead to
-//! (`closed`; `specs/Bits`, `specs/Rows`); the bytes of a call, and of all that may stand below each task on a stack
-//! (`bytes_called`, `offsets_of_tasks`; `specs/Tables`).
+//! `ranks`: what each function reaches, exactly, or the least of V1 (`specs/Ranks`, `specs/Cycles`), by rows of bits
+//! that are closed (`specs/Rows`). Bytes of calls and of what stands below a task: `specs/Tables`.
 #![tactic(auto)]
 
 ghost use Rattle.std.specs.Prelude.{IfErr, IfOk, OnOk};
@@ -17,9 +11,7 @@ ghost use Rattle.code_rules.specs.WellFormed.{CycleFault};
 ghost use Rattle.call_graph.specs.Ranks.{RanksOf};
 
 pub mod called_bytes;
-pub mod calls;
 pub mod lists;
-pub mod reached;
 pub mod rows;
 pub mod stack_offsets;
 

@@ -1,15 +1,16 @@
 //! Lists with an entry for each function. What is known of the functions of task code from their calls.
-ghost use Rattle.std.specs.Prelude.{◌≡◌, ℕ, ◌<◌, ◌≤◌, false, length, map, get_or, count_ones, IfOk};
+//! What a function does itself: which functions it calls, which resources it takes, whether it waits or calls Schedule.
+ghost use Rattle.std.specs.Prelude.{◌≡◌, ℕ, ◌<◌, ◌≤◌, false, length, map, get_or, count_ones, IfOk, ◌==◌, ◌||◌, ◌&&◌, true};
 ghost use Rattle.sloth_base.specs.Limits.{body_limit};
 ghost use Rattle.call_graph.specs.Bits.{is_member};
-ghost use Rattle.call_graph.specs.Rows.{row_has};
+ghost use Rattle.call_graph.specs.Rows.{row_has, is_call, is_get, is_taking, is_pause};
 ghost use Rattle.call_graph.specs.Reached.{AreFew, func_of, is_direct_call, takes_by, pauses_by, used_by};
 ghost use Rattle.call_graph.specs.Gathered.{AreGathered};
+ghost use Rattle.std.specs.List.{list_any};
 
 use crate::Result;
-use crate::calls::called;
-use crate::reached::{reached_resources, reaches_pause, reaching_tasks};
-use sloth_base::{Func, List, NoMemory};
+use crate::rows::{reached_resources, reaches_pause, reaching_tasks, with};
+use sloth_base::{Call, Func, Item, List, NoMemory, Op, Service};
 use std::alloc::Global;
 use text_pieces::push;
 
@@ -38,7 +39,6 @@ fn rank_list(alloc: Global, rows: &[u64]) -> Result<List<u32>>
     Ok(List::from_vec(list))
 }
 
-/// The resources that each function reaches taking.
 fn resource_sets(alloc: Global, funcs: &[Func], rows: &[u64]) -> Result<List<u64>>
     requires small { AreFew funcs.now }
     ensures count { IfOk result (λ list. length list ≡ length rows.now) }
@@ -53,7 +53,6 @@ fn resource_sets(alloc: Global, funcs: &[Func], rows: &[u64]) -> Result<List<u64
     Ok(List::from_vec(list))
 }
 
-/// Whether each function reaches a WaitEvent or a Schedule.
 fn pausing_functions(alloc: Global, funcs: &[Func], rows: &[u64]) -> Result<List<bool>>
     requires { length funcs.now ≤ body_limit }
     ensures count { IfOk result (λ list. length list ≡ length rows.now) }
@@ -68,7 +67,6 @@ fn pausing_functions(alloc: Global, funcs: &[Func], rows: &[u64]) -> Result<List
     Ok(List::from_vec(list))
 }
 
-/// The tasks that reach each function.
 fn user_sets(alloc: Global, funcs: &[Func], rows: &[u64]) -> Result<List<u32>>
     requires small { AreFew funcs.now }
     requires same { length rows.now ≡ length funcs.now }
@@ -119,4 +117,68 @@ impl Drop for Ranks {
             users: _,
         } = self;
     }
+}
+
+fn with_call(calls: u64, op: Op) -> u64
+    requires { (g : ℕ) → is_call g op ≡ true → g < 64 }
+    ensures { (g : ℕ) → is_member result g ≡ (is_member calls g || is_call g op) }
+{
+    match op {
+        Op::Invoke { func } => with(calls, func.0),
+        _ => calls,
+    }
+}
+
+/// The functions that these items call.
+pub fn called(items: &[Item]) -> u64
+    requires { (g : ℕ) → list_any (λ item. is_call g item.op) items.now ≡ true → g < 64 }
+    ensures { (g : ℕ) → is_member result g ≡ list_any (λ item. is_call g item.op) items.now }
+{
+    let mut calls = 0;
+    for item in items {
+        calls = with_call(calls, item.op);
+    }
+    calls
+}
+
+fn with_object(taken: u64, call: Call) -> u64
+    requires { (r : ℕ) → (is_get call.service && (call.object == r)) ≡ true → r < 64 }
+    ensures { (r : ℕ) → is_member result r ≡ (is_member taken r || (is_get call.service && (call.object == r))) }
+{
+    match call.service {
+        Service::GetResource => with(taken, call.object),
+        _ => taken,
+    }
+}
+
+fn with_taken(taken: u64, op: Op) -> u64
+    requires { (r : ℕ) → is_taking r op ≡ true → r < 64 }
+    ensures { (r : ℕ) → is_member result r ≡ (is_member taken r || is_taking r op) }
+{
+    match op {
+        Op::Serve(call) => with_object(taken, call),
+        _ => taken,
+    }
+}
+
+/// The resources that these items take.
+pub fn taken(items: &[Item]) -> u64
+    requires { (r : ℕ) → list_any (λ item. is_taking r item.op) items.now ≡ true → r < 64 }
+    ensures { (r : ℕ) → is_member result r ≡ list_any (λ item. is_taking r item.op) items.now }
+{
+    let mut resources = 0;
+    for item in items {
+        resources = with_taken(resources, item.op);
+    }
+    resources
+}
+
+/// Whether one of these items waits or calls Schedule.
+pub fn pauses(items: &[Item]) -> bool
+    ensures { result ≡ list_any (λ item. is_pause item.op) items.now }
+{
+    items.iter().any(|item| (match item.op {
+        Op::Serve(call) => matches!(call.service, Service::WaitEvent | Service::Schedule),
+        _ => false,
+    }))
 }

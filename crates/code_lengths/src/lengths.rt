@@ -1,12 +1,12 @@
-//! How many instructions each piece of generated code has.
-ghost use Rattle.std.specs.Prelude.{◌≡◌, ◌<◌, ◌≤◌, ◌*◌, ◌↔◌, ℕ, All, IsTrue, length};
+//! How many instructions each piece of generated code has. How many instructions generated code executes at most.
+ghost use Rattle.std.specs.Prelude.{◌≡◌, ◌<◌, ◌≤◌, ◌*◌, ◌↔◌, ℕ, All, IsTrue, length, ◌+◌, ◌==◌, cond};
 ghost use Rattle.sloth_base.specs.Blocks.{block_count};
-ghost use Rattle.sloth_base.specs.Limits.{task_limit, counter_limit, frame_limit};
+ghost use Rattle.sloth_base.specs.Limits.{task_limit, counter_limit, frame_limit, alarm_limit};
 ghost use Rattle.code_lengths.specs.Bodies.{IsBodyPlace};
-ghost use Rattle.code_lengths.specs.CodeLengths.{lines_length, boot_length, prologue_length, service_counts};
-ghost use Rattle.code_lengths.specs.CodeLengths.{service_length, block_length, IsPrologueLength};
+ghost use Rattle.code_lengths.specs.CodeLengths.{lines_length, boot_length, prologue_length, service_counts, service_length, block_length, IsPrologueLength, sets_events_of, is_looked_at, action_length, tick_length};
+ghost use Rattle.code_lengths.specs.LongestPaths.{going_path, leaving_path, served_path, entry_path, tick_path, boot_path};
 
-use sloth_base::{App, Config, Func, Service, TaskDecl, TaskId, block_service};
+use sloth_base::{Action, AlarmDecl, App, Config, Func, Service, TaskDecl, TaskId, block_service};
 
 /// The instructions of boot without a task.
 const BOOT_ALONE: u32 = 10;
@@ -135,7 +135,6 @@ pub fn body_of(funcs: &[Func], task: TaskId) -> usize
     0
 }
 
-/// Whether a function is the body of a task.
 fn is_task_body(func: &Func, task: TaskId) -> bool
     ensures { IsTrue result ↔ (func.now.task ≡ Some task) }
 {
@@ -143,4 +142,133 @@ fn is_task_body(func: &Func, task: TaskId) -> bool
         Some(owner) => owner.0 == task.0,
         None => false,
     }
+}
+
+/// The instructions of a tick without an alarm.
+const TICK_ALONE: u32 = 11;
+
+/// Those of an alarm that activates a task.
+const ACTIVATION: u32 = 13;
+
+/// Those of an alarm that sets events of a task, but for the look at it.
+const EVENT: u32 = 24;
+
+/// Those of the look at a task.
+const LOOK: u32 = 10;
+
+/// Whether an action sets events of this task.
+pub fn sets_events_of(task: TaskId, action: &Action) -> bool
+    ensures { result ≡ sets_events_of task action.now }
+{
+    match *action {
+        Action::Activate(_) => false,
+        Action::Set(other, _) => other.0 == task.0,
+    }
+}
+
+/// Whether one of these alarms is the counter's and sets events of the task.
+fn is_looked_at(counter: u32, task: TaskId, alarms: &[AlarmDecl]) -> bool
+    ensures { result ≡ is_looked_at counter task alarms.now }
+{
+    alarms.iter().any(|alarm| alarm.counter == counter && sets_events_of(task, &alarm.action))
+}
+
+/// How many instructions an alarm adds to the tick of a counter, with the look at its task: none where it is another's.
+fn alarm_length(counter: u32, alarm: &AlarmDecl, later: &[AlarmDecl]) -> u32
+    ensures is { result ≡ cond (alarm.now.counter == counter) (action_length counter alarm.now.action later.now) 0 }
+    ensures short { result ≤ 34 }
+{
+    if alarm.counter != counter {
+        return 0;
+    }
+    match alarm.action {
+        Action::Activate(_) => ACTIVATION,
+        Action::Set(task, _) => {
+            if is_looked_at(counter, task, later) {
+                EVENT
+            } else {
+                EVENT + LOOK
+            }
+        }
+    }
+}
+
+/// How many instructions, each of one word, the tick of a counter has among these alarms, at most 32: from 11 to 1,099.
+pub fn tick_length(counter: u32, alarms: &[AlarmDecl]) -> u32
+    requires { length alarms.now ≤ alarm_limit }
+    ensures is { result ≡ tick_length counter alarms.now }
+    ensures short { result ≤ 11 + 34 * length alarms.now }
+{
+    let mut total = TICK_ALONE;
+    for i in 0..alarms.len() {
+        total += alarm_length(counter, &alarms[i], &alarms[i + 1..]);
+    }
+    total
+}
+
+/// The way back from Schedule.
+const WAY_BACK: u32 = 4;
+
+/// The code of a service behind which its caller goes on; 0 where it never does.
+pub fn going_path(service: Service) -> u32
+    ensures is { result ≡ going_path service }
+    ensures short { result ≤ 22 }
+{
+    service_counts(service).going
+}
+
+/// The code of a service with which its caller leaves, by whether it chains itself; 0 where it never does.
+pub fn leaving_path(service: Service, itself: bool) -> u32
+    ensures is { result ≡ leaving_path service itself }
+    ensures short { result ≤ 86 }
+{
+    match service {
+        Service::TerminateTask => 49,
+        Service::ChainTask => { if itself { 54 } else { 60 } }
+        Service::WaitEvent => 86,
+        _ => 0,
+    }
+}
+
+/// What a service adds to its caller's counts where the caller goes on.
+pub fn served_path(service: Service) -> u32
+    ensures is { result ≡ served_path service }
+    ensures short { result ≤ 22 }
+{
+    match service {
+        Service::Schedule => going_path(service) + WAY_BACK,
+        _ => going_path(service),
+    }
+}
+
+/// The entry of a task, extended or not, that goes on behind a wait or starts anew, whose body has so many frame words.
+pub fn entry_path(extended: bool, resumed: bool, words: u32) -> u32
+    requires { words ≤ frame_limit }
+    ensures is { result ≡ entry_path extended resumed words }
+    ensures short { result ≤ 108 }
+{
+    match (extended, resumed) {
+        (false, _) => 74 + words,
+        (true, false) => 76 + words,
+        (true, true) => 78,
+    }
+}
+
+/// The tick of a counter, whose alarms all expire at once.
+pub fn tick_path(config: &Config, counter: u32) -> u32
+    requires { length config.now.alarms ≤ alarm_limit }
+    ensures is { result ≡ tick_path config.now counter }
+    ensures short { result ≤ 12 + 34 * length config.now.alarms }
+{
+    1 + tick_length(counter, config.alarms.items())
+}
+
+/// Boot.
+pub fn boot_path(config: &Config) -> u32
+    requires tasks { length config.now.tasks ≤ task_limit }
+    requires counters { length config.now.counters ≤ counter_limit }
+    ensures is { result ≡ boot_path config.now }
+    ensures short { result ≤ 136 }
+{
+    boot_length(config.tasks.items(), config.counters.items().len() as u32)
 }

@@ -9,11 +9,9 @@
 #![tactic(auto)]
 
 mod lengths;
-mod paths;
-mod ticks;
 
 pub use lengths::{
-    block_length, body_of, boot_length, prologue_length, service_length, start_length,
+    block_length, body_of, boot_length, boot_path, entry_path, going_path, leaving_path,
+    prologue_length, served_path, service_length, sets_events_of, start_length, tick_length,
+    tick_path,
 };
-pub use paths::{boot_path, entry_path, going_path, leaving_path, served_path, tick_path};
-pub use ticks::{sets_events_of, tick_length};

@@ -52,7 +52,6 @@ pub enum CommandWords<'a> {
     Tool(ToolWords<'a>),
 }
 
-// The form that the first word asks for.
 fn form(word: &str) -> Option<Form>
     ensures some { IfSome result (λ form. word.now ≡ word_of form) }
     ensures none { IfNone result ((form : AnyForm) → word.now ≡ word_of form → ⊥) }
@@ -66,7 +65,6 @@ fn form(word: &str) -> Option<Form>
     None
 }
 
-// The command of two words.
 fn list_command(words: &[String]) -> Option<CommandWords<'_>>
     requires { length words.now ≡ 2 }
     ensures some { IfSome result (λ c. IsCommand (words_of words.now) (command_of c)) }
@@ -78,7 +76,6 @@ fn list_command(words: &[String]) -> Option<CommandWords<'_>>
     Some(CommandWords::List(words[1].as_str()))
 }
 
-// The command of three words.
 fn sample_command(words: &[String]) -> Option<CommandWords<'_>>
     requires { length words.now ≡ 3 }
     ensures some { IfSome result (λ c. IsCommand (words_of words.now) (command_of c)) }
@@ -94,7 +91,6 @@ fn sample_command(words: &[String]) -> Option<CommandWords<'_>>
     })
 }
 
-// The run of an image file that four words ask for.
 fn exec_words(words: &[String]) -> Option<ExecWords<'_>>
     requires { length words.now ≡ 4 }
     ensures some { IfSome result (λ e. IsCommand (words_of words.now) (Executes (execution_of e))) }
@@ -110,7 +106,6 @@ fn exec_words(words: &[String]) -> Option<ExecWords<'_>>
     })
 }
 
-// The command of four words: `build` or `exec`.
 fn image_command(words: &[String]) -> Option<CommandWords<'_>>
     requires { length words.now ≡ 4 }
     ensures some { IfSome result (λ c. IsCommand (words_of words.now) (command_of c)) }
@@ -127,7 +122,6 @@ fn image_command(words: &[String]) -> Option<CommandWords<'_>>
     Some(CommandWords::Exec(exec_words(words)?))
 }
 
-// The command of six words.
 fn run_command(words: &[String]) -> Option<CommandWords<'_>>
     requires { length words.now ≡ 6 }
     ensures some { IfSome result (λ c. IsCommand (words_of words.now) (command_of c)) }
@@ -146,20 +140,6 @@ fn run_command(words: &[String]) -> Option<CommandWords<'_>>
     }))
 }
 
-// The command of these words, if they are one's that is no tool.
-fn command_by_length(words: &[String]) -> Option<CommandWords<'_>>
-    ensures some { IfSome result (λ c. IsCommand (words_of words.now) (command_of c)) }
-    ensures none { IfNone result (ToolAtMost (words_of words.now)) }
-{
-    match words.len() {
-        2 => list_command(words),
-        3 => sample_command(words),
-        4 => image_command(words),
-        6 => run_command(words),
-        _ => None,
-    }
-}
-
 /// The command of these words, if they are one's.
 pub fn command(words: &[String]) -> Option<CommandWords<'_>>
     ensures some { IfSome result (λ c. IsCommand (words_of words.now) (command_of c)) }
@@ -167,7 +147,13 @@ pub fn command(words: &[String]) -> Option<CommandWords<'_>>
 {
     match tool_command(words) {
         Some(words) => Some(CommandWords::Tool(words)),
-        None => command_by_length(words),
+        None => match words.len() {
+            2 => list_command(words),
+            3 => sample_command(words),
+            4 => image_command(words),
+            6 => run_command(words),
+            _ => None,
+        },
     }
 }
 

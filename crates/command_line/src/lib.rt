@@ -1,12 +1,6 @@
 //! The program's words, the answers of its tools, and the lines that say why a command ended.
-//!
-//! Exactly the command that the words are, if they are one, and they are one at most (`command`, `one_command`); each
-//! line that says why a command ended (the last lines). What words are a command: `specs/Command`, a row for each tool
-//! in `specs/Tools`, `specs/Words`, `specs/LastLine`. Numbers, and the line of a run that stopped: `trace_text`
-//! (`number`, `stop_line`).
-//!
-//! An answer of a tool has its status, and a status its number (`ToolAnswer::status`, `Status::code`;
-//! `specs/Statuses`). Texts of answers: `specs/Lines`. Which tools read an image file: `specs/ImageReaders`.
+//! Words are one command at most (`command`, `specs/Command`, a row for each tool in `specs/Tools`); an answer has its
+//! status, and a status its number (`specs/Statuses`). Texts of answers: `specs/Lines`.
 #![tactic(auto)]
 
 pub mod answer;

@@ -15,7 +15,6 @@ pub enum Explanation {
 impl Explanation {
     ghost use Rattle.command_line.specs.Statuses.{explained_status};
 
-    // The exit status of the process.
     fn code(self) -> u8
         ensures { result ≡ explained_status self }
     {

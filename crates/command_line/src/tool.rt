@@ -4,8 +4,7 @@ ghost use Rattle.std.specs.Prelude.{◌≡◌, IfSome, IfNone, take};
 ghost use Rattle.command_line.specs.Command.{words_of};
 ghost use Rattle.command_line.specs.Words.{use_of, row_of};
 ghost use Rattle.command_line.specs.Tools.{IsAskedFor, is_meant, is_called, tool_called, tool_row, tool_word};
-ghost use Rattle.command_line.specs.Tools.{input_count, file_count, file_names, further_word, closing_word, word_count};
-ghost use Rattle.command_line.specs.Tools.{counts_limit, writes_file};
+ghost use Rattle.command_line.specs.Tools.{file_count, file_names, closing_word, word_count};
 ghost use Rattle.command_line.specs.declared.tool.Tool.{Tool as AnyTool};
 
 use crate::Counts;
@@ -107,112 +106,68 @@ const WINDOW: Option<Limit> = Some(Limit::Window {
     apart: PICTURE_LIMIT,
 });
 
-// A row of the table: the tool's first word, how many words it has, how many names stand behind its word, the word
-// behind them and the counts behind that, if it has them, and whether it writes a file.
+/// A row of the table: the tool's first word, how many words it has, how many names stand behind its word (of the files
+/// that it reads, and of a task behind them), the word behind them and the counts behind that, if it has them, and
+/// whether its last word names a file that it writes.
 #[derive(Clone, Copy)]
-struct Row {
-    word: &'static str,
-    words: usize,
-    inputs: usize,
-    further: Option<&'static str>,
-    limit: Option<Limit>,
-    writes: bool,
+pub struct Row {
+    pub word: &'static str,
+    pub words: usize,
+    pub inputs: usize,
+    pub further: Option<&'static str>,
+    pub limit: Option<Limit>,
+    pub writes: bool,
 }
 
-impl Row {
-    fn new(
-        word: &'static str,
-        words: usize,
-        inputs: usize,
-        further: Option<&'static str>,
-        limit: Option<Limit>,
-        writes: bool,
-    ) -> Row
-        ensures { result ≡ record {
-          word = word.entry;
-          words = words;
-          inputs = inputs;
-          further = further.entry;
-          limit
-              = limit;
-          writes = writes;
-        } }
-    {
-        Row {
-            word,
-            words,
-            inputs,
-            further,
-            limit,
-            writes,
-        }
-    }
+macro_rules! row {
+    ($word:expr, $words:expr, $inputs:expr, $further:expr, $limit:expr, $writes:expr) => {
+        Row { word: $word, words: $words, inputs: $inputs, further: $further, limit: $limit, writes: $writes }
+    };
 }
 
 impl Tool {
-    // Its row of the table.
-    fn row(self) -> Row
+    /// Its row of the table.
+    pub fn row(self) -> Row
         ensures is { row_of result ≡ tool_row self }
         ensures words { result.words ≡ word_count self }
     {
         match self {
-            Tool::Elf => Row::new("elf", 3, 1, None, None, true),
-            Tool::Unelf => Row::new("unelf", 3, 1, None, None, true),
-            Tool::Infer => Row::new("infer", 4, 2, None, None, true),
-            Tool::At => Row::new("at", 4, 2, None, COUNT, false),
-            Tool::AtAll => Row::new("at", 5, 2, None, COUNT, false),
-            Tool::Losses => Row::new("losses", 5, 3, None, LENGTH, false),
-            Tool::Wave => Row::new("wave", 5, 2, None, LENGTH, true),
-            Tool::Picture => Row::new("picture", 6, 2, None, WINDOW, true),
-            Tool::Check => Row::new("check", 6, 4, None, LENGTH, false),
-            Tool::Bounds => Row::new("bounds", 3, 2, None, None, false),
-            Tool::Latency => Row::new("bounds", 4, 2, Some("latency"), None, false),
-            Tool::LowerCounts => Row::new("bounds", 4, 2, Some("counts"), None, false),
-            Tool::Map => Row::new("map", 3, 2, None, None, false),
-            Tool::Shares => Row::new("shares", 3, 2, None, None, false),
-            Tool::Response => Row::new("response", 4, 3, None, None, false),
-            Tool::Why => Row::new("why", 3, 2, None, None, false),
-            Tool::TaskBound => Row::new("why", 4, 3, None, None, false),
-            Tool::TaskResponse => Row::new("response", 5, 4, None, None, false),
-            Tool::Symbols => Row::new("symbols", 4, 2, None, None, true),
-            Tool::Orti => Row::new("orti", 4, 2, None, None, true),
-            Tool::Labels => Row::new("why", 4, 2, Some("labels"), None, false),
-            Tool::TraceReason => Row::new("why", 6, 4, None, LENGTH, false),
-            Tool::Unused => Row::new("unused", 3, 2, None, None, false),
-            Tool::RunResponse => Row::new("response", 6, 4, None, LENGTH, false),
+            Tool::Elf => row!("elf", 3, 1, None, None, true),
+            Tool::Unelf => row!("unelf", 3, 1, None, None, true),
+            Tool::Infer => row!("infer", 4, 2, None, None, true),
+            Tool::At => row!("at", 4, 2, None, COUNT, false),
+            Tool::AtAll => row!("at", 5, 2, None, COUNT, false),
+            Tool::Losses => row!("losses", 5, 3, None, LENGTH, false),
+            Tool::Wave => row!("wave", 5, 2, None, LENGTH, true),
+            Tool::Picture => row!("picture", 6, 2, None, WINDOW, true),
+            Tool::Check => row!("check", 6, 4, None, LENGTH, false),
+            Tool::Bounds => row!("bounds", 3, 2, None, None, false),
+            Tool::Latency => row!("bounds", 4, 2, Some("latency"), None, false),
+            Tool::LowerCounts => row!("bounds", 4, 2, Some("counts"), None, false),
+            Tool::Map => row!("map", 3, 2, None, None, false),
+            Tool::Shares => row!("shares", 3, 2, None, None, false),
+            Tool::Response => row!("response", 4, 3, None, None, false),
+            Tool::Why => row!("why", 3, 2, None, None, false),
+            Tool::TaskBound => row!("why", 4, 3, None, None, false),
+            Tool::TaskResponse => row!("response", 5, 4, None, None, false),
+            Tool::Symbols => row!("symbols", 4, 2, None, None, true),
+            Tool::Orti => row!("orti", 4, 2, None, None, true),
+            Tool::Labels => row!("why", 4, 2, Some("labels"), None, false),
+            Tool::TraceReason => row!("why", 6, 4, None, LENGTH, false),
+            Tool::Unused => row!("unused", 3, 2, None, None, false),
+            Tool::RunResponse => row!("response", 6, 4, None, LENGTH, false),
         }
     }
 
-    /// How many names stand behind its word: of the files that it reads, and of a task behind them.
-    pub fn input_count(self) -> usize
-        ensures { result ≡ input_count self }
-    {
-        self.row().inputs
-    }
-
-    /// How many of them are of files that it reads.
+    /// How many of the names behind its word are of files that it reads.
     pub fn file_count(self) -> usize
         ensures { result ≡ file_count self }
     {
         match self {
             Tool::TaskBound => 2,
             Tool::TaskResponse => 3,
-            _ => self.input_count(),
+            _ => self.row().inputs,
         }
-    }
-
-    /// The word that stands behind these names, if one does.
-    pub fn further_word(self) -> Option<&'static str>
-        ensures { option_map (λ word. word.now) result ≡ further_word self }
-    {
-        self.row().further
-    }
-
-    /// Which counts it takes as its words behind these names, if it takes any.
-    pub fn counts_limit(self) -> Option<Limit>
-        ensures { result ≡ counts_limit self }
-    {
-        self.row().limit
     }
 
     /// The word that stands behind its counts, if one does.
@@ -223,13 +178,6 @@ impl Tool {
             Tool::AtAll => Some("all"),
             _ => None,
         }
-    }
-
-    /// Whether its last word names a file that it writes.
-    pub fn writes_file(self) -> bool
-        ensures { result ≡ writes_file self }
-    {
-        self.row().writes
     }
 
     // Of two tools of one word and as many words, whether it is the one that is asked for.
@@ -243,7 +191,6 @@ impl Tool {
         }
     }
 
-    // Whether it has this word and so many words, and is the one that is asked for.
     fn is_called(self, word: &str, count: usize, asks: bool) -> bool
         ensures { result ≡ is_called self word.now count asks }
     {
@@ -262,7 +209,6 @@ pub struct ToolWords<'a> {
     pub output: Option<&'a str>,
 }
 
-// The first words, so many of them.
 fn first_words(words: &[String], count: usize) -> &[String]
     ensures { result.now ≡ take count words.now }
 {
@@ -279,7 +225,6 @@ pub fn file_words<'a>(words: &ToolWords<'a>) -> &'a [String]
     first_words(words.inputs, words.tool.file_count())
 }
 
-// The first of the tools that is called so.
 #[tactic(auto, unfolding(crate::specs::Tools::tool_called))]
 fn tool_called(word: &str, count: usize, asks: bool) -> Option<Tool>
     ensures { result ≡ tool_called word.now count asks }

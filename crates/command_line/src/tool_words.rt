@@ -14,7 +14,6 @@ use crate::tool::{ToolWords, tool_named};
 use crate::{Counts, Window};
 use trace_text::number_below;
 
-// The words behind the first ones, so many of them.
 fn words_behind(words: &[String], count: usize) -> &[String]
     requires { count ≤ length words.now }
     ensures { result.now ≡ drop count words.now }
@@ -71,7 +70,6 @@ struct CountsAndRest<'a> {
     rest: &'a [String],
 }
 
-// The window from one word to below another.
 fn window(from: &str, to: &str, most: u32, apart: u32) -> Option<Window>
     ensures some { IfSome result (λ w. (from.now ≡ decimal w.from) × (to.now ≡ decimal w.to) × IsWindow most apart w) }
     ensures none { IfNone result
@@ -85,7 +83,6 @@ fn window(from: &str, to: &str, most: u32, apart: u32) -> Option<Window>
     Some(Window { from, to })
 }
 
-// The number that these words begin with.
 fn number_and_rest(most: u32, words: &[String]) -> Option<CountsAndRest<'_>>
     ensures some { IfSome result
         (λ c. BeginWith (Some (limit.One most)) (words_of words.now) c.counts (words_of c.rest.now)) }
@@ -99,7 +96,6 @@ fn number_and_rest(most: u32, words: &[String]) -> Option<CountsAndRest<'_>>
     })
 }
 
-// The window that these words begin with.
 fn window_and_rest(most: u32, apart: u32, words: &[String]) -> Option<CountsAndRest<'_>>
     ensures some { IfSome result
         (λ c. BeginWith (Some (limit.Window most apart)) (words_of words.now) c.counts (words_of c.rest.now)) }
@@ -116,7 +112,6 @@ fn window_and_rest(most: u32, apart: u32, words: &[String]) -> Option<CountsAndR
     })
 }
 
-// The counts that these words begin with, where there is a limit of them.
 fn counts_and_rest(limit: Option<Limit>, words: &[String]) -> Option<CountsAndRest<'_>>
     ensures some { IfSome result (λ c. BeginWith limit (words_of words.now) c.counts (words_of c.rest.now)) }
     ensures none { IfNone result
@@ -132,7 +127,6 @@ fn counts_and_rest(limit: Option<Limit>, words: &[String]) -> Option<CountsAndRe
     }
 }
 
-// The file that is written, where one is.
 fn output_word(writes: bool, words: &[String]) -> Option<Option<&str>>
     ensures some { IfSome result (λ o. (words_of words.now ≡ output_words (option_map (λ name. name.now) o)) × IsOutput
         writes (option_map (λ name. name.now) o)) }
@@ -154,14 +148,15 @@ pub fn tool_command(words: &[String]) -> Option<ToolWords<'_>>
     ensures none { IfNone result (NoTool (words_of words.now)) }
 {
     let tool = tool_named(words.first()?, words.len(), asks_second(words))?;
-    let behind = tool.input_count() + 1;
+    let row = tool.row();
+    let behind = row.inputs + 1;
     if words.len() < behind {
         return None;
     }
-    let rest = behind_word(tool.further_word(), words_behind(words, behind))?;
-    let counted = counts_and_rest(tool.counts_limit(), rest)?;
+    let rest = behind_word(row.further, words_behind(words, behind))?;
+    let counted = counts_and_rest(row.limit, rest)?;
     let closed = behind_word(tool.closing_word(), counted.rest)?;
-    let output = output_word(tool.writes_file(), closed)?;
+    let output = output_word(row.writes, closed)?;
     Some(ToolWords {
         tool,
         inputs: &words[1..behind],

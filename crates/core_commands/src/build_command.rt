@@ -4,7 +4,7 @@ ghost use Rattle.std.specs.Prelude.{◌≡◌, ◌≤◌, IfOk, IfErr, OnOk, len
 ghost use Rattle.sloth_base.specs.Arrivals.{AreArrivals};
 ghost use Rattle.sloth_base.specs.Owners.{owners_in, owners_named};
 ghost use Rattle.sloth_base.specs.ImageRange.{InFormat};
-ghost use Rattle.sloth_base.specs.Limits.{file_limit, count_limit};
+ghost use Rattle.sloth_base.specs.Limits.{file_limit};
 ghost use Rattle.sloth_io.specs.Store.{KeepsFiles, AreDelivered, Holds};
 ghost use Rattle.image_file.specs.ImageText.{image_bytes};
 ghost use Rattle.sloth_source.specs.Texts.{AreAccepted, SourcesErrorIs};
@@ -12,8 +12,8 @@ ghost use Rattle.command_line.specs.Command.{Builds, IsInLimit};
 ghost use Rattle.command_line.specs.Words.{building_of, run_of};
 ghost use Rattle.run_inputs.specs.Inputs.{AreArrivalsOf};
 ghost use Rattle.command_line.specs.LastLine.{built_line};
-ghost use Rattle.sloth_runner.specs.Runner.{IsFresh, image_of, given_arrivals, run_text};
-ghost use Rattle.core_commands.specs.Top.{world, arrival_deliveries, text_deliveries, AreInputs, HoldsArrivals, IsBuiltImage, IsWritten, done_text, IsTextTaken};
+ghost use Rattle.core_commands.specs.Top.{world, arrival_deliveries, text_deliveries, AreInputs, HoldsArrivals};
+ghost use Rattle.core_commands.specs.Top.{IsBuiltImage, IsWritten, done_text, IsTextTaken};
 ghost use Rattle.core_commands.specs.CommandFiles.{AreFirstDelivered, arrivals_named, inputs_of};
 ghost use Rattle.sloth_base.specs.DeclaredNames.{task_names, counter_names};
 ghost use Rattle.core_commands.specs.Failures.{IsReadFailure, IsJudgeFailure, IsPerformFailure, IsFetchFailure};
@@ -21,7 +21,7 @@ ghost use Rattle.core_commands.specs.Failures.{IsReadFailure, IsJudgeFailure, Is
 use crate::Failure;
 use command_line::{BuildWords, RunWords, built_line};
 use image_file::write_image;
-use sloth_base::{Arrival, BuildError, FILE_LIMIT, Image};
+use sloth_base::{Arrival, BuildError, FILE_LIMIT, Image, List};
 use sloth_build::{Built, build};
 use sloth_io::{Sink, Store};
 use sloth_runner::Runner;
@@ -92,7 +92,7 @@ pub fn read_inputs<F: Store>(
 /// What is built, and the arrivals.
 pub struct Judged {
     pub built: Built,
-    pub arrivals: Vec<Arrival>,
+    pub arrivals: List<Arrival>,
 }
 
 // Written out: what is derived is proved anew wherever a value is let go.
@@ -114,8 +114,8 @@ pub fn judge(alloc: Global, inputs: &Inputs) -> Result<Judged, Failure>
         (λ judged. AreAccepted inputs.now.oil.items inputs.now.src.items judged.built.config judged.built.app) }
     ensures image { IfOk result (λ judged. IsBuiltImage judged.built.config judged.built.app judged.built.image) }
     ensures read { IfOk result (λ judged. AreArrivalsOf (task_names judged.built.config)
-        (counter_names judged.built.config) inputs.now.arr.items judged.arrivals.items) }
-    ensures in_range { IfOk result (λ judged. AreArrivals (owners_in judged.built.config) judged.arrivals.items) }
+        (counter_names judged.built.config) inputs.now.arr.items judged.arrivals) }
+    ensures in_range { IfOk result (λ judged. AreArrivals (owners_in judged.built.config) judged.arrivals) }
     ensures err { IfErr result
         (λ failure. IsJudgeFailure failure inputs.now.oil.items inputs.now.src.items inputs.now.arr.items) }
 {
@@ -126,50 +126,10 @@ pub fn judge(alloc: Global, inputs: &Inputs) -> Result<Judged, Failure>
         built.image.tasks.items(),
         built.image.counters.items(),
     )?;
-    Ok(Judged { built, arrivals })
-}
-
-// Writes the image's file, and puts its length.
-fn perform_build<F: Store, S: Sink>(
-    files: &mut F,
-    out: &mut S,
-    img: &str,
-    bytes: &[u8],
-) -> Result<(), Failure>
-    ensures written { OnOk result (IsWritten (F.seen files.old) (F.seen files.new) img.now bytes.now) }
-    ensures text { OnOk result (IsTextTaken (S.seen out.old) (S.seen out.new) (built_line (length bytes.now))) }
-    ensures err { IfErr result (λ failure.
-        IsPerformFailure failure (world (F.seen files.old) (S.seen out.old)) (world (F.seen files.new) (S.seen out.new))
-        img.now bytes.now (built_line (length bytes.now))) }
-    ensures reads { (F.seen files.new).reads ≡ (F.seen files.old).reads }
-{
-    files.write(img, bytes).map_err(|_| Failure::WriteFile)?;
-    out.put(built_line(bytes.len()).bytes())?;
-    Ok(())
-}
-
-// Writes the image's file, runs the image of a runner that has run nothing, and puts its lines.
-fn write_and_run<F: Store, S: Sink>(
-    files: &mut F,
-    out: &mut S,
-    img: &str,
-    run: &RunWords,
-    bytes: &[u8],
-    runner: &mut Runner,
-) -> Result<(), Failure>
-    requires fresh { IsFresh runner.old }
-    requires few { run.now.n ≤ count_limit }
-    ensures written { OnOk result (IsWritten (F.seen files.old) (F.seen files.new) img.now bytes.now) }
-    ensures text { OnOk result (IsTextTaken (S.seen out.old) (S.seen out.new)
-        (run_text (image_of runner.old) (given_arrivals runner.old) run.now.form run.now.n)) }
-    ensures err { IfErr result (λ failure.
-        IsPerformFailure failure (world (F.seen files.old) (S.seen out.old)) (world (F.seen files.new) (S.seen out.new))
-        img.now bytes.now (run_text (image_of runner.old) (given_arrivals runner.old) run.now.form run.now.n)) }
-    ensures reads { (F.seen files.new).reads ≡ (F.seen files.old).reads }
-{
-    files.write(img, bytes).map_err(|_| Failure::WriteFile)?;
-    runner.run(run.n, run.form, out)?;
-    Ok(())
+    Ok(Judged {
+        built,
+        arrivals: List::from_vec(arrivals),
+    })
 }
 
 /// Writes the image's file, runs the image where the words say so, and puts the lines.
@@ -195,10 +155,20 @@ pub fn perform<F: Store, S: Sink>(
 {
     let bytes = write_image(alloc, image)?;
     match &c.run {
-        None => perform_build(files, out, c.img, bytes.as_slice()),
+        None => {
+            files
+                .write(c.img, bytes.as_slice())
+                .map_err(|_| Failure::WriteFile)?;
+            out.put(built_line(bytes.len()).bytes())?;
+            Ok(())
+        }
         Some(run) => {
             let mut runner = Runner::new(alloc, image, arrivals)?;
-            write_and_run(files, out, c.img, run, bytes.as_slice(), &mut runner)
+            files
+                .write(c.img, bytes.as_slice())
+                .map_err(|_| Failure::WriteFile)?;
+            runner.run(run.n, run.form, out)?;
+            Ok(())
         }
     }
 }

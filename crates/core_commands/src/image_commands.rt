@@ -15,7 +15,8 @@ ghost use Rattle.core_commands.specs.ImageAnswers.{end_status};
 ghost use Rattle.sloth_runner.specs.Runner.{IsFresh, image_of, given_arrivals, run_end};
 ghost use Rattle.core_commands.specs.Top.{world, IsTextTaken};
 ghost use Rattle.core_commands.specs.CommandFiles.{AreFirstDelivered, inputs_of};
-ghost use Rattle.core_commands.specs.Failures.{IsReadFailure, IsLoadFailure, IsLinesFailure, IsLineFailure, IsCommandFailure, IsPerformed};
+ghost use Rattle.core_commands.specs.Failures.{IsReadFailure, IsLoadFailure, IsLinesFailure, IsLineFailure};
+ghost use Rattle.core_commands.specs.Failures.{IsCommandFailure, IsPerformed};
 ghost use Rattle.command_line.specs.declared.status.Status.TheVariants.{Done as DoneStatus};
 ghost use Rattle.trace_text.specs.Listing.{listing, line_at};
 ghost use Rattle.core_commands.specs.ToolTables.{LacksTools};
@@ -159,8 +160,8 @@ fn put_lines<S: Sink>(image: &Image, out: &mut S) -> Result<(), Failure>
     Ok(())
 }
 
-// Lists an image file, but for the last line of a failure.
-fn list_file<F: Store, S: Sink>(
+/// Lists an image file, but for the last line of a failure.
+pub fn list<F: Store, S: Sink>(
     alloc: Global,
     files: &mut F,
     out: &mut S,
@@ -175,23 +176,6 @@ fn list_file<F: Store, S: Sink>(
     let file = fetch(alloc, files, img)?;
     let image = read_image(alloc, file.as_slice())?;
     put_lines(&image, out)
-}
-
-/// Lists an image file, but for the last line of a failure.
-pub fn list<F: Store, S: Sink>(
-    alloc: Global,
-    files: &mut F,
-    out: &mut S,
-    img: &str,
-) -> Result<Status, Failure>
-    ensures done { IfOk result (λ status. IsPerformed LacksTools status (world (call_files (F.seen files.old)
-        (F.seen files.new)) (S.seen out.old)) (world (F.seen files.new) (S.seen out.new)) (Lists img.now)) }
-    ensures err { IfErr result (λ failure. IsCommandFailure LacksTools failure (world (call_files (F.seen files.old)
-        (F.seen files.new)) (S.seen out.old)) (world (F.seen files.new) (S.seen out.new)) (Lists img.now)) }
-    ensures reads { AreFirstDelivered (F.seen files.old) (F.seen files.new) (inputs_of (Lists img.now)) }
-{
-    list_file(alloc, files, out, img)?;
-    Ok(Status::Done)
 }
 
 // Puts line k.

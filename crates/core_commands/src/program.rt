@@ -4,7 +4,7 @@ ghost use Rattle.std.specs.Process.{exit_status};
 ghost use Rattle.sloth_io.specs.FileStore.{shown_files, untold_files};
 ghost use Rattle.sloth_io.specs.OutSink.{shown_output, accepted_bytes, given_bytes};
 ghost use Rattle.command_line.specs.Command.{words_of};
-ghost use Rattle.core_commands.specs.ProgramRun.{IsProgramRun, IsProcessEnd, HasGivenRun, HasTopRun};
+ghost use Rattle.core_commands.specs.ProgramRun.{IsProgramRun, IsProcessEnd, HasTopRun};
 ghost use Rattle.core_commands.specs.ToolTables.{LacksTools};
 
 use crate::core_top;
@@ -60,19 +60,12 @@ pub fn run_words(rt: &(impl Files + Print + AllocGlobal), words: &[String]) -> S
     run_over(rt.alloc(), words, &mut files, &mut out)
 }
 
-// Runs the command of the program's words, if they can be had.
-fn answer_given(rt: &(impl Env + Files + Print + AllocGlobal)) -> Status
-    ensures { HasGivenRun (HasTopRun LacksTools) result }
-{
-    match words_given(rt) {
-        Ok(words) => run_words(rt, words.as_slice()),
-        Err(status) => status,
-    }
-}
-
 /// Runs the command of the program's words, and answers with the number of its status.
 pub fn run_program(rt: &(impl Env + Files + Print + AllocGlobal)) -> ExitCode
     ensures { IsProcessEnd (HasTopRun LacksTools) (exit_status result) }
 {
-    ExitCode::from(answer_given(rt).code())
+    match words_given(rt) {
+        Ok(words) => ExitCode::from(run_words(rt, words.as_slice()).code()),
+        Err(status) => ExitCode::from(status.code()),
+    }
 }

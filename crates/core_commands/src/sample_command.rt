@@ -17,34 +17,16 @@ ghost use Rattle.command_line.specs.declared.status.Status.TheVariants.{Done as 
 ghost use Rattle.core_commands.specs.ToolTables.{LacksTools};
 
 use crate::Failure;
-use crate::build_command::build_image;
+use crate::build_command::{Judged, build_image};
 use app_gen::{Sample, sample};
-use command_line::Status;
 use image_file::write_image;
-use sloth_base::{Arrival, COUNT_LIMIT, Image, List, TASK_LIMIT};
-use sloth_build::Built;
+use sloth_base::{Arrival, COUNT_LIMIT, Image, TASK_LIMIT};
 use sloth_io::{Sink, SinkFault, Store};
 use sloth_runner::{Runner, put_summary};
 use std::alloc::Global;
 
-// What is built of generated texts, and the arrivals.
-struct Generated {
-    built: Built,
-    arrivals: List<Arrival>,
-}
-
-// Written out: what is derived is proved anew wherever a value is let go.
-impl Drop for Generated {
-    fn drop(self) {
-        let Generated {
-            built: _,
-            arrivals: _,
-        } = self;
-    }
-}
-
 // Generates an application, and builds its image.
-fn generate(alloc: Global, seed: u32) -> Result<Generated, Failure>
+fn generate(alloc: Global, seed: u32) -> Result<Judged, Failure>
     ensures accepted { IfOk result
         (λ made. AreAccepted sample_oil (sample_source seed) made.built.config made.built.app) }
     ensures image { IfOk result (λ made. IsBuiltImage made.built.config made.built.app made.built.image) }
@@ -54,7 +36,7 @@ fn generate(alloc: Global, seed: u32) -> Result<Generated, Failure>
 {
     let Sample { oil, src, arrivals } = sample(alloc, seed, TASK_LIMIT as u32)?;
     let built = build_image(alloc, oil.items(), src.items())?;
-    Ok(Generated { built, arrivals })
+    Ok(Judged { built, arrivals })
 }
 
 // Runs the image of a runner that has run nothing, and puts the summary.
@@ -97,8 +79,8 @@ fn perform<F: Store, S: Sink>(
     Ok(())
 }
 
-// Generates an application, builds and runs its image, and puts the summary, but for the last line of a failure.
-fn attempt<F: Store, S: Sink>(
+/// Generates, builds and runs the application of a seed, and puts the run's summary, but no last line of a failure.
+pub fn sample_run<F: Store, S: Sink>(
     alloc: Global,
     files: &mut F,
     out: &mut S,
@@ -120,22 +102,4 @@ fn attempt<F: Store, S: Sink>(
         &made.built.image,
         made.arrivals.items(),
     )
-}
-
-/// Generates, builds and runs the application of a seed, and puts the run's summary, but no last line of a failure.
-pub fn sample_run<F: Store, S: Sink>(
-    alloc: Global,
-    files: &mut F,
-    out: &mut S,
-    seed: u32,
-    img: &str,
-) -> Result<Status, Failure>
-    ensures done { IfOk result (λ status. IsPerformed LacksTools status (world (call_files (F.seen files.old)
-        (F.seen files.new)) (S.seen out.old)) (world (F.seen files.new) (S.seen out.new)) (Samples seed img.now)) }
-    ensures err { IfErr result (λ failure. IsCommandFailure LacksTools failure (world (call_files (F.seen files.old)
-        (F.seen files.new)) (S.seen out.old)) (world (F.seen files.new) (S.seen out.new)) (Samples seed img.now)) }
-    ensures reads { AreFirstDelivered (F.seen files.old) (F.seen files.new) (inputs_of (Samples seed img.now)) }
-{
-    attempt(alloc, files, out, seed, img)?;
-    Ok(Status::Done)
 }

@@ -48,7 +48,7 @@ fn attempt<F: Store, S: Sink>(
         out,
         c,
         &judged.built.image,
-        judged.arrivals.as_slice(),
+        judged.arrivals.items(),
     )
 }
 
@@ -58,9 +58,7 @@ fn own_command(words: &[String]) -> Option<CommandWords<'_>>
     ensures plain { IfSome result (λ c. IsNoTool (command_of c)) }
     ensures none { IfNone result (NoOwnCommand (words_of words.now)) }
 {
-    let Some(c) = command(words) else {
-        return None;
-    };
+    let c = command(words)?;
     match c {
         CommandWords::Build(_)
         | CommandWords::Exec(_)
@@ -91,8 +89,14 @@ fn obey<F: Store, S: Sink>(
             Ok(Status::Done)
         }
         CommandWords::Exec(e) => execute(alloc, files, out, e),
-        CommandWords::List(img) => list(alloc, files, out, img),
-        CommandWords::Sample { seed, img } => sample_run(alloc, files, out, *seed, img),
+        CommandWords::List(img) => {
+            list(alloc, files, out, img)?;
+            Ok(Status::Done)
+        }
+        CommandWords::Sample { seed, img } => {
+            sample_run(alloc, files, out, *seed, img)?;
+            Ok(Status::Done)
+        }
         CommandWords::Tool(_) => Ok(Status::Usage),
     }
 }

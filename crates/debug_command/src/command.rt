@@ -8,7 +8,7 @@ ghost use Rattle.sloth_io.specs.Store.{KeepsFiles};
 ghost use Rattle.debug_view.specs.ShownRun.{run_of};
 ghost use Rattle.debug_session.specs.Serving.{HasEnded, IsHandedOn};
 ghost use Rattle.debug_command.specs.DebugAnswers.{IsCloseAnswer, IsLineAnswer, IsSaid, IsSessionEnd, IsTextsAnswer};
-ghost use Rattle.debug_command.specs.DebugAnswers.{IsDebugAnswer, end_status, heard};
+ghost use Rattle.debug_command.specs.DebugAnswers.{IsDebugAnswer, heard};
 ghost use Rattle.debug_command.specs.Words.{debugging_of};
 
 use crate::DebugWords;
@@ -43,7 +43,6 @@ fn say<S: Sink>(out: &mut S, line: &[u8], status: Status) -> Status
     }
 }
 
-// Tells why there is no session.
 fn tell<S: Sink>(out: &mut S, cause: Cause) -> Status
     ensures said { IsSaid cause result (S.seen out.old) (S.seen out.new) }
     ensures passed { result ≢ Status.WriteFault → S.passed_on out.new }
@@ -57,7 +56,6 @@ fn tell<S: Sink>(out: &mut S, cause: Cause) -> Status
     }
 }
 
-// A session over the run of a machine that stands at its start.
 fn serve_machine<I: Input, S: Sink, M: Machine>(
     alloc: Global,
     input: &mut I,
@@ -82,7 +80,6 @@ fn serve_machine<I: Input, S: Sink, M: Machine>(
     }
 }
 
-// A session over the run of an image.
 fn session<I: Input, S: Sink>(
     alloc: Global,
     input: &mut I,
@@ -126,19 +123,6 @@ fn flushed_session<I: Input, S: Sink>(
     }
 }
 
-// The status of a session's end.
-fn end_status(end: Result<(), SessionFault>) -> Status
-    ensures { result ≡ end_status end }
-{
-    match end {
-        Ok(()) => Status::Done,
-        Err(SessionFault::Read) => Status::ReadFault,
-        Err(SessionFault::Write) => Status::WriteFault,
-        Err(SessionFault::NoMemory) => Status::NoMemory,
-    }
-}
-
-// A session over what the two files mean.
 fn served<I: Input, S: Sink>(
     alloc: Global,
     input: &mut I,
@@ -153,18 +137,15 @@ fn served<I: Input, S: Sink>(
         transcript.new.notes.items) (S.seen out.old) (S.seen out.new) result }
     ensures passed { result ≢ Status.WriteFault → S.passed_on out.new }
 {
-    let end = flushed_session(
-        alloc,
-        input,
-        out,
-        transcript,
-        &run.image,
-        run.arrivals.as_slice(),
-    );
-    end_status(end)
+    let arrivals = run.arrivals.as_slice();
+    match flushed_session(alloc, input, out, transcript, &run.image, arrivals) {
+        Ok(()) => Status::Done,
+        Err(SessionFault::Read) => Status::ReadFault,
+        Err(SessionFault::Write) => Status::WriteFault,
+        Err(SessionFault::NoMemory) => Status::NoMemory,
+    }
 }
 
-// A session over what these texts mean, or why there is none.
 fn judge<I: Input, S: Sink>(
     alloc: Global,
     input: &mut I,
@@ -201,14 +182,11 @@ pub fn debug<F: Store, I: Input, S: Sink>(
     ensures keeps { KeepsFiles (F.seen files.old) (F.seen files.new) }
 {
     match read_texts(alloc, files, words) {
-        Ok(texts) => judge(
-            alloc,
-            input,
-            out,
-            transcript,
-            texts.img.as_slice(),
-            texts.arr.as_slice(),
-        ),
+        Ok(texts) => {
+            let img = texts.img.as_slice();
+            let arr = texts.arr.as_slice();
+            judge(alloc, input, out, transcript, img, arr)
+        }
         Err(cause) => tell(out, cause),
     }
 }

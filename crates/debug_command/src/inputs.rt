@@ -61,7 +61,6 @@ impl From<BuildError> for Cause {
     }
 }
 
-// The bytes of a file, of which there are at most 4 MiB.
 fn fetch<F: Store>(alloc: Global, files: &mut F, name: &str) -> Result<Vec<u8>, Cause>
     ensures ok { IfOk result (λ bytes. IsFile (F.seen files.old) name.now bytes.items) }
     ensures err { IfErr result (λ cause. IsUnreadFile cause (F.seen files.old) (F.seen files.new) name.now) }

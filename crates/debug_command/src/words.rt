@@ -1,5 +1,5 @@
 //! The words of the command. A session of the program: over the system's files and standard output.
-ghost use Rattle.std.specs.Prelude.{◌≡◌, IfSome, IfNone, length, codes, true, []};
+ghost use Rattle.std.specs.Prelude.{◌≡◌, IfSome, IfNone, codes, true, []};
 ghost use Rattle.command_line.specs.Command.{words_of};
 ghost use Rattle.debug_command.specs.Words.{Debugging as AnyDebugging, IsDebugging, debugging_of};
 ghost use Rattle.sloth_io.specs.FileStore.{shown_files, untold_files};
@@ -21,27 +21,11 @@ pub struct DebugWords<'a> {
     pub arr: &'a str,
 }
 
-// Whether the first word asks for a session.
 fn is_debug(word: &str) -> bool
     ensures yes { result ≡ true → word.now ≡ codes "debug" }
     ensures no { word.now ≡ codes "debug" → result ≡ true }
 {
     word == "debug"
-}
-
-// What three words ask for.
-fn three_words(words: &[String]) -> Option<DebugWords<'_>>
-    requires { length words.now ≡ 3 }
-    ensures some { IfSome result (λ asked. IsDebugging (words_of words.now) (debugging_of asked)) }
-    ensures none { IfNone result ((d : AnyDebugging) → IsDebugging (words_of words.now) d → ⊥) }
-{
-    if !is_debug(words[0].as_str()) {
-        return None;
-    }
-    Some(DebugWords {
-        img: words[1].as_str(),
-        arr: words[2].as_str(),
-    })
 }
 
 /// The words `debug IMG ARR`, if they are such.
@@ -52,7 +36,13 @@ pub fn debug_words(words: &[String]) -> Option<DebugWords<'_>>
     if words.len() != 3 {
         return None;
     }
-    three_words(words)
+    if !is_debug(words[0].as_str()) {
+        return None;
+    }
+    Some(DebugWords {
+        img: words[1].as_str(),
+        arr: words[2].as_str(),
+    })
 }
 
 /// Serves a session over any input, and over files and standard output to which nothing was done yet. The transcript

@@ -1,8 +1,7 @@
 //! `vCont`: actions of threads.
 ghost use Rattle.std.specs.Prelude.{◌≡◌, ◌==◌, ◌&&◌, length, is_some};
 ghost use Rattle.debug_session.specs.Hex.{number_of};
-ghost use Rattle.debug_session.specs.Actions.{byte_action, text_action, part_step, chosen_request};
-ghost use Rattle.debug_session.specs.Actions.{actions_request};
+ghost use Rattle.debug_session.specs.Actions.{text_action, part_step, chosen_request, actions_request};
 
 use crate::hex::number;
 use crate::replies::Request;
@@ -26,9 +25,13 @@ pub fn is_signal(digits: &[u8]) -> bool
     digits.len() == 2 && number(digits).is_some()
 }
 
-fn byte_action(first: u8, rest: &[u8]) -> Action
-    ensures { result ≡ byte_action first rest.now }
+fn text_action(text: &[u8]) -> Action
+    ensures { result ≡ text_action text.now }
 {
+    let Some((first, rest)) = text.split_first() else {
+        return Action::NoAction;
+    };
+    let first = *first;
     if first == b'r' {
         return match told_window(rest) {
             Some(window) => Action::Stepped(window.from, window.length),
@@ -44,16 +47,6 @@ fn byte_action(first: u8, rest: &[u8]) -> Action
     Action::NoAction
 }
 
-fn text_action(text: &[u8]) -> Action
-    ensures { result ≡ text_action text.now }
-{
-    match text.split_first() {
-        Some((first, rest)) => byte_action(*first, rest),
-        None => Action::NoAction,
-    }
-}
-
-// What is asked where all parts are read.
 fn chosen_request(only: bool, chosen: &Option<Step>) -> Request
     ensures { result ≡ chosen_request only chosen.now }
 {
@@ -75,10 +68,7 @@ fn part_step(tasks: u32, part: &[u8], chosen: &Option<Step>) -> Result<Option<St
         Some(text) => thread_number(tasks, text),
         None => Ok(0),
     };
-    let thread = match told {
-        Ok(thread) => thread,
-        Err(fault) => return Err(fault),
-    };
+    let thread = told?;
     match text_action(before(part, b':')) {
         Action::Continued => Ok(*chosen),
         Action::Stepped(from, to) => match chosen {

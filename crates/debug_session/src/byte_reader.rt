@@ -5,8 +5,8 @@ ghost use Rattle.std.specs.Io.KnownBytes.{Consumes, IsAtEnd, Keeps};
 ghost use Rattle.debug_session.specs.Input.{Gives, Ends};
 
 use crate::Input;
-use crate::given::Given;
 use crate::input::InputFault;
+use crate::notes::Given;
 use std::io::Read;
 
 /// The greatest number of bytes that one read asks for.
@@ -41,7 +41,6 @@ impl<R: Read> ByteReader<R> {
         }
     }
 
-    // Reads once, and says whether bytes came.
     fn fill(&mut self) -> Result<bool, InputFault>
         requires { self.old.start ≡ self.old.end }
         ensures kept { Keeps (left_bytes R.remaining self.old) (left_bytes R.remaining self.new) }

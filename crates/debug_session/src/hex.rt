@@ -74,7 +74,6 @@ pub fn bytes_of_hex(alloc: Global, text: &[u8]) -> Result<Option<Vec<u8>>>
     Ok(Some(bytes))
 }
 
-// A byte with its bit 5 the other way.
 fn turned(byte: u8) -> u8
     ensures { result ≡ turned byte }
 {

@@ -1,11 +1,11 @@
-//! What is sent at each message beside the answer to it.
+//! Packets as they are written, and what is sent at each message beside the answer to it.
 ghost use Rattle.std.specs.Prelude.{◌≡◌, ◌++◌, OnOk};
-ghost use Rattle.debug_session.specs.Framing.{framed};
+ghost use Rattle.debug_session.specs.Framing.{framed, checksum};
 ghost use Rattle.debug_session.specs.Acknowledging.{first_sending, sent, acknowledged, refused, repeated};
 ghost use Rattle.debug_session.specs.Sessions.{sending_behind};
 
+use crate::hex::{hex_digit, push_escaped};
 use crate::replies::Request;
-use crate::writing::push_packet;
 use sloth_base::Result;
 use std::alloc::Global;
 use std::marker::Model;
@@ -87,4 +87,27 @@ impl Link {
         out.extend_from_slice(self.last.as_slice())?;
         Ok(())
     }
+}
+
+fn checksum(bytes: &[u8]) -> u8
+    ensures { result ≡ checksum bytes.now }
+{
+    let mut sum = 0u8;
+    for byte in bytes {
+        sum = sum.wrapping_add(*byte);
+    }
+    sum
+}
+
+/// Puts data as a packet.
+pub fn push_packet(alloc: Global, out: &mut Vec<u8>, content: &[u8]) -> Result<()>
+    ensures { OnOk result (out.new.items ≡ out.old.items ++ framed content.now) }
+{
+    let mut bytes = Vec::new(alloc);
+    push_escaped(&mut bytes, content)?;
+    let sum = checksum(bytes.as_slice());
+    out.extend_from_slice(b"$")?;
+    out.extend_from_slice(bytes.as_slice())?;
+    out.extend_from_slice(&[b'#', hex_digit(sum / 16), hex_digit(sum % 16)])?;
+    Ok(())
 }

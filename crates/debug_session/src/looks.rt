@@ -32,7 +32,6 @@ pub fn push_registers<M: Machine>(
     Ok(())
 }
 
-// The byte so many places behind an address.
 fn memory_byte<M: Machine>(
     cursor: &mut Cursor<M>,
     count: u32,
@@ -49,7 +48,6 @@ fn memory_byte<M: Machine>(
     }
 }
 
-// Puts the bytes from an address on, so many at most, up to the first one that is not there.
 fn push_bytes<M: Machine>(
     out: &mut Vec<u8>,
     cursor: &mut Cursor<M>,

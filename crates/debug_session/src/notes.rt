@@ -1,5 +1,5 @@
-//! Reads and writes, which only proofs read. They take no memory, and their methods do nothing at run time.
-ghost use Rattle.std.specs.Prelude.{◌≡◌, List, [], ◌∷◌, ◌++◌};
+//! What is read and written, and what an input gave, for proofs alone: no memory, and nothing is done at run time.
+ghost use Rattle.std.specs.Prelude.{◌≡◌, List, [], ◌∷◌, ◌++◌, ℕ};
 ghost use Rattle.std.specs.Borrow.{ftrue};
 ghost use Rattle.debug_session.specs.Transcripts.{Act, Read, Write};
 
@@ -35,5 +35,31 @@ impl Notes {
         ensures { result.items ≡ self.now.items ++ Write bytes.now ∷ [] }
     {
         Notes {}
+    }
+}
+
+/// Bytes, in the order in which they were given. A clause reads them as `items`.
+#[derive(Drop)]
+pub struct Given {
+    pub ghost items: { List ℕ },
+}
+
+impl Model for Given {
+    ghost also_owns = { λ _. ftrue };
+}
+
+impl Given {
+    /// None yet.
+    pub fn new() -> Given
+        ensures { result.items ≡ [] }
+    {
+        Given {}
+    }
+
+    /// The same with these bytes behind it.
+    pub fn and(&self, bytes: &[u8]) -> Given
+        ensures { result.items ≡ self.now.items ++ bytes.now }
+    {
+        Given {}
     }
 }

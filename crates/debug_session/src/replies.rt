@@ -1,21 +1,17 @@
-//! Replies to requests: what a run shows is looked at here, and told by what is looked at.
-//! The text that describes the registers. What a packet asks.
+//! Replies to requests: what a run shows is looked at here, and told by what is looked at. What a packet asks.
 ghost use Rattle.std.specs.Prelude.{◌≡◌, ◌≤◌, ◌++◌, OnOk, length};
 ghost use Rattle.sloth_base.specs.Limits.{task_limit};
-ghost use Rattle.debug_session.specs.Hex.{hex_of};
-ghost use Rattle.debug_session.specs.Texts.{window_text};
 ghost use Rattle.debug_ways.specs.Cursor.{cursor_run};
-ghost use Rattle.debug_session.specs.Replies.{reply_text, has_reply, fixed_text, plain_text, place_text, help_text, no_goto_text, threads_text};
+ghost use Rattle.debug_session.specs.Replies.{reply_text, has_reply, fixed_text, plain_text, place_text};
 ghost use Rattle.debug_session.specs.Description.{description};
 
 use crate::hex::push_hex;
 use crate::looks::{push_memory, push_registers};
-use crate::stops::push_stop;
-use crate::texts::{push, push_number, push_register, push_window};
+use crate::texts::{push, push_number, push_register, push_stop, push_window};
 use crate::threads::{push_states, push_thread_list, push_threads, push_words};
 use debug_ways::events::push_events;
 use debug_ways::points::is_among;
-use debug_ways::shown::{View, count_view, last_seen, shown_thread};
+use debug_ways::shown::{count_view, last_seen, shown_thread};
 use debug_ways::standing::running_thread;
 use debug_ways::{Cursor, Machine, Point, Standing, Step};
 use rv32_instr::Stop;
@@ -25,21 +21,6 @@ use text_pieces::line;
 use text_pieces::pieces::Piece::{Number, Word};
 use trace_text::stopped_line;
 
-#[tactic(auto, unfolding(crate::specs::Replies::help_text))]
-fn help_text() -> &'static [u8]
-    ensures { result.now ≡ help_text }
-{
-    b"count      the number of instructions executed\ngoto K     to count K, from 0 to 1000000; then: maintenance flush register-cache\nstates     what each task is, as `at` prints it\nevents     the events around, as `run` prints them\n"
-}
-
-#[tactic(auto, unfolding(crate::specs::Replies::no_goto_text))]
-fn no_goto_text() -> &'static [u8]
-    ensures { result.now ≡ no_goto_text }
-{
-    b"goto K: K is a count from 0 to 1000000\n"
-}
-
-// The text of a reply in which the run has no part.
 #[tactic(auto, unfolding(crate::specs::Replies::features_text))]
 fn fixed_text(points: &[Point], request: &Request) -> &'static [u8]
     ensures { result.now ≡ fixed_text points.now request.now }
@@ -71,22 +52,6 @@ fn fixed_text(points: &[Point], request: &Request) -> &'static [u8]
     }
 }
 
-fn push_threads_part(
-    alloc: Global,
-    out: &mut Vec<u8>,
-    view: &View,
-    names: &[Name],
-    window: &Window,
-) -> Result<()>
-    requires { length names.now ≤ task_limit }
-    ensures { OnOk result (out.new.items ≡ out.old.items ++ window_text (threads_text view.now names.now) window.now) }
-{
-    let mut text = Vec::new(alloc);
-    push_threads(&mut text, view, names)?;
-    push_window(out, text.as_slice(), window)
-}
-
-// Puts where a session stands, where this is the address of its count and the run ends so.
 fn push_place(out: &mut Vec<u8>, standing: &Standing, pc: u32, stop: &Option<Stop>) -> Result<()>
     ensures { OnOk result (out.new.items ≡ out.old.items ++ place_text standing.now pc stop.now) }
 {
@@ -101,6 +66,7 @@ fn push_place(out: &mut Vec<u8>, standing: &Standing, pc: u32, stop: &Option<Sto
 }
 
 // Puts the text that a reply tells in digits.
+#[tactic(auto, unfolding(crate::specs::Replies::help_text, crate::specs::Replies::no_goto_text))]
 fn push_plain<M: Machine>(
     alloc: Global,
     out: &mut Vec<u8>,
@@ -124,35 +90,18 @@ fn push_plain<M: Machine>(
             let stop = cursor.stop();
             push_place(out, standing, cursor.look(standing.count).pc, &stop)
         }
-        Request::NoGoto => push(out, no_goto_text()),
+        Request::NoGoto => push(out, b"goto K: K is a count from 0 to 1000000\n"),
         Request::States => {
             let seen = last_seen(cursor, standing.count);
             push_states(out, names, &seen)
         }
         Request::Events => push_events(alloc, out, cursor, standing.count),
-        Request::Help => push(out, help_text()),
+        Request::Help => push(
+            out,
+            b"count      the number of instructions executed\ngoto K     to count K, from 0 to 1000000; then: maintenance flush register-cache\nstates     what each task is, as `at` prints it\nevents     the events around, as `run` prints them\n",
+        ),
         _ => Ok(()),
     }
-}
-
-// Puts it in digits.
-fn push_plain_digits<M: Machine>(
-    alloc: Global,
-    out: &mut Vec<u8>,
-    cursor: &mut Cursor<M>,
-    names: &[Name],
-    standing: &Standing,
-    request: &Request,
-) -> Result<()>
-    requires there { standing.now.count ≤ (cursor_run M.run cursor.old).end }
-    requires few { length names.now ≤ task_limit }
-    ensures text { OnOk result (out.new.items
-        ≡ out.old.items ++ hex_of (plain_text (cursor_run M.run cursor.old) names.now standing.now request.now)) }
-    ensures run { cursor_run M.run cursor.new ≡ cursor_run M.run cursor.old }
-{
-    let mut text = Vec::new(alloc);
-    push_plain(alloc, &mut text, cursor, names, standing, request)?;
-    push_hex(out, text.as_slice())
 }
 
 /// Whether a request has a reply.
@@ -182,14 +131,15 @@ pub fn push_text<M: Machine>(
     ensures run { cursor_run M.run cursor.new ≡ cursor_run M.run cursor.old }
 {
     match request {
-        Request::Nothing | Request::Kill => Ok(()),
         Request::LastStop | Request::Continue(_) | Request::Step(_) | Request::PlainStep(_) => {
             push_stop(out, &cursor.stop(), standing)
         }
         Request::Description(window) => push_window(out, description(), window),
         Request::Threads(window) => {
             let view = count_view(cursor, standing.count);
-            push_threads_part(alloc, out, &view, names, window)
+            let mut text = Vec::new(alloc);
+            push_threads(&mut text, &view, names)?;
+            push_window(out, text.as_slice(), window)
         }
         Request::ThreadList => push_thread_list(out, names.len() as u32),
         Request::CurrentThread => {
@@ -209,20 +159,12 @@ pub fn push_text<M: Machine>(
         | Request::NoGoto
         | Request::States
         | Request::Events
-        | Request::Help => push_plain_digits(alloc, out, cursor, names, standing, request),
-        Request::Fault(_)
-        | Request::Supported
-        | Request::NoAnnex
-        | Request::ThreadListEnd
-        | Request::Attached
-        | Request::SetPoint(_)
-        | Request::Actions
-        | Request::Confirmed
-        | Request::NoAcks
-        | Request::SelectShown(_)
-        | Request::SelectStepped(_)
-        | Request::TakePoint(_)
-        | Request::Detach => push(out, fixed_text(points, request)),
+        | Request::Help => {
+            let mut text = Vec::new(alloc);
+            push_plain(alloc, &mut text, cursor, names, standing, request)?;
+            push_hex(out, text.as_slice())
+        }
+        _ => push(out, fixed_text(points, request)),
     }
 }
 

@@ -1,25 +1,23 @@
-//! What the data of a packet asks: a table of words.
-//! What may follow the word that begins the data of a packet, and what is then asked.
+//! What the data of a packet asks: a table of words, and what may follow each.
 ghost use Rattle.std.specs.Prelude.{◌≡◌, IfOk, map, if◌then◌else◌};
 ghost use Rattle.debug_session.specs.Requests.{followed, word_request, row_of, words, packet_request};
 
 use crate::actions::{actions_request, is_signal};
-use crate::commands::{is_text, monitor_request};
+use crate::commands::{is_text, monitor_request, points_request, thread_request, window_request};
 use crate::hex::number;
 use crate::reading::LONGEST;
 use crate::replies::Request;
-use crate::selecting::{points_request, thread_request, window_request};
 use crate::words::{thread_number, told_window};
 use sloth_base::Result;
 use std::alloc::Global;
 
-fn either(first: bool, one: Request, other: Request) -> Request
+/// The first of two requests, or else the other.
+pub fn either(first: bool, one: Request, other: Request) -> Request
     ensures { result ≡ (if first then one else other) }
 {
     if first { one } else { other }
 }
 
-// What is asked where this stands behind a word.
 #[tactic(auto, unfolding(crate::specs::Requests::followed))]
 fn followed(alloc: Global, tasks: u32, form: &Form, rest: &[u8]) -> Result<Request>
     ensures { IfOk result (λ request. request ≡ followed tasks form.now rest.now) }
@@ -45,7 +43,6 @@ fn followed(alloc: Global, tasks: u32, form: &Form, rest: &[u8]) -> Result<Reque
     }
 }
 
-// What the first word asks that begins the content.
 fn word_request(alloc: Global, tasks: u32, rows: &[Row], content: &[u8]) -> Result<Request>
     ensures { IfOk result (λ request. request ≡ word_request tasks (map row_of rows.now) content.now) }
 {
@@ -97,7 +94,6 @@ const WORDS: [Row; 36] = [
     Row(b"QStartNoAckMode", Form::Bare(Request::NoAcks)),
 ];
 
-// What a text asks.
 #[tactic(auto, unfolding(crate::specs::Requests::words))]
 fn text_request(alloc: Global, tasks: u32, text: &[u8]) -> Result<Request>
     ensures { IfOk result (λ request. request ≡ word_request tasks words text.now) }
@@ -115,11 +111,8 @@ pub fn packet_request(alloc: Global, tasks: u32, content: &[u8]) -> Result<Reque
     if is_text(content) {
         return text_request(alloc, tasks, content);
     }
-    Ok(either(
-        content.starts_with(b"X"),
-        Request::Fault(4),
-        Request::Fault(1),
-    ))
+    let writes = content.starts_with(b"X");
+    Ok(either(writes, Request::Fault(4), Request::Fault(1)))
 }
 
 /// What may follow a word.

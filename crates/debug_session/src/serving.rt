@@ -1,16 +1,16 @@
 //! A session over an input and a sink.
-ghost use Rattle.std.specs.Prelude.{◌≡◌, ◌≤◌, OnOk, IfOk, length};
+ghost use Rattle.std.specs.Prelude.{◌≡◌, ◌≤◌, length};
 ghost use Rattle.sloth_base.specs.Limits.{task_limit};
 ghost use Rattle.debug_session.specs.Reading.{fresh};
 ghost use Rattle.debug_ways.specs.Cursor.{cursor_run};
-ghost use Rattle.debug_session.specs.Serving.{behind_event, event_answer, HasEnded, IsHandedOn};
+ghost use Rattle.debug_session.specs.Serving.{HasEnded, IsHandedOn};
 
 use crate::Input;
-use crate::reading::{Event, PacketReader};
+use crate::reading::PacketReader;
 use crate::session::Session;
 use crate::transcript::Transcript;
 use debug_ways::{Cursor, Machine};
-use sloth_base::{Name, NoMemory, Result};
+use sloth_base::{Name, NoMemory};
 use sloth_io::Sink;
 use std::alloc::Global;
 
@@ -22,29 +22,6 @@ pub enum SessionFault {
     /// A reply could not be written.
     Write,
     NoMemory,
-}
-
-// What is due for what a byte completes.
-fn due_text<M: Machine>(
-    alloc: Global,
-    session: &mut Session,
-    cursor: &mut Cursor<M>,
-    names: &[Name],
-    event: Event,
-    content: &[u8],
-) -> Result<Vec<u8>>
-    requires there { session.old.standing.count ≤ (cursor_run M.run cursor.old).end }
-    requires few { length names.now ≤ task_limit }
-    ensures session { OnOk result (session.new
-        ≡ behind_event (cursor_run M.run cursor.old) names.now session.old event content.now) }
-    ensures text { IfOk result (λ due. due.items
-        ≡ event_answer (cursor_run M.run cursor.old) names.now session.old event content.now) }
-    ensures within { OnOk result (session.new.standing.count ≤ (cursor_run M.run cursor.old).end) }
-    ensures run { cursor_run M.run cursor.new ≡ cursor_run M.run cursor.old }
-{
-    let mut due = Vec::new(alloc);
-    session.take(alloc, &mut due, cursor, names, event, content)?;
-    Ok(due)
 }
 
 // Answers what comes behind the bytes that were read: up to 2^64 - 1 further bytes, so that it ends.
@@ -76,10 +53,11 @@ fn serve_bytes<I: Input, S: Sink, M: Machine>(
             Err(_) => return Err(SessionFault::Read),
         };
         let event = reader.take(byte);
-        let due = match due_text(alloc, &mut session, cursor, names, event, reader.content()) {
-            Ok(due) => due,
+        let mut due = Vec::new(alloc);
+        match session.answer(alloc, &mut due, cursor, names, event, reader.content()) {
+            Ok(()) => {}
             Err(NoMemory) => return Err(SessionFault::NoMemory),
-        };
+        }
         match transcript.deliver(out, due.as_slice()) {
             Ok(()) => {}
             Err(_) => return Err(SessionFault::Write),

@@ -116,7 +116,6 @@ impl Session {
         self.standing.over
     }
 
-    // Does what a request asks, and puts the reply.
     fn perform<M: Machine>(
         &mut self,
         alloc: Global,
@@ -138,15 +137,9 @@ impl Session {
         points_behind(&mut self.points, request)?;
         self.link.follow(request);
         let mut text = Vec::new(alloc);
-        push_text(
-            alloc,
-            &mut text,
-            cursor,
-            names,
-            self.points.as_slice(),
-            &self.standing,
-            request,
-        )?;
+        let points = self.points.as_slice();
+        let standing = &self.standing;
+        push_text(alloc, &mut text, cursor, names, points, standing, request)?;
         if has_reply(request) {
             self.link.send(alloc, out, text.as_slice())
         } else {
@@ -155,7 +148,7 @@ impl Session {
     }
 
     /// Puts what is written for what a byte completes.
-    pub fn take<M: Machine>(
+    pub fn answer<M: Machine>(
         &mut self,
         alloc: Global,
         out: &mut Vec<u8>,

@@ -1,11 +1,14 @@
-//! Parts of replies.
+//! Parts of replies, and what is told of a stop.
 ghost use Rattle.std.specs.Prelude.{◌≡◌, ◌<◌, ◌++◌, OnOk};
 ghost use Rattle.debug_session.specs.Texts.{digit_at, hex_number, register_digits, window_text, state_text};
+ghost use Rattle.debug_session.specs.Replies.{cause_signal, watch_word, cause_reason, told_text};
 
 use crate::hex::{hex_digit, push_hex};
 use crate::replies::Window;
 use debug_ways::shown::lesser;
+use debug_ways::{Cause, Standing};
 use osek_scheduler::TaskState;
+use rv32_instr::Stop;
 use sloth_base::Result;
 use text_pieces::line;
 use text_pieces::pieces::Piece::{Number, Word};
@@ -69,11 +72,9 @@ pub fn push_window(out: &mut Vec<u8>, text: &[u8], window: &Window) -> Result<()
         return push(out, b"l");
     }
     if text.len() <= end {
-        push(out, b"l")?;
-        return push(out, &text[from..]);
+        return line!(out; Word(b"l"), Word(&text[from..]));
     }
-    push(out, b"m")?;
-    push(out, &text[from..end])
+    line!(out; Word(b"m"), Word(&text[from..end]))
 }
 
 /// Puts the word of a state, where this is that of an Active task, and the events that a task waits for.
@@ -87,4 +88,58 @@ pub fn push_state(out: &mut Vec<u8>, active: &[u8], state: TaskState) -> Result<
         TaskState::Active => push(out, active),
         TaskState::Waiting(mask) => line!(out; Word(b"waiting "), Number(mask)),
     }
+}
+
+fn cause_signal(stop: &Option<Stop>, other: bool, cause: Cause) -> &'static [u8]
+    ensures { result.now ≡ cause_signal stop.now other cause }
+{
+    match cause {
+        Cause::Interrupt => b"02",
+        Cause::Step => { if other { b"00" } else { b"05" } }
+        Cause::Break(_) | Cause::Watch(_, _) | Cause::Begin => b"05",
+        Cause::End => match stop {
+            Some(Stop::Illegal(_)) => b"04",
+            Some(Stop::Fetch(_) | Stop::Access(_)) => b"0b",
+            Some(Stop::Misaligned(_)) => b"0a",
+            None | Some(Stop::Environment) => b"05",
+        },
+    }
+}
+
+fn watch_word(kind: u8) -> &'static [u8]
+    ensures { result.now ≡ watch_word kind }
+{
+    match kind {
+        2 => b"watch:",
+        3 => b"rwatch:",
+        _ => b"awatch:",
+    }
+}
+
+fn push_reason(out: &mut Vec<u8>, stop: &Option<Stop>, cause: Cause) -> Result<()>
+    ensures { OnOk result (out.new.items ≡ out.old.items ++ cause_reason stop.now cause) }
+{
+    match cause {
+        Cause::Break(0) => push(out, b"swbreak:;"),
+        Cause::Break(_) => push(out, b"hwbreak:;"),
+        Cause::Watch(kind, address) => {
+            push(out, watch_word(kind))?;
+            push_number(out, address)?;
+            push(out, b";")
+        }
+        Cause::Begin => push(out, b"replaylog:begin;"),
+        Cause::End if stop.is_none() => push(out, b"replaylog:end;"),
+        Cause::Interrupt | Cause::Step | Cause::End => Ok(()),
+    }
+}
+
+/// Puts what is told of a stop, where the run ends so.
+pub fn push_stop(out: &mut Vec<u8>, stop: &Option<Stop>, standing: &Standing) -> Result<()>
+    ensures { OnOk result (out.new.items ≡ out.old.items ++ told_text stop.now standing.now) }
+{
+    let signal = cause_signal(stop, standing.told.other, standing.told.cause);
+    line!(out; Word(b"T"), Word(signal), Word(b"thread:"))?;
+    push_number(out, standing.stopped)?;
+    push(out, b";")?;
+    push_reason(out, stop, standing.told.cause)
 }

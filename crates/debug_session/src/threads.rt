@@ -1,9 +1,8 @@
 //! What is told of threads, and of tasks' states.
-ghost use Rattle.std.specs.Prelude.{◌≡◌, ◌≤◌, ◌<◌, ◌+◌, ◌++◌, OnOk, codes, length, get_or};
-ghost use Rattle.osek_scheduler.specs.declared.state.TaskState.TheVariants as mode;
+ghost use Rattle.std.specs.Prelude.{◌≡◌, ◌≤◌, ◌<◌, ◌+◌, ◌++◌, OnOk, codes, length};
 ghost use Rattle.sloth_base.specs.Limits.{task_limit};
 ghost use Rattle.debug_session.specs.Texts.{up_to, hex_number};
-ghost use Rattle.debug_session.specs.Replies.{machine_text, task_text, thread_text, thread_name, words_text};
+ghost use Rattle.debug_session.specs.Replies.{task_text, thread_text, thread_name, words_text};
 ghost use Rattle.debug_session.specs.Replies.{thread_element, threads_head, threads_text, number_text, thread_list};
 ghost use Rattle.debug_session.specs.Replies.{task_line, states_text};
 
@@ -14,27 +13,8 @@ use sloth_base::{Name, Result, TASK_LIMIT};
 use text_pieces::line;
 use text_pieces::pieces::Piece::{Number, Word};
 
-#[tactic(auto, unfolding(crate::specs::Replies::machine_text))]
-fn push_machine(out: &mut Vec<u8>, view: &View) -> Result<()>
-    ensures { OnOk result (out.new.items ≡ out.old.items ++ machine_text view.now) }
-{
-    line!(out; Word(b"count "), Number(view.count), Word(b", level "), Number(view.level))?;
-    if view.mstatus / 8 % 2 == 1 {
-        return Ok(());
-    }
-    push(out, b", masked")
-}
-
-// The state of a task; an unused place has Suspended.
-fn task_state(states: &[TaskState; TASK_LIMIT], task: usize) -> TaskState
-    ensures { result ≡ get_or states.now task mode.Suspended }
-{
-    if task < TASK_LIMIT {
-        states[task]
-    } else {
-        TaskState::Suspended
-    }
-}
+/// The states of tasks; an unused place has Suspended.
+type States = [TaskState; TASK_LIMIT];
 
 #[tactic(auto, unfolding(crate::specs::Replies::task_text))]
 fn push_task(out: &mut Vec<u8>, seen: &Option<Seen>, task: u32) -> Result<()>
@@ -42,7 +22,8 @@ fn push_task(out: &mut Vec<u8>, seen: &Option<Seen>, task: u32) -> Result<()>
 {
     match seen {
         Some(seen) => {
-            let state = task_state(&seen.states, task as usize);
+            let none = TaskState::Suspended;
+            let state = seen.states.get(task as usize).copied().unwrap_or(none);
             if u64::from(seen.running) == u64::from(task) + 1 {
                 push_state(out, b"running", state)
             } else {
@@ -53,14 +34,18 @@ fn push_task(out: &mut Vec<u8>, seen: &Option<Seen>, task: u32) -> Result<()>
     }
 }
 
+#[tactic(auto, unfolding(crate::specs::Replies::machine_text))]
 fn push_thread(out: &mut Vec<u8>, view: &View, thread: u32) -> Result<()>
     ensures { OnOk result (out.new.items ≡ out.old.items ++ thread_text view.now thread) }
 {
-    if thread == 1 {
-        push_machine(out, view)
-    } else {
-        push_task(out, &view.seen, thread.saturating_sub(2))
+    if thread != 1 {
+        return push_task(out, &view.seen, thread.saturating_sub(2));
     }
+    line!(out; Word(b"count "), Number(view.count), Word(b", level "), Number(view.level))?;
+    if view.mstatus / 8 % 2 == 1 {
+        return Ok(());
+    }
+    push(out, b", masked")
 }
 
 fn thread_name<'a>(names: &'a [Name], thread: u32) -> &'a [u8]
@@ -84,7 +69,6 @@ pub fn push_words(out: &mut Vec<u8>, view: &View, names: &[Name], thread: u32) -
     push_thread(out, view, thread)
 }
 
-// Puts an element of the list of threads in front of its state.
 fn push_head(out: &mut Vec<u8>, names: &[Name], thread: u32) -> Result<()>
     ensures { OnOk result (out.new.items
         ≡ out.old.items ++ (codes "<thread id=\"" ++ hex_number thread ++ codes "\" name=\""
@@ -132,7 +116,6 @@ pub fn push_threads(out: &mut Vec<u8>, view: &View, names: &[Name]) -> Result<()
     push(out, b"</threads>\n")
 }
 
-// Puts the numbers of so many threads behind the first, with commas in front.
 fn push_numbers(out: &mut Vec<u8>, tasks: u32) -> Result<()>
     requires { tasks ≤ task_limit }
     ensures { OnOk result (out.new.items ≡ out.old.items ++ up_to number_text tasks) }
@@ -154,12 +137,7 @@ pub fn push_thread_list(out: &mut Vec<u8>, tasks: u32) -> Result<()>
 }
 
 #[tactic(auto, unfolding(crate::specs::Replies::task_line))]
-fn push_task_line(
-    out: &mut Vec<u8>,
-    names: &[Name],
-    states: &[TaskState; TASK_LIMIT],
-    task: usize,
-) -> Result<()>
+fn push_task_line(out: &mut Vec<u8>, names: &[Name], states: &States, task: usize) -> Result<()>
     requires named { task < length names.now }
     requires there { task < task_limit }
     ensures { OnOk result (out.new.items ≡ out.old.items ++ task_line names.now states.now task) }
@@ -169,11 +147,7 @@ fn push_task_line(
     push(out, b"\n")
 }
 
-fn push_task_lines(
-    out: &mut Vec<u8>,
-    names: &[Name],
-    states: &[TaskState; TASK_LIMIT],
-) -> Result<()>
+fn push_task_lines(out: &mut Vec<u8>, names: &[Name], states: &States) -> Result<()>
     requires { length names.now ≤ task_limit }
     ensures { OnOk result (out.new.items ≡ out.old.items ++ up_to (task_line names.now states.now) (length names.now)) }
 {

@@ -9,7 +9,6 @@ use crate::replies::Window;
 use sloth_base::COUNT_LIMIT;
 use text_pieces::{after, before, same};
 
-// How many bytes stand in front of the first such byte, or all.
 fn mark_place(text: &[u8], mark: u8) -> usize
     ensures { result ≡ position_or_len (λ byte. byte == mark) text.now }
 {
@@ -33,14 +32,9 @@ pub fn behind(text: &[u8], mark: u8) -> Option<&[u8]>
 pub fn told_window(text: &[u8]) -> Option<Window>
     ensures { result ≡ told_window text.now }
 {
-    let from = number(before(text, b','));
-    match behind(text, b',') {
-        Some(rest) => match (from, number(rest)) {
-            (Some(from), Some(length)) => Some(Window { from, length }),
-            _ => None,
-        },
-        None => None,
-    }
+    let from = number(before(text, b','))?;
+    let length = number(behind(text, b',')?)?;
+    Some(Window { from, length })
 }
 
 /// The thread that a text tells, of so many tasks, or 0 for any. Errors: 1 where it is no number, 2 where no thread's.
@@ -51,13 +45,8 @@ pub fn thread_number(tasks: u32, text: &[u8]) -> Result<u32, u8>
         return Ok(0);
     }
     match number(text) {
-        Some(number) => {
-            if u64::from(number) <= u64::from(tasks) + 1 {
-                Ok(number)
-            } else {
-                Err(2)
-            }
-        }
+        Some(number) if u64::from(number) <= u64::from(tasks) + 1 => Ok(number),
+        Some(_) => Err(2),
         None => Err(1),
     }
 }
@@ -114,13 +103,7 @@ pub fn told_count(text: &[u8]) -> Option<u32>
         return None;
     }
     match capped_count(text) {
-        Some(count) => {
-            if count <= COUNT_LIMIT {
-                Some(count)
-            } else {
-                None
-            }
-        }
-        None => None,
+        Some(count) if count <= COUNT_LIMIT => Some(count),
+        _ => None,
     }
 }

@@ -9,18 +9,7 @@ ghost use Rattle.debug_view.specs.Standing.{AreLines};
 use observe::passing;
 use rv32_machine::{Machine, SlothBus};
 use sloth_base::Arrival;
-
-// The lines of these arrivals become pending.
-fn arrive_all(machine: &mut Machine<SlothBus>, arrivals: &[Arrival])
-    requires { AreLines arrivals.now }
-    ensures state { state (λ bus. bus) machine.new
-        ≡ state_arrive (map (λ arrival. arrival.line) arrivals.now) (state (λ bus. bus) machine.old) }
-    ensures count { machine.new.count ≡ machine.old.count }
-{
-    for arrival in arrivals {
-        machine.arrive(arrival.line);
-    }
-}
+use sloth_runner::arrivals::arrive_front;
 
 /// The lines of the arrivals of the machine's count become pending. Those of later moments are given back.
 pub fn arrive<'a>(machine: &mut Machine<SlothBus>, coming: &'a [Arrival]) -> &'a [Arrival]
@@ -32,9 +21,7 @@ pub fn arrive<'a>(machine: &mut Machine<SlothBus>, coming: &'a [Arrival]) -> &'a
     ensures behind { result.now ≡ arrivals_behind machine.old.count coming.now }
 {
     let due = passing(coming, machine.count);
-    let (here, behind) = coming.split_at(due);
-    arrive_all(machine, here);
-    behind
+    arrive_front(machine, coming, due)
 }
 
 /// The number in memory where the stretch began, of a count that finds MIE so, behind one at which this one was there.

@@ -1,9 +1,8 @@
 //! Where the registers of a task stand that does not run.
 ghost use Rattle.std.specs.Prelude.{◌≡◌, ◌<◌, ◌≤◌};
 ghost use Rattle.sloth_base.specs.Limits.{task_limit};
-ghost use Rattle.debug_view.specs.Contexts.{loaded_word, is_word, is_link, word_or_zero, chain_context};
-ghost use Rattle.debug_view.specs.Contexts.{whole, preempted, waiting, task_context, context_register, fresh_register};
-ghost use Rattle.debug_view.specs.Contexts.{kept_register};
+ghost use Rattle.debug_view.specs.Contexts.{loaded_word, is_word, is_link, word_or_zero, chain_context, whole};
+ghost use Rattle.debug_view.specs.Contexts.{task_context, kept_register};
 
 use rv32_machine::{Bus, SlothBus};
 use sloth_base::{MEMORY_BASE, TASK_LIMIT, VECTORS_BASE, Width};
@@ -12,18 +11,13 @@ use sloth_region::{BELOW_WORD, CONTEXT_BELOW, CONTEXT_BYTES, CONTEXT_CUR, RESUME
 // The last word of a context.
 const LAST_WORD: u32 = CONTEXT_BYTES as u32 - 4;
 
-// The word at an address, where one is. The bus keeps its contents.
 fn loaded_word(bus: &mut SlothBus, address: u32) -> Option<u32>
     ensures word { result ≡ loaded_word bus.old address }
     ensures same { bus.new ≡ bus.old }
 {
-    match bus.load(address, Width::Word) {
-        Ok(word) => Some(word),
-        Err(_) => None,
-    }
+    bus.load(address, Width::Word).ok()
 }
 
-// Whether a word stands at an address.
 fn is_word(bus: &mut SlothBus, address: u32) -> bool
     ensures is { result ≡ is_word bus.old address }
     ensures same { bus.new ≡ bus.old }
@@ -31,7 +25,6 @@ fn is_word(bus: &mut SlothBus, address: u32) -> bool
     loaded_word(bus, address).is_some()
 }
 
-// Whether the first and the fourth word of a context stand at an address.
 fn is_link(bus: &mut SlothBus, address: u32) -> bool
     ensures is { result ≡ is_link bus.old address }
     ensures same { bus.new ≡ bus.old }
@@ -39,7 +32,6 @@ fn is_link(bus: &mut SlothBus, address: u32) -> bool
     is_word(bus, address) && is_word(bus, address.wrapping_add(CONTEXT_BELOW as u32))
 }
 
-// The word at an address, or 0 where none is.
 fn word_or_zero(bus: &mut SlothBus, address: u32) -> u32
     ensures word { result ≡ word_or_zero bus.old address }
     ensures same { bus.new ≡ bus.old }
@@ -47,7 +39,6 @@ fn word_or_zero(bus: &mut SlothBus, address: u32) -> u32
     loaded_word(bus, address).unwrap_or(0)
 }
 
-// The context of a task in the chain of those below, of at most so many links.
 fn chain_context(bus: &mut SlothBus, links: u32, first: u32, task: u32) -> Option<u32>
     requires { task < 4294967295 }
     ensures link { result ≡ chain_context bus.old links first task }
@@ -65,7 +56,6 @@ fn chain_context(bus: &mut SlothBus, links: u32, first: u32, task: u32) -> Optio
     None
 }
 
-// A context, where its first and its last word are there.
 fn whole(bus: &mut SlothBus, address: u32) -> Option<u32>
     ensures whole { result ≡ whole bus.old address }
     ensures same { bus.new ≡ bus.old }
@@ -77,34 +67,8 @@ fn whole(bus: &mut SlothBus, address: u32) -> Option<u32>
     }
 }
 
-// A task's context, if any, in the chain below what runs, which has a link for each task and one for the idle loop.
-fn preempted(bus: &mut SlothBus, tasks: u32, task: u32) -> Option<u32>
-    requires task { task < task_limit }
-    requires tasks { tasks ≤ task_limit }
-    ensures context { result ≡ preempted bus.old tasks task }
-    ensures same { bus.new ≡ bus.old }
-{
-    let first = word_or_zero(bus, MEMORY_BASE + BELOW_WORD as u32);
-    match chain_context(bus, tasks + 1, first, task) {
-        Some(address) => whole(bus, address),
-        None => None,
-    }
-}
-
-// The context that a task goes on from behind a wait, where it has one.
-fn waiting(bus: &mut SlothBus, task: u32) -> Option<u32>
-    requires { task < task_limit }
-    ensures context { result ≡ waiting bus.old task }
-    ensures same { bus.new ≡ bus.old }
-{
-    let address = word_or_zero(bus, MEMORY_BASE + RESUME_WORDS as u32 + 4 * task);
-    if address == 0 {
-        return None;
-    }
-    whole(bus, address)
-}
-
-// Where a task's registers stand, if they do: an Active one's below what runs, another's where it goes on from a wait.
+// Where a task's registers stand, if they do: an Active one's in the chain below what runs, which has a link for each
+// task and one for the idle loop; another's where it goes on from a wait.
 fn task_context(bus: &mut SlothBus, tasks: u32, task: u32) -> Option<u32>
     requires task { task < task_limit }
     requires tasks { tasks ≤ task_limit }
@@ -112,35 +76,17 @@ fn task_context(bus: &mut SlothBus, tasks: u32, task: u32) -> Option<u32>
     ensures same { bus.new ≡ bus.old }
 {
     if word_or_zero(bus, MEMORY_BASE + active(task as u8) as u32) == 1 {
-        preempted(bus, tasks, task)
+        let first = word_or_zero(bus, MEMORY_BASE + BELOW_WORD as u32);
+        return match chain_context(bus, tasks + 1, first, task) {
+            Some(address) => whole(bus, address),
+            None => None,
+        };
+    }
+    let address = word_or_zero(bus, MEMORY_BASE + RESUME_WORDS as u32 + 4 * task);
+    if address == 0 {
+        None
     } else {
-        waiting(bus, task)
-    }
-}
-
-// A register in a context, where it stands there.
-fn context_register(bus: &mut SlothBus, context: u32, number: u32) -> Option<u32>
-    ensures register { result ≡ context_register bus.old context number }
-    ensures same { bus.new ≡ bus.old }
-{
-    match number {
-        0 => Some(0),
-        2 => Some(context.wrapping_add(CONTEXT_BYTES as u32)),
-        5..=31 => loaded_word(bus, context.wrapping_add(4 * number)),
-        32 => loaded_word(bus, context),
-        _ => None,
-    }
-}
-
-// A register of a task that has not begun, where it is known.
-fn fresh_register(task: u32, number: u32) -> Option<u32>
-    requires { task < task_limit }
-    ensures { result ≡ fresh_register task number }
-{
-    match number {
-        0 => Some(0),
-        32 => Some(VECTORS_BASE + 4 * task),
-        _ => None,
+        whole(bus, address)
     }
 }
 
@@ -154,7 +100,17 @@ pub fn kept_register(bus: &mut SlothBus, tasks: u32, task: u32, number: u32) -> 
         return None;
     }
     match task_context(bus, tasks, task) {
-        Some(context) => context_register(bus, context, number),
-        None => fresh_register(task, number),
+        Some(context) => match number {
+            0 => Some(0),
+            2 => Some(context.wrapping_add(CONTEXT_BYTES as u32)),
+            5..=31 => loaded_word(bus, context.wrapping_add(4 * number)),
+            32 => loaded_word(bus, context),
+            _ => None,
+        },
+        None => match number {
+            0 => Some(0),
+            32 => Some(VECTORS_BASE + 4 * task),
+            _ => None,
+        },
     }
 }

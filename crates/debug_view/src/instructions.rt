@@ -2,7 +2,8 @@
 ghost use Rattle.std.specs.Prelude.{◌≡◌, ◌≤◌};
 ghost use Rattle.sloth_base.specs.Arithmetic.{size_of};
 ghost use Rattle.rv32_machine.specs.State.{state};
-ghost use Rattle.debug_view.specs.Looks.{fetched_instr, instr_effect, effect_of, keeps_open, change_keeps_open, effect_access, is_plain, running_code, machine_look};
+ghost use Rattle.debug_view.specs.Looks.{fetched_instr, instr_effect, effect_of, keeps_open, change_keeps_open};
+ghost use Rattle.debug_view.specs.Looks.{effect_access, is_plain, machine_look};
 ghost use Rattle.sloth_base.specs.Limits.{task_limit};
 
 use crate::registers::{named, running_number};
@@ -12,7 +13,6 @@ use rv32_machine::effect::effect;
 use rv32_machine::{Bus, Machine, SlothBus};
 use sloth_base::Width;
 
-// The instruction at an address, if the word there is one's. The bus keeps its contents.
 fn fetched_instr(bus: &mut SlothBus, address: u32) -> Option<Instr>
     ensures instr { result ≡ fetched_instr bus.old address }
     ensures same { bus.new ≡ bus.old }
@@ -23,7 +23,6 @@ fn fetched_instr(bus: &mut SlothBus, address: u32) -> Option<Instr>
     }
 }
 
-// What an instruction does, if it is one.
 fn instr_effect(instr: &Option<Instr>, pc: u32, registers: &[u32; 32]) -> Option<Effect>
     ensures { result ≡ instr_effect instr.now pc registers.now }
 {
@@ -43,7 +42,6 @@ pub fn next_effect(machine: &mut Machine<SlothBus>) -> Option<Effect>
     instr_effect(&instr, pc, machine.registers())
 }
 
-// Whether MIE stays 1 behind a change of mstatus.
 fn change_keeps_open(change: Change) -> bool
     ensures { result ≡ change_keeps_open change }
 {
@@ -55,12 +53,10 @@ fn change_keeps_open(change: Change) -> bool
     }
 }
 
-// Whether MIE, which is 1, stays so behind an effect.
 fn keeps_open(effect: &Option<Effect>, behind_return: bool) -> bool
     ensures { result ≡ keeps_open effect.now behind_return }
 {
     match effect {
-        None => true,
         Some(Effect::Csr { csr, change, .. }) => {
             if *csr == MSTATUS {
                 change_keeps_open(*change)
@@ -69,15 +65,7 @@ fn keeps_open(effect: &Option<Effect>, behind_return: bool) -> bool
             }
         }
         Some(Effect::Return) => behind_return,
-        Some(
-            Effect::Nothing
-            | Effect::Write { .. }
-            | Effect::Branch { .. }
-            | Effect::Jump { .. }
-            | Effect::Load { .. }
-            | Effect::Store { .. }
-            | Effect::Environment,
-        ) => true,
+        _ => true,
     }
 }
 
@@ -106,16 +94,7 @@ pub fn effect_access(effect: &Option<Effect>) -> Option<Access>
             length: width_bytes(*width),
             stores: true,
         }),
-        None
-        | Some(
-            Effect::Nothing
-            | Effect::Write { .. }
-            | Effect::Branch { .. }
-            | Effect::Jump { .. }
-            | Effect::Csr { .. }
-            | Effect::Environment
-            | Effect::Return,
-        ) => None,
+        _ => None,
     }
 }
 
@@ -129,16 +108,6 @@ pub fn is_plain(machine: &Machine<SlothBus>, effect: &Option<Effect>) -> bool
         && keeps_open(effect, machine.enabled_behind_return())
 }
 
-// The number of the task that runs and 1 more, or 0.
-fn running_code(machine: &mut Machine<SlothBus>, tasks: u32, began: Option<u32>) -> u8
-    requires { tasks ≤ task_limit }
-    ensures running { result ≡ running_code tasks began (state (λ bus. bus) machine.old) }
-    ensures same { machine.new ≡ machine.old }
-{
-    let number = running_number(machine);
-    named(tasks, began.unwrap_or(number)) as u8
-}
-
 /// What is looked at of a machine of so many tasks, with what is carried along.
 pub fn machine_look(
     machine: &mut Machine<SlothBus>,
@@ -150,7 +119,8 @@ pub fn machine_look(
     ensures look { result ≡ machine_look tasks began open_count (state (λ bus. bus) machine.old) }
     ensures same { machine.new ≡ machine.old }
 {
-    let running = running_code(machine, tasks, began);
+    let number = running_number(machine);
+    let running = named(tasks, began.unwrap_or(number)) as u8;
     let effect = next_effect(machine);
     let plain = is_plain(machine, &effect);
     Look {

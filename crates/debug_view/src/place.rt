@@ -78,7 +78,6 @@ impl<'a> Place<'a> {
         })
     }
 
-    // How many tasks the image has.
     fn tasks(&self) -> u32
         ensures is { result ≡ length self.now.image.tasks }
         ensures few { result ≤ task_limit }

@@ -32,7 +32,6 @@ pub fn running_number(machine: &mut Machine<SlothBus>) -> u32
     running(machine.bus_mut())
 }
 
-// The CSR of a register's number.
 fn csr_number(number: u32) -> u16
     ensures { result ≡ csr_number number }
 {
@@ -45,7 +44,6 @@ fn csr_number(number: u32) -> u16
     }
 }
 
-// A CSR where no line is taken.
 fn own_csr(machine: &Machine<SlothBus>, number: u32) -> u32
     ensures { result ≡ executed_csr (state (λ bus. bus) machine.now).core number }
 {
@@ -67,7 +65,6 @@ fn taken_csr(machine: &mut Machine<SlothBus>, line: Line, number: u32) -> u32
     }
 }
 
-// A CSR of the count.
 fn csr(machine: &mut Machine<SlothBus>, number: u32) -> u32
     ensures csr { result ≡ executed_csr (execution_state (state (λ bus. bus) machine.old)).core number }
     ensures same { machine.new ≡ machine.old }
@@ -92,7 +89,6 @@ pub fn machine_register(machine: &mut Machine<SlothBus>, number: u32) -> u32
     }
 }
 
-// Whether the registers of a thread are those of the machine.
 fn is_live(machine: &mut Machine<SlothBus>, tasks: u32, began: Option<u32>, thread: u32) -> bool
     requires { tasks ≤ task_limit }
     ensures live { result ≡ is_live tasks began (state (λ bus. bus) machine.old) thread }
@@ -122,7 +118,6 @@ pub fn thread_register(
     kept_register(machine.bus_mut(), tasks, thread.saturating_sub(2), number)
 }
 
-// Whether an address is the pending byte of a line.
 fn is_pending_byte(line: &Option<Line>, address: u32) -> bool
     ensures { result ≡ is_pending_byte line.now address }
 {

@@ -17,7 +17,6 @@ use trace_text::Form;
 /// The most bytes of the text. A run of 1,000,000 instructions has an event for each at most.
 const TEXT_BYTES: u32 = 256 * 1024 * 1024;
 
-// A sink that took the text.
 fn run_sink<'a>(
     alloc: Global,
     image: &'a Image,

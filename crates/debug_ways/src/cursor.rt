@@ -55,7 +55,6 @@ impl<M: Machine> Cursor<M> {
         self.end
     }
 
-    // Executes an instruction.
     fn advance(&mut self)
         requires { cursor_count self.old < (cursor_run M.run self.old).end }
         ensures count { cursor_count self.new ≡ cursor_count self.old + 1 }
@@ -74,8 +73,8 @@ impl<M: Machine> Cursor<M> {
         ensures run { cursor_run M.run self.new ≡ cursor_run M.run self.old }
     {
         let place = count / STRIDE;
-        self.here
-            .set_to(kept_machine(self.marks.as_slice(), place as usize));
+        let mark = kept_machine(self.marks.as_slice(), place as usize);
+        self.here.set_to(mark);
         self.count = place * STRIDE;
     }
 

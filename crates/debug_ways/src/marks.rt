@@ -12,7 +12,6 @@ use text_pieces::push;
 /// The counts between two machines that are kept.
 pub const STRIDE: u32 = 65_536;
 
-// Keeps a machine behind those of a run.
 #[tactic(auto, using(crate::proofs::Keeping::marks_longer, crate::proofs::Keeping::one_longer))]
 fn keep<M: Machine>(alloc: Global, marks: &mut Vec<M>, machine: &M) -> Result<()>
     requires are { AreMarks M.run M.count (M.run machine.now) marks.old.items }
@@ -24,7 +23,6 @@ fn keep<M: Machine>(alloc: Global, marks: &mut Vec<M>, machine: &M) -> Result<()
     push(marks, mark)
 }
 
-// Executes so many instructions, or those up to the end, and says how many where there are fewer.
 fn execute<M: Machine>(machine: &mut M, counts: u32) -> Option<u32>
     requires { M.count machine.old ≤ (M.run machine.old).end }
     ensures run { M.run machine.new ≡ M.run machine.old }

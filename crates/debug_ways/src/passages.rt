@@ -9,7 +9,6 @@ use crate::points::{Watch, breakpoint_kind, watched};
 use crate::wanted::{Cause, Passage, Wanted};
 use crate::{Cursor, Look, Machine, go_ahead, go_back};
 
-// The watchpoint that is met, or else another cause.
 fn cause_by_watch(watch: &Option<Watch>, cause: Cause) -> Cause
     ensures { result ≡ cause_by_watch watch.now cause }
 {
@@ -19,7 +18,6 @@ fn cause_by_watch(watch: &Option<Watch>, cause: Cause) -> Cause
     }
 }
 
-// Why a way ends at a count but for watchpoints, if it does.
 fn stop_cause(wanted: &Wanted, look: &Look) -> Option<Cause>
     ensures { result ≡ stop_cause (wanted_wish wanted.now) look.now }
 {
@@ -29,7 +27,6 @@ fn stop_cause(wanted: &Wanted, look: &Look) -> Option<Cause>
     }
 }
 
-// The watchpoint that the access of the count before meets.
 fn watched_before<M: Machine>(cursor: &mut Cursor<M>, wanted: &Wanted, count: u32) -> Option<Watch>
     requires { count ≤ (cursor_run M.run cursor.old).end }
     ensures watch { result ≡ watched_before (wanted_wish wanted.now) (cursor_run M.run cursor.old) count }
@@ -41,7 +38,6 @@ fn watched_before<M: Machine>(cursor: &mut Cursor<M>, wanted: &Wanted, count: u3
     watched(wanted.points, &cursor.look(count - 1).access)
 }
 
-// The way forward from a count.
 fn passage_ahead<M: Machine>(cursor: &mut Cursor<M>, wanted: &Wanted, from: u32) -> Passage
     requires { from ≤ (cursor_run M.run cursor.old).end }
     ensures passage { result ≡ passage_ahead (wanted_wish wanted.now) (cursor_run M.run cursor.old) from }
@@ -59,10 +55,8 @@ fn passage_ahead<M: Machine>(cursor: &mut Cursor<M>, wanted: &Wanted, from: u32)
             None => cause_by_watch(&watched(wanted.points, &last.access), Cause::End),
         }
     };
-    Passage {
-        count,
-        cause: cause_by_watch(&watched(wanted.points, &first.access), cause),
-    }
+    let cause = cause_by_watch(&watched(wanted.points, &first.access), cause);
+    Passage { count, cause }
 }
 
 // The way back from a count. A machine goes back for an access alone where nothing else ends the way.
@@ -83,10 +77,8 @@ fn passage_back<M: Machine>(cursor: &mut Cursor<M>, wanted: &Wanted, from: u32) 
             None => cause_by_watch(&watched_before(cursor, wanted, count), Cause::Begin),
         }
     };
-    Passage {
-        count,
-        cause: cause_by_watch(&before, cause),
-    }
+    let cause = cause_by_watch(&before, cause);
+    Passage { count, cause }
 }
 
 /// The way from a count, forward or back.

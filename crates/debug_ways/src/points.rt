@@ -24,7 +24,6 @@ pub struct Watch {
     pub address: u32,
 }
 
-// Whether two points are one.
 fn is_point(one: &Point, other: &Point) -> bool
     ensures { result ≡ is_point one.now other.now }
 {
@@ -64,21 +63,15 @@ fn meets(point: &Point, access: &Access) -> bool
         && u64::from(point.address) < u64::from(access.address) + u64::from(access.length)
 }
 
-// The first watchpoint that an access meets.
 fn first_watch(points: &[Point], access: &Access) -> Option<Watch>
     ensures { result ≡ first_watch points.now access.now }
 {
     for point in points {
         if meets(point, access) {
-            let address = if point.address < access.address {
-                access.address
-            } else {
-                point.address
-            };
-            return Some(Watch {
-                kind: point.kind,
-                address,
-            });
+            let (one, other) = (point.address, access.address);
+            let address = if one < other { other } else { one };
+            let kind = point.kind;
+            return Some(Watch { kind, address });
         }
     }
     None

@@ -46,8 +46,9 @@ pub fn last_seen<M: Machine>(cursor: &mut Cursor<M>, count: u32) -> Option<Seen>
             }
             let running = cursor.look(open_count).running;
             let states = cursor.states(open_count);
+            let count = open_count;
             Some(Seen {
-                count: open_count,
+                count,
                 running,
                 states,
             })

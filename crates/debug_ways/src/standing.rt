@@ -1,8 +1,7 @@
 //! Where a session stands but for its points, and what a step of it goes to and tells.
 ghost use Rattle.std.specs.Prelude.{◌≡◌, false};
 ghost use Rattle.debug_ways.specs.Causes.{running_thread};
-ghost use Rattle.debug_ways.specs.Standing.{selected, interrupted, step_target, is_step, is_end};
-ghost use Rattle.debug_ways.specs.Standing.{step_told, plain_step};
+ghost use Rattle.debug_ways.specs.Standing.{selected, interrupted, step_target, is_step, is_end, step_told, plain_step};
 
 use crate::{Cause, Look, Target, is_own};
 

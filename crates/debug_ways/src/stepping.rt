@@ -14,7 +14,6 @@ use crate::{
     Cause, Cursor, Look, Machine, Passage, Point, Target, Wanted, go_ahead, is_own, passage,
 };
 
-// The points and the target of a step.
 fn step_wanted<'a>(points: &'a [Point], step: &Step, look: &Look) -> Wanted<'a>
     ensures { wanted_wish result ≡ step_wish points.now step.now look.now }
 {
@@ -27,7 +26,6 @@ fn step_wanted<'a>(points: &'a [Point], step: &Step, look: &Look) -> Wanted<'a>
     }
 }
 
-// Whether behind a way the machine was seen to stop at its count.
 fn has_met(stops: bool, standing: &Standing, backwards: bool, cause: Cause) -> bool
     ensures { result ≡ has_met stops standing.now backwards cause }
 {
@@ -75,7 +73,6 @@ fn stepped_count<M: Machine>(
     }
 }
 
-// Behind the way of a step.
 fn arrived<M: Machine>(
     cursor: &mut Cursor<M>,
     points: &[Point],

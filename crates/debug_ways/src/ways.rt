@@ -37,7 +37,6 @@ pub fn go_ahead<M: Machine, H: Hits>(cursor: &mut Cursor<M>, hits: &H, from: u32
     least(cursor, hits, from)
 }
 
-// The least count behind this one at which a way ends, or the last count.
 fn least<M: Machine, H: Hits>(cursor: &mut Cursor<M>, hits: &H, from: u32) -> u32
     requires { from ≤ (cursor_run M.run cursor.old).end }
     ensures within { result ≤ (cursor_run M.run cursor.old).end }
@@ -57,7 +56,6 @@ fn least<M: Machine, H: Hits>(cursor: &mut Cursor<M>, hits: &H, from: u32) -> u3
     count
 }
 
-// Whether a way forward ends at a count.
 fn ends_ahead<M: Machine, H: Hits>(cursor: &mut Cursor<M>, hits: &H, count: u32) -> bool
     requires { count ≤ (cursor_run M.run cursor.old).end }
     ensures ends { result ≡ ends_ahead (cursor_run M.run cursor.old) (H.tests hits.now) count }
@@ -93,7 +91,6 @@ pub fn guarded_before<M: Machine, H: Hits>(cursor: &mut Cursor<M>, hits: &H, cou
     hits.guards(&look)
 }
 
-// The greatest count below this one at which a way ends, or 0.
 fn greatest<M: Machine, H: Hits>(cursor: &mut Cursor<M>, hits: &H, below: u32) -> u32
     requires { below ≤ (cursor_run M.run cursor.old).end }
     ensures within { result ≤ below }
@@ -113,7 +110,6 @@ fn greatest<M: Machine, H: Hits>(cursor: &mut Cursor<M>, hits: &H, below: u32) -
     0
 }
 
-// The last count from one on, below another, at which a way ends.
 fn last_between<M: Machine, H: Hits>(
     cursor: &mut Cursor<M>,
     hits: &H,
@@ -136,7 +132,6 @@ fn last_between<M: Machine, H: Hits>(
     last
 }
 
-// Whether a way stops at a count, and whether it does not cross the access of it.
 fn count_tests<M: Machine, H: Hits>(cursor: &mut Cursor<M>, hits: &H, count: u32) -> (bool, bool)
     requires { count ≤ (cursor_run M.run cursor.old).end }
     ensures stops { result.0 ≡ (H.tests hits.now).stops ((cursor_run M.run cursor.old).look count) }
@@ -147,7 +142,6 @@ fn count_tests<M: Machine, H: Hits>(cursor: &mut Cursor<M>, hits: &H, count: u32
     (hits.stops(&look), hits.guards(&look))
 }
 
-// The later one of two counts at which a way ends.
 fn later(last: Option<u32>, stops: bool, guarded: bool, count: u32) -> Option<u32>
     ensures { result ≡ (if stops || guarded then Some count else last) }
 {

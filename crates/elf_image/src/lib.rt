@@ -11,13 +11,11 @@
 //! (`ImageText`, `Parts`); images in range: `sloth_base` (`ImageRange`).
 #![tactic(auto)]
 
-pub mod headers;
 pub mod laws;
-pub mod note;
 pub mod read;
 pub mod reading;
 pub mod write;
 
-pub use headers::put_words;
 pub use read::read_elf;
+pub use reading::put_words;
 pub use write::write_elf;

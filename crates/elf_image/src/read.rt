@@ -1,20 +1,20 @@
 //! Reading an ELF file. The names of an image.
-ghost use Rattle.std.specs.Prelude.{◌⊎◌, ◌≡◌, ◌<◌, ◌≤◌, ◌+◌, IfOk, IfErr, IfSome, IfNone, Decides, drop, length, take};
+//! The note of an ELF file. The zeros with which the note of an ELF file ends.
+ghost use Rattle.std.specs.Prelude.{◌⊎◌, ◌≡◌, ◌<◌, ◌≤◌, ◌+◌, IfOk, IfErr, IfSome, IfNone, Decides, drop, length, take, ◌++◌, OnOk};
 ghost use Rattle.image_file.specs.Reading.{MarksStand, NamedPartsStand};
 ghost use Rattle.image_file.specs.declared.header.Sizes.{Sizes as AnySizes};
 ghost use Rattle.sloth_base.specs.ImageRange.{service_limit};
 ghost use Rattle.sloth_base.specs.declared.image.Image.{Image as ImageOf};
 ghost use Rattle.sloth_base.specs.MemoryMap.{memory_bytes};
-ghost use Rattle.elf_image.specs.ElfText.{ElfText, note_bytes};
+ghost use Rattle.elf_image.specs.ElfText.{ElfText, note_bytes, padding};
 ghost use Rattle.elf_image.specs.Faults.{IsElfErrorOf, IsFirstElfFault};
 ghost use Rattle.elf_image.specs.Reading.{IsFramedAt, IsElfPartsError, IsElfMarksError, IsNote, IsNoteError, HasDescriptionSizes, IsDescription, IsDescriptionError, AreNamesAndMarks, AreRightMarks, IsContentsError};
 ghost use Rattle.image_file.specs.declared.fault.ElfFault.{ElfFault as FaultOf};
 ghost use Rattle.image_file.specs.declared.fault.FileError.TheVariants as failed_by;
 ghost use Rattle.image_file.specs.Parts.{AreRightNames};
 
-use crate::headers::HEADERS;
-use crate::note::{NOTE_HEAD, padding_size, put_note};
-use crate::reading::{judge_header, read_load_header, read_note_header};
+use crate::put_words;
+use crate::reading::{HEADERS, judge_header, read_load_header, read_note_header};
 use image_file::{
     ElfError, ElfFault, ImageError, Outline, Sizes, are_ascending, are_right_names, read_marks,
     read_parts, service_limit, u32_at,
@@ -29,7 +29,8 @@ const NUMBERS: usize = 16;
 pub fn read_elf(alloc: Global, bytes: &[u8]) -> Result<Image, ElfError>
     ensures read { IfOk result (λ image. ElfText bytes.now image) }
     ensures failed { IfErr result (λ failure. IsElfErrorOf failure bytes.now) }
-    ensures refuses_no_image { IfErr result (λ failure. (image : ImageOf) → ElfText bytes.now image → failure ≡ failed_by.Memory) }
+    ensures refuses_no_image { IfErr result (λ failure. (image : ImageOf) → ElfText bytes.now image → failure
+        ≡ failed_by.Memory) }
     ensures tells_the_fault { IfErr result (λ failure. (fault : FaultOf) → IsFirstElfFault fault bytes.now →
         (failure ≡ failed_by.Fault fault) ⊎ (failure ≡ failed_by.Memory)) }
     ensures reads_no_fault { IfOk result (λ image. (fault : FaultOf) → ¬ (IsFirstElfFault fault bytes.now)) }
@@ -38,7 +39,6 @@ pub fn read_elf(alloc: Global, bytes: &[u8]) -> Result<Image, ElfError>
     read_whole(alloc, bytes)
 }
 
-// The image, or what is wrong.
 fn read_whole(alloc: Global, bytes: &[u8]) -> Result<Image, ElfError>
     ensures read { IfOk result (λ image. ElfText bytes.now image) }
     ensures failed { IfErr result (λ failure. IsElfErrorOf failure bytes.now) }
@@ -52,7 +52,6 @@ fn read_whole(alloc: Global, bytes: &[u8]) -> Result<Image, ElfError>
     read_contents(alloc, description, outline, memory)
 }
 
-// The bytes from a place on.
 fn behind(bytes: &[u8], at: usize) -> &[u8]
     requires { at ≤ length bytes.now }
     ensures { result.now ≡ drop at bytes.now }
@@ -60,7 +59,6 @@ fn behind(bytes: &[u8], at: usize) -> &[u8]
     &bytes[at..]
 }
 
-// So many bytes from a place on.
 fn part(bytes: &[u8], at: usize, size: usize) -> &[u8]
     requires { at + size ≤ length bytes.now }
     ensures { result.now ≡ take size (drop at bytes.now) }
@@ -68,7 +66,6 @@ fn part(bytes: &[u8], at: usize, size: usize) -> &[u8]
     &bytes[at..at + size]
 }
 
-// Whether they are the note of a description.
 fn is_note(alloc: Global, bytes: &[u8], description: &[u8]) -> Result<bool>
     requires { length description.now < 4294967296 }
     ensures { IfOk result (λ is. Decides is (bytes.now ≡ note_bytes description.now)) }
@@ -92,7 +89,6 @@ fn read_frame(alloc: Global, bytes: &[u8]) -> Result<usize, ElfError>
     Ok(size as usize)
 }
 
-// How many bytes the description of a note has.
 fn read_note(alloc: Global, note: &[u8]) -> Result<usize, ElfError>
     requires { 36 ≤ length note.now }
     ensures read { IfOk result (λ size. IsNote note.now size) }
@@ -134,7 +130,8 @@ fn read_numbers(description: &[u8]) -> Option<Sizes>
 fn parts_behind(alloc: Global, description: &[u8], sizes: &Sizes) -> Result<Outline, ElfError>
     requires { HasDescriptionSizes description.now sizes.now }
     ensures read { IfOk result (λ outline.
-        NamedPartsStand description.now 16 sizes.now outline.tasks.items outline.funcs.items outline.counters.items outline.memory) }
+        NamedPartsStand description.now 16 sizes.now outline.tasks.items outline.funcs.items outline.counters.items
+        outline.memory) }
     ensures count { IfOk result (λ outline. outline.count ≡ sizes.now.marks) }
     ensures failed { IfErr result (λ failure. IsElfPartsError failure description.now 16 sizes.now) }
 {
@@ -152,14 +149,17 @@ fn marks_at(
     outline: &Outline,
     size: usize,
 ) -> Result<Vec<Mark>, ElfError>
-    requires parts { IsDescription file.now outline.now.tasks.items outline.now.funcs.items outline.now.counters.items outline.now.memory outline.now.count }
+    requires parts { IsDescription file.now outline.now.tasks.items outline.now.funcs.items
+        outline.now.counters.items outline.now.memory outline.now.count }
     requires fits { size ≤ memory_bytes }
     ensures read { IfOk result (λ marks.
-        MarksStand file.now outline.now.memory (service_limit (length outline.now.counters.items)) (length outline.now.funcs.items) size
+        MarksStand file.now outline.now.memory (service_limit (length outline.now.counters.items)) (length
+        outline.now.funcs.items) size
         marks.items) }
     ensures counted { IfOk result (λ marks. length marks.items ≡ outline.now.count) }
     ensures failed { IfErr result (λ failure.
-        IsElfMarksError failure file.now outline.now.memory outline.now.count (service_limit (length outline.now.counters.items))
+        IsElfMarksError failure file.now outline.now.memory outline.now.count (service_limit (length
+        outline.now.counters.items))
         (length outline.now.funcs.items) size) }
 {
     match read_marks(
@@ -184,13 +184,16 @@ fn right_marks(
     outline: &Outline,
     size: usize,
 ) -> Result<Vec<Mark>, ElfError>
-    requires parts { IsDescription file.now outline.now.tasks.items outline.now.funcs.items outline.now.counters.items outline.now.memory outline.now.count }
+    requires parts { IsDescription file.now outline.now.tasks.items outline.now.funcs.items
+        outline.now.counters.items outline.now.memory outline.now.count }
     requires fits { size ≤ memory_bytes }
     ensures read { IfOk result (λ marks.
-        AreRightMarks file.now outline.now.tasks.items outline.now.funcs.items outline.now.counters.items outline.now.memory outline.now.count size
+        AreRightMarks file.now outline.now.tasks.items outline.now.funcs.items outline.now.counters.items
+        outline.now.memory outline.now.count size
         marks.items) }
     ensures failed { IfErr result (λ failure.
-        IsContentsError failure file.now outline.now.tasks.items outline.now.funcs.items outline.now.counters.items outline.now.memory
+        IsContentsError failure file.now outline.now.tasks.items outline.now.funcs.items outline.now.counters.items
+        outline.now.memory
         outline.now.count size) }
 {
     if !has_right_names(outline) {
@@ -206,7 +209,8 @@ fn right_marks(
 // The names of a description, and where its marks stand, with which it ends.
 fn read_description(alloc: Global, description: &[u8]) -> Result<Outline, ElfError>
     ensures read { IfOk result (λ outline.
-        IsDescription description.now outline.tasks.items outline.funcs.items outline.counters.items outline.memory outline.count) }
+        IsDescription description.now outline.tasks.items outline.funcs.items outline.counters.items outline.memory
+        outline.count) }
     ensures failed { IfErr result (λ failure. IsDescriptionError failure description.now) }
 {
     let Some(sizes) = read_numbers(description) else {
@@ -226,13 +230,16 @@ fn read_contents(
     outline: Outline,
     memory: &[u8],
 ) -> Result<Image, ElfError>
-    requires parts { IsDescription file.now outline.tasks.items outline.funcs.items outline.counters.items outline.memory outline.count }
+    requires parts { IsDescription file.now outline.tasks.items outline.funcs.items outline.counters.items
+        outline.memory outline.count }
     requires fits { length memory.now ≤ memory_bytes }
     ensures read { IfOk result (λ image.
-        AreNamesAndMarks file.now outline.tasks.items outline.funcs.items outline.counters.items outline.memory outline.count (length memory.now) image) }
+        AreNamesAndMarks file.now outline.tasks.items outline.funcs.items outline.counters.items outline.memory
+        outline.count (length memory.now) image) }
     ensures memory { IfOk result (λ image. image.memory ≡ memory.now) }
     ensures failed { IfErr result (λ failure.
-        IsContentsError failure file.now outline.tasks.items outline.funcs.items outline.counters.items outline.memory outline.count
+        IsContentsError failure file.now outline.tasks.items outline.funcs.items outline.counters.items
+        outline.memory outline.count
         (length memory.now)) }
 {
     let marks = right_marks(alloc, file, &outline, memory.len())?;
@@ -248,7 +255,39 @@ fn read_contents(
 
 /// Whether the names of tasks, of functions and of counters are right.
 pub fn has_right_names(outline: &Outline) -> bool
-    ensures { Decides result (AreRightNames outline.now.tasks.items outline.now.funcs.items outline.now.counters.items) }
+    ensures { Decides result (AreRightNames outline.now.tasks.items outline.now.funcs.items
+        outline.now.counters.items) }
 {
     are_right_names(&outline.tasks, &outline.funcs, &outline.counters)
+}
+
+/// The length of a note before its description.
+pub const NOTE_HEAD: usize = 20;
+
+/// How many bytes the note of a description has.
+pub fn note_size(description: &[u8]) -> u32
+    requires { length description.now ≤ 300000 }
+    ensures { result ≡ length (note_bytes description.now) }
+{
+    (NOTE_HEAD + description.len() + padding_size(description.len())) as u32
+}
+
+/// Appends the note of a description.
+pub fn put_note(file: &mut Vec<u8>, description: &[u8]) -> Result<()>
+    requires { length description.now < 4294967296 }
+    ensures { OnOk result (file.new.items ≡ file.old.items ++ note_bytes description.now) }
+{
+    put_words(file, &[6, description.len() as u32, 1])?;
+    file.extend_from_slice(b"SLOTH\0\0\0")?;
+    file.extend_from_slice(description)?;
+    file.extend_from_slice(&[0; 3][..padding_size(description.len())])?;
+    Ok(())
+}
+
+/// How many zeros follow a description of so many bytes.
+pub fn padding_size(description: usize) -> usize
+    ensures short { result ≤ 3 }
+    ensures is { length (padding description) ≡ result }
+{
+    (4 - description % 4) % 4
 }

@@ -4,9 +4,9 @@ ghost use Rattle.sloth_base.specs.ImageRange.{InFormat};
 ghost use Rattle.sloth_base.specs.MemoryMap.{memory_bytes};
 ghost use Rattle.elf_image.specs.ElfText.{ElfText, description_bytes, file_bytes};
 
-use crate::headers::{elf_header, put_load_header, put_note_header};
-use crate::note::{note_size, put_note};
 use crate::put_words;
+use crate::read::{note_size, put_note};
+use crate::reading::{elf_header, put_load_header, put_note_header};
 use image_file::{put_marks, put_names};
 use sloth_base::{Image, Result};
 use std::alloc::Global;

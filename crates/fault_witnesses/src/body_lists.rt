@@ -64,15 +64,6 @@ fn has_label_list(func: &Func, rows: &[KeptList], label: &Label) -> bool
     place < rows.len() && rows[place].kept && is_held(label.holds.items(), rows[place].list.items())
 }
 
-/// As many places that are marked, or not.
-pub fn all_marked(alloc: Global, count: usize, mark: bool) -> Result<Vec<bool>> {
-    let mut marks = Vec::new(alloc);
-    for _place in 0..count {
-        push(&mut marks, mark)?;
-    }
-    Ok(marks)
-}
-
 fn unmark(marks: &mut [bool], place: usize)
     ensures kept { (k : ℕ) → get_or marks.new k false ≡ true → get_or marks.old k false ≡ true }
     ensures lowered { get_or marks.new place false ≡ false }
@@ -107,7 +98,7 @@ fn agreed_places(alloc: Global, func: &Func, rows: &[KeptList]) -> Result<Vec<bo
     requires { AreLists func.now rows.now }
     ensures { IfOk result (λ marks. AreAgreed func.now marks.items) }
 {
-    let mut marks = all_marked(alloc, func.items.items().len(), true)?;
+    let mut marks = vec![in alloc; true; func.items.items().len()]?;
     judge_labels(func, rows, &mut marks);
     Ok(marks)
 }

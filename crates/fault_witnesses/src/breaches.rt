@@ -188,24 +188,18 @@ fn is_broken(
     }
 }
 
-fn place_line(app: &App, place: Place) -> u32
-    requires { IsPlace app.now place }
-    ensures { result ≡ line_of_place app.now place }
-{
-    match place {
-        Place::Header(body) => app.function(body).line,
-        Place::Label { body, label } => app.function(body).labels.items()[label].line,
-        Place::Item { body, item } => app.function(body).items.items()[item].line,
-    }
-}
-
 // Whether the refusal is of the source and of the place's line.
 fn is_of_line(app: &App, refusal: Refusal, place: Place) -> bool
     requires { IsPlace app.now place }
     ensures part { result ≡ true → refusal.part ≡ Src }
     ensures line { result ≡ true → refusal.line ≡ line_of_place app.now place }
 {
-    matches!(refusal.part, Part::Src) && refusal.line == place_line(app, place)
+    let line = match place {
+        Place::Header(body) => app.function(body).line,
+        Place::Label { body, label } => app.function(body).labels.items()[label].line,
+        Place::Item { body, item } => app.function(body).items.items()[item].line,
+    };
+    matches!(refusal.part, Part::Src) && refusal.line == line
 }
 
 /// The place of a fault of V2 to V12.

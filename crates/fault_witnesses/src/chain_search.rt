@@ -23,11 +23,10 @@ pub enum Aim<'t> {
     Function(usize),
 }
 
-// A function that was reached, the line of the call, and the place of its caller among those that were reached.
+// A function that was reached, by a call, and the place of its caller among those that were reached.
 #[derive(Clone, Copy)]
 struct Reached {
-    func: usize,
-    line: u32,
+    link: Link,
     before: usize,
 }
 
@@ -64,15 +63,10 @@ fn aimed_item(aim: Aim, number: usize, func: &Func) -> Option<usize> {
 fn reach_all(reached: &mut Vec<Reached>, before: usize, func: &Func) -> Result<()> {
     for item in func.items.items() {
         if let Some(func) = item.op.callee() {
-            if !reached.as_slice().iter().any(|one| one.func == func) {
-                push(
-                    reached,
-                    Reached {
-                        func,
-                        line: item.line,
-                        before,
-                    },
-                )?;
+            if !reached.as_slice().iter().any(|one| one.link.func == func) {
+                let line = item.line;
+                let link = Link { func, line };
+                push(reached, Reached { link, before })?;
             }
         }
     }
@@ -85,47 +79,34 @@ fn reached_links(alloc: Global, reached: &[Reached], last: usize) -> Result<List
     let mut at = last;
     for _turn in 0..reached.len() {
         if at > 0 && at < reached.len() {
-            let Reached { func, line, before } = reached[at];
-            push(&mut links, Link { func, line })?;
-            at = before;
+            push(&mut links, reached[at].link)?;
+            at = reached[at].before;
         }
     }
     links.reverse();
     Ok(List::from_vec(links))
 }
 
-// Goes on from each function that was reached.
-fn found_chain(
-    alloc: Global,
-    app: &App,
-    reached: &mut Vec<Reached>,
-    aim: Aim,
-) -> Result<Option<Calls>> {
-    for turn in 0..app.funcs.items().len() + 1 {
-        if turn >= reached.len() || reached[turn].func >= app.funcs.items().len() {
-            return Ok(None);
-        }
-        let number = reached[turn].func;
-        let func = app.function(number);
-        if let Some(item) = aimed_item(aim, number, func) {
-            let links = reached_links(alloc, reached, turn)?;
-            return Ok(Some(Calls { links, item }));
-        }
-        reach_all(reached, turn, func)?;
-    }
-    Ok(None)
-}
-
 /// The shortest chain of calls from a function to what is looked for, if there is one.
 pub fn shortest_chain(alloc: Global, app: &App, start: usize, aim: Aim) -> Result<Option<Calls>> {
+    let count = app.funcs.items().len();
+    let (func, line) = (start, 0);
+    let (link, before) = (Link { func, line }, 0);
     let mut reached = Vec::new(alloc);
-    let first = Reached {
-        func: start,
-        line: 0,
-        before: 0,
-    };
-    push(&mut reached, first)?;
-    found_chain(alloc, app, &mut reached, aim)
+    push(&mut reached, Reached { link, before })?;
+    for turn in 0..count + 1 {
+        if turn >= reached.len() || reached[turn].link.func >= count {
+            return Ok(None);
+        }
+        let number = reached[turn].link.func;
+        let func = app.function(number);
+        if let Some(item) = aimed_item(aim, number, func) {
+            let links = reached_links(alloc, &reached, turn)?;
+            return Ok(Some(Calls { links, item }));
+        }
+        reach_all(&mut reached, turn, func)?;
+    }
+    Ok(None)
 }
 
 /// The shortest chain of calls from one body to another, if there is one.

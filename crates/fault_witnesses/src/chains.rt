@@ -90,11 +90,8 @@ pub fn leads(app: &App, start: usize, links: &[Link], end: usize) -> bool
 
 // The line of an item of a function, 0 where there is none.
 fn item_line(app: &App, func: usize, item: usize) -> u32 {
-    if func >= app.funcs.items().len() {
-        return 0;
-    }
-    match app.function(func).items.items().get(item) {
-        Some(item) => item.line,
+    match app.funcs.items().get(func) {
+        Some(func) => func.items.items().get(item).map_or(0, |item| item.line),
         None => 0,
     }
 }

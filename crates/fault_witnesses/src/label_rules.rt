@@ -1,5 +1,5 @@
 //! What is held before an item and behind a label, and V7 at a label.
-ghost use Rattle.std.specs.Prelude.{◌≡◌, ◌<◌, ◌≤◌, ◌+◌, ◌||◌, ◌≢◌, cond, length, true, Some, None, is_some, IfOk};
+ghost use Rattle.std.specs.Prelude.{◌≡◌, ◌<◌, ◌≤◌, ◌+◌, ◌||◌, cond, length, true, Some, None, is_some, IfOk};
 ghost use Rattle.sloth_base.specs.Named.{label_of};
 ghost use Rattle.code_rules.specs.Code.{held_list_at, held_list_fallen_into, held_list_entering, is_entered};
 ghost use Rattle.code_rules.specs.Code.{is_fallen_into};
@@ -102,17 +102,6 @@ fn is_entered(func: &Func, label: usize) -> bool
     enters(func, label, label_before(func, label))
 }
 
-// Whether it is fallen into with another list.
-fn falls_otherwise(func: &Func, label: usize, held: &[u32]) -> bool
-    requires placed { ArePlaced func.now }
-    requires inside { label < length func.now.labels }
-    requires held { held.now ≡ held_list_entering func.now label }
-    ensures entered { result ≡ true → is_entered func.now label ≡ true }
-    ensures other { result ≡ true → (label_of func.now label).holds ≢ held_list_entering func.now label }
-{
-    is_entered(func, label) && !is_held(func.labels.items()[label].holds.items(), held)
-}
-
 /// Whether V7 is broken at a label.
 pub fn has_other_list(alloc: Global, func: &Func, label: usize) -> Result<bool>
     requires placed { ArePlaced func.now }
@@ -123,5 +112,5 @@ pub fn has_other_list(alloc: Global, func: &Func, label: usize) -> Result<bool>
         return Ok(true);
     }
     let held = held_entering(alloc, func, label)?;
-    Ok(falls_otherwise(func, label, &held))
+    Ok(is_entered(func, label) && !is_held(func.labels.items()[label].holds.items(), &held))
 }

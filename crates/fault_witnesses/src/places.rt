@@ -3,7 +3,7 @@ ghost use Rattle.std.specs.Prelude.{◌<◌, length, IfSome};
 ghost use Rattle.sloth_base.specs.Named.{function};
 ghost use Rattle.fault_witnesses.specs.Places.{IsPlace};
 
-use sloth_base::{App, Func};
+use sloth_base::App;
 
 /// A place of task code, by the number of its body, and of the label or item in it.
 #[derive(Clone, Copy)]
@@ -12,30 +12,6 @@ pub enum Place {
     Header(usize),
     Label { body: usize, label: usize },
     Item { body: usize, item: usize },
-}
-
-// The first item on a line.
-fn item_on_line(func: &Func, line: u32) -> Option<usize>
-    ensures { IfSome result (λ i. i < length func.now.items) }
-{
-    for (number, item) in func.items.items().iter().enumerate() {
-        if item.line == line {
-            return Some(number);
-        }
-    }
-    None
-}
-
-// The first label on a line.
-fn label_on_line(func: &Func, line: u32) -> Option<usize>
-    ensures { IfSome result (λ k. k < length func.now.labels) }
-{
-    for (number, label) in func.labels.items().iter().enumerate() {
-        if label.line == line {
-            return Some(number);
-        }
-    }
-    None
 }
 
 // What stands on a line of a body.
@@ -47,13 +23,12 @@ fn place_in_body(app: &App, body: usize, line: u32) -> Option<Place>
     if func.line == line {
         return Some(Place::Header(body));
     }
-    if let Some(label) = label_on_line(func, line) {
+    let (labels, items) = (func.labels.items(), func.items.items());
+    if let Some(label) = labels.iter().position(|label| label.line == line) {
         return Some(Place::Label { body, label });
     }
-    match item_on_line(func, line) {
-        Some(item) => Some(Place::Item { body, item }),
-        None => None,
-    }
+    let item = items.iter().position(|item| item.line == line)?;
+    Some(Place::Item { body, item })
 }
 
 /// What stands on a line of the source, from 1.

@@ -4,7 +4,7 @@ ghost use Rattle.sloth_base.specs.Named.{item_of};
 ghost use Rattle.task_verify.specs.Ways.{HasBodyLabel};
 ghost use Rattle.fault_witnesses.specs.BodyLists.{AreBodyLists};
 
-use crate::body_lists::{BodyLists, all_marked};
+use crate::body_lists::BodyLists;
 use crate::clean_steps::is_clean_step;
 use sloth_base::{Func, Result};
 use std::alloc::Global;
@@ -104,7 +104,7 @@ pub fn shortest_way(
     requires labels { (i : ℕ) → i < length func.now.items → HasBodyLabel func.now (item_of func.now i).op }
     requires tables { AreBodyLists func.now tables.now }
 {
-    let mut marks = all_marked(alloc, func.items.items().len(), false)?;
+    let mut marks = vec![in alloc; false; func.items.items().len()]?;
     mark(&mut marks, 0);
     let mut visits = Vec::new(alloc);
     push(&mut visits, Visited { item: 0, before: 0 })?;

@@ -5,7 +5,7 @@ ghost use Rattle.code_rules.specs.Code.{held_list_at};
 ghost use Rattle.task_verify.specs.Labels.{ArePlaced};
 ghost use Rattle.task_verify.specs.Ways.{HasBodyLabel};
 ghost use Rattle.fault_witnesses.specs.BodyLists.{AreBodyLists};
-ghost use Rattle.fault_witnesses.specs.CleanWays.{IsWayFromBegin, IsShownWay, way_item};
+ghost use Rattle.fault_witnesses.specs.CleanWays.{IsWayFromBegin, IsShownWay};
 
 use crate::body_lists::{BodyLists, body_lists};
 use crate::clean_steps::are_clean_steps;
@@ -19,15 +19,6 @@ use std::alloc::Global;
 pub struct Way {
     pub label: Option<usize>,
     pub items: List<usize>,
-}
-
-// Whether the way begins with the first item and ends with the goal.
-fn spans(way: &[usize], goal: usize) -> bool
-    ensures some { result ≡ true → 0 < length way.now }
-    ensures first { result ≡ true → way_item way.now 0 ≡ 0 }
-    ensures last { result ≡ true → way_item way.now (length way.now - 1) ≡ goal }
-{
-    !way.is_empty() && way[0] == 0 && way[way.len() - 1] == goal
 }
 
 // Whether nothing is held before the first item.
@@ -51,27 +42,13 @@ fn is_way_from_begin(
     requires tables { AreBodyLists func.now tables.now }
     ensures { IfOk result (λ clean. clean ≡ true → IsWayFromBegin func.now goal way.now) }
 {
-    if !spans(way, goal) || !begins_free(func, tables) {
+    if way.is_empty() || way[0] != 0 || way[way.len() - 1] != goal {
+        return Ok(false);
+    }
+    if !begins_free(func, tables) {
         return Ok(false);
     }
     are_clean_steps(alloc, func, tables, way)
-}
-
-fn checked_way(alloc: Global, func: &Func, tables: &BodyLists, goal: usize) -> Result<Option<Way>>
-    requires placed { ArePlaced func.now }
-    requires labels { (i : ℕ) → i < length func.now.items → HasBodyLabel func.now (item_of func.now i).op }
-    requires tables { AreBodyLists func.now tables.now }
-    requires inside { goal < length func.now.items }
-    ensures { IfOk result (IsShownWay func.now goal) }
-{
-    let way = shortest_way(alloc, func, tables, goal)?;
-    if is_way_from_begin(alloc, func, tables, &way, goal)? {
-        return Ok(Some(Way {
-            label: None,
-            items: List::from_vec(way),
-        }));
-    }
-    straight_way(alloc, func, goal)
 }
 
 /// A way of clean steps to an item: the shortest one from the begin of the body, else one from the last label in front,
@@ -83,5 +60,12 @@ pub fn clean_way(alloc: Global, func: &Func, goal: usize) -> Result<Option<Way>>
     ensures { IfOk result (IsShownWay func.now goal) }
 {
     let tables = body_lists(alloc, func)?;
-    checked_way(alloc, func, &tables, goal)
+    let way = shortest_way(alloc, func, &tables, goal)?;
+    if is_way_from_begin(alloc, func, &tables, &way, goal)? {
+        return Ok(Some(Way {
+            label: None,
+            items: List::from_vec(way),
+        }));
+    }
+    straight_way(alloc, func, goal)
 }

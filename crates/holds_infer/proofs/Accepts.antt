@@ -44,7 +44,8 @@ use Rattle.asm_parse.proofs.Read.{IsRead}
 use Rattle.asm_parse.proofs.LinesRead.{all_read}
 use Rattle.sloth_source.specs.SourceText.{HasApp, SourceText}
 use Rattle.holds_infer.specs.Filling.{bare_app, SameButLists}
-use Rattle.holds_infer.specs.LabelLines.{resource_name, resource_names}
+use Rattle.sloth_base.specs.ConfigRange.{resource_name}
+use Rattle.holds_infer.specs.LabelLines.{resource_names}
 use Rattle.holds_infer.specs.Relabel.{func_holds, all_holds, relabeled_lines}
 use Rattle.holds_infer.proofs.InPlace.{AreInPlace}
 use Rattle.holds_infer.specs.FilledText.{filled_text}

@@ -26,7 +26,8 @@ use Rattle.asm_scopes.specs.Scopes.{scope_of, is_scheduler}
 use Rattle.asm_parse.specs.Operations.{number_of, resource_number}
 use Rattle.asm_parse.specs.Apps.{holds_of, label_holds, app_of}
 use Rattle.holds_infer.specs.Filling.{bare_func, bare_app}
-use Rattle.holds_infer.specs.LabelLines.{resource_name, resource_names}
+use Rattle.sloth_base.specs.ConfigRange.{resource_name}
+use Rattle.holds_infer.specs.LabelLines.{resource_names}
 use Rattle.holds_infer.specs.Relabel.{func_holds, all_holds, label_statement, first_list, other_lists, relabeled_lines}
 use Rattle.holds_infer.proofs.InPlace.{AreInPlace}
 use Rattle.holds_infer.proofs.Bare.{body_same, count_same}

@@ -14,7 +14,7 @@ use Rattle.why_text.specs.WhyLines.{HasWitnessLines}
 use Rattle.holds_infer.specs.FilledSource.{IsFilledSource, HasNoLists}
 use Rattle.holds_infer.specs.LabelWays.{AreOtherWays}
 use Rattle.holds_infer.specs.WayLists.{IsWayFilled}
-use Rattle.holds_infer.specs.declared.holding_ways.HoldingWay.{HoldingWay}
+use Rattle.holds_infer.specs.declared.other_ways.HoldingWay.{HoldingWay}
 use Rattle.holds_infer.specs.declared.other_ways.OtherWays.{OtherWays}
 use Rattle.holds_infer.specs.declared.label_answers.LabelAnswer.{LabelAnswer}
 use Rattle.holds_infer.specs.declared.label_answers.LabelAnswer.TheVariants as answer

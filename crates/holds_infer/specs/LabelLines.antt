@@ -1,13 +1,9 @@
 -- The line of a label in task source.
 use Rattle.std.specs.Prelude.{ℕ, ◌==◌, ◌++◌, Bool, if◌then◌else◌, List, [], map, length, drop, get_or, codes}
 use Rattle.std.specs.List.{flat_map}
-use Rattle.sloth_base.specs.ConfigRange.{res_scheduler_name, scheduler_number}
+use Rattle.sloth_base.specs.ConfigRange.{resource_name}
 use Rattle.sloth_base.specs.declared.config.Config.{Config}
 use Rattle.text_pieces.specs.Lines.{line_of}
-
--- the name of a resource
-abbrev pub resource_name : Config → ℕ → List ℕ
-resource_name config r = if r == scheduler_number then res_scheduler_name else get_or config.resources r []
 
 -- the names of these resources
 abbrev pub resource_names : Config → List ℕ → List (List ℕ)

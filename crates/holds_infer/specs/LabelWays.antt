@@ -5,7 +5,7 @@ use Rattle.sloth_base.specs.declared.app.Func.{Func}
 use Rattle.sloth_base.specs.Named.{item_of, label_of}
 use Rattle.code_rules.specs.Code.{IsPathStep, held_after}
 use Rattle.fault_witnesses.specs.CleanWays.{is_orderly}
-use Rattle.holds_infer.specs.declared.holding_ways.HoldingWay.{HoldingWay}
+use Rattle.holds_infer.specs.declared.other_ways.HoldingWay.{HoldingWay}
 use Rattle.holds_infer.specs.declared.other_ways.OtherWays.{OtherWays}
 
 -- item n of a way, and behind its last one the goal

@@ -1,10 +1,10 @@
 //! The ways through a body: breadth first, the lower item first, and as far as the rules on resources are kept.
 ghost use Rattle.std.specs.Prelude.{◌≡◌, ◌<◌, ℕ, length, set, get_or, is_some, Some, None, IfOk, IfSome, OnOk};
 ghost use Rattle.holds_infer.specs.RightLists.{HasItsLabels};
-ghost use Rattle.holds_infer.specs.WayLists.{IsWayList, AreWayLists, AreHeldBehind};
+ghost use Rattle.holds_infer.specs.WayLists.{AreWayLists, AreHeldBehind};
 
-use crate::holding_ways::goes;
-use crate::spread::{no_lists, place_list};
+use crate::other_ways::goes;
+use crate::spread::{Held, no_lists, place_list};
 use fault_witnesses::is_orderly;
 use sloth_base::{Func, List, ResId, Result};
 use std::alloc::Global;
@@ -22,7 +22,7 @@ pub struct Step {
 /// holds different resources, if some does.
 #[derive(Drop)]
 pub struct BodyWays {
-    pub lists: List<Option<List<ResId>>>,
+    pub lists: List<Held>,
     pub before: List<usize>,
     pub meeting: Option<Step>,
 }
@@ -38,8 +38,7 @@ pub fn resources(alloc: Global, held: &[u32]) -> Result<Vec<ResId>>
     Ok(list)
 }
 
-// The place has this list.
-fn keep(alloc: Global, lists: &mut [Option<List<ResId>>], place: usize, held: &[u32]) -> Result<()>
+fn keep(alloc: Global, lists: &mut [Held], place: usize, held: &[u32]) -> Result<()>
     requires { place < length lists.old }
     ensures { OnOk result (lists.new ≡ set lists.old place (Some held.now)) }
 {
@@ -48,21 +47,7 @@ fn keep(alloc: Global, lists: &mut [Option<List<ResId>>], place: usize, held: &[
     Ok(())
 }
 
-// What is held behind an item, if it is orderly with these.
-fn orderly_behind(func: &Func, item: usize, held: Vec<u32>) -> Result<Option<List<u32>>>
-    requires inside { item < length func.now.items }
-    requires held { IsWayList func.now item held.items }
-    ensures { IfOk result (λ found. IfSome found (AreHeldBehind func.now item)) }
-{
-    let op = func.op(item);
-    if !is_orderly(&held, &op) {
-        return Ok(None);
-    }
-    let behind = held_after(held, op)?;
-    Ok(Some(List::from_vec(behind)))
-}
-
-fn has_list(lists: &[Option<List<ResId>>], item: usize) -> bool
+fn has_list(lists: &[Held], item: usize) -> bool
     ensures { result ≡ is_some (get_or lists.now item None) }
 {
     match lists.get(item) {
@@ -72,12 +57,7 @@ fn has_list(lists: &[Option<List<ResId>>], item: usize) -> bool
 }
 
 // What is held behind an item that was reached, if it is orderly.
-fn held_behind(
-    alloc: Global,
-    func: &Func,
-    lists: &[Option<List<ResId>>],
-    item: usize,
-) -> Result<Option<List<u32>>>
+fn held_behind(alloc: Global, func: &Func, lists: &[Held], item: usize) -> Result<Option<List<u32>>>
     requires inside { item < length func.now.items }
     requires lists { AreWayLists func.now lists.now }
     ensures { IfOk result (λ found. IfSome found (AreHeldBehind func.now item)) }
@@ -86,14 +66,19 @@ fn held_behind(
         return Ok(None);
     }
     let held = held_by(alloc, place_list(lists, item))?;
-    orderly_behind(func, item, held)
+    let op = func.op(item);
+    if !is_orderly(&held, &op) {
+        return Ok(None);
+    }
+    let behind = held_after(held, op)?;
+    Ok(Some(List::from_vec(behind)))
 }
 
 // Comes by a step to its place with these held. Whether the place has another list already.
 fn arrive(
     alloc: Global,
     func: &Func,
-    lists: &mut [Option<List<ResId>>],
+    lists: &mut [Held],
     before: &mut [usize],
     reached: &mut Vec<usize>,
     step: Step,
@@ -125,7 +110,7 @@ fn arrive(
 fn leave(
     alloc: Global,
     func: &Func,
-    lists: &mut [Option<List<ResId>>],
+    lists: &mut [Held],
     before: &mut [usize],
     reached: &mut Vec<usize>,
     item: usize,
@@ -157,7 +142,7 @@ fn leave(
 fn reach_all(
     alloc: Global,
     func: &Func,
-    lists: &mut [Option<List<ResId>>],
+    lists: &mut [Held],
     before: &mut [usize],
     reached: &mut Vec<usize>,
 ) -> Result<Option<Step>>
@@ -182,7 +167,7 @@ fn reach_all(
 fn walk(
     alloc: Global,
     func: &Func,
-    lists: &mut [Option<List<ResId>>],
+    lists: &mut [Held],
     before: &mut [usize],
 ) -> Result<Option<Step>>
     requires labels { HasItsLabels func.now }

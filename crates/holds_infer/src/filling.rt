@@ -1,6 +1,6 @@
-//! Task source with the lists of task code at its labels.
-ghost use Rattle.std.specs.Prelude.{◌≡◌, ◌++◌, ◌+◌, ◌^◌, ◌<◌, [], ◌∷◌, cond, map, get_or, IfOk, OnOk};
-ghost use Rattle.std.specs.List.{join_with_byte};
+//! Task source with the lists of task code at its labels. Writes the line of a label.
+ghost use Rattle.std.specs.Prelude.{◌≡◌, ◌++◌, ◌+◌, ◌^◌, ◌<◌, [], ◌∷◌, cond, map, get_or, IfOk, OnOk, codes};
+ghost use Rattle.std.specs.List.{join_with_byte, flat_map};
 ghost use Rattle.text_pieces.specs.Names.{referent};
 ghost use Rattle.text_pieces.specs.Lines.{without_returns};
 ghost use Rattle.asm_lines.specs.SourceLines.{source_line};
@@ -11,13 +11,14 @@ ghost use Rattle.sloth_source.specs.SourceText.{HasApp, SourceText};
 ghost use Rattle.holds_infer.specs.Filling.{SameButLists};
 ghost use Rattle.holds_infer.specs.Relabel.{func_holds, all_holds};
 ghost use Rattle.holds_infer.specs.FilledText.{filled_part, filled_parts, filled_text};
+ghost use Rattle.holds_infer.specs.LabelLines.{resource_names};
 
-use crate::label_text::write_part;
 use asm_lines::{SourceLine, read_lines};
-use asm_scopes::is_label;
+use asm_scopes::{is_label, name_of};
 use sloth_base::{App, Config, Func, ResId, Result};
 use std::alloc::Global;
-use text_pieces::{push, split};
+use text_pieces::pieces::Piece::Word;
+use text_pieces::{after, line, line_of, push, split};
 
 fn push_lists<'a>(lists: &mut Vec<&'a [ResId]>, func: &'a Func) -> Result<()>
     ensures { OnOk result (map referent lists.new.items ≡ map referent lists.old.items ++ func_holds func.now) }
@@ -123,4 +124,38 @@ pub fn fill(alloc: Global, text: &[u8], config: &Config, before: &App, app: &App
         parts.as_slice(),
     )?;
     Ok(out)
+}
+
+// Appends `, R` for each resource of a list.
+fn write_resources(out: &mut Vec<u8>, config: &Config, holds: &[ResId]) -> Result<()>
+    ensures { OnOk result
+        (out.new.items ≡ out.old.items ++ flat_map (λ name. codes ", " ++ name) (resource_names config.now holds.now)) }
+{
+    for resource in holds {
+        out.extend_from_slice(b", ")?;
+        out.extend_from_slice(config.resource_name(resource.0 as usize))?;
+    }
+    Ok(())
+}
+
+/// Writes the part of a line between two LFs, with this list where the line is a label.
+pub fn write_part(
+    out: &mut Vec<u8>,
+    config: &Config,
+    line: &SourceLine,
+    is_last: bool,
+    holds: &[ResId],
+    part: &[u8],
+) -> Result<()>
+    ensures { OnOk result
+        (out.new.items ≡ out.old.items ++ filled_part config.now line.now is_last holds.now part.now) }
+{
+    if !is_label(line) {
+        return line!(out; Word(part));
+    }
+    line!(out; Word(b"label "), Word(name_of(line)))?;
+    write_resources(out, config, holds)?;
+    // The CR before the LF, if the line has one.
+    let end = after(part, line_of(part, is_last).len());
+    line!(out; Word(end))
 }

@@ -1,17 +1,20 @@
-//! Task code with the lists that keep every rule, if some do.
-ghost use Rattle.std.specs.Prelude.{◌≡◌, IfOk, IfErr};
+//! Task code with the lists that keep every rule, if some do. Bodies whose labels have the lists of their places.
+ghost use Rattle.std.specs.Prelude.{◌≡◌, IfOk, IfErr, map};
 ghost use Rattle.code_rules.specs.AppRange.{AppInRange};
 ghost use Rattle.call_graph.specs.Ranks.{RanksOf};
 ghost use Rattle.holds_infer.specs.Filling.{IsFilling};
-ghost use Rattle.holds_infer.specs.BodyFilling.{HaveTheirLabels, AreBodyFillings};
+ghost use Rattle.holds_infer.specs.BodyFilling.{HaveTheirLabels, AreBodyFillings, IsBodyFilling};
 ghost use Rattle.holds_infer.specs.InferErrors.{InferErrorIs};
 ghost use Rattle.holds_infer.specs.declared.inference.InferError.TheVariants.{Memory as OutOfMemory};
+ghost use Rattle.holds_infer.specs.RightLists.{HasItsLabels};
+ghost use Rattle.holds_infer.specs.Spread.{AreLists, relisted_label, relisted_func};
 
-use crate::bodies::body_fillings;
+use crate::spread::{Held, place_list, places};
 use call_graph::Ranks;
-use sloth_base::{App, Config, List, NoMemory, Result};
+use sloth_base::{App, Config, Func, Label, List, Name, NoMemory, ResId, Result};
 use std::alloc::Global;
 use task_verify::bodies::judge;
+use text_pieces::push;
 
 /// Why no lists were found.
 #[derive(Drop)]
@@ -57,4 +60,73 @@ pub fn infer(alloc: Global, config: &Config, app: &App, ranks: &Ranks) -> Result
         None => Ok(other),
         Some(_) => Err(InferError::NoHolds),
     }
+}
+
+fn relisted_label(alloc: Global, lists: &[Held], label: &Label) -> Result<Label>
+    ensures { IfOk result (λ made. made ≡ relisted_label lists.now label.now) }
+{
+    let holds = place_list(lists, label.item as usize).to_vec(alloc)?;
+    Ok(Label {
+        name: Name::new(alloc, label.name.bytes())?,
+        holds: List::from_vec(holds),
+        line: label.line,
+        item: label.item,
+    })
+}
+
+fn relisted_labels(alloc: Global, lists: &[Held], labels: &[Label]) -> Result<List<Label>>
+    ensures { IfOk result (λ made. made ≡ map (relisted_label lists.now) labels.now) }
+{
+    let mut made = Vec::new(alloc);
+    for label in labels {
+        let label = relisted_label(alloc, lists, label)?;
+        push(&mut made, label)?;
+    }
+    Ok(List::from_vec(made))
+}
+
+/// The body with the lists of these places at its labels.
+pub fn relisted_func(alloc: Global, lists: &[Held], func: &Func) -> Result<Func>
+    ensures { IfOk result (λ made. made ≡ relisted_func lists.now func.now) }
+{
+    Ok(Func {
+        name: Name::new(alloc, func.name.bytes())?,
+        items: List::from_vec(Vec::from_slice(alloc, func.items.items())?),
+        labels: relisted_labels(alloc, lists, func.labels.items())?,
+        line: func.line,
+        task: func.task,
+        frame_words: func.frame_words,
+    })
+}
+
+fn reached_lists(alloc: Global, func: &Func) -> Result<Vec<Held>>
+    requires { HasItsLabels func.now }
+    ensures { IfOk result (λ lists. AreLists func.now lists.items) }
+{
+    if func.items.items().is_empty() {
+        return Ok(Vec::new(alloc));
+    }
+    places(alloc, func)
+}
+
+fn body_filling(alloc: Global, func: &Func) -> Result<Func>
+    requires { HasItsLabels func.now }
+    ensures { IfOk result (IsBodyFilling func.now) }
+{
+    let lists = reached_lists(alloc, func)?;
+    let made = relisted_func(alloc, lists.as_slice(), func)?;
+    Ok(made)
+}
+
+/// All bodies, their labels with the lists of their places.
+pub fn body_fillings(alloc: Global, funcs: &[Func]) -> Result<Vec<Func>>
+    requires { HaveTheirLabels funcs.now }
+    ensures { IfOk result (λ made. AreBodyFillings funcs.now made.items) }
+{
+    let mut made = Vec::new(alloc);
+    for func in funcs {
+        let func = body_filling(alloc, func)?;
+        push(&mut made, func)?;
+    }
+    Ok(made)
 }

@@ -1,25 +1,27 @@
-//! What the lists of labels can be, or why no lists keep the rules.
-//! Task code whose labels have the lists that the first ways to them hold.
-ghost use Rattle.std.specs.Prelude.{◌≡◌, ◌<◌, ◌⊎◌, [], length, IfOk, IfSome};
+//! What the lists of labels can be, or the lines that say why no lists keep the rules.
+ghost use Rattle.std.specs.Prelude.{◌≡◌, ◌<◌, ◌⊎◌, [], length, IfOk, IfSome, ◌++◌, OnOk};
 ghost use Rattle.code_rules.specs.AppRange.{AppInRange};
 ghost use Rattle.call_graph.specs.Ranks.{RanksOf};
-ghost use Rattle.holds_infer.specs.LabelAnswers.{is_list_rule, TellsWays, TellsBrokenRule, TellsRule, TellsReason, HasReason, IsNoListsText, IsLabelAnswer};
+ghost use Rattle.holds_infer.specs.LabelAnswers.{is_list_rule, TellsWays, TellsBrokenRule, TellsRule, TellsReason};
+ghost use Rattle.holds_infer.specs.LabelAnswers.{HasReason, IsNoListsText, IsLabelAnswer, holding_lines};
+ghost use Rattle.holds_infer.specs.LabelAnswers.{label_line, other_ways_lines, rule_line};
 ghost use Rattle.holds_infer.specs.RightLists.{HasItsLabels};
 ghost use Rattle.holds_infer.specs.BodyFilling.{HaveTheirLabels};
 ghost use Rattle.holds_infer.specs.WayLists.{IsWayFilling, AreWayFillings, IsWayFilled};
 
-use crate::bodies::relisted_func;
 use crate::body_ways::body_ways;
+use crate::inference::relisted_func;
 use crate::other_rules::other_rule;
-use crate::other_ways::other_ways;
-use crate::reason_lines::{other_ways_lines, rule_lines};
+use crate::other_ways::{HoldingWay, OtherWays, other_ways};
 use crate::{FillError, fill_source};
 use call_graph::Ranks;
-use sloth_base::{App, Code, Config, Func, List, NoMemory, Result};
+use command_line::code_text;
+use sloth_base::{App, Code, Config, Func, List, NoMemory, Refusal, Result};
 use sloth_source::Ranked;
 use std::alloc::Global;
-use text_pieces::push;
-use why_text::{ranked_texts, told_fault};
+use text_pieces::pieces::Piece::{Number, Word};
+use text_pieces::{line, push};
+use why_text::{label_line, label_name, push_list_line, push_way_line, ranked_texts, told_fault};
 
 /// What is said of the lists of labels.
 #[derive(Drop)]
@@ -32,10 +34,13 @@ pub enum LabelAnswer {
     Unjudged,
 }
 
+// Lines, if there are some to tell.
+type Found = Result<Option<List<u8>>>;
+
 // ---- two ways to a label
 
 // The lines of the first two ways to a label that hold different resources, body by body.
-fn told_ways(alloc: Global, config: &Config, app: &App) -> Result<Option<List<u8>>>
+fn told_ways(alloc: Global, config: &Config, app: &App) -> Found
     requires { AppInRange config.now app.now }
     ensures { IfOk result (λ found. IfSome found (TellsWays config.now app.now)) }
 {
@@ -58,13 +63,7 @@ fn is_list_rule(code: Code) -> bool
 }
 
 // The lines of a rule other than V7 that this task code breaks.
-fn broken_rule(
-    alloc: Global,
-    src: &[u8],
-    config: &Config,
-    app: &App,
-    ranks: &Ranks,
-) -> Result<Option<List<u8>>>
+fn broken_rule(alloc: Global, src: &[u8], config: &Config, app: &App, ranks: &Ranks) -> Found
     requires src { length src.now < 4294967295 }
     requires in_range { AppInRange config.now app.now }
     requires belong { RanksOf app.now ranks.now }
@@ -86,20 +85,14 @@ fn broken_rule(
 }
 
 // The lines of a rule that is broken with the lists that ways hold at the labels.
-fn filled_rule(
-    alloc: Global,
-    src: &[u8],
-    config: &Config,
-    app: &App,
-    ranks: &Ranks,
-) -> Result<Option<List<u8>>>
+fn filled_rule(alloc: Global, src: &[u8], ranked: &Ranked) -> Found
     requires src { length src.now < 4294967295 }
-    requires in_range { AppInRange config.now app.now }
-    requires belong { RanksOf app.now ranks.now }
-    ensures { IfOk result (λ found. IfSome found (TellsRule config.now app.now)) }
+    requires in_range { AppInRange ranked.now.config ranked.now.app }
+    requires belong { RanksOf ranked.now.app ranked.now.ranks }
+    ensures { IfOk result (λ found. IfSome found (TellsRule ranked.now.config ranked.now.app)) }
 {
-    let filled = way_filled(alloc, app)?;
-    match broken_rule(alloc, src, config, &filled, ranks)? {
+    let filled = way_filled(alloc, &ranked.app)?;
+    match broken_rule(alloc, src, &ranked.config, &filled, &ranked.ranks)? {
         Some(lines) => Ok(Some(lines)),
         None => Ok(None),
     }
@@ -107,34 +100,28 @@ fn filled_rule(
 
 // ---- all
 
-fn code_reason(
-    alloc: Global,
-    src: &[u8],
-    config: &Config,
-    app: &App,
-    ranks: &Ranks,
-) -> Result<Option<List<u8>>>
+fn code_reason(alloc: Global, src: &[u8], ranked: &Ranked) -> Found
     requires src { length src.now < 4294967295 }
-    requires in_range { AppInRange config.now app.now }
-    requires belong { RanksOf app.now ranks.now }
-    ensures { IfOk result (λ found. IfSome found (TellsReason config.now app.now)) }
+    requires in_range { AppInRange ranked.now.config ranked.now.app }
+    requires belong { RanksOf ranked.now.app ranked.now.ranks }
+    ensures { IfOk result (λ found. IfSome found (TellsReason ranked.now.config ranked.now.app)) }
 {
-    match told_ways(alloc, config, app)? {
+    match told_ways(alloc, &ranked.config, &ranked.app)? {
         Some(lines) => Ok(Some(lines)),
-        None => match filled_rule(alloc, src, config, app, ranks)? {
+        None => match filled_rule(alloc, src, ranked)? {
             Some(lines) => Ok(Some(lines)),
             None => Ok(None),
         },
     }
 }
 
-fn texts_reason(alloc: Global, oil: &[u8], src: &[u8]) -> Result<Option<List<u8>>>
+fn texts_reason(alloc: Global, oil: &[u8], src: &[u8]) -> Found
     requires oil { length oil.now < 4294967295 }
     requires src { length src.now < 4294967295 }
     ensures { IfOk result (λ found. IfSome found (HasReason oil.now src.now)) }
 {
     match ranked_texts(alloc, oil, src)? {
-        Some(Ranked { config, app, ranks }) => code_reason(alloc, src, &config, &app, &ranks),
+        Some(ranked) => code_reason(alloc, src, &ranked),
         None => Ok(None),
     }
 }
@@ -197,8 +184,8 @@ fn way_fillings(alloc: Global, funcs: &[Func]) -> Result<Vec<Func>>
     Ok(made)
 }
 
-/// The task code with what the first way to each label holds at it; nothing at a label to which no way was found.
-pub fn way_filled(alloc: Global, app: &App) -> Result<App>
+// The task code with what the first way to each label holds at it; nothing at a label to which no way was found.
+fn way_filled(alloc: Global, app: &App) -> Result<App>
     requires { HaveTheirLabels app.now.funcs }
     ensures { IfOk result (IsWayFilled app.now) }
 {
@@ -208,4 +195,49 @@ pub fn way_filled(alloc: Global, app: &App) -> Result<App>
         funcs: List::from_vec(funcs),
         symbols,
     })
+}
+
+fn push_holding(text: &mut Vec<u8>, config: &Config, func: &Func, way: &HoldingWay) -> Result<()>
+    ensures { OnOk result (text.new.items ≡ text.old.items ++ holding_lines config.now func.now way.now) }
+{
+    let items = way.items.items();
+    if items.is_empty() {
+        line!(text; Word(b"way -\n"))?;
+    } else {
+        push_way_line(text, func, items)?;
+    }
+    push_list_line(text, config, b"holds", way.held.items())
+}
+
+/// The lines of two ways to a label.
+pub fn other_ways_lines(
+    alloc: Global,
+    config: &Config,
+    func: &Func,
+    ways: &OtherWays,
+) -> Result<Vec<u8>>
+    ensures { IfOk result (λ text. text.items ≡ other_ways_lines config.now func.now ways.now) }
+{
+    let mut text = Vec::new(alloc);
+    let line = label_line(func, ways.label);
+    line!(&mut text; Word(b"label "), Number(line), Word(b" "), Word(label_name(func, ways.label)), Word(b"\n"))?;
+    push_holding(&mut text, config, func, &ways.one)?;
+    push_holding(&mut text, config, func, &ways.other)?;
+    Ok(text)
+}
+
+fn push_rule(text: &mut Vec<u8>, refusal: Refusal) -> Result<()>
+    ensures { OnOk result (text.new.items ≡ text.old.items ++ rule_line refusal) }
+{
+    line!(text; Word(b"rule "), Number(refusal.line), Word(b" "), Word(code_text(refusal.code)), Word(b"\n"))
+}
+
+/// The line of a rule, and these lines.
+pub fn rule_lines(alloc: Global, refusal: Refusal, behind: &[u8]) -> Result<Vec<u8>>
+    ensures { IfOk result (λ text. text.items ≡ rule_line refusal ++ behind.now) }
+{
+    let mut text = Vec::new(alloc);
+    push_rule(&mut text, refusal)?;
+    line!(&mut text; Word(behind))?;
+    Ok(text)
 }

@@ -8,31 +8,23 @@ use call_graph::Ranks;
 use fault_witnesses::KeptList;
 use fault_witnesses::body_lists::body_lists;
 use sloth_base::least_fault::{fault_if, merge};
-use sloth_base::{App, Code, Config, Func, Item, Part, Refusal, Result};
+use sloth_base::{App, Code, Config, Func, Part, Refusal, Result};
 use std::alloc::Global;
 use task_verify::{is_leave_with_resource, is_second_take, is_wrong_release, item_faults};
-
-// V8 to V10 of an item before which these are held.
-fn held_fault(ranks: &Ranks, item: &Item, held: &[u32]) -> Option<Refusal> {
-    let releases = is_wrong_release(held, item.op);
-    let takes = is_second_take(ranks, held, item.op);
-    let leaves = is_leave_with_resource(ranks, held, item.op);
-    merge(
-        fault_if(releases, Part::Src, item.line, Code::V8),
-        merge(
-            fault_if(takes, Part::Src, item.line, Code::V9),
-            fault_if(leaves, Part::Src, item.line, Code::V10),
-        ),
-    )
-}
 
 // V8 to V10 of the items whose lists are kept. Where a list is too long to be kept, V9 is broken in front.
 fn held_faults(ranks: &Ranks, func: &Func, rows: &[KeptList]) -> Option<Refusal> {
     let mut least = None;
     for (number, item) in func.items.items().iter().enumerate() {
         if number < rows.len() && rows[number].kept {
-            let found = held_fault(ranks, item, rows[number].list.items());
-            least = merge(least, found);
+            let held = rows[number].list.items();
+            let line = item.line;
+            let releases = is_wrong_release(held, item.op);
+            least = merge(least, fault_if(releases, Part::Src, line, Code::V8));
+            let takes = is_second_take(ranks, held, item.op);
+            least = merge(least, fault_if(takes, Part::Src, line, Code::V9));
+            let leaves = is_leave_with_resource(ranks, held, item.op);
+            least = merge(least, fault_if(leaves, Part::Src, line, Code::V10));
         }
     }
     least

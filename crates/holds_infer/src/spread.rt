@@ -11,20 +11,21 @@ use std::alloc::Global;
 use task_verify::{jump_of, next_of};
 use text_pieces::push;
 
+/// What is held at a place, where it has a list.
+pub type Held = Option<List<ResId>>;
+
 fn is_any(held: &[ResId], resource: u32) -> bool
     ensures { result ≡ list_any (λ taken. taken == resource) held.now }
 {
     held.iter().any(|taken| taken.0 == resource)
 }
 
-// Whether the resource is held.
 fn is_listed(held: &[ResId], resource: u32) -> bool
     ensures { result ≡ is_in resource held.now }
 {
     is_any(held, resource)
 }
 
-// The list behind a service.
 fn list_behind(held: Vec<ResId>, call: Call) -> Result<Vec<ResId>>
     ensures { IfOk result (λ next. next.items ≡ list_behind call.service call.object held.items) }
 {
@@ -44,7 +45,6 @@ fn list_behind(held: Vec<ResId>, call: Call) -> Result<Vec<ResId>>
     }
 }
 
-// The list behind an operation.
 fn list_after(alloc: Global, held: &[ResId], op: Op) -> Result<Vec<ResId>>
     ensures { IfOk result (λ next. next.items ≡ list_after op held.now) }
 {
@@ -56,7 +56,7 @@ fn list_after(alloc: Global, held: &[ResId], op: Op) -> Result<Vec<ResId>>
 }
 
 /// The list at a place, empty where it has none.
-pub fn place_list(lists: &[Option<List<ResId>>], place: usize) -> &[ResId]
+pub fn place_list(lists: &[Held], place: usize) -> &[ResId]
     ensures { result.now ≡ list_at lists.now place }
 {
     match lists.get(place) {
@@ -68,7 +68,7 @@ pub fn place_list(lists: &[Option<List<ResId>>], place: usize) -> &[ResId]
 // Gives a place this list and keeps it to go on from, where it has none yet.
 fn visit(
     alloc: Global,
-    lists: &mut [Option<List<ResId>>],
+    lists: &mut [Held],
     pending: &mut Vec<usize>,
     at: usize,
     held: &[ResId],
@@ -86,12 +86,7 @@ fn visit(
 }
 
 // Spreads the lists of the places that are kept.
-fn spread(
-    alloc: Global,
-    func: &Func,
-    lists: &mut [Option<List<ResId>>],
-    pending: &mut Vec<usize>,
-) -> Result<()>
+fn spread(alloc: Global, func: &Func, lists: &mut [Held], pending: &mut Vec<usize>) -> Result<()>
     requires labels { HasItsLabels func.now }
     requires spreading { AreSpreading func.now lists.old pending.old.items }
     ensures { OnOk result (AreLists func.now lists.new) }
@@ -101,27 +96,16 @@ fn spread(
             None => return Ok(()),
             Some(from) => {
                 let behind = list_after(alloc, place_list(lists, from), func.op(from))?;
-                visit(
-                    alloc,
-                    lists,
-                    pending,
-                    next_of(func, from),
-                    behind.as_slice(),
-                )?;
-                visit(
-                    alloc,
-                    lists,
-                    pending,
-                    jump_of(func, from),
-                    behind.as_slice(),
-                )?;
+                let held = behind.as_slice();
+                visit(alloc, lists, pending, next_of(func, from), held)?;
+                visit(alloc, lists, pending, jump_of(func, from), held)?;
             }
         }
     }
 }
 
 /// So many places without a list.
-pub fn no_lists(alloc: Global, count: usize) -> Result<Vec<Option<List<ResId>>>>
+pub fn no_lists(alloc: Global, count: usize) -> Result<Vec<Held>>
     ensures count { IfOk result (λ lists. length lists.items ≡ count) }
     ensures clear { IfOk result (λ lists. (i : ℕ) → get_or lists.items i None ≡ None) }
 {
@@ -133,7 +117,7 @@ pub fn no_lists(alloc: Global, count: usize) -> Result<Vec<Option<List<ResId>>>>
 }
 
 /// The lists of all places that paths from the first one, where nothing is held, reach.
-pub fn places(alloc: Global, func: &Func) -> Result<Vec<Option<List<ResId>>>>
+pub fn places(alloc: Global, func: &Func) -> Result<Vec<Held>>
     requires labels { HasItsLabels func.now }
     requires some { 0 < length func.now.items }
     ensures { IfOk result (λ lists. AreLists func.now lists.items) }

@@ -8,25 +8,17 @@ ghost use Rattle.image_file.specs.Limits.{SizesFit, header_size};
 
 use sloth_base::{BODY_LIMIT, COUNTER_LIMIT, MARK_LIMIT, MEMORY_BYTES, TASK_LIMIT};
 
-// Whether the file begins as an image file without counters does.
 fn has_plain_magic(bytes: &[u8]) -> bool
     ensures { Decides result (take 8 bytes.now ≡ codes "SLOTHIM1") }
 {
     bytes.starts_with(b"SLOTHIM1")
 }
 
-// Whether the file begins as an image file with counters does.
-fn has_counted_magic(bytes: &[u8]) -> bool
-    ensures { Decides result (take 8 bytes.now ≡ codes "SLOTHIM2") }
-{
-    bytes.starts_with(b"SLOTHIM2")
-}
-
 /// Whether the file begins as an image file does.
 pub fn has_magic(bytes: &[u8]) -> bool
     ensures { Decides result (HasMagic bytes.now) }
 {
-    has_plain_magic(bytes) || has_counted_magic(bytes)
+    has_plain_magic(bytes) || bytes.starts_with(b"SLOTHIM2")
 }
 
 /// The numbers of the header, where the file has one and they are within the limits.
@@ -42,7 +34,6 @@ pub fn read_sizes(bytes: &[u8]) -> Option<Sizes>
     }
 }
 
-// Those of a file without counters.
 fn read_plain_sizes(bytes: &[u8]) -> Option<Sizes>
     requires { take 8 bytes.now ≡ codes "SLOTHIM1" }
     ensures read { IfSome result (λ sizes. HasSizes bytes.now sizes) }
@@ -64,7 +55,6 @@ fn read_plain_sizes(bytes: &[u8]) -> Option<Sizes>
     Some(sizes)
 }
 
-// Those of a file with counters.
 fn read_counted_sizes(bytes: &[u8]) -> Option<Sizes>
     requires { take 8 bytes.now ≡ codes "SLOTHIM2" }
     ensures read { IfSome result (λ sizes. HasSizes bytes.now sizes) }

@@ -15,13 +15,11 @@ pub mod fault;
 pub mod header;
 pub mod laws;
 pub mod marks;
-pub mod names;
 pub mod read;
 pub mod write;
 
 pub use fault::{ElfError, ElfFault, ImageError, ImageFault};
 pub use header::{Sizes, u32_at};
 pub use marks::{are_ascending, read_marks};
-pub use names::are_right_names;
-pub use read::{Outline, read_image, read_parts, service_limit};
+pub use read::{Outline, are_right_names, read_image, read_parts, service_limit};
 pub use write::{put_marks, put_names, put_u16, put_u32, write_image};

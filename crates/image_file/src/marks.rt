@@ -38,7 +38,6 @@ pub fn read_marks(
     Ok(marks)
 }
 
-// The mark that stands at `at`.
 fn mark_at(bytes: &[u8], at: usize, services: u8, funcs: usize, size: usize) -> Option<Mark>
     requires within { at + 12 ≤ length bytes.now }
     requires few { funcs ≤ body_limit }
@@ -57,7 +56,6 @@ fn mark_at(bytes: &[u8], at: usize, services: u8, funcs: usize, size: usize) -> 
     is_mark(&mark, services, funcs, size).then_some(mark)
 }
 
-// The kind of mark that has a number.
 fn kind_of(number: u8) -> Option<MarkKind>
     ensures some { IfSome result (λ kind. kind_number kind ≡ number) }
     ensures none { IfNone result ((kind : KindOfMark) → kind_number kind ≢ number) }

@@ -1,36 +1,30 @@
 //! Reading an image. Where a file ends. The services that marks may name.
-ghost use Rattle.std.specs.Prelude.{◌⊎◌, ◌≡◌, ◌≤◌, IfOk, IfErr, length, ◌<◌, true, false};
-ghost use Rattle.image_file.specs.ImageText.{ImageText};
-ghost use Rattle.image_file.specs.Faults.{IsImageErrorOf, IsFirstImageFault, HasMagic};
+//! Names in a file: a length byte each, and that many bytes.
+ghost use Rattle.std.specs.Prelude.{◌⊎◌, ◌≡◌, ◌≤◌, IfOk, IfErr, length, ◌<◌, true, false, ◌≢◌, ◌++◌, ◌↔◌, ℕ, List as Sequence, IfSome, IfNone, IsTrue, Decides, Contains, drop};
+ghost use Rattle.image_file.specs.ImageText.{ImageText, name_bytes};
+ghost use Rattle.image_file.specs.Faults.{IsImageErrorOf, IsFirstImageFault};
 ghost use Rattle.image_file.specs.Limits.{SizesFit};
-ghost use Rattle.image_file.specs.Reading.{AreLastMarks, HasOutline, HasSizes, NamedPartsStand, IsPartsError};
+ghost use Rattle.image_file.specs.Reading.{AreLastMarks, HasOutline, NamedPartsStand, IsPartsError, NamesStand, IsNamesError, NameEnds};
 ghost use Rattle.sloth_base.specs.declared.image.Image.{Image as ImageOf};
 ghost use Rattle.image_file.specs.declared.fault.ImageFault.{ImageFault as FaultOf};
 ghost use Rattle.image_file.specs.declared.fault.FileError.TheVariants as failed_by;
-ghost use Rattle.sloth_base.specs.ImageRange.{service_limit};
+ghost use Rattle.sloth_base.specs.ImageRange.{service_limit, AreNames, AreNamesApart};
+ghost use Rattle.image_file.specs.Parts.{AreRightNames};
 
 use crate::header::{has_magic, read_sizes};
-use crate::names::read_names;
-use crate::{ImageError, ImageFault, Sizes, are_ascending, are_right_names, read_marks};
-use sloth_base::{Image, List, Mark, Name};
+use crate::{ImageError, ImageFault, Sizes, are_ascending, read_marks};
+use sloth_base::{Image, List, Mark, Name, is_name};
 use std::alloc::Global;
 
 /// The image of a file, or the file's first fault.
 pub fn read_image(alloc: Global, bytes: &[u8]) -> Result<Image, ImageError>
     ensures read { IfOk result (λ image. ImageText bytes.now image) }
     ensures failed { IfErr result (λ failure. IsImageErrorOf failure bytes.now) }
-    ensures refuses_no_image { IfErr result (λ failure. (image : ImageOf) → ImageText bytes.now image → failure ≡ failed_by.Memory) }
+    ensures refuses_no_image { IfErr result (λ failure. (image : ImageOf) → ImageText bytes.now image → failure
+        ≡ failed_by.Memory) }
     ensures tells_the_fault { IfErr result (λ failure. (fault : FaultOf) → IsFirstImageFault fault bytes.now →
         (failure ≡ failed_by.Fault fault) ⊎ (failure ≡ failed_by.Memory)) }
     ensures reads_no_fault { IfOk result (λ image. (fault : FaultOf) → ¬ (IsFirstImageFault fault bytes.now)) }
-{
-    read_whole(alloc, bytes)
-}
-
-// The image, or what is wrong.
-fn read_whole(alloc: Global, bytes: &[u8]) -> Result<Image, ImageError>
-    ensures read { IfOk result (λ image. ImageText bytes.now image) }
-    ensures failed { IfErr result (λ failure. IsImageErrorOf failure bytes.now) }
 {
     let outline = read_outline(alloc, bytes)?;
     read_contents(alloc, bytes, outline)
@@ -47,28 +41,17 @@ pub struct Outline {
     pub count: usize,
 }
 
-// The parts of a file.
 fn read_outline(alloc: Global, bytes: &[u8]) -> Result<Outline, ImageError>
     ensures read { IfOk result (λ outline.
-        HasOutline bytes.now outline.tasks.items outline.funcs.items outline.counters.items outline.memory outline.size outline.count) }
+        HasOutline bytes.now outline.tasks.items outline.funcs.items outline.counters.items outline.memory
+        outline.size outline.count) }
     ensures failed { IfErr result (λ failure. IsImageErrorOf failure bytes.now) }
 {
     if !has_magic(bytes) {
         return Err(ImageFault::I1.into());
     }
     let sizes = read_sizes(bytes).ok_or(ImageFault::I2)?;
-    read_body(alloc, bytes, &sizes)
-}
-
-// Names, memory and marks, behind a header with these numbers.
-fn read_body(alloc: Global, bytes: &[u8], sizes: &Sizes) -> Result<Outline, ImageError>
-    requires magic { HasMagic bytes.now }
-    requires sizes { HasSizes bytes.now sizes.now }
-    ensures read { IfOk result (λ outline.
-        HasOutline bytes.now outline.tasks.items outline.funcs.items outline.counters.items outline.memory outline.size outline.count) }
-    ensures failed { IfErr result (λ failure. IsImageErrorOf failure bytes.now) }
-{
-    read_parts(alloc, bytes, sizes.header(), sizes)
+    read_parts(alloc, bytes, sizes.header(), &sizes)
 }
 
 /// Names, memory and marks of these numbers, from `at` on.
@@ -81,7 +64,8 @@ pub fn read_parts(
     requires within { at ≤ length bytes.now }
     requires fit { SizesFit sizes.now }
     ensures read { IfOk result (λ outline.
-        NamedPartsStand bytes.now at sizes.now outline.tasks.items outline.funcs.items outline.counters.items outline.memory) }
+        NamedPartsStand bytes.now at sizes.now outline.tasks.items outline.funcs.items outline.counters.items
+        outline.memory) }
     ensures size { IfOk result (λ outline. outline.size ≡ sizes.now.memory) }
     ensures count { IfOk result (λ outline. outline.count ≡ sizes.now.marks) }
     ensures failed { IfErr result (λ failure. IsPartsError failure bytes.now at sizes.now) }
@@ -134,9 +118,9 @@ fn last_marks(alloc: Global, bytes: &[u8], outline: &Outline) -> Result<Vec<Mark
     Ok(marks)
 }
 
-// The image of these parts, or what is wrong with them.
 fn read_contents(alloc: Global, bytes: &[u8], outline: Outline) -> Result<Image, ImageError>
-    requires { HasOutline bytes.now outline.tasks.items outline.funcs.items outline.counters.items outline.memory outline.size outline.count }
+    requires { HasOutline bytes.now outline.tasks.items outline.funcs.items outline.counters.items outline.memory
+        outline.size outline.count }
     ensures read { IfOk result (λ image. ImageText bytes.now image) }
     ensures failed { IfErr result (λ failure. IsImageErrorOf failure bytes.now) }
 {
@@ -165,4 +149,74 @@ pub fn service_limit(counters: usize) -> u8
     ensures { result ≡ service_limit counters }
 {
     if counters == 0 { 12 } else { 16 }
+}
+
+/// Names, and where they end.
+#[derive(Drop)]
+pub struct Names {
+    pub names: Vec<Name>,
+    pub end: usize,
+}
+
+/// So many names from `at` on, of any bytes.
+pub fn read_names(alloc: Global, bytes: &[u8], at: usize, count: usize) -> Result<Names, ImageError>
+    requires { at ≤ length bytes.now }
+    ensures read { IfOk result (λ read. NamesStand bytes.now at read.end read.names.items) }
+    ensures counted { IfOk result (λ read. length read.names.items ≡ count) }
+    ensures failed { IfErr result (λ failure. IsNamesError failure bytes.now at count) }
+{
+    let mut names = Vec::new(alloc);
+    let mut end = at;
+    for _ in 0..count {
+        let next = name_end(bytes, end).ok_or(ImageFault::I2)?;
+        names.push(Name::new(alloc, &bytes[end + 1..next])?)?;
+        end = next;
+    }
+    Ok(Names { names, end })
+}
+
+fn name_end(bytes: &[u8], at: usize) -> Option<usize>
+    requires { at ≤ length bytes.now }
+    ensures some { IfSome result (λ end. NameEnds bytes.now at end) }
+    ensures none { IfNone result ((name rest : Sequence ℕ) → drop at bytes.now ≢ name_bytes name ++ rest) }
+{
+    if at >= bytes.len() {
+        return None;
+    }
+    let size = bytes[at] as usize;
+    if bytes.len() - at - 1 < size {
+        return None;
+    }
+    Some(at + 1 + size)
+}
+
+fn are_names(names: &[Name]) -> bool
+    ensures { Decides result (AreNames names.now) }
+{
+    for i in 0..names.len() {
+        let name = names[i].bytes();
+        if !is_name(name) || is_among(name, &names[..i]) {
+            return false;
+        }
+    }
+    true
+}
+
+fn is_among(bytes: &[u8], names: &[Name]) -> bool
+    ensures { IsTrue result ↔ Contains names.now bytes.now }
+{
+    names.iter().any(|name| *name.bytes() == *bytes)
+}
+
+fn are_apart(names: &[Name], others: &[Name]) -> bool
+    ensures { Decides result (AreNamesApart names.now others.now) }
+{
+    names.iter().all(|name| !is_among(name.bytes(), others))
+}
+
+/// Whether those of tasks, of functions and of counters are right.
+pub fn are_right_names(tasks: &[Name], funcs: &[Name], counters: &[Name]) -> bool
+    ensures { Decides result (AreRightNames tasks.now funcs.now counters.now) }
+{
+    are_names(tasks) && are_names(funcs) && are_names(counters) && are_apart(counters, tasks)
 }

@@ -13,45 +13,47 @@ use text_pieces::line;
 use text_pieces::pieces::Piece::{Number, Word};
 use trace_text::LineText;
 
-fn look_class(look: Look) -> &'static [u8]
-    ensures is { result.now ≡ look_class look }
-    ensures short { length result.now ≤ 5 }
-{
-    match look {
-        Look::Runs => b"run",
-        Look::Served => b"ser",
-        Look::Preempted => b"pre",
-        Look::Ready => b"ready",
-        Look::Waiting => b"wait",
-        Look::Tick => b"t",
-        Look::Kernel => b"k",
+impl Look {
+    fn class(self) -> &'static [u8]
+        ensures is { result.now ≡ look_class self }
+        ensures short { length result.now ≤ 5 }
+    {
+        match self {
+            Look::Runs => b"run",
+            Look::Served => b"ser",
+            Look::Preempted => b"pre",
+            Look::Ready => b"ready",
+            Look::Waiting => b"wait",
+            Look::Tick => b"t",
+            Look::Kernel => b"k",
+        }
     }
-}
 
-fn look_word(look: Look) -> &'static [u8]
-    ensures is { result.now ≡ look_word look }
-    ensures short { length result.now ≤ 16 }
-{
-    match look {
-        Look::Runs => b"runs",
-        Look::Served => b"runs kernel code",
-        Look::Preempted => b"preempted",
-        Look::Ready => b"ready",
-        Look::Waiting => b"waiting",
-        Look::Tick => b"ticks",
-        Look::Kernel => b"code",
+    fn word(self) -> &'static [u8]
+        ensures is { result.now ≡ look_word self }
+        ensures short { length result.now ≤ 16 }
+    {
+        match self {
+            Look::Runs => b"runs",
+            Look::Served => b"runs kernel code",
+            Look::Preempted => b"preempted",
+            Look::Ready => b"ready",
+            Look::Waiting => b"waiting",
+            Look::Tick => b"ticks",
+            Look::Kernel => b"code",
+        }
     }
-}
 
-fn look_height(look: Look) -> u32
-    ensures is { result ≡ look_height look }
-    ensures low { result ≤ 24 }
-{
-    match look {
-        Look::Runs | Look::Served => 24,
-        Look::Preempted | Look::Ready | Look::Kernel => 12,
-        Look::Tick => 16,
-        Look::Waiting => 2,
+    fn height(self) -> u32
+        ensures is { result ≡ look_height self }
+        ensures low { result ≤ 24 }
+    {
+        match self {
+            Look::Runs | Look::Served => 24,
+            Look::Preempted | Look::Ready | Look::Kernel => 12,
+            Look::Tick => 16,
+            Look::Waiting => 2,
+        }
     }
 }
 
@@ -66,12 +68,12 @@ fn bar_front(scale: Scale, name: &[u8], middle: u32, bar: Bar) -> LineText
 {
     let left = scale.place(bar.from);
     let width = scale.place(bar.to) - left;
-    let height = look_height(bar.look);
+    let height = bar.look.height();
     let top = middle - height / 2;
     let last = bar.to - 1;
     let mut line = LineText::new();
     line.push(b"<rect class=\"");
-    line.push(look_class(bar.look));
+    line.push(bar.look.class());
     line.push(b"\" x=\"");
     push_pixels(&mut line, left);
     line.push(b"\" y=\"");
@@ -83,7 +85,7 @@ fn bar_front(scale: Scale, name: &[u8], middle: u32, bar: Bar) -> LineText
     line.push(b"\"><title>");
     line.push(name);
     line.push(b" ");
-    line.push(look_word(bar.look));
+    line.push(bar.look.word());
     line.push(b", ");
     line.push_number(bar.from);
     line.push(b" to ");

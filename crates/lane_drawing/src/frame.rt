@@ -66,7 +66,6 @@ const STYLE: [&[u8]; 29] = [
     b"<text x=\"100%\" y=\"16\" dx=\"-32\" text-anchor=\"end\" font-size=\"11\">instructions</text>\n",
 ];
 
-// Appends lines.
 fn push_lines(text: &mut Vec<u8>, lines: &[&[u8]]) -> Result<()>
     ensures { OnOk result (text.new.items ≡ text.old.items ++ all_lines (map (λ line. line.now) lines.now)) }
 {

@@ -1,7 +1,8 @@
 //! Where counts stand in a picture. An arrival in a lane.
 ghost use Rattle.std.specs.Prelude.{◌≡◌, ◌≤◌, ◌+◌, ◌++◌, length};
 ghost use Rattle.sloth_base.specs.Limits.{picture_limit, count_limit, name_limit};
-ghost use Rattle.lane_drawing.specs.Scale.{IsScale, span, place, pixels, axis_step, steps, first_step, first_multiple, last_multiple};
+ghost use Rattle.lane_drawing.specs.Scale.{IsScale, span, place, pixels, axis_step, steps, first_step, first_multiple};
+ghost use Rattle.lane_drawing.specs.Scale.{last_multiple};
 ghost use Rattle.lane_drawing.specs.Arrivals.{arrival_class, arrival_end, arrival_line};
 
 use sloth_base::Arrival;

@@ -14,7 +14,7 @@ use Rattle.osek_scheduler.specs.Steps.{OsekStep}
 use Rattle.losses_text.specs.NothingLost.{RunsHaveRequests}
 use Rattle.losses_text.specs.RequestCounts.{is_lost_of, lost_count}
 use Rattle.losses_text.specs.Requests.{AreRequests, event_requests, is_busy, next_call}
-use Rattle.losses_text.specs.declared.request.Request.{Request}
+use Rattle.losses_text.specs.declared.requests.Request.{Request}
 
 -- ---- tasks that are not there
 

@@ -22,7 +22,7 @@ use Rattle.osek_scheduler.specs.declared.state.TaskState.TheVariants as mode
 use Rattle.losses_text.specs.Expiries.{expiries, expiry, is_asked}
 use Rattle.losses_text.specs.RequestCounts.{is_of}
 use Rattle.losses_text.specs.Requests.{alarm_requests, alarms_requests, is_busy, request, tick_requests}
-use Rattle.losses_text.specs.declared.request.Request.{Request}
+use Rattle.losses_text.specs.declared.requests.Request.{Request}
 
 -- ---- one action
 

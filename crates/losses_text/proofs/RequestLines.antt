@@ -3,7 +3,7 @@ use Rattle.std.proofs.Common.{◌≡◌, ◌+◌, ℕ, List, [], ◌++◌, get_o
 use Rattle.std.proofs.Math.Numerals.{add-one}
 use Rattle.sloth_base.specs.Owners.{counter_line}
 use Rattle.sloth_base.specs.declared.image.Image.{Image}
-use Rattle.losses_text.specs.declared.request.Request.{Request}
+use Rattle.losses_text.specs.declared.requests.Request.{Request}
 use Rattle.losses_text.specs.RequestsText.{count_line, task_counts, counter_counts}
 
 pub no-tasks : (image : Image) (all : List Request) → task_counts image all 0 ≡ []

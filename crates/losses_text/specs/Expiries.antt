@@ -7,7 +7,7 @@ use Rattle.sloth_base.specs.declared.config.AlarmDecl.{AlarmDecl}
 use Rattle.osek_scheduler.specs.State.{System, alarm}
 use Rattle.losses_text.specs.Requests.{is_busy, request}
 use Rattle.losses_text.specs.RequestCounts.{is_of}
-use Rattle.losses_text.specs.declared.request.Request.{Request}
+use Rattle.losses_text.specs.declared.requests.Request.{Request}
 
 -- one of these asks for the line
 abbrev pub is_asked : List Request → (line : ℕ) → Bool

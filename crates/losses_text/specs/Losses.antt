@@ -12,7 +12,7 @@ use Rattle.sloth_source.specs.Texts.{AreAccepted}
 use Rattle.symbol_build.specs.SymbolFiles.{IsBuilt}
 use Rattle.losses_text.specs.Requests.{AreRequests}
 use Rattle.losses_text.specs.RequestsText.{requests_text}
-use Rattle.losses_text.specs.declared.request.Request.{Request}
+use Rattle.losses_text.specs.declared.requests.Request.{Request}
 
 -- the text tells what n instructions of the image's run with the arrivals ask for
 pub record IsRunText (config : Config) (app : App) (image : Image) (arrivals : List Arrival) (n : ℕ) (text : List ℕ) : Type 0 where

@@ -7,7 +7,7 @@ use Rattle.osek_scheduler.specs.Runs.{AreStepsTo, OsekRun}
 use Rattle.osek_scheduler.specs.State.{System, opening}
 use Rattle.losses_text.specs.RequestCounts.{lost_count}
 use Rattle.losses_text.specs.Requests.{AreRequests, event_requests}
-use Rattle.losses_text.specs.declared.request.Request.{Request}
+use Rattle.losses_text.specs.declared.requests.Request.{Request}
 
 -- no event loses a request of the line in the state that it finds
 abbrev pub LosesNone : Config → App → List Stamped → (line : ℕ) → Type 0

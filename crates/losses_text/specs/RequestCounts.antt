@@ -1,7 +1,7 @@
 -- How many requests there are.
 use Rattle.std.specs.Prelude.{ℕ, ◌==◌, ◌&&◌, not, Bool, List, length, filter, Option}
 use Rattle.std.specs.List.{find}
-use Rattle.losses_text.specs.declared.request.Request.{Request}
+use Rattle.losses_text.specs.declared.requests.Request.{Request}
 
 abbrev pub is_of : (line : ℕ) → Request → Bool
 is_of line r = r.line == line

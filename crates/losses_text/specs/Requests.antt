@@ -19,7 +19,7 @@ use Rattle.osek_scheduler.specs.Services.{if_suspended, alarm_ticked_state, coun
 use Rattle.osek_scheduler.specs.State.{Task, System, task, counter, alarm}
 use Rattle.osek_scheduler.specs.Steps.{OsekStep}
 use Rattle.osek_machine.specs.Running.{own_operation, call_in}
-use Rattle.losses_text.specs.declared.request.Request.{Request}
+use Rattle.losses_text.specs.declared.requests.Request.{Request}
 
 -- a task is not Suspended
 abbrev pub is_busy : System → ℕ → Bool

@@ -3,7 +3,7 @@ use Rattle.std.specs.Prelude.{ℕ, zero, suc, List, [], ◌++◌, codes, decimal
 use Rattle.sloth_base.specs.Owners.{counter_line}
 use Rattle.sloth_base.specs.declared.image.Image.{Image}
 use Rattle.losses_text.specs.RequestCounts.{came_count, taken_count, lost_count, first_lost}
-use Rattle.losses_text.specs.declared.request.Request.{Request}
+use Rattle.losses_text.specs.declared.requests.Request.{Request}
 
 -- the count of the first request that was lost, behind one space, if one was
 abbrev pub first_text : Option Request → List ℕ

@@ -3,17 +3,13 @@
 //! arrival at its line. A request is lost where the task is not Suspended, or the counter is due already.
 //!
 //! `losses_text` gives for each task and counter how many requests came, were taken and were lost in n instructions of
-//! an image that is built, and when the first of them was lost; or the first refusal (`specs/Losses`,
-//! `specs/RequestsText`). The numbers are those of the abstract scheduler's run that the image's events are
-//! (`specs/Requests`, `specs/RequestCounts`, `specs/Expiries`). So where no request of a line is lost, none of any of
-//! its events is (`laws`, `specs/NothingLost`).
+//! an image that is built, and when the first was lost; or the first refusal (`specs/Losses`). Where no request of a
+//! line is lost, none of any of its events is (`specs/NothingLost`).
 #![tactic(auto)]
 
 pub mod laws;
-mod lines;
-pub mod request;
 pub mod requests;
 mod texts;
 
-pub use request::Request;
+pub use requests::Request;
 pub use texts::losses_text;

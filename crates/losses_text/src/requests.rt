@@ -1,26 +1,22 @@
-//! What an event asks for.
-ghost use Rattle.std.specs.Prelude.{◌≡◌, ◌≤◌, ◌++◌, [], false, true, length, IfOk, OnOk, option_to_list};
+//! What an event asks for. Requests, and how many there are. What the events of a run ask for.
+ghost use Rattle.std.specs.Prelude.{◌≡◌, ◌≤◌, ◌++◌, [], false, length, IfOk, OnOk, option_to_list};
 ghost use Rattle.sloth_base.specs.Limits.{counter_limit};
-ghost use Rattle.osek_scheduler.specs.State.{task as task_of};
-ghost use Rattle.osek_scheduler.specs.Services.{if_suspended};
+ghost use Rattle.osek_scheduler.specs.State.{task as task_of, opening};
 ghost use Rattle.losses_text.specs.Expiries.{expiries, expiry, is_asked};
-ghost use Rattle.losses_text.specs.Requests.{activation, call_request, event_requests, is_busy, next_call, service_request, tick, tick_requests};
+ghost use Rattle.losses_text.specs.Requests.{activation, call_request, event_requests, is_busy, next_call, tick};
+ghost use Rattle.losses_text.specs.Requests.{tick_requests, AreRequests};
+ghost use Rattle.std.specs.Option.{option_map};
+ghost use Rattle.losses_text.specs.RequestCounts.{came_count, taken_count, lost_count, first_lost};
+ghost use Rattle.code_rules.specs.WellFormed.{WellFormed};
+ghost use Rattle.osek_scheduler.specs.Runs.{OsekRun};
 
-use crate::Request;
-use osek_machine::{Osek, Store, call_in, own_operation};
+use osek_machine::{NotARun, Osek, Store, call_in, own_operation};
 use osek_scheduler::TaskState;
 use sloth_base::{
     Action, App, Call, Config, Event, FIRST_COUNTER_LINE, NoMemory, Result, Service, Stamped,
 };
 use std::alloc::Global;
 use text_pieces::push;
-
-// Whether a task in this state is not Suspended.
-fn is_busy_state(state: TaskState) -> bool
-    ensures { result ≡ if_suspended state false true }
-{
-    !matches!(state, TaskState::Suspended)
-}
 
 // Whether a task is not Suspended.
 #[tactic(auto, using(crate::proofs::Along::rests_beyond))]
@@ -30,7 +26,7 @@ fn is_busy(store: &Store, task: u32) -> bool
     if task as usize >= store.count() {
         return false;
     }
-    is_busy_state(store.task(task as usize).state())
+    !matches!(store.task(task as usize).state(), TaskState::Suspended)
 }
 
 // That a task be activated.
@@ -59,7 +55,6 @@ fn tick(config: &Config, store: &Store, c: u32, at: u32) -> Option<Request>
     })
 }
 
-// Whether one of these asks for a line.
 fn is_asked(before: &[Request], line: u32) -> bool
     ensures { result ≡ is_asked before.now line }
 {
@@ -118,10 +113,11 @@ fn next_call(app: &App, store: &Store, t: u32) -> Option<Call>
     call_in(&op)
 }
 
-// A service that a task calls on an object.
-fn service_request(store: &Store, served: Service, t: u32, object: u32, at: u32) -> Option<Request>
-    ensures { result ≡ service_request served t object at store.now }
+// A service that a task calls, on the object of the call that is next in the task.
+fn call_request(app: &App, store: &Store, served: Service, t: u32, at: u32) -> Option<Request>
+    ensures { result ≡ call_request app.now served t at store.now }
 {
+    let object = next_call(app, store, t)?.object;
     match served {
         Service::ActivateTask => Some(activation(store, object, at)),
         Service::ChainTask => Some(Request {
@@ -133,15 +129,6 @@ fn service_request(store: &Store, served: Service, t: u32, object: u32, at: u32)
     }
 }
 
-// The same of the call that is next in the task.
-fn call_request(app: &App, store: &Store, served: Service, t: u32, at: u32) -> Option<Request>
-    ensures { result ≡ call_request app.now served t at store.now }
-{
-    let call = next_call(app, store, t)?;
-    service_request(store, served, t, call.object, at)
-}
-
-// Appends what there is.
 fn push_single(all: &mut Vec<Request>, asked: Option<Request>) -> Result<()>
     ensures { OnOk result (all.new.items ≡ all.old.items ++ option_to_list asked) }
 {
@@ -158,7 +145,8 @@ pub fn push_requests(
     osek: &Osek,
     event: &Stamped,
 ) -> Result<()>
-    ensures { OnOk result (all.new.items ≡ all.old.items ++ event_requests osek.now.config osek.now.app event.now osek.now.system) }
+    ensures { OnOk result
+        (all.new.items ≡ all.old.items ++ event_requests osek.now.config osek.now.app event.now osek.now.system) }
 {
     let at = event.stamp.at;
     let store = osek.store();
@@ -172,4 +160,65 @@ pub fn push_requests(
         _ => {}
     }
     Ok(())
+}
+
+/// A request: that a task be activated, or that a counter tick.
+#[derive(Clone, Copy)]
+pub struct Request {
+    /// The line of the task or of the counter.
+    pub line: u32,
+    /// The last count of the event that asks for it.
+    pub at: u32,
+    pub lost: bool,
+}
+
+/// How many requests of a line came.
+pub fn came_count(all: &[Request], line: u32) -> usize
+    ensures { result ≡ came_count all.now line }
+{
+    all.iter().filter(|r| r.line == line).count()
+}
+
+/// How many of them were taken.
+pub fn taken_count(all: &[Request], line: u32) -> usize
+    ensures { result ≡ taken_count all.now line }
+{
+    all.iter().filter(|r| r.line == line && !r.lost).count()
+}
+
+/// How many of them were lost.
+pub fn lost_count(all: &[Request], line: u32) -> usize
+    ensures { result ≡ lost_count all.now line }
+{
+    all.iter().filter(|r| r.line == line && r.lost).count()
+}
+
+/// The first one that was lost, if one was.
+pub fn first_lost(all: &[Request], line: u32) -> Option<&Request>
+    ensures { option_map (λ r. r.now) result ≡ first_lost all.now line }
+{
+    all.iter().find(|r| r.line == line && r.lost)
+}
+
+/// What the events of a run of the abstract scheduler ask for, in their order.
+pub fn requests_along(
+    alloc: Global,
+    config: &Config,
+    app: &App,
+    events: &[Stamped],
+) -> Result<Vec<Request>>
+    requires well_formed { WellFormed config.now app.now }
+    requires run { OsekRun config.now app.now events.now }
+    ensures { IfOk result (λ all. AreRequests config.now app.now events.now (opening config.now app.now) all.items) }
+{
+    let mut osek = Osek::boot(alloc, config, app)?;
+    let mut all = Vec::new(alloc);
+    for event in events {
+        push_requests(alloc, &mut all, &osek, event)?;
+        match osek.step(&event.event) {
+            Ok(()) => {}
+            Err(NotARun) => return Ok(all),
+        }
+    }
+    Ok(all)
 }

@@ -1,21 +1,25 @@
-//! The lines of a configuration, its task source and arrivals.
-ghost use Rattle.std.specs.Prelude.{◌≤◌, IfErr, IfOk, length};
+//! The lines of a configuration, its task source and arrivals. What is printed of the requests of a run.
+ghost use Rattle.std.specs.Prelude.{◌≤◌, IfErr, IfOk, length, ◌≡◌, ◌<◌, ◌+◌, ◌++◌, [], OnOk, get_or};
 ghost use Rattle.code_rules.specs.WellFormed.{WellFormed};
 ghost use Rattle.run_inputs.specs.Inputs.{InputsErrorIs};
 ghost use Rattle.sim_induction.specs.Sound.{AreComing, Sound};
 ghost use Rattle.sloth_base.specs.Arrivals.{AreArrivals};
 ghost use Rattle.sloth_base.specs.ImageRange.{InFormat};
 ghost use Rattle.sloth_base.specs.Limits.{count_limit, file_limit};
-ghost use Rattle.sloth_base.specs.Owners.{owners_in, owners_named};
+ghost use Rattle.sloth_base.specs.Owners.{owners_in, owners_named, counter_line};
 ghost use Rattle.losses_text.specs.Losses.{IsLossesText, IsRunText};
+ghost use Rattle.std.specs.Option.{option_map};
+ghost use Rattle.losses_text.specs.RequestsText.{count_line, task_counts, counter_counts, first_text, requests_text};
 
-use crate::lines::requests_text;
-use crate::request::requests_along;
-use sloth_base::{App, Arrival, BuildError, Config, Image, Result};
+use crate::Request;
+use crate::requests::{came_count, first_lost, lost_count, requests_along, taken_count};
+use sloth_base::{App, Arrival, BuildError, Config, FIRST_COUNTER_LINE, Image, Result};
 use sloth_build::building::image;
 use sloth_runner::run_events;
 use sloth_source::{Source, read};
 use std::alloc::Global;
+use text_pieces::line;
+use text_pieces::pieces::Piece::{Count, Number, Word};
 use trace_text::read_arrivals;
 
 // The lines of a run of n instructions of an image whose runs are those of the abstract scheduler.
@@ -65,5 +69,77 @@ pub fn losses_text(
     let image = image(alloc, &config, &app, &bounds)?;
     let arrivals = read_arrivals(alloc, arr, image.tasks.items(), image.counters.items())?;
     let text = run_text(alloc, &config, &app, &image, arrivals.as_slice(), n)?;
+    Ok(text)
+}
+
+fn push_first(text: &mut Vec<u8>, first: Option<&Request>) -> Result<()>
+    ensures { OnOk result (text.new.items ≡ text.old.items ++ first_text (option_map (λ a. a.now) first.entry)) }
+{
+    match first {
+        Some(first) => line!(text; Word(b" "), Number(first.at)),
+        None => Ok(()),
+    }
+}
+
+#[tactic(auto, unfolding(crate::specs::RequestsText::count_line))]
+fn push_counts(text: &mut Vec<u8>, name: &[u8], all: &[Request], number: u32) -> Result<()>
+    ensures { OnOk result (text.new.items ≡ text.old.items ++ count_line name.now all.now number) }
+{
+    line!(text; Word(name), Word(b" "), Count(came_count(all, number)))?;
+    line!(text; Word(b" "), Count(taken_count(all, number)))?;
+    line!(text; Word(b" "), Count(lost_count(all, number)))?;
+    push_first(text, first_lost(all, number))?;
+    line!(text; Word(b"\n"))
+}
+
+fn push_task(text: &mut Vec<u8>, image: &Image, all: &[Request], task: usize) -> Result<()>
+    requires format { InFormat image.now }
+    requires task { task < length image.now.tasks }
+    ensures { OnOk result (text.new.items ≡ text.old.items
+        ++ count_line (get_or image.now.tasks task []) all.now task) }
+{
+    push_counts(text, image.tasks.items()[task].bytes(), all, task as u32)
+}
+
+fn push_counter(text: &mut Vec<u8>, image: &Image, all: &[Request], counter: usize) -> Result<()>
+    requires format { InFormat image.now }
+    requires counter { counter < length image.now.counters }
+    ensures { OnOk result (text.new.items ≡ text.old.items
+        ++ count_line (get_or image.now.counters counter []) all.now (counter_line counter)) }
+{
+    let line = u32::from(FIRST_COUNTER_LINE) + counter as u32;
+    push_counts(text, image.counters.items()[counter].bytes(), all, line)
+}
+
+fn push_tasks(text: &mut Vec<u8>, image: &Image, all: &[Request], tasks: usize) -> Result<()>
+    requires format { InFormat image.now }
+    requires tasks { tasks ≡ length image.now.tasks }
+    ensures { OnOk result (text.new.items ≡ text.old.items ++ task_counts image.now all.now tasks) }
+{
+    for task in 0..tasks {
+        push_task(text, image, all, task)?;
+    }
+    Ok(())
+}
+
+fn push_counters(text: &mut Vec<u8>, image: &Image, all: &[Request], counters: usize) -> Result<()>
+    requires format { InFormat image.now }
+    requires counters { counters ≡ length image.now.counters }
+    ensures { OnOk result (text.new.items ≡ text.old.items ++ counter_counts image.now all.now counters) }
+{
+    for counter in 0..counters {
+        push_counter(text, image, all, counter)?;
+    }
+    Ok(())
+}
+
+/// What is printed of the requests of a run: a line for each task of the image, then one for each counter.
+pub fn requests_text(alloc: Global, image: &Image, all: &[Request]) -> Result<Vec<u8>>
+    requires { InFormat image.now }
+    ensures { IfOk result (λ text. text.items ≡ requests_text image.now all.now) }
+{
+    let mut text = Vec::new(alloc);
+    push_tasks(&mut text, image, all, image.tasks.items().len())?;
+    push_counters(&mut text, image, all, image.counters.items().len())?;
     Ok(text)
 }

@@ -18,20 +18,23 @@ pub trait Bus {
 
     /// The bytes of an access; `Byte` and `Half` extend the sign. Nothing changes.
     fn load(&mut self, address: u32, width: Width) -> Result<u32, Bad>
-        ensures ok { IfOk result (λ value. (refusal (memory self.old) address width ≡ None) × (value ≡ loaded_number (memory self.old) address width)) }
+        ensures ok { IfOk result (λ value. (refusal (memory self.old) address width ≡ None)
+            × (value ≡ loaded_number (memory self.old) address width)) }
         ensures err { IfErr result (λ reason. refusal (memory self.old) address width ≡ Some reason) }
         ensures byte { IfOk result (λ value. width ≡ kind.ByteU → value < 256) }
         ensures same { memory self.new ≡ memory self.old };
 
     /// The instruction whose word stands at an address; none, where that word is none's. Nothing changes.
     fn fetch(&mut self, address: u32) -> Result<Option<Instr>, Bad>
-        ensures ok { IfOk result (λ instr. (refusal (memory self.old) address kind.Word ≡ None) × (instr ≡ Decode (loaded_number (memory self.old) address kind.Word))) }
+        ensures ok { IfOk result (λ instr. (refusal (memory self.old) address kind.Word ≡ None)
+            × (instr ≡ Decode (loaded_number (memory self.old) address kind.Word))) }
         ensures err { IfErr result (λ reason. refusal (memory self.old) address kind.Word ≡ Some reason) }
         ensures same { memory self.new ≡ memory self.old };
 
     /// Writes the low bytes of a value. A pending or enable byte keeps 1 for a value that isn't zero.
     fn store(&mut self, address: u32, width: Width, value: u32) -> Result<(), Bad>
-        ensures ok { OnOk result ((refusal (memory self.old) address width ≡ None) × (memory self.new ≡ stored_memory (memory self.old) address width value)) }
+        ensures ok { OnOk result ((refusal (memory self.old) address width ≡ None)
+            × (memory self.new ≡ stored_memory (memory self.old) address width value)) }
         ensures err { IfErr result (λ reason. refusal (memory self.old) address width ≡ Some reason) }
         ensures same { OnErr result (memory self.new ≡ memory self.old) };
 

@@ -32,7 +32,6 @@ impl Model for CodeRam {
     ghost invariant = { λ code. AreDecoded code.ram code.kept.items };
 }
 
-// The instruction that is kept of a word.
 #[inline(always)]
 fn kept_instr(kept: &[Option<Instr>], word: usize) -> Option<Instr>
     ensures { result ≡ get_or kept.now word None }
@@ -49,7 +48,6 @@ fn keep(kept: &mut Vec<Option<Instr>>, word: usize, instr: &Instr)
     }
 }
 
-// Keeps the instruction of a word no longer.
 #[inline(always)]
 fn drop_kept(kept: &mut Vec<Option<Instr>>, word: usize)
     ensures { kept.new.items ≡ set kept.old.items word None }

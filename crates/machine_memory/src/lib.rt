@@ -13,10 +13,8 @@ mod front;
 pub mod place;
 pub mod ram;
 pub mod sloth;
-pub mod vectors;
 
 pub use bus::Bus;
-pub use place::{Place, extended, locate};
+pub use place::{Place, extended, locate, vector};
 pub use ram::Ram;
 pub use sloth::SlothBus;
-pub use vectors::vector;

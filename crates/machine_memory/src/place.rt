@@ -1,11 +1,14 @@
-//! Where an access goes.
-ghost use Rattle.std.specs.Prelude.{◌≡◌, ◌<◌, ◌^◌, None, Some, IfOk, IfErr};
+//! Where an access goes. Where the vector words stand.
+ghost use Rattle.std.specs.Prelude.{◌≡◌, ◌<◌, ◌^◌, None, Some, IfOk, IfErr, ◌+◌, ◌*◌, ◌%◌};
 ghost use Rattle.rv32_instr.specs.Memory.{refusal};
 ghost use Rattle.sloth_base.specs.Arithmetic.{size_of, extended_number};
 ghost use Rattle.machine_memory.specs.Place.{IsPlace, bare_memory};
+ghost use Rattle.sloth_base.specs.MemoryMap.{vectors_base};
 
 use rv32_instr::Bad;
-use sloth_base::{CONTROLLER_BASE, CONTROLLER_BYTES, MEMORY_BASE, MEMORY_END, Width};
+use sloth_base::{
+    CONTROLLER_BASE, CONTROLLER_BYTES, Line, MEMORY_BASE, MEMORY_END, VECTORS_BASE, Width,
+};
 
 /// An offset in RAM, or in the controller.
 #[derive(Clone, Copy)]
@@ -59,4 +62,12 @@ pub fn extended(width: Width, value: u32) -> u32
         Width::Half if value >= 0x8000 => value + 0xffff_0000,
         _ => value,
     }
+}
+
+/// The address of a line's vector word.
+pub fn vector(line: Line) -> u32
+    ensures is { result ≡ vectors_base + 4 * line }
+    ensures whole { result % 4 ≡ 0 }
+{
+    VECTORS_BASE + 4 * u32::from(line.0)
 }

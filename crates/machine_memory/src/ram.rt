@@ -1,6 +1,6 @@
 //! RAM: 2 MiB of bytes. An offset is an address less 0x80000000.
 ghost use Rattle.std.specs.Prelude.{◌≡◌, ◌≤◌, ◌<◌, ◌+◌, ◌^◌, IfOk, length, slice_index};
-ghost use Rattle.rv32_instr.specs.Ram.{half_at, word_at, with_byte, with_half, with_word};
+ghost use Rattle.rv32_instr.specs.Ram.{half_at, word_at};
 ghost use Rattle.sloth_base.specs.Arithmetic.{size_of};
 ghost use Rattle.sloth_base.specs.MemoryMap.{memory_bytes};
 ghost use Rattle.machine_memory.specs.Place.{bytes_at, with_bytes};
@@ -78,40 +78,6 @@ impl Ram {
         word_in(&self.front, offset as usize)
     }
 
-    /// Writes the low byte of a value.
-    #[tactic(auto, using(crate::proofs::FirstBytes::front_with_byte, crate::proofs::FirstBytes::length_with_byte))]
-    pub fn set_byte(&mut self, offset: u32, value: u32)
-        requires { offset < memory_bytes }
-        ensures { self.new ≡ with_byte self.old offset value }
-    {
-        let place = offset as usize;
-        reach(&mut self.front, place + 1);
-        put_byte(&mut self.front, place, value);
-    }
-
-    /// Writes the low half word of a value.
-    #[tactic(auto, using(crate::proofs::FirstBytes::front_with_half, crate::proofs::FirstBytes::length_with_half))]
-    pub fn set_half(&mut self, offset: u32, value: u32)
-        requires { offset + 2 ≤ memory_bytes }
-        ensures { self.new ≡ with_half self.old offset value }
-    {
-        let place = offset as usize;
-        reach(&mut self.front, place + 2);
-        put_half(&mut self.front, place, value);
-    }
-
-    /// Writes a word.
-    #[inline(always)]
-    #[tactic(auto, using(crate::proofs::FirstBytes::front_with_word, crate::proofs::FirstBytes::length_with_word))]
-    pub fn set_word(&mut self, offset: u32, value: u32)
-        requires { offset + 4 ≤ memory_bytes }
-        ensures { self.new ≡ with_word self.old offset value }
-    {
-        let place = offset as usize;
-        reach(&mut self.front, place + 4);
-        put_word(&mut self.front, place, value);
-    }
-
     /// The bytes of an access, low byte first.
     #[inline(always)]
     pub fn load(&self, offset: u32, width: Width) -> u32
@@ -128,14 +94,25 @@ impl Ram {
 
     /// Writes the low bytes of a value, low byte first.
     #[inline(always)]
+    #[tactic(auto, using(crate::proofs::FirstBytes::front_with_byte, crate::proofs::FirstBytes::length_with_byte, crate::proofs::FirstBytes::front_with_half, crate::proofs::FirstBytes::length_with_half, crate::proofs::FirstBytes::front_with_word, crate::proofs::FirstBytes::length_with_word))]
     pub fn store(&mut self, offset: u32, width: Width, value: u32)
         requires { offset + size_of width ≤ memory_bytes }
         ensures { self.new ≡ with_bytes self.old offset width value }
     {
+        let place = offset as usize;
         match width {
-            Width::Byte | Width::ByteU => self.set_byte(offset, value),
-            Width::Half | Width::HalfU => self.set_half(offset, value),
-            Width::Word => self.set_word(offset, value),
+            Width::Byte | Width::ByteU => {
+                reach(&mut self.front, place + 1);
+                put_byte(&mut self.front, place, value);
+            }
+            Width::Half | Width::HalfU => {
+                reach(&mut self.front, place + 2);
+                put_half(&mut self.front, place, value);
+            }
+            Width::Word => {
+                reach(&mut self.front, place + 4);
+                put_word(&mut self.front, place, value);
+            }
         }
     }
 }

@@ -54,7 +54,9 @@ impl SlothBus {
     /// The line's pending byte becomes 1.
     pub fn arrive(&mut self, line: Line)
         requires { line < line_count }
-        ensures { self.new ≡ record self.old { lines = record self.old.lines { pending = slice_set self.old.lines.pending line 1 } } }
+        ensures { self.new ≡ record self.old {
+          lines = record self.old.lines { pending = slice_set self.old.lines.pending line 1 };
+        } }
     {
         self.controller.arrive(line);
     }
@@ -89,7 +91,8 @@ impl SlothBus {
     #[inline(always)]
     #[tactic(auto, using(crate::proofs::Places::refusal_bare, crate::proofs::Places::loaded_ram, crate::proofs::Places::loaded_controller))]
     fn load_as(&mut self, address: u32, width: Width) -> Result<u32, Bad>
-        ensures ok { IfOk result (λ value. (refusal self.old address width ≡ None) × (value ≡ loaded_number self.old address width)) }
+        ensures ok { IfOk result (λ value. (refusal self.old address width ≡ None)
+            × (value ≡ loaded_number self.old address width)) }
         ensures err { IfErr result (λ reason. refusal self.old address width ≡ Some reason) }
         ensures byte { IfOk result (λ value. width ≡ kind.ByteU → value < 256) }
         ensures same { self.new ≡ self.old }
@@ -106,7 +109,8 @@ impl SlothBus {
 
     #[inline(never)]
     fn load_part(&mut self, address: u32, width: Width) -> Result<u32, Bad>
-        ensures ok { IfOk result (λ value. (refusal self.old address width ≡ None) × (value ≡ loaded_number self.old address width)) }
+        ensures ok { IfOk result (λ value. (refusal self.old address width ≡ None)
+            × (value ≡ loaded_number self.old address width)) }
         ensures err { IfErr result (λ reason. refusal self.old address width ≡ Some reason) }
         ensures byte { IfOk result (λ value. width ≡ kind.ByteU → value < 256) }
         ensures same { self.new ≡ self.old }
@@ -118,7 +122,8 @@ impl SlothBus {
     #[inline(always)]
     #[tactic(auto, using(crate::proofs::Places::refusal_bare, crate::proofs::Places::stored_ram, crate::proofs::Places::stored_controller))]
     fn store_as(&mut self, address: u32, width: Width, value: u32) -> Result<(), Bad>
-        ensures ok { OnOk result ((refusal self.old address width ≡ None) × (self.new ≡ stored_memory self.old address width value)) }
+        ensures ok { OnOk result ((refusal self.old address width ≡ None)
+            × (self.new ≡ stored_memory self.old address width value)) }
         ensures err { IfErr result (λ reason. refusal self.old address width ≡ Some reason) }
         ensures same { OnErr result (self.new ≡ self.old) }
     {
@@ -132,7 +137,8 @@ impl SlothBus {
 
     #[inline(never)]
     fn store_part(&mut self, address: u32, width: Width, value: u32) -> Result<(), Bad>
-        ensures ok { OnOk result ((refusal self.old address width ≡ None) × (self.new ≡ stored_memory self.old address width value)) }
+        ensures ok { OnOk result ((refusal self.old address width ≡ None)
+            × (self.new ≡ stored_memory self.old address width value)) }
         ensures err { IfErr result (λ reason. refusal self.old address width ≡ Some reason) }
         ensures same { OnErr result (self.new ≡ self.old) }
     {

@@ -7,3 +7,4 @@ pub mod OneTotal
 pub mod OnePieceRow
 pub mod Services
 pub mod Starts
+pub mod StatedPlaces

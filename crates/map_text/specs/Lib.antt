@@ -7,3 +7,6 @@ pub mod Totals
 pub mod Borders
 pub mod PieceNames
 pub mod LineRows
+pub mod DataLines
+pub mod LinePlaces
+pub mod StatedPlaces

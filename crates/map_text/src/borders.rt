@@ -1,10 +1,10 @@
 //! Where the zones of an image begin and end.
 ghost use Rattle.std.specs.Prelude.{◌≡◌, ◌≤◌, ◌+◌, All};
-ghost use Rattle.sloth_base.specs.MemoryMap.{memory_end, vectors_base};
+ghost use Rattle.sloth_base.specs.MemoryMap.{memory_end};
 ghost use Rattle.map_text.specs.Borders.{HasBorders, image_borders, stacks_base, stacks_end};
 
 use crate::piece_starts::{DATA, STACKS};
-use sloth_base::{MEMORY_BASE, VECTORS_BASE};
+use sloth_base::MEMORY_BASE;
 use sloth_region::{Extent, Map};
 
 /// Where the zones behind the code begin, and where they end.
@@ -20,14 +20,6 @@ pub struct Borders {
     pub top: u32,
 }
 
-/// The memory from an address to another.
-#[derive(Clone, Copy)]
-pub struct Range {
-    pub from: u32,
-    pub to: u32,
-}
-
-// The address of the first stack, or another where there is none.
 fn stacks_base(stacks: &[Extent], end: u32) -> u32
     ensures { result ≡ stacks_base stacks.now end }
 {
@@ -37,7 +29,6 @@ fn stacks_base(stacks: &[Extent], end: u32) -> u32
     stack.base
 }
 
-// The address behind the last stack, or another where there is none.
 fn stacks_end(stacks: &[Extent], end: u32) -> u32
     requires { All (λ e. e.base + e.len ≤ memory_end) stacks.now }
     ensures { result ≡ stacks_end stacks.now end }
@@ -62,15 +53,5 @@ pub fn image_borders(map: &Map, memory: usize) -> Borders
         end,
         stacks: stacks_base(stacks, end),
         top: stacks_end(stacks, end),
-    }
-}
-
-/// The memory of all code, with the vector words.
-pub fn code_range(borders: &Borders) -> Range
-    ensures { result ≡ record { from = vectors_base; to = borders.now.code_end } }
-{
-    Range {
-        from: VECTORS_BASE,
-        to: borders.code_end,
     }
 }

@@ -5,28 +5,31 @@
 //! exactly its own bytes (`rows_are_exact`; `specs/ExactRows`). Lines: `specs/MapText`.
 //!
 //! The rows, piece by piece, with the bytes between: `map_rows`, `rows_between`, `filled_rows`, `part_sum`
-//! (`specs/Rows`, `specs/PieceRows`, `specs/Totals`); where the zones of an image end, and what is loaded of it:
-//! `image_borders`, `code_range`, `code_segment` (`specs/Borders`); names of pieces: `specs/PieceNames`; the source
-//! line of each address: `line_rows` (`specs/LineRows`). The map: `mem_map` (`Planned`).
+//! (`specs/Rows`, `specs/PieceRows`, `specs/Totals`); where the zones of an image end: `image_borders`
+//! (`specs/Borders`); names of pieces: `specs/PieceNames`; the source line of each address: `line_rows`
+//! (`specs/LineRows`). The map: `mem_map` (`Planned`).
+//!
+//! A line comes from the file and the line that the last comment `#line 16 "door.c"` above it in its body states, else
+//! from the source (`line_origins`, `places_are_stated`; `specs/LinePlaces`, `specs/StatedPlaces`).
 #![tactic(auto)]
 
 pub mod borders;
 pub mod laws;
+pub mod line_places;
 pub mod line_rows;
 mod lines;
 pub mod piece_names;
 pub mod piece_rows;
 mod piece_starts;
 pub mod rows;
-pub mod segments;
 mod text;
 pub mod totals;
 
-pub use borders::{Borders, Range, code_range, image_borders};
+pub use borders::{Borders, image_borders};
+pub use line_places::{NO_PLACE, Origins, Place, line_origins};
 pub use line_rows::{LineRow, body_end, item_address};
 pub use piece_names::{block_symbol, copied, joined};
 pub use piece_rows::{Kind, Row};
 pub use rows::map_rows;
-pub use segments::{Segment, code_segment, data_segment, words_segment};
 pub use text::map_text;
 pub use totals::Part;

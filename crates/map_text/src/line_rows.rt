@@ -1,7 +1,7 @@
 //! Which line of the source each address of task code comes from.
 ghost use Rattle.std.specs.Prelude.{◌≡◌, ◌≤◌, ◌+◌, ◌++◌, IfOk, OnOk, length};
 ghost use Rattle.sloth_base.specs.Limits.{item_limit};
-ghost use Rattle.map_text.specs.LineRows.{body_rows, first_rows, item_address, item_count, item_rows, last_row};
+ghost use Rattle.map_text.specs.LineRows.{body_rows, item_address, item_count, item_rows, last_row};
 ghost use Rattle.map_text.specs.LineRows.{line_rows};
 
 use sloth_base::{Func, Item, Places, WORD};
@@ -76,31 +76,7 @@ fn push_last(rows: &mut Vec<LineRow>, first: u32, next: u32, line: u32) -> Resul
     Ok(())
 }
 
-// Appends the rows of the items of a body.
-fn push_first(
-    rows: &mut Vec<LineRow>,
-    places: &Places,
-    end: u32,
-    number: usize,
-    items: &[Item],
-) -> Result<(), AllocError>
-    requires { number + length items.now ≤ item_limit }
-    ensures { OnOk result (rows.new.items ≡ rows.old.items ++ first_rows places.now end number items.now) }
-{
-    let Some((item, rest)) = items.split_first() else {
-        return Ok(());
-    };
-    let first = item_address(places, end, number);
-    let line = item.line;
-    rows.push(LineRow {
-        address: first,
-        line,
-    })?;
-    push_last(rows, first, item_address(places, end, number + 1), line)?;
-    push_items(rows, places, end, number + 1, rest)
-}
-
-// Appends the rows of a body.
+// Appends the rows of a body, the first item of which has this place.
 fn push_body(
     rows: &mut Vec<LineRow>,
     places: &Places,
@@ -111,11 +87,18 @@ fn push_body(
     requires { number + length func.now.items ≤ item_limit }
     ensures { OnOk result (rows.new.items ≡ rows.old.items ++ body_rows places.now end number func.now) }
 {
+    let address = item_address(places, end, number);
     rows.push(LineRow {
-        address: item_address(places, end, number),
+        address,
         line: func.line,
     })?;
-    push_first(rows, places, end, number, func.items.items())
+    let Some((item, rest)) = func.items.items().split_first() else {
+        return Ok(());
+    };
+    let line = item.line;
+    rows.push(LineRow { address, line })?;
+    push_last(rows, address, item_address(places, end, number + 1), line)?;
+    push_items(rows, places, end, number + 1, rest)
 }
 
 /// The rows of bodies, by rising addresses.

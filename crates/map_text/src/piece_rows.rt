@@ -58,7 +58,6 @@ pub fn tick_count(config: &Config) -> usize
     config.counters.items().len()
 }
 
-// Appends the row of a piece that goes to an address, if it has any bytes.
 fn push_row(rows: &mut Vec<Row>, start: Start, to: u32) -> Result<(), AllocError>
     ensures { OnOk result (rows.new.items ≡ rows.old.items ++ row_to start to) }
 {

@@ -39,7 +39,6 @@ pub fn behind(extent: Extent) -> u32
     extent.base + extent.len
 }
 
-// Where the code of each function begins.
 fn code_places(alloc: Global, map: &Map) -> Result<Vec<u32>, AllocError>
     requires { address_behind_code map.now < 4294967296 }
     ensures { IfOk result (λ places. places.items ≡ code_places map.now) }
@@ -53,7 +52,6 @@ fn code_places(alloc: Global, map: &Map) -> Result<Vec<u32>, AllocError>
     Ok(places)
 }
 
-// Appends where a piece begins of which there is one.
 fn push_single(starts: &mut Vec<Start>, kind: Kind, at: u32) -> Result<(), AllocError>
     ensures { OnOk result (starts.new.items ≡ starts.old.items ++ single_start kind at ∷ []) }
 {
@@ -65,7 +63,6 @@ fn push_single(starts: &mut Vec<Start>, kind: Kind, at: u32) -> Result<(), Alloc
     Ok(())
 }
 
-// Appends where the pieces of a kind begin that have these addresses.
 fn push_numbered(starts: &mut Vec<Start>, kind: Kind, addresses: &[u32]) -> Result<(), AllocError>
     ensures { OnOk result (starts.new.items ≡ starts.old.items ++ numbered_starts kind 0 addresses.now) }
 {
@@ -80,7 +77,6 @@ fn push_numbered(starts: &mut Vec<Start>, kind: Kind, addresses: &[u32]) -> Resu
     Ok(())
 }
 
-// Appends where the pieces begin whose addresses are the same in each image, and the idle loop.
 fn push_first(starts: &mut Vec<Start>, map: &Map) -> Result<(), AllocError>
     ensures { OnOk result (starts.new.items ≡ starts.old.items ++ first_starts map.now) }
 {
@@ -90,7 +86,6 @@ fn push_first(starts: &mut Vec<Start>, map: &Map) -> Result<(), AllocError>
     push_single(starts, Kind::Idle, map.idle)
 }
 
-// Appends where prologues, ticks and services begin.
 fn push_routines(starts: &mut Vec<Start>, config: &Config, map: &Map) -> Result<(), AllocError>
     requires { IsListable config.now map.now }
     ensures { OnOk result (starts.new.items ≡ starts.old.items ++ routine_starts config.now map.now) }

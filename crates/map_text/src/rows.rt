@@ -10,7 +10,6 @@ use sloth_base::{Config, TaskDecl};
 use sloth_region::{Extent, Map};
 use std::alloc::{AllocError, Global};
 
-// The row of an extent.
 fn extent_row(kind: Kind, number: usize, extent: Extent) -> Row
     ensures { result ≡ extent_row kind number extent }
 {
@@ -22,7 +21,6 @@ fn extent_row(kind: Kind, number: usize, extent: Extent) -> Row
     }
 }
 
-// Whether some task has no events.
 fn has_basic(tasks: &[TaskDecl]) -> bool
     ensures { result ≡ has_basic tasks.now }
 {

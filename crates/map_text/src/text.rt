@@ -17,7 +17,6 @@ use sloth_region::Map;
 use sloth_source::{Source, read};
 use std::alloc::Global;
 
-// Appends the lines of rows.
 fn push_rows(
     alloc: Global,
     text: &mut Vec<u8>,
@@ -33,7 +32,6 @@ fn push_rows(
     Ok(())
 }
 
-// Appends the lines of what each task needs of its stack.
 #[tactic(auto, using(crate::proofs::OneNeed::needs_begin, crate::proofs::OneNeed::needs_more))]
 fn push_needs(alloc: Global, text: &mut Vec<u8>, config: &Config, bounds: &Bounds) -> Result<()>
     requires { length bounds.now.bytes ≡ length config.now.tasks }
@@ -46,7 +44,6 @@ fn push_needs(alloc: Global, text: &mut Vec<u8>, config: &Config, bounds: &Bound
     Ok(())
 }
 
-// Appends the lines of the bytes of each part.
 fn push_totals(alloc: Global, text: &mut Vec<u8>, rows: &[Row], parts: &[Part]) -> Result<()>
     ensures { OnOk result (text.new.items ≡ text.old.items ++ flat_map (total_line rows.now) parts.now) }
 {
@@ -56,7 +53,6 @@ fn push_totals(alloc: Global, text: &mut Vec<u8>, rows: &[Row], parts: &[Part]) 
     Ok(())
 }
 
-// The text of rows.
 fn rows_text(
     alloc: Global,
     config: &Config,
@@ -75,7 +71,6 @@ fn rows_text(
     Ok(text)
 }
 
-// The text of a map.
 fn plan_text(
     alloc: Global,
     config: &Config,

@@ -18,20 +18,22 @@ pub enum Part {
 /// The parts, in the order of their lines.
 pub const PARTS: [Part; 4] = [Part::Code, Part::Data, Part::Stacks, Part::Between];
 
-fn kind_part(kind: Kind) -> Part
-    ensures { result ≡ kind_part kind }
-{
-    match kind {
-        Kind::Vectors
-        | Kind::Boot
-        | Kind::Idle
-        | Kind::Prologue
-        | Kind::Tick
-        | Kind::Service
-        | Kind::Code => Part::Code,
-        Kind::Words | Kind::Data | Kind::End => Part::Data,
-        Kind::Shared | Kind::Stack => Part::Stacks,
-        Kind::Between => Part::Between,
+impl Kind {
+    fn part(self) -> Part
+        ensures { result ≡ kind_part self }
+    {
+        match self {
+            Kind::Vectors
+            | Kind::Boot
+            | Kind::Idle
+            | Kind::Prologue
+            | Kind::Tick
+            | Kind::Service
+            | Kind::Code => Part::Code,
+            Kind::Words | Kind::Data | Kind::End => Part::Data,
+            Kind::Shared | Kind::Stack => Part::Stacks,
+            Kind::Between => Part::Between,
+        }
     }
 }
 
@@ -74,11 +76,10 @@ pub fn filled_rows(alloc: Global, rows: &[Row]) -> Result<Vec<Row>, AllocError>
     Ok(filled)
 }
 
-// The bytes of a row, if it is of the part.
 fn part_bytes(part: Part, row: &Row) -> u32
     ensures { result ≡ part_bytes part row.now }
 {
-    match (part, kind_part(row.kind)) {
+    match (part, row.kind.part()) {
         (Part::Code, Part::Code)
         | (Part::Data, Part::Data)
         | (Part::Stacks, Part::Stacks)

@@ -11,7 +11,7 @@ use std::alloc::AllocError;
 pub const X5: Reg = Reg(5);
 
 /// The bytes of so many words.
-fn offset_of(words: u32) -> i32
+fn word_offset(words: u32) -> i32
     requires { words < 500 }
     ensures is { result ≡ pos (4 * words) }
     ensures fits { IsSigned 12 result }
@@ -61,7 +61,7 @@ pub fn save(code: &mut Vec<Instr>, first: u8, end: u8, base: Reg) -> Result<(), 
     ensures { OnOk result (code.new.items ≡ code.old.items ++ saving_code (end - first) first base) }
 {
     for number in first..end {
-        put(code, sw(Reg(number), base, offset_of(number as u32)))?;
+        put(code, sw(Reg(number), base, word_offset(number as u32)))?;
     }
     Ok(())
 }
@@ -72,7 +72,7 @@ pub fn restore(code: &mut Vec<Instr>, first: u8, end: u8, base: Reg) -> Result<(
     ensures { OnOk result (code.new.items ≡ code.old.items ++ restoring_code (end - first) first base) }
 {
     for number in first..end {
-        put(code, lw(Reg(number), base, offset_of(number as u32)))?;
+        put(code, lw(Reg(number), base, word_offset(number as u32)))?;
     }
     Ok(())
 }
@@ -94,7 +94,7 @@ pub fn clear_words(code: &mut Vec<Instr>, count: u32, base: Reg) -> Result<(), A
     ensures { OnOk result (code.new.items ≡ code.old.items ++ words_clearing_code count 0 base) }
 {
     for number in 0..count {
-        put(code, sw(ZERO, base, offset_of(number)))?;
+        put(code, sw(ZERO, base, word_offset(number)))?;
     }
     Ok(())
 }

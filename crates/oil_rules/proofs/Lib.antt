@@ -4,7 +4,6 @@ mod KeptReferences
 mod NamedTasks
 pub mod NoFaults
 pub mod Lists
-pub mod Made
 pub mod Attributes
 pub mod RangeNames
 pub mod RangeEvents

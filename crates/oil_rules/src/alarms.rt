@@ -5,12 +5,12 @@ ghost use Rattle.oil_rules.specs.Blocks.{blocks_of};
 ghost use Rattle.oil_table.specs.AlarmCounters.{limits_of};
 ghost use Rattle.oil_rules.specs.AlarmFaults.{BlockFault, AlarmFault};
 
-use crate::block_faults::block_faults;
-use crate::{blocks_of, lacks_part};
+use crate::blocks::block_faults;
+use crate::{Verdict, blocks_of, lacks_part};
 use oil_parse::OilObject;
 use oil_table::{CounterLimits, TaskEvents, is_of_kind};
 use sloth_base::least_fault::{fault_if, merge};
-use sloth_base::{Code, Part, Refusal, Result};
+use sloth_base::{Code, Part};
 use std::alloc::Global;
 
 fn faults_in_blocks(
@@ -18,7 +18,7 @@ fn faults_in_blocks(
     tasks: &TaskEvents,
     counters: &CounterLimits,
     alarm: &OilObject,
-) -> Result<Option<Refusal>>
+) -> Verdict
     requires { counters.now ≡ tasks.now }
     ensures { IfOk result (IsSearchResult
         (Somewhere (BlockFault tasks.now (limits_of tasks.now alarm.now.attrs)) (blocks_of alarm.now.attrs))) }
@@ -35,7 +35,7 @@ fn alarm_faults(
     tasks: &TaskEvents,
     counters: &CounterLimits,
     object: &OilObject,
-) -> Result<Option<Refusal>>
+) -> Verdict
     requires { counters.now ≡ tasks.now }
     ensures { IfOk result (IsSearchResult (AlarmFault tasks.now [] object.now)) }
 {
@@ -53,7 +53,7 @@ fn judge_alarms(
     tasks: &TaskEvents,
     counters: &CounterLimits,
     objects: &[OilObject],
-) -> Result<Option<Refusal>>
+) -> Verdict
     requires { counters.now ≡ tasks.now }
     ensures { IfOk result (IsSearchResult (Somewhere (AlarmFault tasks.now) objects.now)) }
 {
@@ -66,7 +66,7 @@ fn judge_alarms(
 }
 
 /// The least fault in the blocks of the alarms among these objects.
-pub fn faults_of_alarms(alloc: Global, objects: &[OilObject]) -> Result<Option<Refusal>>
+pub fn faults_of_alarms(alloc: Global, objects: &[OilObject]) -> Verdict
     ensures { IfOk result (IsSearchResult (Somewhere (AlarmFault objects.now) objects.now)) }
 {
     let tasks = TaskEvents::of(alloc, objects)?;

@@ -4,11 +4,11 @@ ghost use Rattle.sloth_base.specs.Search.{IsSearchResult, Somewhere};
 ghost use Rattle.oil_rules.specs.AttributeFaults.{opened_place, place_by, refers_to_none, is_refused, RowFault};
 ghost use Rattle.oil_rules.specs.AttributeFaults.{AttributeFault};
 
-use crate::Front;
+use crate::{Front, Verdict};
 use oil_parse::{OilAttr, OilValue};
 use oil_table::{Attribute, EarlierUses, Place, allows, attribute_of, block_place, is_second};
 use sloth_base::least_fault::{fault_if, merge};
-use sloth_base::{Code, Part, Refusal, Result};
+use sloth_base::{Code, Part, Refusal};
 use std::alloc::Global;
 use text_pieces::same;
 
@@ -105,7 +105,7 @@ pub fn attribute_faults(
     scheduler: bool,
     place: Place,
     attrs: &[OilAttr],
-) -> Result<Option<Refusal>>
+) -> Verdict
     ensures { IfOk result (IsSearchResult (Somewhere (AttributeFault objects.now scheduler place) attrs.now)) }
 {
     let mut before = EarlierUses::new(alloc, 0);

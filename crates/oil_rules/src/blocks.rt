@@ -1,14 +1,20 @@
 //! The blocks of an object's attributes.
 //! What the action and the start of an alarm lack, and which event its task does not list.
-ghost use Rattle.std.specs.Prelude.{◌≡◌, IfOk, take, option_copied};
+//! The faults of the attributes in the blocks of an alarm.
+ghost use Rattle.std.specs.Prelude.{◌≡◌, ◌≤◌, IfOk, length, option_copied, []};
 ghost use Rattle.std.specs.List.{take_while, prefix_len};
 ghost use Rattle.oil_rules.specs.Blocks.{is_inner, blocks_of, first_block, is_inner_use, is_used_in, first_in, number_in};
-ghost use Rattle.oil_rules.specs.AlarmFaults.{lacks_inner, lacks_behind, lacks_part, sets_event, is_unlisted};
+ghost use Rattle.oil_rules.specs.AlarmFaults.{lacks_inner, lacks_behind, lacks_part, is_unlisted, InsideFault, BlockFault};
+ghost use Rattle.sloth_base.specs.Search.{IsSearchResult, Somewhere};
 
-use crate::NamedTask;
+use crate::{NamedTask, Verdict};
 use oil_parse::OilAttr;
-use oil_table::{Place, block_place, first_use, is_use, number_of};
-use sloth_base::Result;
+use oil_table::{
+    EarlierUses, Limits, Place, TaskEvents, attribute_of, block_place, first_use, is_beyond,
+    is_second, is_use, number_of,
+};
+use sloth_base::least_fault::{fault_if, merge};
+use sloth_base::{Code, Part, Refusal, Result};
 use std::alloc::Global;
 use std::marker::Model;
 use text_pieces::{push, same};
@@ -44,9 +50,9 @@ impl<'t> Block<'t> {
     }
 }
 
-// How many attributes stand before the next one of the object's own block, or all.
 fn count_inner(attrs: &[OilAttr]) -> usize
-    ensures { result ≡ prefix_len is_inner attrs.now }
+    ensures value { result ≡ prefix_len is_inner attrs.now }
+    ensures within { result ≤ length attrs.now }
 {
     for (n, attr) in attrs.iter().enumerate() {
         if attr.depth == 0 {
@@ -56,21 +62,10 @@ fn count_inner(attrs: &[OilAttr]) -> usize
     attrs.len()
 }
 
-// The first attributes, as many as there are.
-fn front(attrs: &[OilAttr], count: usize) -> &[OilAttr]
-    ensures { result.now ≡ take count attrs.now }
-{
-    if count < attrs.len() {
-        return &attrs[..count];
-    }
-    attrs
-}
-
-// The attributes before the next one of the object's own block.
 fn inner_attrs(attrs: &[OilAttr]) -> &[OilAttr]
     ensures { result.now ≡ take_while is_inner attrs.now }
 {
-    front(attrs, count_inner(attrs))
+    &attrs[..count_inner(attrs)]
 }
 
 /// The blocks of these attributes.
@@ -161,15 +156,64 @@ pub fn lacks_part(attrs: &[OilAttr]) -> bool
     lacks_behind(attrs, b"ACTION") || lacks_behind(attrs, b"AUTOSTART")
 }
 
-fn sets_event(place: Place) -> bool
-    ensures { result ≡ sets_event place }
-{
-    matches!(place, Place::Setting)
-}
-
 /// Whether the attribute is an event of an action that its task does not list.
 pub fn is_unlisted(place: Place, block: &NamedTask, attr: &OilAttr) -> bool
     ensures { result ≡ is_unlisted block.now.objects place block.now.inner attr.now }
 {
     matches!(place, Place::Setting) && is_inner_use(attr, b"EVENT") && block.leaves_out(&attr.value)
+}
+
+fn inner_fault(
+    limits: Limits,
+    place: Place,
+    block: &NamedTask,
+    before: &EarlierUses,
+    attr: &OilAttr,
+) -> Option<Refusal>
+    requires { before.now.depth ≡ 1 }
+    ensures { IsSearchResult (InsideFault block.now.objects limits place block.now.inner before.now.attrs attr.now)
+        result }
+{
+    let line = attr.line;
+    let row = attribute_of(place, attr.name.bytes());
+    let second = fault_if(is_second(row, before, attr), Part::Oil, line, Code::O9);
+    let unlisted = is_unlisted(place, block, attr);
+    let unlisted = fault_if(unlisted, Part::Oil, line, Code::O10);
+    let beyond = fault_if(is_beyond(limits, row, attr), Part::Oil, line, Code::O12);
+    merge(second, merge(unlisted, beyond))
+}
+
+fn inner_faults(alloc: Global, limits: Limits, place: Place, block: &NamedTask) -> Verdict
+    ensures { IfOk result
+        (IsSearchResult (Somewhere (InsideFault block.now.objects limits place block.now.inner) block.now.inner)) }
+{
+    let attrs = block.inner();
+    let mut before = EarlierUses::new(alloc, 1);
+    let mut least = None;
+    for (number, attr) in attrs.iter().enumerate() {
+        let found = inner_fault(limits, place, block, &before, attr);
+        least = merge(least, found);
+        before = before.with(&attrs[..=number], attr)?;
+    }
+    Ok(least)
+}
+
+fn block_fault(alloc: Global, tasks: &TaskEvents, limits: Limits, block: &Block) -> Verdict
+    ensures { IfOk result (IsSearchResult (BlockFault tasks.now limits [] block.now)) }
+{
+    let place = block_place(Place::Alarm, block.head());
+    let found = inner_faults(alloc, limits, place, &NamedTask::new(tasks, block.inner()))?;
+    Ok(found)
+}
+
+/// O9, O10 and O12 in these blocks of an alarm.
+pub fn block_faults(alloc: Global, tasks: &TaskEvents, limits: Limits, blocks: &[Block]) -> Verdict
+    ensures { IfOk result (IsSearchResult (Somewhere (BlockFault tasks.now limits) blocks.now)) }
+{
+    let mut least = None;
+    for block in blocks {
+        let found = block_fault(alloc, tasks, limits, block)?;
+        least = merge(least, found);
+    }
+    Ok(least)
 }

@@ -1,5 +1,5 @@
 //! The counters and alarms of a tree that has no fault.
-ghost use Rattle.std.specs.Prelude.{◌≡◌, ◌≤◌, [], ◌∷◌, ◌++◌, IfOk, OnOk, codes, length, option_copied};
+ghost use Rattle.std.specs.Prelude.{◌≡◌, ◌≤◌, IfOk, codes, length, option_copied};
 ghost use Rattle.sloth_base.specs.MemoryMap.{line_count};
 ghost use Rattle.oil_table.specs.Objects.{names_of};
 ghost use Rattle.oil_rules.specs.Clocks.{counters_of, number_named, action_of, started, alarms_of};
@@ -20,28 +20,21 @@ pub struct Clocks {
     pub alarms: Vec<AlarmDecl>,
 }
 
-/// One counter more, if the object is one.
-fn add_counter(alloc: Global, counters: &mut Vec<CounterDecl>, object: &OilObject) -> Result<()>
-    ensures { OnOk result (counters.new.items ≡ counters.old.items ++ counters_of (object.now ∷ [])) }
-{
-    if !is_of_kind(object, b"COUNTER") {
-        return Ok(());
-    }
-    let attrs = object.attrs.items();
-    let counter = CounterDecl {
-        name: Name::new(alloc, object.name.bytes())?,
-        max: first_number(attrs, b"MAXALLOWEDVALUE").unwrap_or(TICK_LIMIT),
-        min_cycle: first_number(attrs, b"MINCYCLE").unwrap_or(1),
-    };
-    push(counters, counter)
-}
-
 fn declared_counters(alloc: Global, objects: &[OilObject]) -> Result<Vec<CounterDecl>>
     ensures { IfOk result (λ counters. counters.items ≡ counters_of objects.now) }
 {
     let mut counters = Vec::new(alloc);
     for object in objects {
-        add_counter(alloc, &mut counters, object)?;
+        if !is_of_kind(object, b"COUNTER") {
+            continue;
+        }
+        let attrs = object.attrs.items();
+        let counter = CounterDecl {
+            name: Name::new(alloc, object.name.bytes())?,
+            max: first_number(attrs, b"MAXALLOWEDVALUE").unwrap_or(TICK_LIMIT),
+            min_cycle: first_number(attrs, b"MINCYCLE").unwrap_or(1),
+        };
+        push(&mut counters, counter)?;
     }
     Ok(counters)
 }
@@ -89,34 +82,6 @@ fn started(attrs: &[OilAttr], name: &[u8]) -> u32
     }
 }
 
-/// One alarm more, if the object is one.
-fn add_alarm(
-    alloc: Global,
-    alarms: &mut Vec<AlarmDecl>,
-    tasks: &Names,
-    counters: &Names,
-    events: &EventTable,
-    object: &OilObject,
-) -> Result<()>
-    requires few_tasks { length tasks.now ≤ line_count }
-    requires few_counters { length counters.now ≤ line_count }
-    ensures { OnOk result
-        (alarms.new.items ≡ alarms.old.items ++ alarms_of tasks.now counters.now events.now (object.now ∷ [])) }
-{
-    if !is_of_kind(object, b"ALARM") {
-        return Ok(());
-    }
-    let attrs = object.attrs.items();
-    let alarm = AlarmDecl {
-        name: Name::new(alloc, object.name.bytes())?,
-        counter: number_named(counters, first_use(attrs, b"COUNTER")),
-        action: alarm_action(tasks, events, attrs),
-        time: started(attrs, b"ALARMTIME"),
-        cycle: started(attrs, b"CYCLETIME"),
-    };
-    push(alarms, alarm)
-}
-
 fn declared_alarms(
     alloc: Global,
     tasks: &Names,
@@ -130,43 +95,20 @@ fn declared_alarms(
 {
     let mut alarms = Vec::new(alloc);
     for object in objects {
-        add_alarm(alloc, &mut alarms, tasks, counters, events, object)?;
+        if !is_of_kind(object, b"ALARM") {
+            continue;
+        }
+        let attrs = object.attrs.items();
+        let alarm = AlarmDecl {
+            name: Name::new(alloc, object.name.bytes())?,
+            counter: number_named(counters, first_use(attrs, b"COUNTER")),
+            action: alarm_action(tasks, events, attrs),
+            time: started(attrs, b"ALARMTIME"),
+            cycle: started(attrs, b"CYCLETIME"),
+        };
+        push(&mut alarms, alarm)?;
     }
     Ok(alarms)
-}
-
-fn clocks_among(
-    alloc: Global,
-    tasks: &Names,
-    counters: &Names,
-    events: &EventTable,
-    objects: &[OilObject],
-) -> Result<Clocks>
-    requires few_tasks { length tasks.now ≤ line_count }
-    requires few_counters { length counters.now ≤ line_count }
-    ensures counters { IfOk result (λ clocks. clocks.counters.items ≡ counters_of objects.now) }
-    ensures alarms { IfOk result
-        (λ clocks. clocks.alarms.items ≡ alarms_of tasks.now counters.now events.now objects.now) }
-{
-    let alarms = declared_alarms(alloc, tasks, counters, events, objects)?;
-    let counters = declared_counters(alloc, objects)?;
-    Ok(Clocks { counters, alarms })
-}
-
-fn clocks_numbered(
-    alloc: Global,
-    tasks: &Names,
-    events: &EventTable,
-    objects: &[OilObject],
-) -> Result<Clocks>
-    requires few_tasks { length tasks.now ≤ line_count }
-    requires few_counters { length (names_of (codes "COUNTER") objects.now) ≤ line_count }
-    ensures counters { IfOk result (λ clocks. clocks.counters.items ≡ counters_of objects.now) }
-    ensures alarms { IfOk result (λ clocks. clocks.alarms.items
-        ≡ alarms_of tasks.now (names_of (codes "COUNTER") objects.now) events.now objects.now) }
-{
-    let counters = names_of(alloc, objects, b"COUNTER")?;
-    clocks_among(alloc, tasks, &counters, events, objects)
 }
 
 /// The counters and alarms of these objects, in the order of their numbers.
@@ -178,5 +120,8 @@ pub fn declared_clocks(alloc: Global, events: &EventTable, objects: &[OilObject]
         (names_of (codes "COUNTER") objects.now) events.now objects.now) }
 {
     let tasks = names_of(alloc, objects, b"TASK")?;
-    clocks_numbered(alloc, &tasks, events, objects)
+    let counters = names_of(alloc, objects, b"COUNTER")?;
+    let alarms = declared_alarms(alloc, &tasks, &counters, events, objects)?;
+    let counters = declared_counters(alloc, objects)?;
+    Ok(Clocks { counters, alarms })
 }

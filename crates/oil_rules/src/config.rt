@@ -1,5 +1,5 @@
 //! The configuration of a tree that has no fault.
-ghost use Rattle.std.specs.Prelude.{◌≡◌, ◌≤◌, ◌==◌, [], ◌∷◌, ◌++◌, IfOk, OnOk, length};
+ghost use Rattle.std.specs.Prelude.{◌≡◌, ◌≤◌, ◌==◌, IfOk, OnOk, length};
 ghost use Rattle.std.specs.List.{list_any};
 ghost use Rattle.sloth_base.specs.Limits.{resource_limit};
 ghost use Rattle.oil_rules.specs.Configs.{resource_names, listed_resource, with_resource, resources_of, tasks_of};
@@ -10,24 +10,17 @@ use sloth_base::{List, Name, ResId, Result, TaskDecl};
 use std::alloc::Global;
 use text_pieces::{Names, push};
 
-/// One name more, if the object is a resource.
-fn add_resource_name(alloc: Global, names: &mut Vec<Name>, object: &OilObject) -> Result<()>
-    ensures { OnOk result (names.new.items ≡ names.old.items ++ resource_names (object.now ∷ [])) }
-{
-    if !is_of_kind(object, b"RESOURCE") {
-        return Ok(());
-    }
-    let name = Name::new(alloc, object.name.bytes())?;
-    push(names, name)
-}
-
 /// The names of the resources, in the order of their numbers.
 pub fn resource_names(alloc: Global, objects: &[OilObject]) -> Result<Vec<Name>>
     ensures { IfOk result (λ names. names.items ≡ resource_names objects.now) }
 {
     let mut names = Vec::new(alloc);
     for object in objects {
-        add_resource_name(alloc, &mut names, object)?;
+        if !is_of_kind(object, b"RESOURCE") {
+            continue;
+        }
+        let name = Name::new(alloc, object.name.bytes())?;
+        push(&mut names, name)?;
     }
     Ok(names)
 }
@@ -54,7 +47,6 @@ fn is_listed(listed: &Vec<ResId>, number: u32) -> bool
     listed.iter().any(|earlier| earlier.0 == number)
 }
 
-/// One more resource, if it isn't listed yet.
 fn add_resource(listed: &mut Vec<ResId>, number: Option<u32>) -> Result<()>
     ensures { OnOk result (listed.new.items ≡ with_resource listed.old.items number) }
 {
@@ -64,7 +56,6 @@ fn add_resource(listed: &mut Vec<ResId>, number: Option<u32>) -> Result<()>
     }
 }
 
-/// The resources that a task lists, each once.
 fn listed_resources(alloc: Global, names: &Names, attrs: &[OilAttr]) -> Result<Vec<ResId>>
     requires { length names.now ≤ resource_limit }
     ensures { IfOk result (λ listed. listed.items ≡ resources_of names.now attrs.now) }
@@ -74,33 +65,6 @@ fn listed_resources(alloc: Global, names: &Names, attrs: &[OilAttr]) -> Result<V
         add_resource(&mut listed, listed_resource(names, attr))?;
     }
     Ok(listed)
-}
-
-/// One task more, if the object is one.
-fn add_task(
-    alloc: Global,
-    tasks: &mut Vec<TaskDecl>,
-    names: &Names,
-    events: &EventTable,
-    object: &OilObject,
-) -> Result<()>
-    requires { length names.now ≤ resource_limit }
-    ensures { OnOk result (tasks.new.items ≡ tasks.old.items ++ tasks_of names.now events.now (object.now ∷ [])) }
-{
-    if !is_of_kind(object, b"TASK") {
-        return Ok(());
-    }
-    let attrs = object.attrs.items();
-    let task = TaskDecl {
-        name: Name::new(alloc, object.name.bytes())?,
-        priority: first_number(attrs, b"PRIORITY").unwrap_or(0),
-        extended: is_used(attrs, b"EVENT"),
-        non: first_is(attrs, b"SCHEDULE", b"NON"),
-        autostart: first_is(attrs, b"AUTOSTART", b"TRUE"),
-        resources: List::from_vec(listed_resources(alloc, names, attrs)?),
-        events: event_mask(events, attrs),
-    };
-    push(tasks, task)
 }
 
 /// The tasks, in the order of their numbers.
@@ -115,7 +79,20 @@ pub fn declared_tasks(
 {
     let mut tasks = Vec::new(alloc);
     for object in objects {
-        add_task(alloc, &mut tasks, names, events, object)?;
+        if !is_of_kind(object, b"TASK") {
+            continue;
+        }
+        let attrs = object.attrs.items();
+        let task = TaskDecl {
+            name: Name::new(alloc, object.name.bytes())?,
+            priority: first_number(attrs, b"PRIORITY").unwrap_or(0),
+            extended: is_used(attrs, b"EVENT"),
+            non: first_is(attrs, b"SCHEDULE", b"NON"),
+            autostart: first_is(attrs, b"AUTOSTART", b"TRUE"),
+            resources: List::from_vec(listed_resources(alloc, names, attrs)?),
+            events: event_mask(events, attrs),
+        };
+        push(&mut tasks, task)?;
     }
     Ok(tasks)
 }

@@ -172,7 +172,6 @@ impl<'t> Front<'t> {
     }
 }
 
-/// One more, if the object is of this kind.
 fn more(count: usize, object: &OilObject, kind: &[u8]) -> usize
     requires { count < usize.MAX }
     ensures { result ≡ count + (if is_of_kind kind.now object.now then 1 else 0) }
@@ -184,14 +183,12 @@ fn more(count: usize, object: &OilObject, kind: &[u8]) -> usize
     }
 }
 
-/// Whether there was an object of the kind OS, or this is one.
 fn or_os(has_os: bool, object: &OilObject) -> bool
     ensures { result ≡ (has_os || is_of_kind (codes "OS") object.now) }
 {
     has_os || is_of_kind(object, b"OS")
 }
 
-/// The kind and the name of the object, if no other has them.
 fn add_name<'t>(names: &mut IndexSet<(&'t [u8], &'t [u8])>, object: &'t OilObject) -> Result<()>
     ensures { OnOk result ((kind name : List ℕ) → list_any (λ k. bytes_eq k.0.now kind && bytes_eq k.1.now name)
         names.new.keys ≡ (list_any (λ k. bytes_eq k.0.now kind && bytes_eq k.1.now name) names.old.keys
@@ -200,21 +197,6 @@ fn add_name<'t>(names: &mut IndexSet<(&'t [u8], &'t [u8])>, object: &'t OilObjec
     insert(names, (object.kind.bytes(), object.name.bytes()))
 }
 
-fn add_priority(priorities: &mut IndexSet<u32>, object: &OilObject) -> Result<()>
-    ensures { OnOk result ((priority : ℕ) → list_any (λ given. given == priority) priorities.new.keys
-        ≡ (list_any (λ given. given == priority) priorities.old.keys || has_priority priority object.now)) }
-{
-    if !is_of_kind(object, b"TASK") {
-        return Ok(());
-    }
-    let Some(priority) = first_number(object.attrs.items(), b"PRIORITY") else {
-        return Ok(());
-    };
-    insert(priorities, priority)?;
-    Ok(())
-}
-
-/// What is kept of the object in both sets.
 fn add<'t>(
     names: &mut IndexSet<(&'t [u8], &'t [u8])>,
     priorities: &mut IndexSet<u32>,
@@ -227,5 +209,12 @@ fn add<'t>(
         ≡ (list_any (λ given. given == priority) priorities.old.keys || has_priority priority object.now)) }
 {
     add_name(names, object)?;
-    add_priority(priorities, object)
+    if !is_of_kind(object, b"TASK") {
+        return Ok(());
+    }
+    let Some(priority) = first_number(object.attrs.items(), b"PRIORITY") else {
+        return Ok(());
+    };
+    insert(priorities, priority)?;
+    Ok(())
 }

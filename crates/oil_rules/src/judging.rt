@@ -1,29 +1,39 @@
-//! The least fault of a tree.
-ghost use Rattle.std.specs.Prelude.{◌≡◌, IfOk, true};
+//! The least fault of a tree. The faults of an attribute of a task that rest on other tasks and on events.
+//! The task that a block of an alarm names.
+ghost use Rattle.std.specs.Prelude.{◌≡◌, IfOk, codes, true, ◌&&◌, ◌||◌, not};
 ghost use Rattle.sloth_base.specs.Search.{IsSearchResult, Somewhere};
-ghost use Rattle.oil_table.specs.Objects.{has_scheduler};
+ghost use Rattle.oil_table.specs.Objects.{has_scheduler, names_of, is_use, is_used, number_of, object_named};
 ghost use Rattle.oil_table.specs.Events.{events_of};
 ghost use Rattle.oil_rules.specs.ObjectFaults.{is_known};
 ghost use Rattle.oil_rules.specs.TreeFaults.{TaskFaults, KnownObjectFault, ObjectFault, TreeFault};
 ghost use Rattle.oil_rules.specs.ModelFaults.{ModelFault};
+ghost use Rattle.oil_rules.specs.TaskFaults.{is_taken, TaskFault};
+ghost use Rattle.oil_rules.specs.Blocks.{first_in};
+ghost use Rattle.oil_rules.specs.AlarmFaults.{leaves_out, is_left_out};
 
-use crate::Front;
 use crate::alarms::faults_of_alarms;
 use crate::attribute_faults::attribute_faults;
 use crate::object_faults::{kind_fault, known_fault};
-use crate::task_faults::task_faults;
-use oil_parse::{OilObject, OilTree};
-use oil_table::{EventTable, events_without_bit, is_nowhere, is_of_kind, place_of};
+use crate::{Front, References, first_in};
+use oil_parse::{OilAttr, OilObject, OilTree, OilValue};
+use oil_table::{
+    EventTable, TaskEvents, events_without_bit, is_nowhere, is_of_kind, is_use, number_of, place_of,
+};
 use sloth_base::least_fault::{fault_if, merge};
-use sloth_base::{Code, Part, Refusal, Result};
+use sloth_base::{Code, EventDecl, Part, Refusal, Result};
 use std::alloc::Global;
+use std::marker::Model;
+use text_pieces::Names;
+
+/// The least refusal that was found, or none.
+pub type Verdict = Result<Option<Refusal>>;
 
 fn faults_of_task<'t>(
     alloc: Global,
     events: &'t EventTable<'t>,
     front: &Front,
     object: &'t OilObject,
-) -> Result<Option<Refusal>>
+) -> Verdict
     ensures { IfOk result (IsSearchResult (TaskFaults events.now front.now object.now)) }
 {
     if !is_of_kind(object, b"TASK") {
@@ -40,7 +50,7 @@ fn fault_of_known(
     events: &EventTable,
     front: &Front,
     object: &OilObject,
-) -> Result<Option<Refusal>>
+) -> Verdict
     ensures { IfOk result (IsSearchResult (λ r. (is_known object.now ≡ true)
         × KnownObjectFault table.now scheduler events.now front.now object.now r)) }
 {
@@ -60,7 +70,7 @@ fn object_faults(
     table: &Front,
     scheduler: bool,
     events: &EventTable,
-) -> Result<Option<Refusal>>
+) -> Verdict
     ensures { IfOk result (IsSearchResult (Somewhere (ObjectFault table.now scheduler events.now) objects.now)) }
 {
     let mut front = Front::new(alloc);
@@ -80,7 +90,7 @@ fn faults_among(
     table: &Front,
     scheduler: bool,
     events: &EventTable,
-) -> Result<Option<Refusal>>
+) -> Verdict
     requires objects { table.now ≡ tree.now.objects }
     requires scheduler { scheduler ≡ has_scheduler tree.now.objects }
     requires events { events.now ≡ events_of tree.now.objects }
@@ -92,33 +102,136 @@ fn faults_among(
     Ok(merge(of_objects, merge(events_without_bit(objects), without_os)))
 }
 
-// The same without a table of the objects.
-fn tree_faults(
-    alloc: Global,
-    tree: &OilTree,
-    scheduler: bool,
-    events: &EventTable,
-) -> Result<Option<Refusal>>
-    requires scheduler { scheduler ≡ has_scheduler tree.now.objects }
-    requires events { events.now ≡ events_of tree.now.objects }
-    ensures { IfOk result (IsSearchResult (TreeFault tree.now)) }
-{
-    let table = Front::of(alloc, tree.objects.items())?;
-    faults_among(alloc, tree, &table, scheduler, events)
-}
-
 /// The least fault of a tree with these events, O7 to O15.
 pub fn judge(
     alloc: Global,
     tree: &OilTree,
     scheduler: bool,
-    events: &EventTable,
-) -> Result<Option<Refusal>>
+    event_names: &Names,
+    events: &[EventDecl],
+) -> Verdict
     requires scheduler { scheduler ≡ has_scheduler tree.now.objects }
+    requires event_numbers { event_names.now ≡ names_of (codes "EVENT") tree.now.objects }
     requires events { events.now ≡ events_of tree.now.objects }
     ensures { IfOk result (IsSearchResult (ModelFault tree.now)) }
 {
-    let of_tree = tree_faults(alloc, tree, scheduler, events)?;
-    let of_alarms = faults_of_alarms(alloc, tree.objects.items())?;
+    let objects = tree.objects.items();
+    let events = EventTable::new(events, event_names);
+    let table = Front::of(alloc, objects)?;
+    let of_tree = faults_among(alloc, tree, &table, scheduler, &events)?;
+    let of_alarms = faults_of_alarms(alloc, objects)?;
     Ok(merge(of_tree, of_alarms))
+}
+
+/// O13: the attribute is the priority of the task, and an earlier task has it.
+pub fn repeats_priority(front: &Front, given: bool, attr: &OilAttr) -> bool
+    ensures { result
+        ≡ ((is_use (codes "PRIORITY") attr.now && not given) && is_taken front.now (number_of attr.now.value)) }
+{
+    if !is_use(attr, b"PRIORITY") {
+        return false;
+    }
+    if given {
+        return false;
+    }
+    match number_of(&attr.value) {
+        Some(priority) => front.has_priority(priority),
+        None => false,
+    }
+}
+
+/// Whether a priority was given, or this attribute gives one.
+pub fn is_given_with(given: bool, attr: &OilAttr) -> bool
+    ensures { result ≡ (given || is_use (codes "PRIORITY") attr.now) }
+{
+    given || is_use(attr, b"PRIORITY")
+}
+
+fn task_fault(front: &Front, given: bool, before: &References, attr: &OilAttr) -> Option<Refusal>
+    requires { given ≡ is_used before.now.attrs (codes "PRIORITY") }
+    ensures { IsSearchResult (TaskFault before.now.events front.now before.now.attrs attr.now) result }
+{
+    let repeated = repeats_priority(front, given, attr);
+    let repeated = fault_if(repeated, Part::Oil, attr.line, Code::O13);
+    let shared = fault_if(before.shares_bit(attr), Part::Oil, attr.line, Code::O15);
+    merge(repeated, shared)
+}
+
+/// O13 and O15 of the attributes of a task.
+pub fn task_faults<'t>(
+    alloc: Global,
+    events: &'t EventTable<'t>,
+    front: &Front,
+    attrs: &'t [OilAttr],
+) -> Verdict
+    ensures { IfOk result (IsSearchResult (Somewhere (TaskFault events.now front.now) attrs.now)) }
+{
+    let mut before = References::new(alloc, events);
+    let mut given = false;
+    let mut least = None;
+    for (number, attr) in attrs.iter().enumerate() {
+        least = merge(least, task_fault(front, given, &before, attr));
+        given = is_given_with(given, attr);
+        before = before.with(&attrs[..=number], attr)?;
+    }
+    Ok(least)
+}
+
+/// The attributes of a block, and the number of the task that the first TASK among them names.
+#[derive(Drop)]
+pub struct NamedTask<'t> {
+    tasks: &'t TaskEvents<'t>,
+    inner: &'t [OilAttr],
+    number: Option<usize>,
+}
+
+impl<'t> Model for NamedTask<'t> {
+    ghost use Rattle.std.specs.Prelude.{◌≡◌};
+    ghost use Rattle.oil_rules.specs.Blocks.{ActionBlock, task_in};
+
+    ghost Value = { ActionBlock };
+
+    ghost view = { λ block. record { objects = block.tasks.now; inner = block.inner.now } };
+
+    ghost invariant = { λ block. block.number ≡ task_in block.tasks.now block.inner.now };
+}
+
+impl<'t> NamedTask<'t> {
+    /// These attributes of a block.
+    pub fn new(tasks: &'t TaskEvents<'t>, inner: &'t [OilAttr]) -> NamedTask<'t>
+        ensures { result ≡ record { objects = tasks.now; inner = inner.now } }
+    {
+        NamedTask {
+            tasks,
+            inner,
+            number: tasks.number_named(first_in(inner, b"TASK")),
+        }
+    }
+
+    /// The attributes.
+    pub fn inner(&self) -> &'t [OilAttr]
+        ensures { result.now ≡ self.now.inner }
+    {
+        self.inner
+    }
+
+    fn leaves_out_word(&self, word: &[u8]) -> bool
+        ensures { result ≡ leaves_out
+            (object_named self.now.objects (codes "TASK") (first_in self.now.inner (codes "TASK"))) word.now }
+    {
+        match self.number {
+            Some(number) => !self.tasks.lists(number, word),
+            None => false,
+        }
+    }
+
+    /// Whether there is such a task, and it does not list the event that a value names.
+    pub fn leaves_out(&self, value: &OilValue) -> bool
+        ensures { result ≡ is_left_out self.now.objects self.now.inner value.now }
+    {
+        match value {
+            OilValue::Word(word) => self.leaves_out_word(word.bytes()),
+            _ => false,
+        }
+    }
 }

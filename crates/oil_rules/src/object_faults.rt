@@ -3,7 +3,7 @@ ghost use Rattle.std.specs.Prelude.{◌≡◌, ◌&&◌, codes};
 ghost use Rattle.oil_table.specs.Objects.{is_of_kind};
 ghost use Rattle.sloth_base.specs.Search.{IsSearchResult};
 ghost use Rattle.std.specs.List.{list_any};
-ghost use Rattle.oil_rules.specs.ObjectFaults.{is_double_of, is_doubled, is_idle, lacks_task_attribute};
+ghost use Rattle.oil_rules.specs.ObjectFaults.{is_double_of, is_doubled, lacks_task_attribute};
 ghost use Rattle.oil_rules.specs.ObjectFaults.{lacks_attribute, is_strange_mode, is_above};
 ghost use Rattle.oil_rules.specs.ObjectFaults.{KindFault, KnownFault};
 
@@ -37,13 +37,6 @@ pub fn is_doubled(scheduler: bool, front: &Front, object: &OilObject) -> bool
         || (scheduler && declares(object, b"RESOURCE", b"RES_SCHEDULER"))
 }
 
-fn is_idle(object: &OilObject) -> bool
-    ensures { result ≡ is_idle object.now }
-{
-    let attrs = object.attrs.items();
-    is_of_kind(object, b"ALARM") && !(is_used(attrs, b"COUNTER") && is_used(attrs, b"ACTION"))
-}
-
 /// O11: it lacks an attribute that its kind must have.
 pub fn lacks_attribute(object: &OilObject) -> bool
     ensures { result ≡ lacks_attribute object.now }
@@ -51,7 +44,8 @@ pub fn lacks_attribute(object: &OilObject) -> bool
     let attrs = object.attrs.items();
     lacks_task_attribute(object)
         || (is_of_kind(object, b"COUNTER") && !is_used(attrs, b"MAXALLOWEDVALUE"))
-        || is_idle(object)
+        || (is_of_kind(object, b"ALARM")
+            && !(is_used(attrs, b"COUNTER") && is_used(attrs, b"ACTION")))
 }
 
 fn lacks_task_attribute(object: &OilObject) -> bool

@@ -45,7 +45,6 @@ impl<'t> Model for References<'t> {
         references.once references.twice };
 }
 
-/// Whether the event is among those that are kept.
 fn is_kept(kept: &Vec<Reference>, word: &[u8]) -> bool
     ensures { result ≡ list_any (is_to word.now) kept.now.items }
 {
@@ -59,18 +58,10 @@ fn is_told(kept: &Vec<Reference>, twice: u32, word: &[u8], mask: u32) -> bool
     mask & twice == mask || is_kept(kept, word)
 }
 
-/// Whether it is another event with a bit of the mask.
-fn is_clash(reference: &Reference, word: &[u8], mask: u32) -> bool
-    ensures { result ≡ is_clash word.now mask reference.now }
-{
-    reference.mask & mask != 0 && !same(reference.word, word)
-}
-
-/// Whether one of them is another event with a bit of the mask.
 fn has_clash(kept: &Vec<Reference>, word: &[u8], mask: u32) -> bool
     ensures { result ≡ list_any (is_clash word.now mask) kept.now.items }
 {
-    kept.iter().any(|reference| is_clash(reference, word, mask))
+    kept.iter().any(|reference| reference.mask & mask != 0 && !same(reference.word, word))
 }
 
 impl<'t> References<'t> {

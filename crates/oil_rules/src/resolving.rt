@@ -1,6 +1,5 @@
 //! The configuration of a tree, or its least fault.
 ghost use Rattle.std.specs.Prelude.{◌≡◌, ◌≤◌, ◌<◌, All, IfOk, OnOk, IfErr, length, codes};
-ghost use Rattle.sloth_base.specs.Search.{IsSearchResult};
 ghost use Rattle.sloth_base.specs.Order.{NoFault, IsLeast, ErrorIs};
 ghost use Rattle.sloth_base.specs.ConfigRange.{InRange};
 ghost use Rattle.sloth_base.specs.declared.config.Config.{Config};
@@ -53,24 +52,6 @@ fn declared_config(
     })
 }
 
-/// The least fault of a tree with these events.
-fn least_refusal(
-    alloc: Global,
-    tree: &OilTree,
-    scheduler: bool,
-    event_names: &Names,
-    events: &[EventDecl],
-) -> Result<Option<Refusal>>
-    requires scheduler { scheduler ≡ has_scheduler tree.now.objects }
-    requires event_numbers { event_names.now ≡ names_of (codes "EVENT") tree.now.objects }
-    requires events { events.now ≡ events_of tree.now.objects }
-    ensures { IfOk result (IsSearchResult (ModelFault tree.now)) }
-{
-    let events = EventTable::new(events, event_names);
-    judge(alloc, tree, scheduler, &events)
-}
-
-/// The configuration of a tree with these events, or its least fault.
 fn config_or_refusal(
     alloc: Global,
     tree: &OilTree,
@@ -90,7 +71,7 @@ fn config_or_refusal(
     ensures in_range { IfOk result (λ found. IfOk found InRange) }
     ensures refused { IfOk result (λ found. IfErr found (IsLeast (ModelFault tree.now))) }
 {
-    let refusal = least_refusal(alloc, tree, scheduler, event_names, events.as_slice())?;
+    let refusal = judge(alloc, tree, scheduler, event_names, events.as_slice())?;
     if let Some(refusal) = refusal {
         return Ok(Err(refusal));
     }
@@ -105,7 +86,6 @@ fn config_or_refusal(
     Ok(Ok(config))
 }
 
-/// The configuration of a tree, or its least fault.
 fn tree_meaning(alloc: Global, tree: &OilTree) -> Result<Result<Config, Refusal>>
     requires { IsTree tree.now }
     ensures config { IfOk result (λ found. IfOk found (IsConfig tree.now)) }

@@ -70,7 +70,6 @@ fn declared_limits(counter: &OilObject) -> Limits
     }
 }
 
-/// The limits of the counters among these objects, in the order of their numbers.
 fn limits_among(alloc: Global, objects: &[OilObject]) -> Result<Vec<Limits>>
     ensures { IfOk result (λ limits. limits.items ≡ limits_among objects.now) }
 {

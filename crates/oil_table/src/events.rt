@@ -14,38 +14,9 @@ use text_pieces::push;
 
 /// The bits of a mask, the lowest first.
 const BITS: [u32; 32] = [
-    0x1,
-    0x2,
-    0x4,
-    0x8,
-    0x10,
-    0x20,
-    0x40,
-    0x80,
-    0x100,
-    0x200,
-    0x400,
-    0x800,
-    0x1000,
-    0x2000,
-    0x4000,
-    0x8000,
-    0x1_0000,
-    0x2_0000,
-    0x4_0000,
-    0x8_0000,
-    0x10_0000,
-    0x20_0000,
-    0x40_0000,
-    0x80_0000,
-    0x100_0000,
-    0x200_0000,
-    0x400_0000,
-    0x800_0000,
-    0x1000_0000,
-    0x2000_0000,
-    0x4000_0000,
-    0x8000_0000,
+    0x1, 0x2, 0x4, 0x8, 0x10, 0x20, 0x40, 0x80, 0x100, 0x200, 0x400, 0x800, 0x1000, 0x2000, 0x4000,
+    0x8000, 0x10000, 0x20000, 0x40000, 0x80000, 0x100000, 0x200000, 0x400000, 0x800000, 0x1000000,
+    0x2000000, 0x4000000, 0x8000000, 0x10000000, 0x20000000, 0x40000000, 0x80000000,
 ];
 
 fn is_event(object: &OilObject) -> bool
@@ -62,7 +33,7 @@ fn is_auto(event: &OilObject) -> bool
     !is_used(attrs, b"MASK") || first_is(attrs, b"MASK", b"AUTO")
 }
 
-/// The number of the first MASK. A mask that is no number, or 0, has no bits.
+// The number of the first MASK. A mask that is no number, or 0, has no bits.
 fn number_mask(event: &OilObject) -> u32
     ensures { result ≡ number_mask event.now }
 {
@@ -90,7 +61,6 @@ pub fn number_masks(objects: &[OilObject]) -> u32
     bits
 }
 
-/// The lowest bit that is not taken.
 #[tactic(auto, unfolding(crate::specs::Events::free_bit))]
 fn free_bit(taken: u32) -> Option<u32>
     ensures { result ≡ free_bit taken }

@@ -1,13 +1,7 @@
 //! The table of OIL objects and attributes (OIL 2.5, section 3): which attribute may stand where, how often, with which
 //! values; and the events of a tree with their masks.
-//!
-//! Rows and limits: `place_of`, `attribute_of`, `is_single`, `allows`, `block_place`, `comes_behind`, `is_clock_more`,
-//! `is_beyond` (`specs/Table`, `specs/Beyond`). What an object declares: `first_use`, `first_number`, `declares`, ..
-//! (`specs/Objects`). By names: the events of each task and the limits of each counter (`TaskEvents`, `CounterLimits`;
-//! `specs/ListedEvents`, `specs/AlarmCounters`).
-//!
-//! A mask is a number as it stands, or with AUTO the lowest bit that no number mask and no earlier AUTO event has; or
-//! no bit is free (`events_of`, `mask_of_value`, `event_mask`; `specs/Events`, `specs/Masks`). Trees: `oil_parse`.
+//! `specs/Table`, `specs/Beyond`; what an object declares: `specs/Objects`; by names: `specs/ListedEvents`,
+//! `specs/AlarmCounters`; masks: `specs/Events`.
 #![tactic(auto)]
 
 pub mod counter_limits;

@@ -1,7 +1,8 @@
 //! What an object says by the attributes of its own block. Of two uses of one attribute the first counts.
 //! The numbers of names.
 ghost use Rattle.std.specs.Prelude.{◌≡◌, codes, find, option_copied, IfOk};
-ghost use Rattle.oil_table.specs.Objects.{is_use, is_used, first_is, number_of, first_number, is_declaration, has_scheduler, is_of_kind, names_of};
+ghost use Rattle.oil_table.specs.Objects.{is_use, is_used, first_is, number_of, first_number, is_declaration};
+ghost use Rattle.oil_table.specs.Objects.{has_scheduler, is_of_kind, names_of};
 
 use crate::is_word;
 use oil_parse::{OilAttr, OilObject, OilValue};

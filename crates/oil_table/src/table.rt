@@ -1,6 +1,6 @@
 //! The attribute table: which attributes may stand where, and which values they take (OIL 2.5, section 3).
 ghost use Rattle.std.specs.Prelude.{◌≡◌, ◌&&◌, bytes_eq};
-ghost use Rattle.oil_table.specs.Table.{alarm_place, is_hook, is_flag, place_of, os_attribute, task_attribute};
+ghost use Rattle.oil_table.specs.Table.{place_of, os_attribute, task_attribute};
 ghost use Rattle.oil_table.specs.Table.{counter_attribute, alarm_attribute};
 ghost use Rattle.oil_table.specs.Table.{setting_attribute, wakeup_attribute, only_attribute, attribute_of, is_single};
 ghost use Rattle.oil_table.specs.Table.{allows_word, allows_number, is_allowed, is_word, block_place, is_nowhere};
@@ -62,136 +62,70 @@ pub enum Attribute {
     Cycle,
 }
 
+// The value of the first row with this word, or the other one.
+macro_rules! named {
+    ($word:expr; $($name:literal => $value:expr),+; $other:expr) => {{
+        $(if same($word, $name) {
+            return $value;
+        })+
+        $other
+    }};
+}
+
 /// The place that an object of this kind is; nowhere, where there is no such kind.
 pub fn place_of(kind: &[u8]) -> Place
     ensures { result ≡ place_of kind.now }
 {
-    if same(kind, b"OS") {
-        Place::Os
-    } else if same(kind, b"APPMODE") {
-        Place::AppMode
-    } else if same(kind, b"TASK") {
-        Place::Task
-    } else if same(kind, b"RESOURCE") {
-        Place::Resource
-    } else if same(kind, b"EVENT") {
-        Place::Event
-    } else if same(kind, b"COUNTER") {
-        Place::Counter
-    } else if same(kind, b"ALARM") {
-        Place::Alarm
-    } else {
-        Place::Nowhere
-    }
-}
-
-fn is_hook(name: &[u8]) -> bool
-    ensures { result ≡ is_hook name.now }
-{
-    same(name, b"STARTUPHOOK")
-        || same(name, b"ERRORHOOK")
-        || same(name, b"SHUTDOWNHOOK")
-        || same(name, b"PRETASKHOOK")
-        || same(name, b"POSTTASKHOOK")
-}
-
-fn is_flag(name: &[u8]) -> bool
-    ensures { result ≡ is_flag name.now }
-{
-    same(name, b"USEGETSERVICEID")
-        || same(name, b"USEPARAMETERACCESS")
-        || same(name, b"USERESSCHEDULER")
+    named!(kind; b"OS" => Place::Os, b"APPMODE" => Place::AppMode, b"TASK" => Place::Task,
+        b"RESOURCE" => Place::Resource, b"EVENT" => Place::Event, b"COUNTER" => Place::Counter,
+        b"ALARM" => Place::Alarm; Place::Nowhere)
 }
 
 fn os_attribute(name: &[u8]) -> Option<Attribute>
     ensures { result ≡ os_attribute name.now }
 {
-    if same(name, b"STATUS") {
-        Some(Attribute::Status)
-    } else if is_hook(name) {
-        Some(Attribute::Hook)
-    } else if is_flag(name) {
-        Some(Attribute::Flag)
-    } else {
-        None
-    }
+    named!(name; b"STATUS" => Some(Attribute::Status), b"STARTUPHOOK" => Some(Attribute::Hook),
+        b"ERRORHOOK" => Some(Attribute::Hook), b"SHUTDOWNHOOK" => Some(Attribute::Hook),
+        b"PRETASKHOOK" => Some(Attribute::Hook), b"POSTTASKHOOK" => Some(Attribute::Hook),
+        b"USEGETSERVICEID" => Some(Attribute::Flag), b"USEPARAMETERACCESS" => Some(Attribute::Flag),
+        b"USERESSCHEDULER" => Some(Attribute::Flag); None)
 }
 
 fn task_attribute(name: &[u8]) -> Option<Attribute>
     ensures { result ≡ task_attribute name.now }
 {
-    if same(name, b"PRIORITY") {
-        Some(Attribute::Priority)
-    } else if same(name, b"SCHEDULE") {
-        Some(Attribute::Schedule)
-    } else if same(name, b"ACTIVATION") {
-        Some(Attribute::Activation)
-    } else if same(name, b"AUTOSTART") {
-        Some(Attribute::Autostart)
-    } else if same(name, b"RESOURCE") {
-        Some(Attribute::Resource)
-    } else if same(name, b"EVENT") {
-        Some(Attribute::Event)
-    } else {
-        None
-    }
+    named!(name; b"PRIORITY" => Some(Attribute::Priority), b"SCHEDULE" => Some(Attribute::Schedule),
+        b"ACTIVATION" => Some(Attribute::Activation), b"AUTOSTART" => Some(Attribute::Autostart),
+        b"RESOURCE" => Some(Attribute::Resource), b"EVENT" => Some(Attribute::Event); None)
 }
 
 fn counter_attribute(name: &[u8]) -> Option<Attribute>
     ensures { result ≡ counter_attribute name.now }
 {
-    if same(name, b"MAXALLOWEDVALUE") {
-        Some(Attribute::Limit)
-    } else if same(name, b"TICKSPERBASE") {
-        Some(Attribute::Ticks)
-    } else if same(name, b"MINCYCLE") {
-        Some(Attribute::Limit)
-    } else {
-        None
-    }
+    named!(name; b"MAXALLOWEDVALUE" => Some(Attribute::Limit), b"TICKSPERBASE" => Some(Attribute::Ticks),
+        b"MINCYCLE" => Some(Attribute::Limit); None)
 }
 
 fn alarm_attribute(name: &[u8]) -> Option<Attribute>
     ensures { result ≡ alarm_attribute name.now }
 {
-    if same(name, b"COUNTER") {
-        Some(Attribute::Counter)
-    } else if same(name, b"ACTION") {
-        Some(Attribute::Action)
-    } else if same(name, b"AUTOSTART") {
-        Some(Attribute::Autostart)
-    } else {
-        None
-    }
+    named!(name; b"COUNTER" => Some(Attribute::Counter), b"ACTION" => Some(Attribute::Action),
+        b"AUTOSTART" => Some(Attribute::Autostart); None)
 }
 
 fn setting_attribute(name: &[u8]) -> Option<Attribute>
     ensures { result ≡ setting_attribute name.now }
 {
-    if same(name, b"TASK") {
-        Some(Attribute::ActionTask)
-    } else if same(name, b"EVENT") {
-        Some(Attribute::ActionEvent)
-    } else {
-        None
-    }
+    named!(name; b"TASK" => Some(Attribute::ActionTask), b"EVENT" => Some(Attribute::ActionEvent); None)
 }
 
 fn wakeup_attribute(name: &[u8]) -> Option<Attribute>
     ensures { result ≡ wakeup_attribute name.now }
 {
-    if same(name, b"ALARMTIME") {
-        Some(Attribute::Time)
-    } else if same(name, b"CYCLETIME") {
-        Some(Attribute::Cycle)
-    } else if same(name, b"APPMODE") {
-        Some(Attribute::Mode)
-    } else {
-        None
-    }
+    named!(name; b"ALARMTIME" => Some(Attribute::Time), b"CYCLETIME" => Some(Attribute::Cycle),
+        b"APPMODE" => Some(Attribute::Mode); None)
 }
 
-/// The row of a place that has one row alone.
 fn only(name: &[u8], word: &[u8], attribute: Attribute) -> Option<Attribute>
     ensures { result ≡ only_attribute name.now word.now attribute }
 {
@@ -293,22 +227,10 @@ pub fn block_place(place: Place, attr: &OilAttr) -> Place
 {
     match place {
         Place::Task if has(attr, b"AUTOSTART", b"TRUE") => Place::Activation,
-        Place::Alarm => alarm_place(attr),
+        Place::Alarm if has(attr, b"AUTOSTART", b"TRUE") => Place::Wakeup,
+        Place::Alarm if has(attr, b"ACTION", b"ACTIVATETASK") => Place::Activating,
+        Place::Alarm if has(attr, b"ACTION", b"SETEVENT") => Place::Setting,
         _ => Place::Nowhere,
-    }
-}
-
-fn alarm_place(attr: &OilAttr) -> Place
-    ensures { result ≡ alarm_place attr.now }
-{
-    if has(attr, b"AUTOSTART", b"TRUE") {
-        Place::Wakeup
-    } else if has(attr, b"ACTION", b"ACTIVATETASK") {
-        Place::Activating
-    } else if has(attr, b"ACTION", b"SETEVENT") {
-        Place::Setting
-    } else {
-        Place::Nowhere
     }
 }
 

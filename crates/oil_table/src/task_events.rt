@@ -11,11 +11,14 @@ use std::alloc::Global;
 use std::marker::Model;
 use text_pieces::Names;
 
+// Events that are listed, each with the number of its task.
+type Listed<'t> = IndexSet<(usize, &'t [u8])>;
+
 /// The tasks among some objects, found by their names, and the events that they list, each with the number of its task.
 pub struct TaskEvents<'t> {
     objects: &'t [OilObject],
     names: Names<'t>,
-    listed: IndexSet<(usize, &'t [u8])>,
+    listed: Listed<'t>,
 }
 
 // Written out: what is derived is proved anew wherever a value is let go.
@@ -51,12 +54,7 @@ pub fn event_word<'t>(attr: &'t OilAttr) -> Option<&'t [u8]>
     }
 }
 
-/// The event of an attribute of the task of this number, if it lists one.
-fn add_event<'t>(
-    listed: &mut IndexSet<(usize, &'t [u8])>,
-    task: usize,
-    attr: &'t OilAttr,
-) -> Result<()>
+fn add_event<'t>(listed: &mut Listed<'t>, task: usize, attr: &'t OilAttr) -> Result<()>
     ensures { OnOk result ((number : ℕ) (word : List ℕ) → list_any (is_listing number word) listed.new.keys
         ≡ (list_any (is_listing number word) listed.old.keys || ((task == number) && lists_event word attr.now))) }
 {
@@ -67,12 +65,7 @@ fn add_event<'t>(
     Ok(())
 }
 
-/// The events that the task of this number lists.
-fn add_events<'t>(
-    listed: &mut IndexSet<(usize, &'t [u8])>,
-    task: usize,
-    attrs: &'t [OilAttr],
-) -> Result<()>
+fn add_events<'t>(listed: &mut Listed<'t>, task: usize, attrs: &'t [OilAttr]) -> Result<()>
     ensures { OnOk result ((number : ℕ) (word : List ℕ) → list_any (is_listing number word) listed.new.keys ≡ (list_any
         (is_listing number word) listed.old.keys || ((task == number) && list_any (lists_event word) attrs.now))) }
 {
@@ -83,7 +76,6 @@ fn add_events<'t>(
 }
 
 impl<'t> TaskEvents<'t> {
-    /// No objects.
     fn new(alloc: Global) -> TaskEvents<'t>
         ensures { result ≡ [] }
     {
@@ -94,7 +86,6 @@ impl<'t> TaskEvents<'t> {
         }
     }
 
-    /// One object more.
     fn with(self, objects: &'t [OilObject], object: &'t OilObject) -> Result<TaskEvents<'t>>
         requires { objects.now ≡ self ++ object.now ∷ [] }
         ensures { IfOk result (λ tasks. tasks ≡ objects.now) }

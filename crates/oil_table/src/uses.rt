@@ -32,7 +32,6 @@ impl<'t> Model for EarlierUses<'t> {
     ghost invariant = { λ uses. AreNamesUsed uses.depth uses.attrs.now uses.names };
 }
 
-/// The name of the attribute, if it is used at this depth.
 fn add_use<'t>(names: &mut IndexSet<&'t [u8]>, depth: u32, attr: &'t OilAttr) -> Result<()>
     ensures { OnOk result ((name : List ℕ) → list_any (λ k. bytes_eq k.now name) names.new.keys
         ≡ (list_any (λ k. bytes_eq k.now name) names.old.keys || is_use_at depth name attr.now)) }
@@ -76,14 +75,12 @@ impl<'t> EarlierUses<'t> {
         })
     }
 
-    // The depth that counts.
     fn depth(&self) -> u32
         ensures { result ≡ self.now.depth }
     {
         self.depth
     }
 
-    // Whether an attribute of this name is used.
     fn is_used(&self, name: &[u8]) -> bool
         ensures { result ≡ list_any (is_use_at self.now.depth name.now) self.now.attrs }
     {

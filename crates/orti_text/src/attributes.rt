@@ -1,8 +1,8 @@
 //! The kinds of objects that debuggers show of a kernel, and the attributes of each kind.
 ghost use Rattle.std.specs.Prelude.{◌≡◌, ◌++◌, IfOk, OnOk, map};
 ghost use Rattle.std.specs.List.{range_with_len};
-ghost use Rattle.orti_text.specs.Attributes.{attribute_about, attribute_name, attribute_object, attribute_word};
-ghost use Rattle.orti_text.specs.Attributes.{attributes, kind_about, kind_word};
+ghost use Rattle.orti_text.specs.Attributes.{attribute_about, attribute_name, attribute_word, attributes, kind_about};
+ghost use Rattle.orti_text.specs.Attributes.{kind_word};
 ghost use Rattle.orti_text.specs.declared.attributes.Attribute.TheVariants as attribute_is;
 ghost use Rattle.orti_text.specs.declared.attributes.Kind.TheVariants.{Os};
 
@@ -125,23 +125,16 @@ pub fn attribute_words(attribute: Attribute) -> Words
     }
 }
 
-// The name of the counter or the event that an attribute is of.
-fn attribute_object(config: &Config, attribute: Attribute) -> &[u8]
-    ensures { result.now ≡ attribute_object config.now attribute }
-{
-    match attribute {
-        CounterValue(counter) => config.counter_name(counter),
-        EventMask(event) => config.event_name(event),
-        _ => b"",
-    }
-}
-
 /// The name of an attribute.
 pub fn attribute_name(alloc: Global, config: &Config, attribute: Attribute) -> Text
     ensures { IfOk result (λ name. name.items ≡ attribute_name config.now attribute) }
 {
     let word = attribute_words(attribute).word;
-    text!(alloc; Word(word), Word(attribute_object(config, attribute)))
+    match attribute {
+        CounterValue(counter) => text!(alloc; Word(word), Word(config.counter_name(counter))),
+        EventMask(event) => text!(alloc; Word(word), Word(config.event_name(event))),
+        _ => text!(alloc; Word(word), Word(b"")),
+    }
 }
 
 fn push_counters(list: &mut Vec<Attribute>, counters: usize) -> Put

@@ -41,7 +41,6 @@ pub fn word(alloc: Global, offset: u32) -> Text
     text!(alloc; Word(b"*(unsigned int *)"), Word(address.as_slice()))
 }
 
-// The byte of the controller at an offset.
 fn byte(alloc: Global, offset: u32) -> Text
     requires { offset < controller_bytes }
     ensures { IfOk result (λ bytes. bytes.items ≡ text (byte offset)) }
@@ -56,31 +55,21 @@ fn in_brackets(alloc: Global, text: &[u8]) -> Text
     text!(alloc; Word(b"("), Word(text), Word(b")"))
 }
 
-// One of two operands by a third.
-fn choice<'x>(alloc: Global, test: &'x [u8], then: &'x [u8], otherwise: &'x [u8]) -> Text
-    ensures { IfOk result (λ bytes. bytes.items ≡ test.now ++ codes " ? " ++ then.now ++ codes " : " ++ otherwise.now) }
+fn choice<'x>(alloc: Global, test: &'x [u8], then: &'x [u8], other: &'x [u8]) -> Text
+    ensures { IfOk result (λ bytes. bytes.items ≡ test.now ++ codes " ? " ++ then.now ++ codes " : " ++ other.now) }
 {
-    text!(alloc; Word(test), Word(b" ? "), Word(then), Word(b" : "), Word(otherwise))
+    text!(alloc; Word(test), Word(b" ? "), Word(then), Word(b" : "), Word(other))
 }
 
-// One of two operands by whether what is read is a number.
-fn where_equal<'x>(
-    alloc: Global,
-    read: &'x [u8],
-    number: u32,
-    then: &'x [u8],
-    otherwise: &'x [u8],
-) -> Text
+fn where_equal<'x>(alloc: Global, read: &'x [u8], n: u32, then: &'x [u8], other: &'x [u8]) -> Text
     ensures { IfOk result (λ bytes. bytes.items
-        ≡ in_brackets (read.now ++ codes " == " ++ decimal number) ++ codes " ? " ++ then.now ++ codes " : "
-        ++ otherwise.now) }
+        ≡ in_brackets (read.now ++ codes " == " ++ decimal n) ++ codes " ? " ++ then.now ++ codes " : " ++ other.now) }
 {
-    let equal = text!(alloc; Word(read), Word(b" == "), Number(number))?;
+    let equal = text!(alloc; Word(read), Word(b" == "), Number(n))?;
     let test = in_brackets(alloc, equal.as_slice())?;
-    choice(alloc, test.as_slice(), then, otherwise)
+    choice(alloc, test.as_slice(), then, other)
 }
 
-// An operand where a byte of the controller is 1, else another; as an operand.
 fn by_byte<'x>(alloc: Global, offset: u32, one: &'x [u8], other: &'x [u8]) -> Text
     requires { offset < controller_bytes }
     ensures { IfOk result (λ bytes. bytes.items
@@ -92,15 +81,13 @@ fn by_byte<'x>(alloc: Global, offset: u32, one: &'x [u8], other: &'x [u8]) -> Te
     in_brackets(alloc, whole.as_slice())
 }
 
-// An operand where a task is Active, else another.
-fn by_active<'x>(alloc: Global, task: u8, entered: &'x [u8], otherwise: &'x [u8]) -> Text
+fn by_active<'x>(alloc: Global, task: u8, entered: &'x [u8], other: &'x [u8]) -> Text
     requires { task < task_limit }
     ensures { IfOk result (λ bytes. bytes.items
-        ≡ in_brackets (text (is_one (word (active task)))) ++ codes " ? " ++ entered.now ++ codes " : "
-        ++ otherwise.now) }
+        ≡ in_brackets (text (is_one (word (active task)))) ++ codes " ? " ++ entered.now ++ codes " : " ++ other.now) }
 {
     let read = word(alloc, active(task) as u32)?;
-    where_equal(alloc, read.as_slice(), 1, entered, otherwise)
+    where_equal(alloc, read.as_slice(), 1, entered, other)
 }
 
 // One of two operands where a task is Ready or Suspended, 1 where it is Waiting, and a third where it is Active.
@@ -163,7 +150,6 @@ pub fn wait_mask(alloc: Global, task: u8) -> Text
     by_active(alloc, task, b"0", enabled.as_slice())
 }
 
-// An operand where an alarm is in use, else 0.
 #[tactic(auto, using(crate::proofs::Digits::zero_text))]
 fn where_in_use(alloc: Global, alarm: u8, used: &[u8]) -> Text
     requires { alarm < alarm_limit }

@@ -1,8 +1,8 @@
 //! The names of objects, and the texts that values stand for.
-ghost use Rattle.std.specs.Prelude.{◌≡◌, ◌<◌, ◌==◌, ◌++◌, ◌∷◌, [], IfOk, OnOk, codes, cond, filter, map};
+ghost use Rattle.std.specs.Prelude.{◌≡◌, ◌<◌, ◌++◌, ◌∷◌, [], IfOk, OnOk, codes, filter, map};
 ghost use Rattle.sloth_base.specs.declared.config.TaskDecl.{TaskDecl as AnyTask};
 ghost use Rattle.mem_map.specs.StackParts.{first_own};
-ghost use Rattle.orti_text.specs.Attributes.{object_names, stack_names, state_names};
+ghost use Rattle.orti_text.specs.Attributes.{object_names, state_names};
 ghost use Rattle.orti_text.specs.declared.attributes.Kind.TheVariants.{Alarm, Resource, Task};
 
 use crate::{Kind, Put};
@@ -12,7 +12,6 @@ use std::alloc::Global;
 use text_pieces::pieces::Piece::Word;
 use text_pieces::{push, text};
 
-// One more name, behind a prefix.
 fn push_name(alloc: Global, names: &mut Vec<Name>, prefix: &[u8], name: &[u8]) -> Put
     ensures { OnOk result (names.new.items ≡ names.old.items ++ (prefix.now ++ name.now) ∷ []) }
 {
@@ -42,7 +41,6 @@ pub fn state_names(alloc: Global) -> Result<List<Name>>
     Ok(List::from_vec(names))
 }
 
-// Names behind one another.
 fn push_names(alloc: Global, names: &mut Vec<Name>, more: &[Name]) -> Put
     ensures { OnOk result (names.new.items ≡ names.old.items ++ more.now) }
 {
@@ -75,26 +73,6 @@ fn push_own(alloc: Global, names: &mut Vec<Name>, tasks: &[TaskDecl]) -> Put
     Ok(())
 }
 
-fn push_shared(alloc: Global, names: &mut Vec<Name>, tasks: &[TaskDecl]) -> Put
-    ensures { OnOk result (names.new.items
-        ≡ names.old.items ++ cond (first_own tasks.now == 0) [] (codes "shared" ∷ [])) }
-{
-    if first_own(tasks) == 0 {
-        return Ok(());
-    }
-    push_name(alloc, names, b"", b"shared")
-}
-
-// The names of the stacks.
-fn stack_names(alloc: Global, tasks: &[TaskDecl]) -> Result<List<Name>>
-    ensures { IfOk result (λ names. names ≡ stack_names tasks.now) }
-{
-    let mut names = Vec::new(alloc);
-    push_shared(alloc, &mut names, tasks)?;
-    push_own(alloc, &mut names, tasks)?;
-    Ok(List::from_vec(names))
-}
-
 fn push_alarms(alloc: Global, names: &mut Vec<Name>, alarms: &[AlarmDecl]) -> Put
     ensures { OnOk result (names.new.items ≡ names.old.items ++ map (λ a. a.name) alarms.now) }
 {
@@ -104,49 +82,40 @@ fn push_alarms(alloc: Global, names: &mut Vec<Name>, alarms: &[AlarmDecl]) -> Pu
     Ok(())
 }
 
-fn alarm_names(alloc: Global, config: &Config) -> Result<List<Name>>
-    ensures { IfOk result (λ names. names ≡ object_names config.now Alarm) }
+fn push_object_names(alloc: Global, names: &mut Vec<Name>, config: &Config, kind: Kind) -> Put
+    requires { names.old.items ≡ [] }
+    ensures { OnOk result (names.new.items ≡ object_names config.now kind) }
 {
-    let mut names = Vec::new(alloc);
-    push_alarms(alloc, &mut names, config.alarms.items())?;
-    Ok(List::from_vec(names))
-}
-
-fn push_scheduler(alloc: Global, names: &mut Vec<Name>, declared: bool) -> Put
-    ensures { OnOk result (names.new.items ≡ names.old.items ++ cond declared (codes "RES_SCHEDULER" ∷ []) []) }
-{
-    if !declared {
-        return Ok(());
+    match kind {
+        Kind::Os => push_name(alloc, names, b"", b"sloth"),
+        Kind::Task => {
+            let tasks = task_names(alloc, config)?;
+            push_names(alloc, names, tasks.items())
+        }
+        Kind::Stack => {
+            let tasks = config.tasks.items();
+            if first_own(tasks) == 0 {
+                return push_own(alloc, names, tasks);
+            }
+            push_name(alloc, names, b"", b"shared")?;
+            push_own(alloc, names, tasks)
+        }
+        Kind::Alarm => push_alarms(alloc, names, config.alarms.items()),
+        Kind::Resource => {
+            push_names(alloc, names, config.resources.items())?;
+            if config.res_scheduler {
+                return push_name(alloc, names, b"", b"RES_SCHEDULER");
+            }
+            Ok(())
+        }
     }
-    push_name(alloc, names, b"", b"RES_SCHEDULER")
-}
-
-fn resource_names(alloc: Global, config: &Config) -> Result<List<Name>>
-    ensures { IfOk result (λ names. names ≡ object_names config.now Resource) }
-{
-    let mut names = Vec::new(alloc);
-    push_names(alloc, &mut names, config.resources.items())?;
-    push_scheduler(alloc, &mut names, config.res_scheduler)?;
-    Ok(List::from_vec(names))
-}
-
-fn system_names(alloc: Global) -> Result<List<Name>>
-    ensures { IfOk result (λ names. names ≡ codes "sloth" ∷ []) }
-{
-    let mut names = Vec::new(alloc);
-    push_name(alloc, &mut names, b"", b"sloth")?;
-    Ok(List::from_vec(names))
 }
 
 /// The names of the objects of a kind, in the order of their numbers.
 pub fn object_names(alloc: Global, config: &Config, kind: Kind) -> Result<List<Name>>
     ensures { IfOk result (λ names. names ≡ object_names config.now kind) }
 {
-    match kind {
-        Kind::Os => system_names(alloc),
-        Kind::Task => task_names(alloc, config),
-        Kind::Stack => stack_names(alloc, config.tasks.items()),
-        Kind::Alarm => alarm_names(alloc, config),
-        Kind::Resource => resource_names(alloc, config),
-    }
+    let mut names = Vec::new(alloc);
+    push_object_names(alloc, &mut names, config, kind)?;
+    Ok(List::from_vec(names))
 }

@@ -2,7 +2,6 @@
 ghost use Rattle.std.specs.Prelude.{◌≡◌, ◌++◌, [], IfOk, OnOk, cond, true};
 ghost use Rattle.sloth_base.specs.ConfigRange.{InRange};
 ghost use Rattle.mem_map.specs.Zones.{all_stacks};
-ghost use Rattle.orti_text.specs.Attributes.{event_declaration};
 ghost use Rattle.orti_text.specs.InReach.{IsInReach};
 ghost use Rattle.orti_text.specs.Tables.{value_text};
 ghost use Rattle.orti_text.specs.Values.{action_text, attribute_value, mask_text, resource_number, stack_at};
@@ -21,6 +20,8 @@ use text_pieces::{line, text};
 
 /// The place of the first stack among the extents of a map.
 const STACKS: usize = 3;
+
+const NO_EXTENT: Extent = Extent { base: 0, len: 0 };
 
 /// A word that stands before all but the first.
 pub fn between(first: bool, word: &'static [u8]) -> &'static [u8]
@@ -44,23 +45,9 @@ fn stacks(map: &Map) -> &[Extent]
 fn numbered_stack(map: &Map, number: usize) -> Extent
     ensures { result ≡ stack_at map.now number }
 {
-    match stacks(map).get(number) {
-        Some(stack) => *stack,
-        None => Extent { base: 0, len: 0 },
-    }
+    stacks(map).get(number).copied().unwrap_or(NO_EXTENT)
 }
 
-// The mask of an event, 0 where there is none of the number.
-fn event_mask(config: &Config, event: usize) -> u32
-    ensures { result ≡ (event_declaration config.now event).mask }
-{
-    match config.events.items().get(event) {
-        Some(event) => event.mask,
-        None => 0,
-    }
-}
-
-// The number of the resource that is one of the objects.
 fn resource_number(config: &Config, number: usize) -> u32
     requires { InRange config.now }
     ensures { result ≡ resource_number config.now number }
@@ -72,7 +59,6 @@ fn resource_number(config: &Config, number: usize) -> u32
     }
 }
 
-// Appends the names of the events of a mask.
 fn push_mask(text: &mut Vec<u8>, mask: u32, events: &[EventDecl]) -> Put
     ensures { OnOk result (text.new.items ≡ text.old.items ++ mask_text true mask events.now) }
 {
@@ -86,7 +72,6 @@ fn push_mask(text: &mut Vec<u8>, mask: u32, events: &[EventDecl]) -> Put
     Ok(())
 }
 
-// What an alarm does as it expires.
 fn action_text(alloc: Global, config: &Config, action: Action) -> Text
     ensures { IfOk result (λ text. text.items ≡ action_text config.now action) }
 {
@@ -105,21 +90,18 @@ fn action_text(alloc: Global, config: &Config, action: Action) -> Text
 }
 
 /// The value of an attribute of the object of a number.
-pub fn attribute_value(
-    alloc: Global,
-    config: &Config,
-    map: &Map,
-    attribute: Attribute,
-    n: usize,
-) -> Text
+pub fn attribute_value(alloc: Global, config: &Config, map: &Map, a: Attribute, n: usize) -> Text
     requires in_range { InRange config.now }
-    requires in_reach { IsInReach config.now attribute n }
-    ensures { IfOk result (λ text. text.items ≡ value_text (attribute_value config.now map.now attribute n)) }
+    requires in_reach { IsInReach config.now a n }
+    ensures { IfOk result (λ text. text.items ≡ value_text (attribute_value config.now map.now a n)) }
 {
-    match attribute {
+    match a {
         Attribute::RunningTask => word(alloc, CUR as u32),
         Attribute::CounterValue(counter) => word(alloc, counter_value(counter as u8) as u32),
-        Attribute::EventMask(event) => hex(alloc, event_mask(config, event)),
+        Attribute::EventMask(event) => match config.events.items().get(event) {
+            Some(event) => hex(alloc, event.mask),
+            None => hex(alloc, 0),
+        },
         Attribute::StaticPriority => number(alloc, config.priority(n)),
         Attribute::TaskState => state(alloc, n as u8),
         Attribute::Entered => entered(alloc, n as u8),

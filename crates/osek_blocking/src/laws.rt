@@ -1,5 +1,6 @@
 //! Laws of runs.
-ghost use Rattle.osek_blocking.specs.ProtocolKept.{RunsBlockOnce, RunsExclude, ResourcesAreGot, RunsKeepCeilingProtocol};
+ghost use Rattle.osek_blocking.specs.ProtocolKept.{RunsBlockOnce, RunsExclude, ResourcesAreGot};
+ghost use Rattle.osek_blocking.specs.ProtocolKept.{RunsKeepCeilingProtocol};
 
 /// In every run at most one lower task blocks a Ready one, and only while its current priority is at least the other's.
 pub fn runs_block_once()

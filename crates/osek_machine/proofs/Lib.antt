@@ -4,6 +4,5 @@ pub mod Sound
 pub mod Ticked
 pub mod Below
 pub mod Lines
-pub mod Lists
 pub mod Row
 pub mod Started

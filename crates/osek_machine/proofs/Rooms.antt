@@ -53,7 +53,7 @@ use Rattle.osek_scheduler.specs.declared.change.Other.{Other}
 use Rattle.osek_scheduler.specs.declared.change.Other.TheVariants as other
 use Rattle.osek_scheduler.specs.declared.change.Plan.{Plan}
 use Rattle.osek_machine.specs.Clocked.{NamesTask, IsClocked}
-use Rattle.osek_machine.specs.Frames.{CanMove, HasWord}
+use Rattle.osek_scheduler.specs.Frames.{CanMove, HasWord}
 use Rattle.osek_scheduler.specs.Changes.{outer_frames, changed_task, with_change}
 use Rattle.osek_machine.specs.Changes.{HasChangeRoom}
 use Rattle.osek_machine.specs.Plans.{with_other, planned_system, write_plan, service_plan, item_plan, item_behind, load_of, is_inside, HasOther, HasPlanRoom}

@@ -5,7 +5,7 @@ use Rattle.osek_scheduler.specs.State.{Task}
 use Rattle.osek_scheduler.specs.declared.change.TaskChange.{TaskChange}
 use Rattle.osek_scheduler.specs.declared.change.TaskChange.TheVariants as change
 use Rattle.osek_scheduler.specs.Changes.{outer_frames}
-use Rattle.osek_machine.specs.Frames.{CanMove, HasWord}
+use Rattle.osek_scheduler.specs.Frames.{CanMove, HasWord}
 
 -- the task has room for a change
 abbrev pub HasChangeRoom : TaskChange → Task → Type 0

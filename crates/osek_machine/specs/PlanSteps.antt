@@ -11,7 +11,7 @@ use Rattle.osek_scheduler.specs.Meaning.{on_some, if_true}
 use Rattle.osek_scheduler.specs.Steps.{settled_state}
 use Rattle.osek_scheduler.specs.declared.change.Plan.{Plan}
 use Rattle.osek_machine.specs.Clocked.{IsClocked}
-use Rattle.osek_machine.specs.Frames.{CanMove}
+use Rattle.osek_scheduler.specs.Frames.{CanMove}
 use Rattle.osek_machine.specs.Plans.{planned_system}
 use Rattle.osek_machine.specs.Running.{IsComputed, own_operation, serving_plan}
 

@@ -14,7 +14,6 @@ use crate::{Store, call_in, call_plan, is_active, own_operation, run_plan};
 use osek_scheduler::{Other, Plan, TaskChange};
 use sloth_base::{App, Config, Func, Service};
 
-// Whether a body is that of a task.
 fn is_body(func: &Func, t: u32) -> bool
     ensures { result ≡ is_number t func.now.task }
 {
@@ -53,7 +52,7 @@ pub fn entry_plan(config: &Config, app: &App, store: &Store, t: u32) -> Option<P
     let body = body_number(app, t);
     let func = app.funcs.items().get(body)?;
     let non = config.tasks.items()[t as usize].non;
-    let change = if task.depth() == 0 {
+    let change = if task.frames.depth() == 0 {
         let (func, words) = (body as u32, func.frame_words);
         TaskChange::Start { func, words, non }
     } else {
@@ -62,7 +61,6 @@ pub fn entry_plan(config: &Config, app: &App, store: &Store, t: u32) -> Option<P
     Some(leaves(change, Other::Nothing))
 }
 
-// Whether the next item of a task is this one of this function.
 fn is_position(task: &TaskRoom, func: u32, item: u32) -> bool
     ensures { result ≡ is_position func item task.now.frames }
 {
@@ -90,10 +88,10 @@ pub fn running_plan(
     t: u32,
     func: u32,
     item: u32,
-    shown: u32,
+    answer: u32,
 ) -> Option<Plan>
     requires { IsRead config.now app.now store.now }
-    ensures { result ≡ running_plan config.now app.now t func item shown store.now }
+    ensures { result ≡ running_plan config.now app.now t func item answer store.now }
 {
     if !store.booted() || !is_top(config, store, &[], t) {
         return None;
@@ -104,7 +102,7 @@ pub fn running_plan(
     }
     let op = own_operation(app, task)?;
     let plan = run_plan(app, store, task, &op)?;
-    if !shows(&plan, shown) {
+    if !shows(&plan, answer) {
         return None;
     }
     Some(plan)
@@ -170,7 +168,7 @@ pub fn back_plan(config: &Config, store: &Store, t: u32) -> Option<Plan>
         return None;
     }
     let task = store.task(t as usize);
-    if !is_active(task.state()) || !task.owed() {
+    if !is_active(task.state()) || !task.owed {
         return None;
     }
     let non = config.tasks.items()[t as usize].non;

@@ -1,20 +1,20 @@
 //! What an item of task code does.
-ghost use Rattle.std.specs.Prelude.{◌≡◌, ◌<◌, nat_lt, length, slice_get, Some};
+ghost use Rattle.std.specs.Prelude.{◌≡◌, ◌<◌, length, slice_get, Some};
 ghost use Rattle.std.specs.List.{list_all};
-ghost use Rattle.osek_scheduler.specs.Meaning.{if_true, is_own, on_some, registers_of};
-ghost use Rattle.osek_machine.specs.Frames.{CanMove};
-ghost use Rattle.osek_machine.specs.Plans.{branch_plan, item_behind, item_plan, load_plan, store_plan, write_plan};
+ghost use Rattle.osek_scheduler.specs.Meaning.{is_own, on_some, registers_of};
+ghost use Rattle.osek_scheduler.specs.Frames.{CanMove};
+ghost use Rattle.osek_scheduler.specs.Outcomes.{plan};
+ghost use Rattle.osek_machine.specs.Plans.{branch_plan, item_plan, load_plan, store_plan, write_plan};
 ghost use Rattle.osek_machine.specs.Running.{IsComputed, own_operation, run_plan};
 
-use crate::arithmetic::{branch_holds, number_result, register_result};
-use crate::frame::FrameRoom;
 use crate::room::TaskRoom;
-use crate::services::answers;
+use crate::services::{answers, with_other};
 use crate::{Store, is_active};
-use osek_scheduler::{Other, Plan, TaskChange};
+use osek_scheduler::{
+    FrameRoom, Other, Plan, TaskChange, branch_holds, number_result, register_result,
+};
 use sloth_base::{App, Func, Op, Reg, Width};
 
-// A value is written to a register.
 fn write_plan(rd: Reg, value: u32) -> Plan
     ensures { result ≡ write_plan rd value }
 {
@@ -22,7 +22,6 @@ fn write_plan(rd: Reg, value: u32) -> Plan
     answers(shown, TaskChange::Write { rd, value })
 }
 
-// A load into a register.
 fn load_plan(store: &Store, width: Width, rd: Reg, symbol: u32, offset: u32) -> Option<Plan>
     ensures { result ≡ load_plan store.now.symbols width rd symbol offset }
 {
@@ -30,78 +29,36 @@ fn load_plan(store: &Store, width: Width, rd: Reg, symbol: u32, offset: u32) -> 
     Some(write_plan(rd, value))
 }
 
-// A store of a value.
 fn store_plan(store: &Store, width: Width, value: u32, symbol: u32, offset: u32) -> Option<Plan>
     ensures { result ≡ store_plan store.now.symbols width value symbol offset }
 {
     if !store.is_inside(symbol, width, offset) {
         return None;
     }
-    Some(Plan {
-        answer: Some(value),
-        change: TaskChange::MoveOn,
-        other: Other::Store {
-            symbol,
-            width,
-            offset,
-            value,
-        },
-    })
+    let other = Other::Store {
+        symbol,
+        width,
+        offset,
+        value,
+    };
+    Some(with_other(value, TaskChange::MoveOn, other))
 }
 
-// The number of the item behind a label.
-fn item_behind(func: &Func, label: u32) -> Option<u32>
-    ensures { result ≡ item_behind func.now label }
-{
-    let found = func.labels.items().get(label as usize)?;
-    Some(found.item)
-}
-
-// A jump to a label where a test holds.
 fn branch_plan(func: &Func, holds: bool, item: u32, label: u32) -> Option<Plan>
     requires { item < 4294967295 }
     ensures { result ≡ branch_plan func.now holds item label }
 {
-    let target = item_behind(func, label)?;
+    let target = func.labels.items().get(label as usize)?.item;
     let next = if holds { target } else { item + 1 };
     Some(answers(0, TaskChange::GoTo(next)))
 }
 
-// A word of the frame is loaded into a register.
-fn frame_load(frame: &FrameRoom, rd: Reg, word: u32) -> Option<Plan>
-    ensures { result ≡ on_some (slice_get frame.now.words word) (λ value. Some (write_plan rd value)) }
-{
-    let value = frame.word(word)?;
-    Some(write_plan(rd, value))
-}
-
-// A value is stored in a word of the frame.
-fn frame_store(frame: &FrameRoom, value: u32, word: u32) -> Option<Plan>
-    ensures { result ≡ on_some (slice_get frame.now.words word)
-        (λ old. Some (record { answer = Some value; change = TaskChange.StoreWord word value; other = Other.Nothing })) }
-{
-    frame.word(word)?;
-    Some(answers(value, TaskChange::StoreWord { word, value }))
-}
-
-// A function is called.
 fn invoke_plan(app: &App, func: u32) -> Option<Plan>
     ensures { result ≡ on_some (slice_get app.now.funcs func)
-        (λ called. Some (record { answer = Some 0; change = TaskChange.Invoke func called.frame_words; other = Other.Nothing })) }
+        (λ called. Some (plan (Some 0) (TaskChange.Invoke func called.frame_words) Other.Nothing)) }
 {
     let words = app.funcs.items().get(func as usize)?.frame_words;
     Some(answers(0, TaskChange::Invoke { func, words }))
-}
-
-// A function returns to its caller.
-fn return_plan(task: &TaskRoom) -> Option<Plan>
-    ensures { result ≡ if_true (nat_lt 1 (length task.now.frames))
-        (Some (record { answer = Some 0; change = TaskChange.Return; other = Other.Nothing })) }
-{
-    if !task.has_caller() {
-        return None;
-    }
-    Some(answers(0, TaskChange::Return))
 }
 
 // What an item does, of a function with this innermost frame.
@@ -115,20 +72,25 @@ fn item_plan(
 ) -> Option<Plan>
     requires computed { IsComputed op.now }
     requires moves { frame.now.item < 4294967295 }
-    ensures { result ≡ item_plan app.now op.now func.now frame.now (length task.now.frames) task.now.registers store.now.symbols }
+    ensures { result ≡ item_plan app.now op.now func.now frame.now
+        (length task.now.frames) task.now.registers store.now.symbols }
 {
     match *op {
-        Op::Alu { kind, rd, rs1, rs2 } => Some(write_plan(
-            rd,
-            register_result(kind, task.register(rs1), task.register(rs2)),
-        )),
+        Op::Alu { kind, rd, rs1, rs2 } => {
+            let value = register_result(kind, task.register(rs1), task.register(rs2));
+            Some(write_plan(rd, value))
+        }
         Op::AluImm { kind, rd, rs1, imm } => {
             Some(write_plan(rd, number_result(kind, task.register(rs1), imm)))
         }
         Op::Lui { rd, imm } => Some(write_plan(rd, imm * 4096)),
         Op::Li { rd, value } => Some(write_plan(rd, value)),
-        Op::FrameLoad { rd, word } => frame_load(frame, rd, word),
-        Op::FrameStore { rs, word } => frame_store(frame, task.register(rs), word),
+        Op::FrameLoad { rd, word } => Some(write_plan(rd, frame.word(word)?)),
+        Op::FrameStore { rs, word } => {
+            frame.word(word)?;
+            let value = task.register(rs);
+            Some(answers(value, TaskChange::StoreWord { word, value }))
+        }
         Op::Load {
             width,
             rd,
@@ -154,32 +116,26 @@ fn item_plan(
             symbol,
             index,
             mask,
-        } => store_plan(
-            store,
-            width,
-            task.register(rs),
-            symbol.0,
-            task.register(index) & mask,
-        ),
+        } => {
+            let offset = task.register(index) & mask;
+            store_plan(store, width, task.register(rs), symbol.0, offset)
+        }
         Op::Branch {
             kind,
             rs1,
             rs2,
             label,
-        } => branch_plan(
-            func,
-            branch_holds(kind, task.register(rs1), task.register(rs2)),
-            frame.item(),
-            label,
-        ),
+        } => {
+            let holds = branch_holds(kind, task.register(rs1), task.register(rs2));
+            branch_plan(func, holds, frame.item(), label)
+        }
         Op::Jump { label } => branch_plan(func, true, frame.item(), label),
         Op::Invoke { func } => invoke_plan(app, func.0),
-        Op::Return => return_plan(task),
-        Op::Serve(_) => None,
+        Op::Return if task.frames.depth() > 1 => Some(answers(0, TaskChange::Return)),
+        Op::Return | Op::Serve(_) => None,
     }
 }
 
-// Whether a register is one of task code.
 fn is_own(r: Reg) -> bool
     ensures { result ≡ is_own r }
 {
@@ -208,7 +164,7 @@ fn names_own(op: &Op) -> bool
 pub fn own_operation(app: &App, task: &TaskRoom) -> Option<Op>
     ensures { result ≡ own_operation app.now task.now }
 {
-    if !is_active(task.state()) || task.owed() {
+    if !is_active(task.state()) || task.owed {
         return None;
     }
     let frame = task.innermost()?;

@@ -6,24 +6,16 @@
 //! (`specs/Above`).
 //!
 //! What an event changes is a plan, exactly the definition's, and carrying it out is the change that it says
-//! (`Store::opening`, `carry_out`, `entry_plan`, `running_plan`, ..; `specs/Plans`, `specs/Changes`, `specs/Frames`,
+//! (`Store::opening`, `carry_out`, `entry_plan`, `running_plan`, ..; `specs/Plans`, `specs/Changes`,
 //! `specs/Running`, `specs/PlanSteps`, `specs/Clocked`). States and outcomes: `osek_scheduler`.
 #![tactic(auto)]
 
-pub mod alarms;
-pub mod arithmetic;
-pub mod data;
 pub mod events;
-pub mod frame;
-pub mod fresh;
-pub mod held_resources;
 pub mod items;
-pub mod lines_above;
 pub mod osek;
 pub mod priority;
 pub mod room;
 pub mod services;
-pub mod stack;
 pub mod store;
 pub mod ticks;
 

@@ -15,12 +15,12 @@ ghost use Rattle.osek_machine.specs.Plans.{HasPlanRoom};
 ghost use Rattle.osek_machine.specs.PlanSteps.{followed_state};
 ghost use Rattle.osek_machine.specs.Steps.{IsSound, Machine};
 
-use crate::lines_above::lines_above;
+use crate::priority::lines_above;
 use crate::{
     Store, answer_plan, back_plan, entry_plan, is_idle, is_next_tick, leave_plan, no_ticks,
     running_plan, ticks,
 };
-use osek_scheduler::{Plan, TaskState};
+use osek_scheduler::{Counter, Plan, TaskState};
 use sloth_base::{App, Config, Event, Result, TaskId};
 use std::alloc::Global;
 use std::marker::Model;
@@ -58,7 +58,7 @@ impl<'t> Model for Osek<'t> {
 }
 
 // Carries out a plan of a task, if there is one.
-fn act(store: &mut Store, t: u32, plan: Option<Plan>) -> Result<(), NotARun>
+fn act(t: u32, plan: Option<Plan>, store: &mut Store) -> Result<(), NotARun>
     requires { IfSome plan (λ p. HasPlanRoom t p store.old) }
     ensures next { OnOk result (followed_state t store.old plan ≡ Some store.new) }
     ensures none { OnErr result (followed_state t store.old plan ≡ None) }
@@ -72,7 +72,6 @@ fn act(store: &mut Store, t: u32, plan: Option<Plan>) -> Result<(), NotARun>
     Ok(())
 }
 
-// The system starts.
 fn boot(config: &Config, store: &mut Store) -> Result<(), NotARun>
     requires { length config.now.tasks ≡ length store.old.tasks }
     ensures next { OnOk result ((app : AnyApp) → next_state config.now app event.Boot store.old ≡ Some store.new) }
@@ -86,10 +85,10 @@ fn boot(config: &Config, store: &mut Store) -> Result<(), NotARun>
     Ok(())
 }
 
-// An arrival activates a task.
 fn admit(config: &Config, store: &mut Store, t: u32) -> Result<(), NotARun>
     requires count { length store.old.tasks ≡ length config.now.tasks }
-    requires room { t < length store.old.tasks → (task_of store.old t).state ≡ mode.Suspended → length store.old.fresh < task_limit }
+    requires room { t < length store.old.tasks → (task_of store.old t).state ≡ mode.Suspended
+        → length store.old.fresh < task_limit }
     ensures next { OnOk result ((app : AnyApp) → next_state config.now app (event.Admit t) store.old ≡ Some store.new) }
     ensures none { OnErr result ((app : AnyApp) → next_state config.now app (event.Admit t) store.old ≡ None) }
     ensures same { OnErr result (store.new ≡ store.old) }
@@ -101,7 +100,6 @@ fn admit(config: &Config, store: &mut Store, t: u32) -> Result<(), NotARun>
     Ok(())
 }
 
-// No task and no counter is due.
 fn idle(config: &Config, store: &mut Store) -> Result<(), NotARun>
     requires { length store.old.tasks ≡ length config.now.tasks }
     ensures next { OnOk result ((app : AnyApp) → next_state config.now app event.Idle store.old ≡ Some store.new) }
@@ -115,7 +113,6 @@ fn idle(config: &Config, store: &mut Store) -> Result<(), NotARun>
     Ok(())
 }
 
-// A counter's line arrived.
 fn make_due(config: &Config, store: &mut Store, c: u32) -> Result<(), NotARun>
     requires { length store.old.clock.counters ≡ length config.now.counters }
     ensures next { OnOk result ((app : AnyApp) → next_state config.now app (event.Due c) store.old ≡ Some store.new) }
@@ -125,11 +122,11 @@ fn make_due(config: &Config, store: &mut Store, c: u32) -> Result<(), NotARun>
     if !store.booted() || c as usize >= config.counters.items().len() {
         return Err(NotARun);
     }
-    ticks::make_due(store, c);
+    let value = store.counter(c as usize).value;
+    store.set_counter(c as usize, Counter { value, due: true });
     Ok(())
 }
 
-// A counter ticks.
 fn tick(config: &Config, store: &mut Store, c: u32) -> Result<(), NotARun>
     requires tasks { length store.old.tasks ≡ length config.now.tasks }
     requires clocked { IsClocked config.now store.old }
@@ -155,10 +152,7 @@ fn step(config: &Config, app: &App, store: &mut Store, event: &Event) -> Result<
     match *event {
         Event::Boot => boot(config, store),
         Event::Admit(task) => admit(config, store, task),
-        Event::Enter(task) => {
-            let plan = entry_plan(config, app, store, task);
-            act(store, task, plan)
-        }
+        Event::Enter(task) => act(task, entry_plan(config, app, store, task), store),
         Event::Run {
             task,
             func,
@@ -166,7 +160,7 @@ fn step(config: &Config, app: &App, store: &mut Store, event: &Event) -> Result<
             result,
         } => {
             let plan = running_plan(config, app, store, task, func, item, result);
-            act(store, task, plan)
+            act(task, plan, store)
         }
         Event::Call {
             task,
@@ -174,16 +168,13 @@ fn step(config: &Config, app: &App, store: &mut Store, event: &Event) -> Result<
             status,
         } => {
             let plan = answer_plan(config, app, store, task, service, status);
-            act(store, task, plan)
+            act(task, plan, store)
         }
         Event::Left { task, service } => {
             let plan = leave_plan(config, app, store, task, service);
-            act(store, task, plan)
+            act(task, plan, store)
         }
-        Event::Back(task) => {
-            let plan = back_plan(config, store, task);
-            act(store, task, plan)
-        }
+        Event::Back(task) => act(task, back_plan(config, store, task), store),
         Event::Idle => idle(config, store),
         Event::Due(counter) => make_due(config, store, counter),
         Event::Tick(counter) => tick(config, store, counter),
@@ -195,7 +186,8 @@ impl<'t> Osek<'t> {
     /// The scheduler before the system has started. All memory of later steps is taken here.
     pub fn boot(alloc: Global, config: &'t Config, app: &'t App) -> Result<Osek<'t>>
         requires { WellFormed config.now app.now }
-        ensures { IfOk result (λ o. o ≡ record { config = config.now; app = app.now; system = opening config.now app.now }) }
+        ensures { IfOk result (λ o. o
+            ≡ record { config = config.now; app = app.now; system = opening config.now app.now }) }
     {
         let store = Store::opening(alloc, config, app)?;
         Ok(Osek { config, app, store })
@@ -206,7 +198,8 @@ impl<'t> Osek<'t> {
         ensures next { OnOk result (OsekStep self.old.config self.old.app event.now self.old.system self.new.system) }
         ensures config { self.new.config ≡ self.old.config }
         ensures app { self.new.app ≡ self.old.app }
-        ensures none { OnErr result ((next : System) → OsekStep self.old.config self.old.app event.now self.old.system next → ⊥) }
+        ensures none { OnErr result ((next : System)
+            → OsekStep self.old.config self.old.app event.now self.old.system next → ⊥) }
         ensures same { OnErr result (self.new ≡ self.old) }
     {
         step(self.config, self.app, &mut self.store, event)

@@ -1,14 +1,17 @@
-//! Priorities, and the task that is due.
-ghost use Rattle.std.specs.Prelude.{◌≡◌, ◌<◌, ◌≤◌, not, true, length, map};
-ghost use Rattle.sloth_base.specs.Limits.{task_limit};
+//! Priorities, the task that is due, and what stands above a task in the order of all that are due.
+ghost use Rattle.std.specs.Prelude.{◌≡◌, ◌<◌, ◌≤◌, not, true, length, map, ◌*◌, ◌%◌, ◌^◌, ℕ, bit_or, cond};
+ghost use Rattle.sloth_base.specs.Limits.{task_limit, counter_limit};
 ghost use Rattle.osek_scheduler.specs.Priority.{ceiling, greatest, is_active, rank};
 ghost use Rattle.code_rules.specs.Code.{is_in};
 ghost use Rattle.osek_scheduler.specs.State.{counter};
 ghost use Rattle.osek_scheduler.specs.Next.{all_below, is_due, is_next_tick, is_ready, is_top, no_ticks, yields_to};
+ghost use Rattle.std.specs.Int.{bit_at};
+ghost use Rattle.sloth_base.specs.MemoryMap.{line_count};
+ghost use Rattle.osek_machine.specs.Above.{is_above, is_line_above};
 
 use crate::Store;
 use osek_scheduler::{TaskState, ceiling, highest};
-use sloth_base::Config;
+use sloth_base::{Config, FIRST_COUNTER_LINE};
 
 /// Whether a task in this state is Ready.
 pub fn is_ready(state: TaskState) -> bool
@@ -24,7 +27,6 @@ pub fn is_active(state: TaskState) -> bool
     matches!(state, TaskState::Active)
 }
 
-// Whether a number is among others.
 fn includes(number: u32, numbers: &[u32]) -> bool
     ensures { result ≡ is_in number numbers.now }
 {
@@ -36,7 +38,6 @@ fn includes(number: u32, numbers: &[u32]) -> bool
     false
 }
 
-// The greatest ceiling of these resources.
 fn highest_ceiling(config: &Config, held: &[u32]) -> u32
     ensures { result ≡ greatest (map (ceiling config.now) held.now) }
 {
@@ -56,8 +57,8 @@ pub fn rank(config: &Config, store: &Store, t: usize) -> u64
     let declared = &config.tasks.items()[t];
     let task = store.task(t);
     if is_active(task.state()) {
-        let held = highest_ceiling(config, task.held());
-        let raised = if task.raised() { highest(config) } else { 0 };
+        let held = highest_ceiling(config, task.held.items());
+        let raised = if task.raised { highest(config) } else { 0 };
         let priority = declared.priority.max(held.max(raised));
         return 2 * u64::from(priority) + 1;
     }
@@ -154,4 +155,60 @@ pub fn is_idle(config: &Config, store: &Store) -> bool
         }
     }
     true
+}
+
+// The line of the first counter; the others follow it.
+const FIRST_COUNTER: u32 = FIRST_COUNTER_LINE as u32;
+
+// Whether a task is Ready and has a greater rank than another, whose rank is given.
+fn is_above(config: &Config, store: &Store, rank_of_task: u64, task: usize, other: usize) -> bool
+    requires count { length store.now.tasks ≡ length config.now.tasks }
+    requires declared { other < length config.now.tasks }
+    requires rank { rank_of_task ≡ rank config.now store.now task }
+    ensures { result ≡ is_above config.now store.now task other }
+{
+    is_ready(store.task(other).state()) && rank_of_task < rank(config, store, other)
+}
+
+// A row of lines with one more.
+fn with_line(row: u32, line: u32) -> u32
+    requires { line < line_count }
+    ensures { result ≡ bit_or row (1 * 2 ^ line % 2 ^ 32) }
+{
+    row | 1 << line
+}
+
+// The Ready tasks that stand above a task, a bit for each line.
+fn tasks_above(config: &Config, store: &Store, task: u32) -> u32
+    requires count { length store.now.tasks ≡ length config.now.tasks }
+    requires few { length config.now.tasks ≤ task_limit }
+    requires declared { task < length config.now.tasks }
+    ensures { (u : ℕ) → bit_at result u ≡ cond (is_above config.now store.now task u) 1 0 }
+{
+    let place = task as usize;
+    let rank_of_task = rank(config, store, place);
+    let mut row = 0;
+    for other in 0..config.tasks.items().len() {
+        if is_above(config, store, rank_of_task, place, other) {
+            row = with_line(row, other as u32);
+        }
+    }
+    row
+}
+
+/// The due counters, and the Ready tasks that stand above a task, a bit for each line.
+pub fn lines_above(config: &Config, store: &Store, task: u32) -> u32
+    requires count { length store.now.tasks ≡ length config.now.tasks }
+    requires few { length config.now.tasks ≤ task_limit }
+    requires declared { task < length config.now.tasks }
+    requires few_counters { length config.now.counters ≤ counter_limit }
+    ensures { (line : ℕ) → bit_at result line ≡ cond (is_line_above config.now store.now task line) 1 0 }
+{
+    let mut row = tasks_above(config, store, task);
+    for counter in 0..config.counters.items().len() {
+        if store.counter(counter).due {
+            row = with_line(row, FIRST_COUNTER + counter as u32);
+        }
+    }
+    row
 }

@@ -1,19 +1,15 @@
 //! A task as it stands, with room for all that it may become.
-ghost use Rattle.std.specs.Prelude.{◌≡◌, ◌≤◌, IfOk, length, nat_lt, bit_or, slice_get, get_or};
+ghost use Rattle.std.specs.Prelude.{◌≡◌, IfOk, bit_or, slice_get};
 ghost use Rattle.std.specs.Option.{option_copied};
-ghost use Rattle.sloth_base.specs.Limits.{frame_limit};
-ghost use Rattle.code_rules.specs.Code.{is_last};
 ghost use Rattle.osek_scheduler.specs.State.{sleeping_task};
 ghost use Rattle.osek_scheduler.specs.Meaning.{register, with_register};
-ghost use Rattle.osek_scheduler.specs.Services.{answered_task, answered_task_with, first_operand, second_operand};
-ghost use Rattle.osek_machine.specs.Frames.{CanMove};
+ghost use Rattle.osek_scheduler.specs.Services.{answered_task};
+ghost use Rattle.osek_scheduler.specs.Frames.{CanMove};
 ghost use Rattle.osek_machine.specs.Changes.{HasChangeRoom};
 ghost use Rattle.osek_scheduler.specs.Changes.{changed_task, woken_task_state};
 
-use crate::frame::FrameRoom;
-use crate::held_resources::Held;
-use crate::stack::Stack;
-use osek_scheduler::{TaskChange, TaskState};
+use osek_scheduler::number_lists::Held;
+use osek_scheduler::{FrameRoom, Stack, TaskChange, TaskState};
 use sloth_base::{E_OK, Reg, Result};
 use std::alloc::Global;
 use std::marker::Model;
@@ -30,23 +26,20 @@ const STATUS: usize = 5;
 /// The place of a1, x11.
 const VALUE: usize = 6;
 
-// The number in a place; behind the last one, 0.
-fn place_value(numbers: &[u32], place: usize) -> u32
-    ensures { result ≡ get_or numbers.now place 0 }
-{
-    numbers.get(place).copied().unwrap_or(0)
-}
-
 /// A task as it stands.
 #[derive(Drop)]
 pub struct TaskRoom {
     state: TaskState,
     registers: [u32; REGISTERS],
-    frames: Stack,
-    events: u32,
-    held: Held,
-    raised: bool,
-    owed: bool,
+    pub(crate) frames: Stack,
+    /// The mask of its events.
+    pub(crate) events: u32,
+    /// The resources that it holds, in the order taken.
+    pub(crate) held: Held,
+    /// Whether it has its internal resource.
+    pub(crate) raised: bool,
+    /// Whether its Schedule has not come back yet.
+    pub(crate) owed: bool,
 }
 
 impl Model for TaskRoom {
@@ -90,55 +83,6 @@ impl TaskRoom {
         self.state
     }
 
-    /// The mask of its events.
-    pub fn events(&self) -> u32
-        ensures { result ≡ self.now.events }
-    {
-        self.events
-    }
-
-    /// The resources that it holds, in the order taken.
-    pub fn held(&self) -> &[u32]
-        ensures { result.now ≡ self.now.held }
-    {
-        self.held.items()
-    }
-
-    /// Whether it took this resource last.
-    pub fn holds_last(&self, resource: u32) -> bool
-        ensures { result ≡ is_last resource self.now.held }
-    {
-        self.held.is_last(resource)
-    }
-
-    /// Whether it has its internal resource.
-    pub fn raised(&self) -> bool
-        ensures { result ≡ self.now.raised }
-    {
-        self.raised
-    }
-
-    /// Whether its Schedule has not come back yet.
-    pub fn owed(&self) -> bool
-        ensures { result ≡ self.now.owed }
-    {
-        self.owed
-    }
-
-    /// How many functions are in progress.
-    pub fn depth(&self) -> usize
-        ensures { result ≡ length self.now.frames }
-    {
-        self.frames.depth()
-    }
-
-    /// Whether a function called its innermost one.
-    pub fn has_caller(&self) -> bool
-        ensures { result ≡ nat_lt 1 (length self.now.frames) }
-    {
-        self.depth() > 1
-    }
-
     /// Its innermost function.
     pub fn innermost(&self) -> Option<&FrameRoom>
         ensures { option_copied result ≡ slice_get self.now.frames 0 }
@@ -153,21 +97,8 @@ impl TaskRoom {
         if r.0 == 0 {
             return 0;
         }
-        place_value(&self.registers, usize::from(r.0).saturating_sub(FIRST))
-    }
-
-    /// What it has in a0, the first operand of a service on an alarm.
-    pub fn first_operand(&self) -> u32
-        ensures { result ≡ first_operand self.now }
-    {
-        place_value(&self.registers, STATUS)
-    }
-
-    /// What it has in a1, the second one.
-    pub fn second_operand(&self) -> u32
-        ensures { result ≡ second_operand self.now }
-    {
-        place_value(&self.registers, VALUE)
+        let place = usize::from(r.0).saturating_sub(FIRST);
+        self.registers.get(place).copied().unwrap_or(0)
     }
 
     // Gives a register a value; x0 stays zero.
@@ -180,7 +111,6 @@ impl TaskRoom {
         }
     }
 
-    // Goes on behind a service with a status.
     fn answer(&mut self, status: u32)
         requires { CanMove self.old.frames }
         ensures { self.new ≡ answered_task status self.old }
@@ -189,19 +119,11 @@ impl TaskRoom {
         self.frames.advance();
     }
 
-    // Goes on behind a service with a value.
-    fn answer_value(&mut self, value: u32)
-        requires { CanMove self.old.frames }
-        ensures { self.new ≡ answered_task_with value self.old }
-    {
-        self.registers[STATUS] = E_OK;
-        self.registers[VALUE] = value;
-        self.frames.advance();
-    }
-
-    // Events are set.
     fn add_events(&mut self, mask: u32)
-        ensures { self.new ≡ record self.old { events = bit_or self.old.events mask; state = woken_task_state self.old.state (bit_or self.old.events mask) } }
+        ensures { self.new ≡ record self.old {
+          events = bit_or self.old.events mask;
+          state = woken_task_state self.old.state (bit_or self.old.events mask);
+        } }
     {
         self.events |= mask;
         match self.state {
@@ -210,29 +132,6 @@ impl TaskRoom {
             }
             _ => {}
         }
-    }
-
-    // Ends.
-    fn end(&mut self)
-        ensures { self.new ≡ changed_task TaskChange.End self.old }
-    {
-        self.state = TaskState::Suspended;
-        self.registers = [0; REGISTERS];
-        self.frames.clear();
-        self.events = 0;
-        self.raised = false;
-    }
-
-    // Is entered at the first item of its body.
-    fn start(&mut self, func: u32, words: u32, non: bool)
-        requires { words ≤ frame_limit }
-        ensures { self.new ≡ changed_task (TaskChange.Start func words non) self.old }
-    {
-        self.registers = [0; REGISTERS];
-        self.frames.clear();
-        self.frames.enter(FrameRoom::entry(func, words));
-        self.state = TaskState::Active;
-        self.raised = non;
     }
 
     /// Makes a change.
@@ -244,8 +143,17 @@ impl TaskRoom {
             TaskChange::Activate => self.state = TaskState::Ready,
             TaskChange::AddEvents(mask) => self.add_events(mask),
             TaskChange::Answer(status) => self.answer(status),
-            TaskChange::AnswerWith(value) => self.answer_value(value),
-            TaskChange::End => self.end(),
+            TaskChange::AnswerWith(value) => {
+                self.answer(E_OK);
+                self.registers[VALUE] = value;
+            }
+            TaskChange::End => {
+                self.state = TaskState::Suspended;
+                self.registers = [0; REGISTERS];
+                self.frames.clear();
+                self.events = 0;
+                self.raised = false;
+            }
             TaskChange::Wait(mask) => {
                 self.state = TaskState::Waiting(mask);
                 self.frames.advance();
@@ -268,7 +176,13 @@ impl TaskRoom {
                 self.answer(E_OK);
                 self.events &= !mask;
             }
-            TaskChange::Start { func, words, non } => self.start(func, words, non),
+            TaskChange::Start { func, words, non } => {
+                self.registers = [0; REGISTERS];
+                self.frames.clear();
+                self.frames.enter(FrameRoom::entry(func, words));
+                self.state = TaskState::Active;
+                self.raised = non;
+            }
             TaskChange::Resume(non) => {
                 self.registers[STATUS] = E_OK;
                 self.state = TaskState::Active;

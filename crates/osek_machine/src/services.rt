@@ -1,18 +1,22 @@
-//! What a service does.
-ghost use Rattle.std.specs.Prelude.{◌≡◌, ◌<◌, ◌==◌, cond, Some, None, length, bit_and};
-ghost use Rattle.osek_scheduler.specs.State.{task};
-ghost use Rattle.osek_scheduler.specs.Services.{if_suspended, is_there, state_number};
+//! What a service does, those on alarms too.
+ghost use Rattle.std.specs.Prelude.{◌≡◌, ◌<◌, ◌==◌, Some, None, length, ◌≤◌};
+ghost use Rattle.osek_scheduler.specs.State.{task, alarm, counter};
+ghost use Rattle.osek_scheduler.specs.Services.{if_suspended, is_there, state_number, allows_absolute, allows_cycle};
+ghost use Rattle.osek_scheduler.specs.Services.{allows_relative, is_in_use};
 ghost use Rattle.osek_machine.specs.Clocked.{IsClocked};
-ghost use Rattle.osek_scheduler.specs.Outcomes.{plan};
+ghost use Rattle.osek_scheduler.specs.Outcomes.{plan, other_decision, plan_in, alarm_setting_decision, value_decision};
+ghost use Rattle.osek_scheduler.specs.Outcomes.{alarm_use_decision};
 ghost use Rattle.osek_machine.specs.Plans.{service_plan};
 ghost use Rattle.osek_machine.specs.Running.{call_in, call_plan};
+ghost use Rattle.sloth_base.specs.Named.{alarm_declaration, counter_of};
+ghost use Rattle.sloth_base.specs.Ticks.{ticks_to};
 
-use crate::alarms::{cancel_alarm, get_alarm, set_absolute, set_relative};
 use crate::room::TaskRoom;
 use crate::{Store, is_suspended};
 use osek_scheduler::{Other, Plan, TaskChange, TaskState};
 use sloth_base::{
-    Call, Config, E_OK, E_OS_LIMIT, E_OS_STATE, ObjectKind, Op, RES_SCHEDULER, Service,
+    Call, Config, E_OK, E_OS_LIMIT, E_OS_NOFUNC, E_OS_STATE, E_OS_VALUE, ObjectKind, Op,
+    RES_SCHEDULER, Reg, Service,
 };
 
 // The state of a task; one that is not there is Suspended.
@@ -32,20 +36,27 @@ fn task_events(store: &Store, t: u32) -> u32
 {
     let place = t as usize;
     if place < store.count() {
-        return store.task(place).events();
+        return store.task(place).events;
     }
     0
+}
+
+/// The caller goes on with a status behind its change, and what is done besides.
+pub fn with_other(status: u32, change: TaskChange, other: Other) -> Plan
+    ensures { result ≡ plan (Some status) change other }
+{
+    Plan {
+        answer: Some(status),
+        change,
+        other,
+    }
 }
 
 /// A change of the caller alone, with a status.
 pub fn answers(status: u32, change: TaskChange) -> Plan
     ensures { result ≡ plan (Some status) change Other.Nothing }
 {
-    Plan {
-        answer: Some(status),
-        change,
-        other: Other::Nothing,
-    }
+    with_other(status, change, Other::Nothing)
 }
 
 /// The caller leaves, or a task is entered.
@@ -59,41 +70,29 @@ pub fn leaves(change: TaskChange, other: Other) -> Plan
     }
 }
 
+/// The caller goes on with a status, and nothing is done besides.
+pub fn goes_on(status: u32) -> Plan
+    ensures { result ≡ plan (Some status) (TaskChange.Answer status) Other.Nothing }
+{
+    continues(status, Other::Nothing)
+}
+
 /// The caller goes on with a status, after what is done besides.
 pub fn continues(status: u32, other: Other) -> Plan
     ensures { result ≡ plan (Some status) (TaskChange.Answer status) other }
 {
-    Plan {
-        answer: Some(status),
-        change: TaskChange::Answer(status),
-        other,
-    }
+    with_other(status, TaskChange::Answer(status), other)
 }
 
-// ActivateTask.
-fn activate_task(store: &Store, t: u32) -> Plan
-    ensures { result ≡ if_suspended (task store.now t).state (plan (Some E_OK) (TaskChange.Answer E_OK) (Other.Activate t))
-        (plan (Some E_OS_LIMIT) (TaskChange.Answer E_OS_LIMIT) Other.Nothing) }
+// One of two plans: where a task is Suspended, or else.
+fn by_state(store: &Store, t: u32, suspended: Plan, other: Plan) -> Plan
+    ensures { result ≡ if_suspended (task store.now t).state suspended other }
 {
     if is_suspended(task_state(store, t)) {
-        return continues(E_OK, Other::Activate(t));
+        suspended
+    } else {
+        other
     }
-    continues(E_OS_LIMIT, Other::Nothing)
-}
-
-// ChainTask.
-fn chain_task(store: &Store, t: u32, caller: u32) -> Plan
-    ensures { result ≡ cond (t == caller) (plan None TaskChange.End (Other.Activate caller))
-        (if_suspended (task store.now t).state (plan None TaskChange.End (Other.Activate t))
-        (plan (Some E_OS_LIMIT) (TaskChange.Answer E_OS_LIMIT) Other.Nothing)) }
-{
-    if t == caller {
-        return leaves(TaskChange::End, Other::Activate(caller));
-    }
-    if is_suspended(task_state(store, t)) {
-        return leaves(TaskChange::End, Other::Activate(t));
-    }
-    continues(E_OS_LIMIT, Other::Nothing)
 }
 
 // The number of a task's state: running 0, waiting 1, ready or preempted 2, suspended 3.
@@ -106,39 +105,6 @@ fn state_number(caller: u32, t: u32, state: TaskState) -> u32
         TaskState::Active => if t == caller { 0 } else { 2 },
         TaskState::Waiting(_) => 1,
     }
-}
-
-// SetEvent.
-fn set_event(store: &Store, t: u32, mask: u32) -> Plan
-    ensures { result ≡ if_suspended (task store.now t).state (plan (Some E_OS_STATE) (TaskChange.Answer E_OS_STATE) Other.Nothing)
-        (plan (Some E_OK) (TaskChange.Answer E_OK) (Other.AddEvents t mask)) }
-{
-    if is_suspended(task_state(store, t)) {
-        return continues(E_OS_STATE, Other::Nothing);
-    }
-    continues(E_OK, Other::AddEvents { task: t, mask })
-}
-
-// GetEvent.
-fn get_event(store: &Store, t: u32) -> Plan
-    ensures { result ≡ if_suspended (task store.now t).state (plan (Some E_OS_STATE) (TaskChange.Answer E_OS_STATE) Other.Nothing)
-        (plan (Some E_OK) (TaskChange.AnswerWith (task store.now t).events) Other.Nothing) }
-{
-    if is_suspended(task_state(store, t)) {
-        return continues(E_OS_STATE, Other::Nothing);
-    }
-    answers(E_OK, TaskChange::AnswerWith(task_events(store, t)))
-}
-
-// WaitEvent.
-fn wait_event(store: &Store, mask: u32, caller: u32) -> Plan
-    ensures { result ≡ cond (bit_and (task store.now caller).events mask == 0) (plan None (TaskChange.Wait mask) Other.Nothing)
-        (plan (Some E_OK) (TaskChange.Answer E_OK) Other.Nothing) }
-{
-    if task_events(store, caller) & mask == 0 {
-        return leaves(TaskChange::Wait(mask), Other::Nothing);
-    }
-    continues(E_OK, Other::Nothing)
 }
 
 // What a service does for its caller.
@@ -155,10 +121,20 @@ fn service_plan(
     ensures { result ≡ service_plan config.now service object mask caller store.now }
 {
     let task = store.task(caller as usize);
+    let (first, second) = (task.register(Reg(10)), task.register(Reg(11)));
     match service {
-        Service::ActivateTask => activate_task(store, object),
+        Service::ActivateTask => {
+            let activates = continues(E_OK, Other::Activate(object));
+            by_state(store, object, activates, goes_on(E_OS_LIMIT))
+        }
         Service::TerminateTask => leaves(TaskChange::End, Other::Nothing),
-        Service::ChainTask => chain_task(store, object, caller),
+        Service::ChainTask if object == caller => {
+            leaves(TaskChange::End, Other::Activate(caller))
+        }
+        Service::ChainTask => {
+            let chains = leaves(TaskChange::End, Other::Activate(object));
+            by_state(store, object, chains, goes_on(E_OS_LIMIT))
+        }
         Service::Schedule => answers(E_OK, TaskChange::Pause),
         Service::GetTaskID => answers(E_OK, TaskChange::AnswerWith(caller)),
         Service::GetTaskState => {
@@ -167,24 +143,21 @@ fn service_plan(
         }
         Service::GetResource => answers(E_OK, TaskChange::Take(object)),
         Service::ReleaseResource => answers(E_OK, TaskChange::Release),
-        Service::SetEvent => set_event(store, object, mask),
+        Service::SetEvent => {
+            let sets = continues(E_OK, Other::AddEvents { task: object, mask });
+            by_state(store, object, goes_on(E_OS_STATE), sets)
+        }
         Service::ClearEvent => answers(E_OK, TaskChange::ClearEvents(mask)),
-        Service::GetEvent => get_event(store, object),
-        Service::WaitEvent => wait_event(store, mask, caller),
-        Service::SetRelAlarm => set_relative(
-            config,
-            store,
-            object,
-            task.first_operand(),
-            task.second_operand(),
-        ),
-        Service::SetAbsAlarm => set_absolute(
-            config,
-            store,
-            object,
-            task.first_operand(),
-            task.second_operand(),
-        ),
+        Service::GetEvent => {
+            let gets = answers(E_OK, TaskChange::AnswerWith(task_events(store, object)));
+            by_state(store, object, goes_on(E_OS_STATE), gets)
+        }
+        Service::WaitEvent if task.events & mask == 0 => {
+            leaves(TaskChange::Wait(mask), Other::Nothing)
+        }
+        Service::WaitEvent => goes_on(E_OK),
+        Service::SetRelAlarm => set_relative(config, store, object, first, second),
+        Service::SetAbsAlarm => set_absolute(config, store, object, first, second),
         Service::CancelAlarm => cancel_alarm(store, object),
         Service::GetAlarm => get_alarm(store, object),
     }
@@ -195,7 +168,7 @@ fn is_there(config: &Config, task: &TaskRoom, service: Service, object: u32) -> 
     ensures { result ≡ is_there config.now task.now.held service object }
 {
     if service.is(Service::ReleaseResource) {
-        return task.holds_last(object);
+        return task.held.is_last(object);
     }
     match service.object_kind() {
         ObjectKind::Nothing => true,
@@ -233,4 +206,108 @@ pub fn call_plan(
         return None;
     }
     Some(service_plan(config, store, served, call.object, call.mask, t))
+}
+
+fn is_in_use(store: &Store, a: u32) -> bool
+    ensures { result ≡ is_in_use store.now a }
+{
+    store.alarm(a as usize).left != 0
+}
+
+fn counter_number(config: &Config, a: u32) -> u32
+    ensures { result ≡ (alarm_declaration config.now a).counter }
+{
+    match config.alarms.items().get(a as usize) {
+        Some(alarm) => alarm.counter,
+        None => 0,
+    }
+}
+
+fn greatest_value(config: &Config, a: u32) -> u32
+    ensures { result ≡ (counter_of config.now a).max }
+{
+    let number = counter_number(config, a) as usize;
+    match config.counters.items().get(number) {
+        Some(counter) => counter.max,
+        None => 0,
+    }
+}
+
+fn allows_cycle(config: &Config, a: u32, cycle: u32) -> bool
+    ensures { result ≡ allows_cycle (counter_of config.now a) cycle }
+{
+    let number = counter_number(config, a) as usize;
+    let least = match config.counters.items().get(number) {
+        Some(counter) => counter.min_cycle,
+        None => 0,
+    };
+    cycle == 0 || (least <= cycle && cycle <= greatest_value(config, a))
+}
+
+fn set_alarm(alarm: u32, left: u32, cycle: u32) -> Plan
+    ensures { result ≡ plan (Some E_OK) (TaskChange.Answer E_OK) (Other.SetAlarm alarm left cycle) }
+{
+    continues(E_OK, Other::SetAlarm { alarm, left, cycle })
+}
+
+/// SetRelAlarm.
+pub fn set_relative(config: &Config, store: &Store, a: u32, ticks: u32, cycle: u32) -> Plan
+    ensures { result ≡ plan_in store.now (alarm_setting_decision a
+        (allows_relative (counter_of config.now a) ticks cycle) ticks cycle store.now) }
+{
+    if is_in_use(store, a) {
+        return goes_on(E_OS_STATE);
+    }
+    let allowed = ticks != 0
+        && ticks <= greatest_value(config, a)
+        && allows_cycle(config, a, cycle);
+    if !allowed {
+        return goes_on(E_OS_VALUE);
+    }
+    set_alarm(a, ticks, cycle)
+}
+
+/// SetAbsAlarm.
+pub fn set_absolute(config: &Config, store: &Store, a: u32, start: u32, cycle: u32) -> Plan
+    requires small { (counter_of config.now a).max < 2147483648 }
+    requires value { (counter store.now (alarm_declaration config.now a).counter).value
+        ≤ (counter_of config.now a).max }
+    ensures { result ≡ plan_in store.now (alarm_setting_decision a
+        (allows_absolute (counter_of config.now a) start cycle)
+        (ticks_to (counter_of config.now a).max (counter store.now (alarm_declaration config.now a).counter).value
+        start) cycle store.now) }
+{
+    if is_in_use(store, a) {
+        return goes_on(E_OS_STATE);
+    }
+    let allowed = start <= greatest_value(config, a) && allows_cycle(config, a, cycle);
+    if !allowed {
+        return goes_on(E_OS_VALUE);
+    }
+    let value = store.counter(counter_number(config, a) as usize).value;
+    if value < start {
+        return set_alarm(a, start - value, cycle);
+    }
+    set_alarm(a, start + (greatest_value(config, a) + 1) - value, cycle)
+}
+
+/// CancelAlarm.
+pub fn cancel_alarm(store: &Store, a: u32) -> Plan
+    ensures { result ≡ plan_in store.now (alarm_use_decision a
+        (other_decision (Other.SetAlarm a 0 (alarm store.now a).cycle)) store.now) }
+{
+    if is_in_use(store, a) {
+        return set_alarm(a, 0, store.alarm(a as usize).cycle);
+    }
+    goes_on(E_OS_NOFUNC)
+}
+
+/// GetAlarm.
+pub fn get_alarm(store: &Store, a: u32) -> Plan
+    ensures { result ≡ plan_in store.now (alarm_use_decision a (value_decision (alarm store.now a).left) store.now) }
+{
+    if is_in_use(store, a) {
+        return answers(E_OK, TaskChange::AnswerWith(store.alarm(a as usize).left));
+    }
+    goes_on(E_OS_NOFUNC)
 }

@@ -1,7 +1,8 @@
 //! The system as it stands, with room for all that it may become.
 ghost use Rattle.std.specs.Prelude.{◌≡◌, ◌<◌, length, map, true, false, IfOk};
 ghost use Rattle.sloth_base.specs.Limits.{task_limit};
-ghost use Rattle.osek_scheduler.specs.State.{alarm, counter, no_counter, opening, sleeping_task, task, with_alarm, with_counter};
+ghost use Rattle.osek_scheduler.specs.State.{alarm, counter, no_counter, opening, sleeping_task, task, with_alarm};
+ghost use Rattle.osek_scheduler.specs.State.{with_counter};
 ghost use Rattle.osek_scheduler.specs.declared.state.TaskState.TheVariants as mode;
 ghost use Rattle.osek_scheduler.specs.Steps.{admitted_state, autostarted_tasks, settled_state};
 ghost use Rattle.osek_scheduler.specs.Services.{if_suspended};
@@ -9,12 +10,11 @@ ghost use Rattle.osek_machine.specs.Changes.{HasChangeRoom};
 ghost use Rattle.osek_machine.specs.Plans.{HasOther, HasPlanRoom, planned_system, is_inside, load_of, with_other};
 ghost use Rattle.osek_scheduler.specs.Changes.{with_change};
 
-use crate::arithmetic::width_bytes;
-use crate::data::Data;
-use crate::fresh::Fresh;
 use crate::room::TaskRoom;
-use osek_scheduler::{Alarm, Counter, Other, Plan, TaskChange, TaskState};
-use sloth_base::{App, Config, Result, Width};
+use osek_scheduler::{
+    Alarm, Counter, Data, Fresh, Other, Plan, TaskChange, TaskState, width_bytes,
+};
+use sloth_base::{App, Config, NoMemory, Result, Width};
 use std::alloc::{AllocError, Global};
 use std::marker::Model;
 
@@ -55,24 +55,19 @@ fn sleeping_tasks(alloc: Global, config: &Config) -> Result<Vec<TaskRoom>>
 {
     let mut tasks = Vec::new(alloc);
     for _task in config.tasks.items() {
-        match tasks.push(TaskRoom::new(alloc)?) {
-            Ok(()) => {}
-            Err(failed) => return Err(AllocError::from(failed).into()),
-        }
+        tasks.push(TaskRoom::new(alloc)?).map_err(|_| NoMemory)?;
     }
     Ok(tasks)
 }
 
-// The data as they are declared.
 fn declared_data(alloc: Global, app: &App) -> Result<Vec<Data>>
     ensures { IfOk result (λ symbols. symbols.items ≡ map (λ y. y.bytes) app.now.symbols) }
 {
     let mut symbols = Vec::new(alloc);
     for symbol in app.symbols.items() {
-        match symbols.push(Data::new(alloc, symbol.bytes.items())?) {
-            Ok(()) => {}
-            Err(failed) => return Err(AllocError::from(failed).into()),
-        }
+        symbols
+            .push(Data::new(alloc, symbol.bytes.items())?)
+            .map_err(|_| NoMemory)?;
     }
     Ok(symbols)
 }
@@ -88,22 +83,18 @@ fn resting_counters(alloc: Global, config: &Config) -> Result<Vec<Counter>, Allo
     Ok(counters)
 }
 
-// The alarms as they are declared.
 fn declared_alarms(alloc: Global, config: &Config) -> Result<Vec<Alarm>, AllocError>
-    ensures { IfOk result (λ alarms. alarms.items ≡ map (λ d. record { left = d.time; cycle = d.cycle }) config.now.alarms) }
+    ensures { IfOk result (λ alarms. alarms.items ≡ map (λ d. record { left = d.time; cycle = d.cycle })
+        config.now.alarms) }
 {
     let mut alarms = Vec::new(alloc);
     for alarm in config.alarms.items() {
-        let declared = Alarm {
-            left: alarm.time,
-            cycle: alarm.cycle,
-        };
-        alarms.push(declared)?;
+        let (left, cycle) = (alarm.time, alarm.cycle);
+        alarms.push(Alarm { left, cycle })?;
     }
     Ok(alarms)
 }
 
-// Activates the tasks that are to start by themselves.
 fn autostart(tasks: &mut [TaskRoom], config: &Config)
     requires { length config.now.tasks ≡ length tasks.old }
     ensures { tasks.new ≡ autostarted_tasks config.now.tasks tasks.old }
@@ -127,17 +118,13 @@ impl Store {
     pub fn opening(alloc: Global, config: &Config, app: &App) -> Result<Store>
         ensures { IfOk result (λ s. s ≡ opening config.now app.now) }
     {
-        let tasks = sleeping_tasks(alloc, config)?;
-        let symbols = declared_data(alloc, app)?;
-        let counters = resting_counters(alloc, config)?;
-        let alarms = declared_alarms(alloc, config)?;
         Ok(Store {
-            tasks,
-            symbols,
+            tasks: sleeping_tasks(alloc, config)?,
+            symbols: declared_data(alloc, app)?,
             booted: false,
             fresh: Fresh::new(),
-            counters,
-            alarms,
+            counters: resting_counters(alloc, config)?,
+            alarms: declared_alarms(alloc, config)?,
         })
     }
 
@@ -265,7 +252,10 @@ impl Store {
     /// The system starts.
     pub fn boot(&mut self, config: &Config)
         requires { length config.now.tasks ≡ length self.old.tasks }
-        ensures { self.new ≡ settled_state (record self.old { tasks = autostarted_tasks config.now.tasks self.old.tasks; booted = true }) }
+        ensures { self.new ≡ settled_state (record self.old {
+          tasks = autostarted_tasks config.now.tasks self.old.tasks;
+          booted = true;
+        }) }
     {
         autostart(self.tasks.as_mut_slice(), config);
         self.booted = true;

@@ -3,7 +3,6 @@ ghost use Rattle.std.specs.Prelude.{◌≡◌, ◌<◌, ◌≤◌, ℕ, length};
 ghost use Rattle.sloth_base.specs.Named.{alarm_declaration};
 ghost use Rattle.osek_scheduler.specs.State.{counter};
 ghost use Rattle.osek_scheduler.specs.Services.{counted_on_state, ticked_state};
-ghost use Rattle.osek_scheduler.specs.Steps.{due_state};
 ghost use Rattle.osek_machine.specs.Clocked.{IsClocked, NamesTask};
 ghost use Rattle.osek_machine.specs.Ticks.{acted_system, alarm_ticked_system, alarms_ticked_system, ticked_system};
 
@@ -11,7 +10,6 @@ use crate::{Store, is_suspended};
 use osek_scheduler::{Alarm, Counter, TaskChange};
 use sloth_base::{Action, Config};
 
-// A counter counts on.
 fn count(store: &mut Store, c: usize, max: u32)
     requires declared { c < length store.old.clock.counters }
     requires value { (counter store.old c).value ≤ max }
@@ -22,7 +20,6 @@ fn count(store: &mut Store, c: usize, max: u32)
     store.set_counter(c, Counter { value, due: false });
 }
 
-// What an alarm does as it expires.
 fn act(store: &mut Store, does: Action)
     requires { NamesTask (length store.old.tasks) does }
     ensures { store.new ≡ acted_system does store.old }
@@ -41,7 +38,6 @@ fn act(store: &mut Store, does: Action)
     }
 }
 
-// An alarm counts a tick.
 fn tick_alarm(store: &mut Store, does: Action, a: usize)
     requires declared { a < length store.old.clock.alarms }
     requires names { NamesTask (length store.old.tasks) does }
@@ -62,7 +58,8 @@ fn tick_alarm(store: &mut Store, does: Action, a: usize)
 fn tick_alarms(store: &mut Store, config: &Config, c: u32)
     requires tasks { length store.old.tasks ≡ length config.now.tasks }
     requires alarms { length store.old.clock.alarms ≡ length config.now.alarms }
-    requires actions { (a : ℕ) → a < length config.now.alarms → NamesTask (length config.now.tasks) (alarm_declaration config.now a).action }
+    requires actions { (a : ℕ) → a < length config.now.alarms
+        → NamesTask (length config.now.tasks) (alarm_declaration config.now a).action }
     ensures { store.new ≡ alarms_ticked_system c 0 config.now.alarms store.old }
 {
     for a in 0..config.alarms.items().len() {
@@ -73,7 +70,7 @@ fn tick_alarms(store: &mut Store, config: &Config, c: u32)
     }
 }
 
-// A counter counts on, and then its alarms.
+// The same, by changes of alarms and tasks.
 fn count_tick(store: &mut Store, config: &Config, c: u32)
     requires declared { c < length config.now.counters }
     requires tasks { length store.old.tasks ≡ length config.now.tasks }
@@ -92,13 +89,4 @@ pub fn tick(store: &mut Store, config: &Config, c: u32)
     ensures { store.new ≡ ticked_state config.now c store.old }
 {
     count_tick(store, config, c);
-}
-
-/// A counter's line arrived.
-pub fn make_due(store: &mut Store, c: u32)
-    requires { c < length store.old.clock.counters }
-    ensures { store.new ≡ due_state c store.old }
-{
-    let value = store.counter(c as usize).value;
-    store.set_counter(c as usize, Counter { value, due: true });
 }

@@ -28,3 +28,4 @@ pub mod Progress
 pub mod Depth
 pub mod Tidy
 pub mod Reached
+pub mod Lists

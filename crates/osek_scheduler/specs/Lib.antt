@@ -13,3 +13,4 @@ pub mod Valid
 pub mod Apart
 pub mod Tidy
 pub mod WellFormedRuns
+pub mod Frames

@@ -5,7 +5,6 @@ ghost use Rattle.code_rules.specs.Code.{is_in};
 
 use sloth_base::{Config, RES_SCHEDULER, TaskDecl};
 
-// Whether a task lists a resource.
 fn lists(task: &TaskDecl, resource: u32) -> bool
     ensures { result ≡ is_in resource task.now.resources }
 {

@@ -10,14 +10,21 @@
 //! one current priority, a task that runs is at an item that means something, and there is always a next event
 //! (`validity`: `steps_keep_valid`, `steps_keep_apart`, `runs_are_valid`, `items_mean`, `runs_never_stick`,
 //! `tasks_are_tidy`, ..; `specs/Valid`, `specs/Apart`, `specs/Tidy`, `specs/WellFormedRuns`).
+//!
+//! Parts of a state with room for all that they become: `Stack` (`specs/Frames`), `Held`, `Fresh`, `Data`.
 #![tactic(auto)]
 
 pub mod ceilings;
 pub mod change;
-pub mod laws;
+pub mod data;
+pub mod number_lists;
+pub mod stack;
 pub mod state;
 pub mod validity;
 
 pub use ceilings::{ceiling, highest};
 pub use change::{Other, Plan, TaskChange};
+pub use data::{Data, branch_holds, extended, number_result, register_result, width_bytes};
+pub use number_lists::Fresh;
+pub use stack::{FrameRoom, Stack};
 pub use state::{Alarm, Counter, TaskState};

@@ -1,5 +1,7 @@
-//! Laws of systems with well-formed task code.
-ghost use Rattle.osek_scheduler.specs.WellFormedRuns.{OpeningIsValid, StepsKeepValid, StepsKeepApart, RunsAreValid, ItemsMean, RunningGoesOn, RunsNeverStick, TasksAreTidy};
+//! Laws of systems with well-formed task code. Laws of the definitions.
+ghost use Rattle.osek_scheduler.specs.WellFormedRuns.{OpeningIsValid, StepsKeepValid, StepsKeepApart, RunsAreValid};
+ghost use Rattle.osek_scheduler.specs.WellFormedRuns.{ItemsMean, RunningGoesOn, RunsNeverStick, TasksAreTidy};
+ghost use Rattle.osek_scheduler.specs.StepsDecided.{StepIsComputed};
 
 /// The system is valid before it has started.
 pub fn opening_is_valid()
@@ -39,4 +41,9 @@ pub fn runs_never_stick()
 /// What a valid state says of each task.
 pub fn tasks_are_tidy()
     ensures { TasksAreTidy }
+{}
+
+/// An event has a next state exactly where the computed step finds one, and it is that one: so there is at most one.
+pub fn step_is_computed()
+    ensures { StepIsComputed }
 {}

@@ -10,7 +10,9 @@ use Rattle.load_text.specs.Loads.{distance}
 use Rattle.walk_sums.specs.declared.counted.Counted.{Counted}
 use Rattle.walk_sums.specs.declared.counted.Counted.TheVariants as counts
 use Rattle.walk_sums.specs.Clears.{ReachesCounted}
-use Rattle.run_costs.specs.declared.closure.SettingTops.{SettingTops}
+use Rattle.run_costs.specs.declared.services.SettingTops.{SettingTops}
+use Rattle.run_costs.specs.declared.services.NamingTops.{NamingTops}
+use Rattle.run_costs.specs.Services.{AreAllNamingTops}
 use Rattle.run_costs.specs.CostsOf.{AreEach, task_of, sets_events}
 use Rattle.run_costs.specs.Tops.{AreTaskTops}
 
@@ -78,6 +80,11 @@ pub record AreSettingTops (config : Config) (app : App) (a : ℕ) (tops : Settin
 -- those of all alarms
 abbrev pub AreAllSettingTops : Config → App → List SettingTops → Type 0
 AreAllSettingTops config app all = AreEach (length config.alarms) no_setting (AreSettingTops config app) all
+
+-- the tops by which it is told what makes tasks come
+pub record AreMakers (config : Config) (app : App) (tops : List NamingTops) (setting : List SettingTops) : Type 0 where
+  pub naming : AreAllNamingTops config app tops
+  pub settings : AreAllSettingTops config app setting
 
 -- a task that something makes, where these come, is one of them
 abbrev pub IsSettled : Config → App → List Entry → List Bool → (t : ℕ) → Type 0

@@ -8,12 +8,10 @@
 //! `specs/Tops`; which tasks come: `specs/Coming`. That runs keep these numbers: `run_responses`.
 #![tactic(auto)]
 
-mod closure;
 pub mod record;
 mod rounds;
 mod sections;
 mod services;
-mod tasks;
 
 pub use record::{RunCosts, run_costs};
 pub use rounds::round_sums;

@@ -68,16 +68,6 @@ fn extended_rounds(extended: bool, sums: RoundSums) -> RoundSums
     if extended { sums } else { both(sums.first) }
 }
 
-fn clean_sums(walks: &Walks, weights: &[BodyWeights], table: &[Summary], task: usize) -> RoundSums
-    requires weights { AreWeights walks.now.app weights.now }
-    requires table { AreSums walks.now.config walks.now.app weights.now kinds.Rounds None table.now }
-    requires inside { task < length walks.now.config.tasks }
-    ensures { AreRounds walks.now.app true (declaration walks.now.config task).extended task weights.now result }
-{
-    let sums = walks.round_sums(weights, table, task);
-    extended_rounds(walks.task(task).extended, sums)
-}
-
 fn task_rounds(
     walks: &Walks,
     weights: &[BodyWeights],
@@ -94,7 +84,8 @@ fn task_rounds(
         weights.now result }
 {
     if is_marked(clean, task) {
-        clean_sums(walks, weights, rounds, task)
+        let sums = walks.round_sums(weights, rounds, task);
+        extended_rounds(walks.task(task).extended, sums)
     } else {
         both(walks.turn_sum(weights, turns, task))
     }

@@ -21,22 +21,13 @@ use sloth_base::{List, Result};
 use text_pieces::push;
 use walk_sums::{Counted, Sum, Walks, counted_weights};
 
-/// Whether a task is lower than this one.
-pub fn is_lower(walks: &Walks, above: usize, task: usize) -> bool
-    requires above { above < length walks.now.config.tasks }
+/// Whether a task is lower than h.
+pub fn is_lower(walks: &Walks, h: usize, task: usize) -> bool
+    requires above { h < length walks.now.config.tasks }
     requires task { task < length walks.now.config.tasks }
-    ensures { result ≡ is_lower walks.now.config above task }
+    ensures { result ≡ is_lower walks.now.config h task }
 {
-    walks.priority(task) < walks.priority(above)
-}
-
-fn has_some(sum: Sum) -> bool
-    ensures { result ≡ has_some sum }
-{
-    match sum {
-        Sum::Counts(counts) => counts != 0,
-        Sum::Huge | Sum::Endless => true,
-    }
+    walks.priority(task) < walks.priority(h)
 }
 
 /// The sum of a task; without limit behind the last one.
@@ -46,15 +37,6 @@ pub fn numbered_sum(sums: &[Sum], task: usize) -> Sum
     sums.get(task).copied().unwrap_or(Sum::Endless)
 }
 
-fn is_endless(sum: Sum) -> bool
-    ensures { result ≡ is_endless sum }
-{
-    match sum {
-        Sum::Endless => true,
-        Sum::Counts(_) | Sum::Huge => false,
-    }
-}
-
 // The sections of a task, by their greatest sum.
 fn summed_sections(sum: Sum) -> SectionCosts
     ensures exists { result.exists ≡ has_some sum }
@@ -62,20 +44,20 @@ fn summed_sections(sum: Sum) -> SectionCosts
     ensures counts { result.counts ≡ many sum }
 {
     SectionCosts {
-        exists: has_some(sum),
-        is_endless: is_endless(sum),
+        exists: !matches!(sum, Sum::Counts(0)),
+        is_endless: matches!(sum, Sum::Endless),
         counts: many(sum),
     }
 }
 
-fn sections(walks: &Walks, weights: &[BodyWeights], above: usize) -> Result<Vec<SectionCosts>>
+fn sections(walks: &Walks, weights: &[BodyWeights], h: usize) -> Result<Vec<SectionCosts>>
     requires weigh { AllWeigh walks.now.app weights.now }
     requires fit { AreWeights walks.now.app weights.now }
-    requires above { above < length walks.now.config.tasks }
+    requires above { h < length walks.now.config.tasks }
     ensures { IfOk result (λ list. AreEach (length walks.now.config.tasks) no_section
-        (IsTaskSection walks.now.config walks.now.app weights.now above) list.items) }
+        (IsTaskSection walks.now.config walks.now.app weights.now h) list.items) }
 {
-    let sums = walks.sums_above(weights, above)?;
+    let sums = walks.sums_above(weights, h)?;
     let mut list = Vec::new(walks.alloc());
     for task in 0..walks.tasks() {
         push(&mut list, summed_sections(numbered_sum(&sums, task)))?;
@@ -84,37 +66,36 @@ fn sections(walks: &Walks, weights: &[BodyWeights], above: usize) -> Result<Vec<
 }
 
 // Whether a section of a lower task does what counts, by its top.
-fn does(walks: &Walks, above: usize, task: usize, top: u64) -> bool
-    requires above { above < length walks.now.config.tasks }
+fn does(walks: &Walks, h: usize, task: usize, top: u64) -> bool
+    requires above { h < length walks.now.config.tasks }
     requires task { task < length walks.now.config.tasks }
-    ensures { result ≡ does walks.now.config above task top }
+    ensures { result ≡ does walks.now.config h task top }
 {
     if walks.task(task).non {
         0 < top
     } else {
-        u64::from(walks.priority(above)) < top
+        u64::from(walks.priority(h)) < top
     }
 }
 
-// Whether sections of the task are asked how often they make `named`.
-fn is_asked(walks: &Walks, above: usize, named: usize, task: usize, top: u64) -> bool
-    requires above { above < length walks.now.config.tasks }
-    requires named { named < length walks.now.config.tasks }
+// Whether sections of the task are asked how often they make j Ready.
+fn is_asked(walks: &Walks, h: usize, j: usize, task: usize, top: u64) -> bool
+    requires above { h < length walks.now.config.tasks }
+    requires named { j < length walks.now.config.tasks }
     requires task { task < length walks.now.config.tasks }
-    ensures { result ≡ is_asked walks.now.config above named task top }
+    ensures { result ≡ is_asked walks.now.config h j task top }
 {
-    !is_lower(walks, above, named)
-        && (is_lower(walks, above, task) && does(walks, above, task, top))
+    !is_lower(walks, h, j) && (is_lower(walks, h, task) && does(walks, h, task, top))
 }
 
-fn some_asked(walks: &Walks, above: usize, named: usize, tops: &[u64]) -> bool
-    requires above { above < length walks.now.config.tasks }
-    requires named { named < length walks.now.config.tasks }
+fn some_asked(walks: &Walks, h: usize, j: usize, tops: &[u64]) -> bool
+    requires above { h < length walks.now.config.tasks }
+    requires named { j < length walks.now.config.tasks }
     ensures { result ≡ false → (k : ℕ) → k < length walks.now.config.tasks
-        → is_asked walks.now.config above named k (get_or tops.now k 0) ≡ false }
+        → is_asked walks.now.config h j k (get_or tops.now k 0) ≡ false }
 {
     for task in 0..walks.tasks() {
-        if is_asked(walks, above, named, task, numbered_top(tops, task)) {
+        if is_asked(walks, h, j, task, numbered_top(tops, task)) {
             return true;
         }
     }
@@ -122,31 +103,25 @@ fn some_asked(walks: &Walks, above: usize, named: usize, tops: &[u64]) -> bool
 }
 
 // The sums of the sections that are asked, of what counts.
-fn asked_sums(
-    walks: &Walks,
-    above: usize,
-    named: usize,
-    tops: &[u64],
-    counted: Counted,
-) -> Result<Vec<Sum>>
-    requires above { above < length walks.now.config.tasks }
-    requires named { named < length walks.now.config.tasks }
-    ensures { IfOk result (λ sums. AreSummed walks.now.config walks.now.app counted above named tops.now sums.items) }
+fn asked_sums(walks: &Walks, h: usize, j: usize, tops: &[u64], counted: Counted) -> Result<Vec<Sum>>
+    requires above { h < length walks.now.config.tasks }
+    requires named { j < length walks.now.config.tasks }
+    ensures { IfOk result (λ sums. AreSummed walks.now.config walks.now.app counted h j tops.now sums.items) }
 {
-    if !some_asked(walks, above, named, tops) {
+    if !some_asked(walks, h, j, tops) {
         return Ok(Vec::new(walks.alloc()));
     }
     let app = walks.app();
     let weights = counted_weights(walks.alloc(), app, counted)?;
-    walks.sums_above(&weights, above)
+    walks.sums_above(&weights, h)
 }
 
 // Whether a section activates the task once at most.
-fn is_once(walks: &Walks, above: usize, named: usize, task: usize) -> bool
+fn is_once(walks: &Walks, h: usize, j: usize, task: usize) -> bool
     requires { task < length walks.now.config.tasks }
-    ensures { result ≡ is_once walks.now.config above named task }
+    ensures { result ≡ is_once walks.now.config h j task }
 {
-    walks.task(task).non || above == named
+    walks.task(task).non || h == j
 }
 
 fn times(asked: bool, once: bool, sum: Sum) -> Option<u32>
@@ -162,28 +137,28 @@ fn times(asked: bool, once: bool, sum: Sum) -> Option<u32>
 fn summed_makers(
     walks: &Walks,
     tops: &NamingTops,
-    above: usize,
-    named: usize,
+    h: usize,
+    j: usize,
     activations: &[Sum],
     settings: &[Sum],
 ) -> Result<Vec<SectionMakings>>
-    requires tops { AreNamingTops walks.now.config walks.now.app named tops.now }
-    requires above { above < length walks.now.config.tasks }
-    requires named { named < length walks.now.config.tasks }
-    requires activations { AreSummed walks.now.config walks.now.app (counts.Activations named) above named
+    requires tops { AreNamingTops walks.now.config walks.now.app j tops.now }
+    requires above { h < length walks.now.config.tasks }
+    requires named { j < length walks.now.config.tasks }
+    requires activations { AreSummed walks.now.config walks.now.app (counts.Activations j) h j
         tops.now.either activations.now }
-    requires settings { AreSummed walks.now.config walks.now.app (counts.Settings named) above named
+    requires settings { AreSummed walks.now.config walks.now.app (counts.Settings j) h j
         tops.now.setting settings.now }
     ensures { IfOk result (λ row. AreEach (length walks.now.config.tasks) no_section_makings
-        (IsRunSectionMaking walks.now.config walks.now.app above named) row.items) }
+        (IsRunSectionMaking walks.now.config walks.now.app h j) row.items) }
 {
     let mut row = Vec::new(walks.alloc());
     for task in 0..walks.tasks() {
         let either = numbered_top(tops.either.items(), task);
         let setting = numbered_top(tops.setting.items(), task);
-        let activates = is_asked(walks, above, named, task, either);
-        let sets = is_asked(walks, above, named, task, setting);
-        let once = is_once(walks, above, named, task);
+        let activates = is_asked(walks, h, j, task, either);
+        let sets = is_asked(walks, h, j, task, setting);
+        let once = is_once(walks, h, j, task);
         let makings = SectionMakings {
             activations: times(activates, once, numbered_sum(activations, task)),
             settings: times(sets, false, numbered_sum(settings, task)),
@@ -193,59 +168,40 @@ fn summed_makers(
     Ok(row)
 }
 
-/// How often sections of lower tasks for `above` make `named` Ready, of each task.
+/// How often sections of lower tasks for h make j Ready, of each task.
 pub fn section_makers(
     walks: &Walks,
     tops: &NamingTops,
-    above: usize,
-    named: usize,
+    h: usize,
+    j: usize,
 ) -> Result<Vec<SectionMakings>>
-    requires tops { AreNamingTops walks.now.config walks.now.app named tops.now }
-    requires above { above < length walks.now.config.tasks }
-    requires named { named < length walks.now.config.tasks }
+    requires tops { AreNamingTops walks.now.config walks.now.app j tops.now }
+    requires above { h < length walks.now.config.tasks }
+    requires named { j < length walks.now.config.tasks }
     requires few { length walks.now.config.tasks ≤ task_limit }
     ensures { IfOk result (λ row. AreEach (length walks.now.config.tasks) no_section_makings
-        (IsRunSectionMaking walks.now.config walks.now.app above named) row.items) }
+        (IsRunSectionMaking walks.now.config walks.now.app h j) row.items) }
 {
-    let activated = Counted::Activations(named as u32);
-    let activations = asked_sums(walks, above, named, tops.either.items(), activated)?;
-    let set = Counted::Settings(named as u32);
-    let settings = asked_sums(walks, above, named, tops.setting.items(), set)?;
-    summed_makers(walks, tops, above, named, &activations, &settings)
+    let activated = Counted::Activations(j as u32);
+    let activations = asked_sums(walks, h, j, tops.either.items(), activated)?;
+    let set = Counted::Settings(j as u32);
+    let settings = asked_sums(walks, h, j, tops.setting.items(), set)?;
+    summed_makers(walks, tops, h, j, &activations, &settings)
 }
 
-fn section_table(
-    walks: &Walks,
-    tops: &[NamingTops],
-    above: usize,
-) -> Result<Vec<List<SectionMakings>>>
+fn section_table(walks: &Walks, tops: &[NamingTops], h: usize) -> Result<Vec<List<SectionMakings>>>
     requires tops { AreAllNamingTops walks.now.config walks.now.app tops.now }
-    requires above { above < length walks.now.config.tasks }
+    requires above { h < length walks.now.config.tasks }
     ensures { IfOk result (λ table. AreEach (length walks.now.config.tasks) []
         (λ j. AreEach (length walks.now.config.tasks) no_section_makings
-        (IsRunSectionMaking walks.now.config walks.now.app above j)) table.items) }
+        (IsRunSectionMaking walks.now.config walks.now.app h j)) table.items) }
 {
     let mut table = Vec::new(walks.alloc());
-    for named in 0..walks.tasks() {
-        let row = section_makers(walks, numbered_tops(tops, named), above, named)?;
+    for j in 0..walks.tasks() {
+        let row = section_makers(walks, numbered_tops(tops, j), h, j)?;
         push(&mut table, List::from_vec(row))?;
     }
     Ok(table)
-}
-
-fn level(walks: &Walks, weights: &[BodyWeights], tops: &[NamingTops], above: usize) -> Result<Level>
-    requires weigh { AllWeigh walks.now.app weights.now }
-    requires fit { AreWeights walks.now.app weights.now }
-    requires tops { AreAllNamingTops walks.now.config walks.now.app tops.now }
-    requires above { above < length walks.now.config.tasks }
-    ensures { IfOk result (IsRunLevel walks.now.config walks.now.app weights.now above) }
-{
-    let sections = sections(walks, weights, above)?;
-    let makings = section_table(walks, tops, above)?;
-    Ok(Level {
-        sections: List::from_vec(sections),
-        makings: List::from_vec(makings),
-    })
 }
 
 /// The sections for each task, and what they make.
@@ -257,8 +213,13 @@ pub fn levels(walks: &Walks, weights: &[BodyWeights], tops: &[NamingTops]) -> Re
         (IsRunLevel walks.now.config walks.now.app weights.now) list.items) }
 {
     let mut list = Vec::new(walks.alloc());
-    for above in 0..walks.tasks() {
-        let level = level(walks, weights, tops, above)?;
+    for h in 0..walks.tasks() {
+        let sections = sections(walks, weights, h)?;
+        let makings = section_table(walks, tops, h)?;
+        let level = Level {
+            sections: List::from_vec(sections),
+            makings: List::from_vec(makings),
+        };
         push(&mut list, level)?;
     }
     Ok(list)

@@ -1,16 +1,22 @@
-//! Which services tasks reach: whether walks come to what is counted, and the greatest ceiling under which they do.
-ghost use Rattle.std.specs.Prelude.{◌≡◌, ◌<◌, [], length, get_or, IfOk, ◌+◌};
+//! Which services tasks reach, by tops: whether walks come to what counts, under which ceiling. Which tasks come.
+ghost use Rattle.std.specs.Prelude.{◌≡◌, ◌<◌, [], length, get_or, IfOk, ◌+◌, ◌&&◌, true, false, ltb, Decides};
 ghost use Rattle.run_windows.specs.Costs.{no_services};
-ghost use Rattle.run_costs.specs.Services.{no_tops, AreNamingTops, AreAllNamingTops, AreServiceTops, services_by};
-ghost use Rattle.run_costs.specs.Services.{reaches};
+ghost use Rattle.run_costs.specs.Services.{no_tops, AreNamingTops, AreAllNamingTops, AreServiceTops};
+ghost use Rattle.run_costs.specs.Services.{services_by, reaches};
 ghost use Rattle.run_costs.specs.CostsOf.{AreEach, AreServices};
 ghost use Rattle.run_costs.specs.Tops.{op_top, item_top, body_top, AreTops, AreTaskTops};
+ghost use Rattle.run_costs.specs.Coming.{SomeReaches, IsUsed, MayActivate, SomeExpires, IsMade, marked, AreInAll};
+ghost use Rattle.run_costs.specs.Coming.{AreComing, AreSettingTops, AreAllSettingTops, AreMakers, IsSettled};
+ghost use Rattle.run_costs.specs.Coming.{unmarked, HasMarked};
 
+use crate::record::{action_task, sets_events};
 use bound_rules::{Body, is_marked, number_at};
+use load_text::{Entry, distance_of};
 use run_windows::Services;
-use sloth_base::{Func, List, Op, Result, Service};
+use sloth_base::{FIRST_COUNTER_LINE, Func, List, Op, Result, Service};
 use std::alloc::Global;
 use text_pieces::push;
+use walk_sums::graph::no_marks;
 use walk_sums::{Counted, Walks, is_ending_counted, numbered_body, numbered_function};
 
 /// How tasks make one task Ready: the tops of each of them.
@@ -63,7 +69,6 @@ fn reached_services(tops: &NamingTops, task: usize) -> Services
     }
 }
 
-// The services of all tasks that name one.
 fn naming_services(walks: &Walks, tops: &NamingTops, named: usize) -> Result<Vec<Services>>
     requires { AreNamingTops walks.now.config walks.now.app named tops.now }
     ensures { IfOk result (λ row.
@@ -98,9 +103,6 @@ pub fn services(walks: &Walks, all: &[NamingTops]) -> Result<Vec<List<Services>>
     Ok(table)
 }
 
-// ---- the longest service
-
-// The tops of the service of a code.
 fn code_tops(walks: &Walks, code: u8) -> Result<Vec<u64>>
     ensures { IfOk result (λ tops. AreServiceTops walks.now.config walks.now.app code tops.items) }
 {
@@ -180,11 +182,7 @@ fn body_top(counted: Counted, func: &Func, body: &Body, table: &[u64]) -> u64
 fn none(alloc: Global, count: usize) -> Result<Vec<u64>>
     ensures { IfOk result (λ table. length table.items ≡ count) }
 {
-    let mut table = Vec::new(alloc);
-    for _number in 0..count {
-        push(&mut table, 0)?;
-    }
-    Ok(table)
+    Ok(Vec::from_elem(alloc, 0, count)?)
 }
 
 /// For each function one more than the greatest ceiling under which its walks come to what counts, 0 where none does.
@@ -213,4 +211,189 @@ pub fn task_tops(walks: &Walks, counted: Counted) -> Result<Vec<u64>>
         push(&mut tops, numbered_top(&table, walks.body(task)))?;
     }
     Ok(tops)
+}
+
+/// Which tasks set an alarm: the tops of each of them.
+#[derive(Drop)]
+pub struct SettingTops {
+    /// By SetRelAlarm.
+    pub relative: List<u64>,
+    /// By SetAbsAlarm.
+    pub absolute: List<u64>,
+}
+
+fn setting_tops(walks: &Walks, alarm: u32) -> Result<SettingTops>
+    ensures { IfOk result (AreSettingTops walks.now.config walks.now.app alarm) }
+{
+    let relative = task_tops(walks, Counted::CallsFor(Service::SetRelAlarm, alarm))?;
+    let absolute = task_tops(walks, Counted::CallsFor(Service::SetAbsAlarm, alarm))?;
+    Ok(SettingTops {
+        relative: List::from_vec(relative),
+        absolute: List::from_vec(absolute),
+    })
+}
+
+fn all_setting_tops(walks: &Walks) -> Result<Vec<SettingTops>>
+    ensures { IfOk result (λ all. AreAllSettingTops walks.now.config walks.now.app all.items) }
+{
+    let config = walks.config();
+    let mut all = Vec::new(walks.alloc());
+    for alarm in 0..config.alarms.items().len() {
+        let tops = setting_tops(walks, alarm as u32)?;
+        push(&mut all, tops)?;
+    }
+    Ok(all)
+}
+
+fn comes_and_reaches(marks: &[bool], tops: &[u64], task: usize) -> bool
+    ensures { result ≡ (marked marks.now task && ltb 0 (get_or tops.now task 0)) }
+{
+    is_marked(marks, task) && 0 < numbered_top(tops, task)
+}
+
+fn is_reached(walks: &Walks, marks: &[bool], tops: &[u64], counted: Counted) -> bool
+    requires { AreTaskTops walks.now.config walks.now.app counted tops.now }
+    ensures { Decides result (SomeReaches walks.now.config walks.now.app (marked marks.now) counted) }
+{
+    for task in 0..walks.tasks() {
+        if comes_and_reaches(marks, tops, task) {
+            return true;
+        }
+    }
+    false
+}
+
+/// What makes tasks come: arrivals, and the tops of what names them and of what sets alarms.
+#[derive(Clone, Copy)]
+pub struct Makers<'a> {
+    load: &'a [Entry],
+    naming: &'a [NamingTops],
+    settings: &'a [SettingTops],
+}
+
+fn is_used(walks: &Walks, marks: &[bool], settings: &[SettingTops], alarm: usize) -> bool
+    requires settings { AreAllSettingTops walks.now.config walks.now.app settings.now }
+    requires inside { alarm < length walks.now.config.alarms }
+    ensures { Decides result (IsUsed walks.now.config walks.now.app (marked marks.now) alarm) }
+{
+    let declared = &walks.config().alarms.items()[alarm];
+    let tops = &settings[alarm];
+    let relative = Counted::CallsFor(Service::SetRelAlarm, alarm as u32);
+    let absolute = Counted::CallsFor(Service::SetAbsAlarm, alarm as u32);
+    0 < declared.time
+        || (is_reached(walks, marks, tops.relative.items(), relative)
+            || is_reached(walks, marks, tops.absolute.items(), absolute))
+}
+
+fn may_activate(walks: &Walks, load: &[Entry], alarm: usize, named: usize) -> bool
+    requires { alarm < length walks.now.config.alarms }
+    ensures { Decides result (MayActivate walks.now.config load.now alarm named) }
+{
+    let declared = &walks.config().alarms.items()[alarm];
+    distance_of(load, FIRST_COUNTER_LINE + declared.counter as u8).is_some()
+        && (!sets_events(&declared.action) && action_task(&declared.action) as usize == named)
+}
+
+// Whether an alarm that is used activates the task.
+fn expires(walks: &Walks, makers: &Makers, marks: &[bool], alarm: usize, named: usize) -> bool
+    requires makers { AreMakers walks.now.config walks.now.app makers.now.naming.now makers.now.settings.now }
+    requires inside { alarm < length walks.now.config.alarms }
+    ensures { Decides result (MayActivate walks.now.config makers.now.load.now alarm named
+        × IsUsed walks.now.config walks.now.app (marked marks.now) alarm) }
+{
+    may_activate(walks, makers.load, alarm, named) && is_used(walks, marks, makers.settings, alarm)
+}
+
+fn some_expires(walks: &Walks, makers: &Makers, marks: &[bool], named: usize) -> bool
+    requires { AreMakers walks.now.config walks.now.app makers.now.naming.now makers.now.settings.now }
+    ensures { Decides result (SomeExpires walks.now.config walks.now.app makers.now.load.now (marked marks.now) named) }
+{
+    for alarm in 0..walks.config().alarms.items().len() {
+        if expires(walks, makers, marks, alarm, named) {
+            return true;
+        }
+    }
+    false
+}
+
+// Whether something makes the task, where those that are marked come.
+fn is_made(walks: &Walks, makers: &Makers, marks: &[bool], task: usize) -> bool
+    requires makers { AreMakers walks.now.config walks.now.app makers.now.naming.now makers.now.settings.now }
+    requires inside { task < length walks.now.config.tasks }
+    ensures { Decides result (IsMade walks.now.config walks.now.app makers.now.load.now (marked marks.now) task) }
+{
+    let either = numbered_tops(makers.naming, task).either.items();
+    walks.task(task).autostart
+        || (distance_of(makers.load, task as u8).is_some()
+            || (is_reached(walks, marks, either, Counted::Activations(task as u32))
+                || some_expires(walks, makers, marks, task)))
+}
+
+// Marks the task, if something makes it and it is not marked.
+fn mark(walks: &Walks, makers: &Makers, marks: &mut [bool], task: usize) -> bool
+    requires makers { AreMakers walks.now.config walks.now.app makers.now.naming.now makers.now.settings.now }
+    requires inside { task < length walks.now.config.tasks }
+    requires count { length marks.old ≡ length walks.now.config.tasks }
+    requires within { AreInAll walks.now.config walks.now.app makers.now.load.now marks.old }
+    ensures count { length marks.new ≡ length walks.now.config.tasks }
+    ensures within { AreInAll walks.now.config walks.now.app makers.now.load.now marks.new }
+    ensures marked { result ≡ true → unmarked marks.new < unmarked marks.old }
+    ensures same { result ≡ false → (marks.new ≡ marks.old)
+        × IsSettled walks.now.config walks.now.app makers.now.load.now marks.old task }
+{
+    if is_marked(marks, task) || !is_made(walks, makers, marks, task) {
+        return false;
+    }
+    marks[task] = true;
+    true
+}
+
+fn pass(walks: &Walks, makers: &Makers, marks: &mut [bool]) -> bool
+    requires makers { AreMakers walks.now.config walks.now.app makers.now.naming.now makers.now.settings.now }
+    requires count { length marks.old ≡ length walks.now.config.tasks }
+    requires within { AreInAll walks.now.config walks.now.app makers.now.load.now marks.old }
+    ensures count { length marks.new ≡ length walks.now.config.tasks }
+    ensures within { AreInAll walks.now.config walks.now.app makers.now.load.now marks.new }
+    ensures marked { HasMarked walks.now.config walks.now.app makers.now.load.now marks.old marks.new
+        (length walks.now.config.tasks) result }
+{
+    let mut grown = false;
+    for task in 0..walks.tasks() {
+        if mark(walks, makers, marks, task) {
+            grown = true;
+        }
+    }
+    grown
+}
+
+fn settled_marks<'a>(
+    walks: &Walks,
+    load: &'a [Entry],
+    naming: &'a [NamingTops],
+    settings: &'a [SettingTops],
+) -> Result<Vec<bool>>
+    requires naming { AreAllNamingTops walks.now.config walks.now.app naming.now }
+    requires settings { AreAllSettingTops walks.now.config walks.now.app settings.now }
+    ensures { IfOk result (λ marks. AreComing walks.now.config walks.now.app load.now marks.items) }
+{
+    let mut marks = no_marks(walks.alloc(), walks.tasks())?;
+    let makers = Makers {
+        load,
+        naming,
+        settings,
+    };
+    loop {
+        if !pass(walks, &makers, &mut marks) {
+            return Ok(marks);
+        }
+    }
+}
+
+/// Which tasks come.
+pub fn coming(walks: &Walks, load: &[Entry], naming: &[NamingTops]) -> Result<Vec<bool>>
+    requires { AreAllNamingTops walks.now.config walks.now.app naming.now }
+    ensures { IfOk result (λ marks. AreComing walks.now.config walks.now.app load.now marks.items) }
+{
+    let settings = all_setting_tops(walks)?;
+    settled_marks(walks, load, naming, &settings)
 }

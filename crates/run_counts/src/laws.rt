@@ -3,7 +3,9 @@ ghost use Rattle.run_counts.specs.Laws.{RunsKeepWeights};
 ghost use Rattle.run_counts.specs.Spending.{RunsSpendOnLower, RunsSpendNothing};
 ghost use Rattle.run_counts.specs.Latency.{RunsEnterByWeights};
 ghost use Rattle.run_counts.specs.Rounds.{RoundsSpendWithinItems};
-ghost use Rattle.run_counts.specs.OwnCounts.{RunsOwnWhatIsCharged, RunsShareCounts, RunsHaveShortGaps, RunsPreemptWithinItems, RoundsOwnWithinItems, RoundsOwnItems, ImagesOwnWithinItems};
+ghost use Rattle.run_counts.specs.OwnCounts.{RunsOwnWhatIsCharged, RunsShareCounts, RunsHaveShortGaps};
+ghost use Rattle.run_counts.specs.OwnCounts.{RunsPreemptWithinItems, RoundsOwnWithinItems, RoundsOwnItems};
+ghost use Rattle.run_counts.specs.OwnCounts.{ImagesOwnWithinItems};
 
 /// In a run that keeps the pace no stage spends more than its event weighs, with the item in front of it.
 pub fn runs_keep_weights()

@@ -1,5 +1,5 @@
 //! The weights by which items count what they take.
-ghost use Rattle.std.specs.Prelude.{◌≡◌, ◌≤◌, ◌<◌, ◌+◌, ℕ, length, get_or, IfOk};
+ghost use Rattle.std.specs.Prelude.{◌≡◌, ◌≤◌, ◌<◌, ◌+◌, ℕ, length, IfOk};
 ghost use Rattle.sloth_base.specs.Named.{item_of};
 ghost use Rattle.code_rules.specs.AppRange.{IsTaskCode};
 ghost use Rattle.sim_induction.specs.Items.{length_of, going_counts, ending_counts};
@@ -11,7 +11,6 @@ use sim_induction::{ItemLengths, ending_counts, going_counts, length_of, lengths
 use sloth_base::{App, Func, List, Result};
 use std::alloc::Global;
 use text_pieces::push;
-use walk_sums::numbered_function;
 
 /// The counts of an item behind which its task goes on.
 fn going_at(lengths: &ItemLengths, number: usize, func: &Func, item: usize) -> u32
@@ -34,32 +33,6 @@ fn ending_at(lengths: &ItemLengths, number: usize, func: &Func, item: usize) -> 
 }
 
 /// Those of the items of a body.
-fn going_list(alloc: Global, lengths: &ItemLengths, number: usize, func: &Func) -> Result<Vec<u32>>
-    requires short { (f i : ℕ) → length_of lengths.now.bodies f i ≤ 36 }
-    ensures count { IfOk result (λ counts. length counts.items ≡ length func.now.items) }
-    ensures exact { IfOk result (λ counts. (i : ℕ) → i < length func.now.items
-        → get_or counts.items i 0 ≡ length_of lengths.now.bodies number i + going_counts (item_of func.now i).op) }
-{
-    let mut counts = Vec::new(alloc);
-    for item in 0..func.items.items().len() {
-        push(&mut counts, going_at(lengths, number, func, item))?;
-    }
-    Ok(counts)
-}
-
-fn ending_list(alloc: Global, lengths: &ItemLengths, number: usize, func: &Func) -> Result<Vec<u32>>
-    requires short { (f i : ℕ) → length_of lengths.now.bodies f i ≤ 36 }
-    ensures count { IfOk result (λ counts. length counts.items ≡ length func.now.items) }
-    ensures exact { IfOk result (λ counts. (i : ℕ) → i < length func.now.items
-        → get_or counts.items i 0 ≡ length_of lengths.now.bodies number i + ending_counts func.now (item_of func.now i).op) }
-{
-    let mut counts = Vec::new(alloc);
-    for item in 0..func.items.items().len() {
-        push(&mut counts, ending_at(lengths, number, func, item))?;
-    }
-    Ok(counts)
-}
-
 fn body_counts(
     alloc: Global,
     lengths: &ItemLengths,
@@ -69,25 +42,16 @@ fn body_counts(
     requires short { (f i : ℕ) → length_of lengths.now.bodies f i ≤ 36 }
     ensures { IfOk result (AreBodyCounts lengths.now.bodies number func.now) }
 {
-    let going = going_list(alloc, lengths, number, func)?;
-    let ending = ending_list(alloc, lengths, number, func)?;
+    let mut going = Vec::new(alloc);
+    let mut ending = Vec::new(alloc);
+    for item in 0..func.items.items().len() {
+        push(&mut going, going_at(lengths, number, func, item))?;
+        push(&mut ending, ending_at(lengths, number, func, item))?;
+    }
     Ok(BodyWeights {
         going: List::from_vec(going),
         ending: List::from_vec(ending),
     })
-}
-
-/// Those of all bodies, by the lengths of items.
-fn counts_by(alloc: Global, app: &App, lengths: &ItemLengths) -> Result<Vec<BodyWeights>>
-    requires short { (f i : ℕ) → length_of lengths.now.bodies f i ≤ 36 }
-    ensures { IfOk result (λ weights. AreCountsBy app.now lengths.now.bodies weights.items) }
-{
-    let mut weights = Vec::new(alloc);
-    for number in 0..app.funcs.items().len() {
-        let own = body_counts(alloc, lengths, number, numbered_function(app, number))?;
-        push(&mut weights, own)?;
-    }
-    Ok(weights)
 }
 
 /// The counts of all items by their lengths, as weights by which sections are summed.
@@ -96,7 +60,12 @@ pub fn weights_by(alloc: Global, app: &App, lengths: &ItemLengths) -> Result<Vec
     ensures are { IfOk result (λ weights. AreCountsBy app.now lengths.now.bodies weights.items) }
     ensures fit { IfOk result (λ weights. AreWeights app.now weights.items) }
 {
-    counts_by(alloc, app, lengths)
+    let mut weights = Vec::new(alloc);
+    for number in 0..app.funcs.items().len() {
+        let own = body_counts(alloc, lengths, number, app.function(number))?;
+        push(&mut weights, own)?;
+    }
+    Ok(weights)
 }
 
 /// The same, with the fewest long branches.

@@ -12,8 +12,8 @@ use Rattle.image_file.specs.declared.fault.ImageFault.{ImageFault}
 use Rattle.image_file.specs.declared.fault.FileError.{FileError}
 use Rattle.image_file.specs.declared.fault.FileError.TheVariants as image_error
 use Rattle.trace_text.specs.ArrivalsText.{ArrivalsFault, arrivals_in}
-use Rattle.run_inputs.specs.declared.image_inputs.Unread.{Unread}
-use Rattle.run_inputs.specs.declared.image_inputs.Unread.TheVariants as unread
+use Rattle.run_inputs.specs.declared.inputs.Unread.{Unread}
+use Rattle.run_inputs.specs.declared.inputs.Unread.TheVariants as unread
 
 -- the first file is that of an image, and the second has arrivals by the image's names of tasks and counters
 pub record AreRunInputs (img arr : List ℕ) (image : Image) (arrivals : List Arrival) : Type 0 where

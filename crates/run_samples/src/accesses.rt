@@ -1,12 +1,13 @@
 //! What arrivals and masked code do with the pending bytes of lines.
-ghost use Rattle.std.specs.Prelude.{◌≡◌, ◌<◌, ◌≤◌, ◌∷◌, ◌++◌, [], OnOk, length, replicate, slice_set, take};
+ghost use Rattle.std.specs.Prelude.{◌≡◌, ◌<◌, ◌∷◌, ◌++◌, [], OnOk, replicate, slice_set};
 ghost use Rattle.sloth_base.specs.MemoryMap.{line_count};
 ghost use Rattle.rv32_instr.specs.Execute.{pending_line};
 ghost use Rattle.rv32_instr.specs.Memory.{memory_of};
-ghost use Rattle.rv32_instr.specs.Range.{InRange};
 ghost use Rattle.rv32_machine.specs.Start.{start};
 ghost use Rattle.rv32_machine.specs.Run.{state_after};
-ghost use Rattle.run_samples.specs.Accesses.{is_waiting, is_waiting_line, can_raise, arrival_kind, arrival_access, arrival_accesses, accesses_at, fetched, stored_line, stored_line_of, access_of, code_access};
+ghost use Rattle.run_samples.specs.Accesses.{is_waiting, is_waiting_line, can_raise, arrival_access};
+ghost use Rattle.run_samples.specs.Accesses.{arrival_accesses, accesses_at};
+ghost use Rattle.run_samples.specs.Accesses.{access_of, code_access};
 ghost use Rattle.sloth_runner.specs.Moments.{AreLines, sloth_state};
 ghost use Rattle.sloth_runner.specs.Runner.{HasRun, image_of, count_of, given_arrivals};
 
@@ -68,16 +69,6 @@ fn can_raise(bus: &mut SlothBus, line: Line) -> bool
     !bus.is_pending(line) && !is_waiting_line(bus, line)
 }
 
-fn arrival_kind(raises: bool) -> AccessKind
-    ensures { result ≡ arrival_kind raises }
-{
-    if raises {
-        AccessKind::Raises
-    } else {
-        AccessKind::Finds
-    }
-}
-
 // What an arrival does behind others of its moment, which have raised these lines.
 fn arrival_access(bus: &mut SlothBus, raised: &[u8; 32], arrival: &Arrival) -> Access
     requires { arrival.now.line < line_count }
@@ -85,13 +76,17 @@ fn arrival_access(bus: &mut SlothBus, raised: &[u8; 32], arrival: &Arrival) -> A
     ensures same { bus.new ≡ bus.old }
 {
     let raises = raised[usize::from(arrival.line.0)] == 0 && can_raise(bus, arrival.line);
+    let kind = if raises {
+        AccessKind::Raises
+    } else {
+        AccessKind::Finds
+    };
     Access {
         arrival: *arrival,
-        kind: arrival_kind(raises),
+        kind,
     }
 }
 
-// Appends an access.
 fn push_access(noted: &mut Vec<Access>, access: &Access) -> Result<()>
     ensures { OnOk result (noted.new.items ≡ noted.old.items ++ access.now ∷ []) }
 {
@@ -106,10 +101,11 @@ fn set_raised(raised: &mut [u8; 32], arrival: &Arrival)
     raised[usize::from(arrival.line.0)] = 1;
 }
 
-// The same of all arrivals of a moment.
+// Notes what all arrivals of a moment do.
 fn push_arrivals(bus: &mut SlothBus, arrivals: &[Arrival], noted: &mut Vec<Access>) -> Result<()>
     requires { AreLines arrivals.now }
-    ensures noted { OnOk result (noted.new.items ≡ noted.old.items ++ arrival_accesses bus.old (replicate line_count 0) arrivals.now) }
+    ensures noted { OnOk result (noted.new.items ≡ noted.old.items
+        ++ arrival_accesses bus.old (replicate line_count 0) arrivals.now) }
     ensures same { bus.new ≡ bus.old }
 {
     let mut raised = [0u8; 32];
@@ -119,22 +115,6 @@ fn push_arrivals(bus: &mut SlothBus, arrivals: &[Arrival], noted: &mut Vec<Acces
         set_raised(&mut raised, arrival);
     }
     Ok(())
-}
-
-// The same of the first arrivals, so many of them.
-fn push_first(
-    bus: &mut SlothBus,
-    coming: &[Arrival],
-    due: usize,
-    noted: &mut Vec<Access>,
-) -> Result<()>
-    requires due { due ≤ length coming.now }
-    requires lines { AreLines coming.now }
-    ensures noted { OnOk result (noted.new.items ≡ noted.old.items ++ arrival_accesses bus.old (replicate line_count 0) (take due coming.now)) }
-    ensures same { bus.new ≡ bus.old }
-{
-    let (here, _) = coming.split_at(due);
-    push_arrivals(bus, here, noted)
 }
 
 // The line that an address is the pending byte of.
@@ -149,60 +129,17 @@ fn pending_line(address: u32) -> Option<Line>
     }
 }
 
-// The line to whose pending byte an instruction stores.
-fn stored_line(kind: InstrKind, registers: &[u32; 32]) -> Option<Line>
-    requires { InRange kind }
-    ensures { result ≡ stored_line kind registers.now }
-{
-    match kind {
-        InstrKind::Sb { rs1, imm, .. } => {
-            pending_line(registers[usize::from(rs1.0)].wrapping_add(imm.cast_unsigned()))
-        }
-        _ => None,
-    }
-}
-
-// The same of an instruction, if it is one.
-fn instr_stored_line(instr: &Option<Instr>, registers: &[u32; 32]) -> Option<Line>
-    ensures { result ≡ stored_line_of instr.now registers.now }
-{
-    match instr {
-        Some(instr) => stored_line(instr.kind(), registers),
-        None => None,
-    }
-}
-
-// The instruction at an address. The bus keeps its contents.
-fn fetched(bus: &mut SlothBus, address: u32) -> Option<Instr>
-    ensures is { result ≡ fetched bus.old address }
-    ensures same { bus.new ≡ bus.old }
-{
-    bus.fetch(address).unwrap_or(None)
-}
-
 // A store, or else a load of what a step touched.
-fn noted_access(count: u32, stored: &Option<Line>, touched: &Option<Line>) -> Option<Access>
-    ensures { result ≡ access_of count stored.now touched.now }
+fn noted_access(at: u32, stored: &Option<Line>, touched: &Option<Line>) -> Option<Access>
+    ensures { result ≡ access_of at stored.now touched.now }
 {
-    match stored {
-        Some(line) => Some(Access {
-            arrival: Arrival {
-                at: count,
-                line: *line,
-            },
-            kind: AccessKind::Stores,
-        }),
-        None => match touched {
-            Some(line) => Some(Access {
-                arrival: Arrival {
-                    at: count,
-                    line: *line,
-                },
-                kind: AccessKind::Loads,
-            }),
-            None => None,
-        },
-    }
+    let (line, kind) = match (stored, touched) {
+        (Some(line), _) => (*line, AccessKind::Stores),
+        (None, Some(line)) => (*line, AccessKind::Loads),
+        (None, None) => return None,
+    };
+    let arrival = Arrival { at, line };
+    Some(Access { arrival, kind })
 }
 
 // What a step did with a pending byte. The bus keeps its contents.
@@ -213,8 +150,15 @@ fn code_access(bus: &mut SlothBus, step: &Step) -> Option<Access>
     if step.enabled_before {
         return None;
     }
-    let instr = fetched(bus, step.pc);
-    let stored = instr_stored_line(&instr, &step.regs);
+    let stored = match bus.fetch(step.pc) {
+        Ok(Some(instr)) => match instr.kind() {
+            InstrKind::Sb { rs1, imm, .. } => {
+                pending_line(step.regs[usize::from(rs1.0)].wrapping_add(imm.cast_unsigned()))
+            }
+            _ => None,
+        },
+        _ => None,
+    };
     noted_access(step.count, &stored, &step.touched)
 }
 
@@ -222,11 +166,13 @@ fn code_access(bus: &mut SlothBus, step: &Step) -> Option<Access>
 pub fn note_arrivals(runner: &mut Runner, noted: &mut Vec<Access>) -> Result<()>
     requires { HasRun runner.old (image_of runner.old) (count_of runner.old) }
     ensures noted { OnOk result (noted.new.items ≡ noted.old.items
-        ++ accesses_at (given_arrivals runner.old) (count_of runner.old) (state_after (count_of runner.old) (given_arrivals runner.old) (start (image_of runner.old)))) }
+        ++ accesses_at (given_arrivals runner.old) (count_of runner.old)
+        (state_after (count_of runner.old) (given_arrivals runner.old) (start (image_of runner.old)))) }
     ensures same { runner.new ≡ runner.old }
 {
     let due = passing(runner.coming, runner.machine.count);
-    push_first(runner.machine.bus_mut(), runner.coming, due, noted)
+    let (here, _) = runner.coming.split_at(due);
+    push_arrivals(runner.machine.bus_mut(), here, noted)
 }
 
 /// What the last step of a run did with a pending byte.

@@ -1,6 +1,8 @@
 //! Which arrivals of a run are lost.
 ghost use Rattle.std.specs.Prelude.{◌≡◌, ◌++◌, OnOk};
-ghost use Rattle.run_samples.specs.Admissions.{is_ready, has_effect, is_store, is_by_code, is_code_at, is_stored_first, admission_of, admissions_of, no_notes, with_accesses, with_code, settled, with_sample};
+ghost use Rattle.run_samples.specs.Admissions.{is_ready, has_effect, is_store, is_by_code, is_stored_first};
+ghost use Rattle.run_samples.specs.Admissions.{admission_of, admissions_of, no_notes, with_accesses, with_code};
+ghost use Rattle.run_samples.specs.Admissions.{settled, with_sample};
 ghost use Rattle.run_samples.specs.Samples.{IsSampling, seen_behind, sampled_image, sampled_arrivals, sampled_count};
 ghost use Rattle.rv32_machine.specs.Start.{start};
 ghost use Rattle.rv32_machine.specs.Run.{state_after};
@@ -53,19 +55,12 @@ fn is_by_code(kind: AccessKind) -> bool
     matches!(kind, AccessKind::Loads | AccessKind::Stores)
 }
 
-// Whether code accesses the line's pending byte.
-fn is_code_access(line: u8, access: &Access) -> bool
-    ensures { result ≡ is_code_at line access.now }
-{
-    access.arrival.line.0 == line && is_by_code(access.kind)
-}
-
 // Whether the first access by code to the line's pending byte is a store.
 fn is_stored_first(line: u8, behind: &[Access]) -> bool
     ensures { result ≡ is_stored_first line behind.now }
 {
     for access in behind {
-        if is_code_access(line, access) {
+        if access.arrival.line.0 == line && is_by_code(access.kind) {
             return is_store(access.kind);
         }
     }
@@ -133,8 +128,10 @@ impl Noting {
     /// Notes what the arrivals of the next count of a sampler do.
     pub fn note(&mut self, sampler: &mut Sampler) -> Result<()>
         requires sampling { IsSampling sampler.old }
-        ensures noted { OnOk result (self.new ≡ with_accesses self.old (accesses_at (sampled_arrivals sampler.old) (sampled_count sampler.old)
-            (state_after (sampled_count sampler.old) (sampled_arrivals sampler.old) (start (sampled_image sampler.old))))) }
+        ensures noted { OnOk result (self.new ≡ with_accesses self.old
+            (accesses_at (sampled_arrivals sampler.old) (sampled_count sampler.old)
+            (state_after (sampled_count sampler.old) (sampled_arrivals sampler.old)
+            (start (sampled_image sampler.old))))) }
         ensures same { sampler.new ≡ sampler.old }
     {
         sampler.note_arrivals(&mut self.accesses)
@@ -172,7 +169,8 @@ impl Noting {
     /// The end of a sampler's run tells what became of the others.
     pub fn end(&mut self, sampler: &mut Sampler) -> Result<()>
         requires sampling { IsSampling sampler.old }
-        ensures ended { OnOk result (self.new ≡ settled self.old (seen_behind (sampled_image sampler.old) (sampled_arrivals sampler.old) (sampled_count sampler.old))) }
+        ensures ended { OnOk result (self.new ≡ settled self.old
+            (seen_behind (sampled_image sampler.old) (sampled_arrivals sampler.old) (sampled_count sampler.old))) }
         ensures same { sampler.new ≡ sampler.old }
     {
         let seen = sampler.look();

@@ -2,7 +2,8 @@
 ghost use Rattle.std.specs.Prelude.{◌≡◌, ◌<◌, ◌+◌, ◌≤◌, ◌++◌, [], OnOk, get_or, length};
 ghost use Rattle.sloth_base.specs.ImageRange.{InFormat};
 ghost use Rattle.sloth_base.specs.Limits.{name_limit, alarm_limit};
-ghost use Rattle.run_samples.specs.SystemText.{shown_state, state_line, events_line, task_part, task_parts, counter_line, counter_lines, alarm_line, alarm_lines, system_text};
+ghost use Rattle.run_samples.specs.SystemText.{shown_state, state_line, events_line, task_part, task_parts};
+ghost use Rattle.run_samples.specs.SystemText.{counter_line, counter_lines, alarm_line, alarm_lines, system_text};
 
 use crate::ServiceWords;
 use osek_scheduler::TaskState;
@@ -55,7 +56,6 @@ fn push_events(text: &mut Vec<u8>, mask: u32) -> Result<()>
     line!(text; Word(b"  events "), Number(mask), Word(b"\n"))
 }
 
-// Appends the lines of a task.
 #[tactic(auto, unfolding(crate::specs::SystemText::task_part))]
 fn push_task(
     text: &mut Vec<u8>,
@@ -84,7 +84,8 @@ fn push_counter(
 ) -> Result<()>
     requires format { InFormat image.now }
     requires counter { counter < length image.now.counters }
-    ensures { OnOk result (text.new.items ≡ text.old.items ++ counter_line (get_or image.now.counters counter []) (get_or words.now.counters counter 0)) }
+    ensures { OnOk result (text.new.items ≡ text.old.items ++ counter_line (get_or image.now.counters counter [])
+        (get_or words.now.counters counter 0)) }
 {
     let name = image.counters.items()[counter].bytes();
     line!(text; Word(b"counter "), Word(name), Word(b" "), Number(words.counters[counter]), Word(b"\n"))
@@ -103,42 +104,28 @@ fn push_alarm(text: &mut Vec<u8>, words: &ServiceWords, alarm: usize) -> Result<
     line!(text; Word(b"alarm "), Number(alarm as u32), Word(b" "), Number(left), Word(b"\n"))
 }
 
-// Appends the lines of the tasks.
-fn push_tasks(
-    text: &mut Vec<u8>,
-    image: &Image,
-    seen: &Seen,
-    words: &ServiceWords,
-    tasks: usize,
-) -> Result<()>
-    requires format { InFormat image.now }
-    requires tasks { tasks ≡ length image.now.tasks }
-    ensures { OnOk result (text.new.items ≡ text.old.items ++ task_parts image.now seen.now words.now tasks) }
+fn push_tasks(text: &mut Vec<u8>, image: &Image, seen: &Seen, words: &ServiceWords) -> Result<()>
+    requires { InFormat image.now }
+    ensures { OnOk result (text.new.items
+        ≡ text.old.items ++ task_parts image.now seen.now words.now (length image.now.tasks)) }
 {
-    for task in 0..tasks {
+    for task in 0..image.tasks.items().len() {
         push_task(text, image, seen, words, task)?;
     }
     Ok(())
 }
 
-// Appends the lines of the counters.
-fn push_counters(
-    text: &mut Vec<u8>,
-    image: &Image,
-    words: &ServiceWords,
-    counters: usize,
-) -> Result<()>
-    requires format { InFormat image.now }
-    requires counters { counters ≡ length image.now.counters }
-    ensures { OnOk result (text.new.items ≡ text.old.items ++ counter_lines image.now words.now counters) }
+fn push_counters(text: &mut Vec<u8>, image: &Image, words: &ServiceWords) -> Result<()>
+    requires { InFormat image.now }
+    ensures { OnOk result (text.new.items
+        ≡ text.old.items ++ counter_lines image.now words.now (length image.now.counters)) }
 {
-    for counter in 0..counters {
+    for counter in 0..image.counters.items().len() {
         push_counter(text, image, words, counter)?;
     }
     Ok(())
 }
 
-// Appends the lines of the alarms that are in use.
 fn push_alarms(text: &mut Vec<u8>, words: &ServiceWords) -> Result<()>
     ensures { OnOk result (text.new.items ≡ text.old.items ++ alarm_lines words.now alarm_limit) }
 {
@@ -158,7 +145,7 @@ pub fn push_system(
     requires { InFormat image.now }
     ensures { OnOk result (text.new.items ≡ text.old.items ++ system_text image.now seen.now words.now) }
 {
-    push_tasks(text, image, seen, words, image.tasks.items().len())?;
-    push_counters(text, image, words, image.counters.items().len())?;
+    push_tasks(text, image, seen, words)?;
+    push_counters(text, image, words)?;
     push_alarms(text, words)
 }

@@ -8,9 +8,9 @@ ghost use Rattle.sloth_base.specs.Limits.{count_limit};
 ghost use Rattle.rv32_machine.specs.Start.{start};
 ghost use Rattle.rv32_machine.specs.Run.{state_after};
 ghost use Rattle.run_samples.specs.Accesses.{accesses_at};
-ghost use Rattle.run_samples.specs.Samples.{AreSampledLevels, IsSample, IsSampling, StopsAt, seen_behind, sampled_image, sampled_arrivals, sampled_count};
+ghost use Rattle.run_samples.specs.Samples.{AreSampledLevels, IsSample, IsSampling, StopsAt, seen_behind};
+ghost use Rattle.run_samples.specs.Samples.{sampled_image, sampled_arrivals, sampled_count};
 ghost use Rattle.run_samples.specs.Addresses.{address_behind};
-ghost use Rattle.sloth_runner.specs.Moments.{sloth_state};
 
 use crate::Access;
 use crate::accesses::{note_arrivals, step_access};
@@ -62,8 +62,10 @@ impl<'a> Sampler<'a> {
     pub fn next(&mut self) -> Result<Sample, Halt>
         requires few { sampled_count self.old < count_limit }
         requires sampling { IsSampling self.old }
-        ensures sample { IfOk result (IsSample (sampled_image self.old) (sampled_arrivals self.old) (sampled_count self.old)) }
-        ensures stops { IfErr result (StopsAt (sampled_image self.old) (sampled_arrivals self.old) (sampled_count self.old)) }
+        ensures sample { IfOk result (IsSample (sampled_image self.old) (sampled_arrivals self.old)
+            (sampled_count self.old)) }
+        ensures stops { IfErr result (StopsAt (sampled_image self.old) (sampled_arrivals self.old)
+            (sampled_count self.old)) }
         ensures sampling { OnOk result (IsSampling self.new) }
         ensures count { OnOk result (sampled_count self.new ≡ sampled_count self.old + 1) }
         ensures image { sampled_image self.new ≡ sampled_image self.old }
@@ -100,7 +102,8 @@ impl<'a> Sampler<'a> {
     /// What is seen of the tasks in front of the arrivals of the next count.
     pub(crate) fn look(&mut self) -> Option<Seen>
         requires sampling { IsSampling self.old }
-        ensures seen { result ≡ seen_behind (sampled_image self.old) (sampled_arrivals self.old) (sampled_count self.old) }
+        ensures seen { result ≡ seen_behind (sampled_image self.old) (sampled_arrivals self.old)
+            (sampled_count self.old) }
         ensures same { self.new ≡ self.old }
     {
         tasks_seen(&mut self.runner)
@@ -109,28 +112,19 @@ impl<'a> Sampler<'a> {
     /// The levels of the lines of the image's tasks, in `TASK_LIMIT` places.
     pub fn levels(&mut self) -> [u8; TASK_LIMIT]
         requires sampling { IsSampling self.old }
-        ensures levels { AreSampledLevels (sampled_image self.old) (sampled_arrivals self.old) (sampled_count self.old) result }
+        ensures levels { AreSampledLevels (sampled_image self.old) (sampled_arrivals self.old)
+            (sampled_count self.old) result }
         ensures same { self.new ≡ self.old }
     {
         level_bytes(&mut self.runner)
     }
-}
-
-// The address at which a run goes on, where no line is taken.
-fn next_address(runner: &Runner) -> u32
-    ensures { result ≡ (sloth_state runner.now.machine).pc }
-{
-    runner.machine.pc()
-}
-
-impl<'a> Sampler<'a> {
-    ghost use Rattle.run_samples.specs.Samples.{IsSampling, sampled_image, sampled_arrivals, sampled_count};
 
     /// The address of the instruction of the next count, where no line is taken there.
     pub fn address(&self) -> u32
         requires { IsSampling self.now }
-        ensures { result ≡ address_behind (sampled_image self.now) (sampled_arrivals self.now) (sampled_count self.now) }
+        ensures { result ≡ address_behind (sampled_image self.now) (sampled_arrivals self.now)
+            (sampled_count self.now) }
     {
-        next_address(&self.runner)
+        self.runner.machine.pc()
     }
 }

@@ -37,7 +37,8 @@ impl<'a> Sampler<'a> {
     /// What the service words say at the next count.
     pub fn service_words(&mut self) -> ServiceWords
         requires sampling { IsSampling self.old }
-        ensures words { result ≡ words_behind (sampled_image self.old) (sampled_arrivals self.old) (sampled_count self.old) }
+        ensures words { result ≡ words_behind (sampled_image self.old) (sampled_arrivals self.old)
+            (sampled_count self.old) }
         ensures same { self.new ≡ self.old }
     {
         words_shown(&mut self.runner)

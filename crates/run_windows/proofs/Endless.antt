@@ -1,5 +1,5 @@
 -- What is made round a cycle has no end.
-use Rattle.std.proofs.Common.{◌≡◌, ◌∙◌, ℕ, ◌+◌, ◌*◌, ◌<◌, ◌≤◌, ◌⊎◌, inl, inr, max, Bool, true, false, cond, List, [], ◌∷◌, length, get_or, set, replicate, Option, refl, sym, subst, arith}
+use Rattle.std.proofs.Common.{ap, ◌≡◌, ◌∙◌, ℕ, ◌+◌, ◌*◌, ◌<◌, ◌≤◌, ◌⊎◌, inl, inr, max, Bool, true, false, cond, List, [], ◌∷◌, length, get_or, set, replicate, Option, refl, sym, subst, ap, arith}
 use Rattle.std.specs.Prelude.{◌==◌}
 use Rattle.std.proofs.Math.Nat.{add-mul, mul-add, mul_assoc, mul-le-mul_left, mul-le-mul_right}
 use Rattle.std.proofs.lemmas.Bool.{cases_eq, cases_lt}
@@ -133,10 +133,21 @@ share_counted rule.Once sets a s open_rule some = absurd (open_rule refl)
 pub by_makers : (sets : Bool) (n : Numbers) (x : ℕ) (ms other : List Makings) → ms ≡ other → x ≤ round_makings sets n 0 ms → x ≤ round_makings sets n 0 other
 by_makers sets n x ms other e h = subst (λ (v : List Makings). x ≤ round_makings sets n 0 v) e h
 
--- numbers that code tells up to the greatest sum
-pub some_capped : (sets : Bool) (a s r : ℕ) → r ≡ cond sets (capped s) (capped a) → 1 ≤ r → 1 ≤ cond sets s a
-some_capped true a s r e some = omega (arith, e, some)
-some_capped false a s r e some = omega (arith, e, some)
+-- numbers that code tells up to the greatest sum, of those that count
+pub some_capped : (r : Rule) (sets : Bool) (a s : ℕ) → 1 ≤ share_of sets (counted r (capped a) (capped s)) → IsOpen r → 1 ≤ cond sets s a
+some_capped rule.Out true a s some open_rule = absurd (omega (arith, some))
+some_capped rule.Out false a s some open_rule = absurd (omega (arith, some))
+some_capped rule.Settings true a s some open_rule = omega (arith, some)
+some_capped rule.Settings false a s some open_rule = absurd (omega (arith, some))
+some_capped rule.Each true a s some open_rule = omega (arith, some)
+some_capped rule.Each false a s some open_rule = omega (arith, some)
+some_capped rule.Once sets a s some open_rule = absurd (open_rule refl)
+
+-- a share that code has told
+pub some_share : (sets : Bool) (made is : Made) (n : ℕ) → n ≡ share_of sets made → made ≡ is → (n ≡ 0 → ⊥) → 1 ≤ share_of sets is
+some_share sets made is n e same some =
+    let all : n ≡ share_of sets is = e ∙ ap (share_of sets) same in
+    omega (arith, all, some)
 
 -- ---- a window
 

@@ -195,24 +195,19 @@ raised_rates costs w rates j arrived ticked signalled a s r v whole are lt is op
           settings = more_rate (counted r a s).settings more _ (m j).settings below.settings own.settings;
         })
 
--- the same of lists as code reads them
+-- the same of a task as code reads it
 pub raised_so : (costs : Costs) (w : Window) (rates : List Made) (j arrived ticked signalled a s : ℕ) (r : Rule) (v : Made) → w.span ≡ None → AreRates costs w rates
-    → j < length costs.tasks → r ≡ rule_of costs w j → IsOpen r
-    → (b : Bool) (alarms : List AlarmCosts) (counters : List CounterCosts) (distance : Option ℕ) → b ≡ is_boot w.start → alarms ≡ costs.alarms → counters ≡ costs.counters
-    → distance ≡ (task costs j).distance
-    → ((c : ℕ) → IsRate arrived c (arrivals c distance)) → ((c : ℕ) → IsRate ticked c (ticking b false j c alarms 0 counters))
-    → ((c : ℕ) → IsRate signalled c (ticking b true j c alarms 0 counters))
+    → j < length costs.tasks → r ≡ rule_of costs w j → IsOpen r → (b : Bool) (distance : Option ℕ) → b ≡ is_boot w.start → distance ≡ (task costs j).distance
+    → ((c : ℕ) → IsRate arrived c (arrivals c distance)) → ((c : ℕ) → IsRate ticked c (ticking b false j c costs.alarms 0 costs.counters))
+    → ((c : ℕ) → IsRate signalled c (ticking b true j c costs.alarms 0 costs.counters))
     → a ≤ arrived + ticked + round_makings false (numbers_of rates) 0 (makers costs j)
     → s ≤ signalled + round_makings true (numbers_of rates) 0 (makers costs j)
     → v ≡ counted r a s → AreRates costs w (set rates j v)
-raised_so costs w rates j arrived ticked signalled a s r v whole are lt is open_rule b alarms counters distance eb ea ec ed come tick sign first next e =
+raised_so costs w rates j arrived ticked signalled a s r v whole are lt is open_rule b distance eb ed come tick sign first next e =
     let D : Option ℕ → Type 0 = λ q. (c : ℕ) → IsRate arrived c (arrivals c q) in
     let B : Bool → ℕ → Bool → Type 0 = λ sets k q. (c : ℕ) → IsRate k c (ticking q sets j c costs.alarms 0 costs.counters) in
-    let A : Bool → ℕ → List AlarmCosts → Type 0 = λ sets k q. (c : ℕ) → IsRate k c (ticking b sets j c q 0 costs.counters) in
-    let C : Bool → ℕ → List CounterCosts → Type 0 = λ sets k q. (c : ℕ) → IsRate k c (ticking b sets j c alarms 0 q) in
-    raised_rates costs w rates j arrived ticked signalled a s r v whole are lt is open_rule (subst D ed come)
-    (subst (B false ticked) eb (subst (A false ticked) ea (subst (C false ticked) ec tick)))
-    (subst (B true signalled) eb (subst (A true signalled) ea (subst (C true signalled) ec sign))) first next e
+    raised_rates costs w rates j arrived ticked signalled a s r v whole are lt is open_rule (subst D ed come) (subst (B false ticked) eb tick)
+    (subst (B true signalled) eb sign) first next e
 
 -- ---- curves
 
@@ -323,17 +318,13 @@ no_span None b e f = refl
 no_span (Some x) b e f = absurd (true≢false (sym e ∙ f))
 
 -- the counts of each solution, of one without a span
-pub asked_solution : (costs : Costs) (w : Window) (m : Numbers) (more : ℕ) (c : Curve) (tasks : List TaskCosts) (counters : List CounterCosts) → tasks ≡ costs.tasks
-    → counters ≡ costs.counters → w.span ≡ None → IsSolution costs w m more → IsCurve c more (w.front + round_counts m 0 tasks + tick_counts more counters) → IsCurve c more more
-asked_solution costs w m more c tasks counters same_tasks same_counters whole s h =
+pub asked_solution : (costs : Costs) (w : Window) (m : Numbers) (more : ℕ) (c : Curve) → w.span ≡ None → IsSolution costs w m more
+    → IsCurve c more (w.front + round_counts m 0 costs.tasks + tick_counts more costs.counters) → IsCurve c more more
+asked_solution costs w m more c whole s h =
     let same = whole_span w more whole in
-    let filled : w.front + round_counts m 0 costs.tasks + tick_counts (span_of w more) costs.counters ≤ more = s.filled in
     let P : ℕ → Type 0 = λ k. w.front + round_counts m 0 costs.tasks + tick_counts k costs.counters ≤ more in
-    let few : P more = subst P same filled in
-    let T : List TaskCosts → Type 0 = λ l. IsCurve c more (w.front + round_counts m 0 l + tick_counts more counters) in
-    let C : List CounterCosts → Type 0 = λ l. IsCurve c more (w.front + round_counts m 0 costs.tasks + tick_counts more l) in
-    let all : C costs.counters = subst C same_counters (subst T same_tasks h) in
-    omega (arith, few, all)
+    let few : P more = subst P same s.filled in
+    omega (arith, few, h)
 
 pub front_curve : (front more : ℕ) → IsCurve (record { burst = front; rate = 0 }) more front
 front_curve front more = omega arith

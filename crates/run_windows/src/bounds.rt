@@ -1,9 +1,9 @@
 //! The least numbers and counts of a window, from zeros up, until nothing grows; bounds by them; and a load's demand.
-ghost use Rattle.std.specs.Prelude.{◌≡◌, ◌<◌, length, IfOk, true, false, ◌≤◌};
+ghost use Rattle.std.specs.Prelude.{◌≡◌, ◌<◌, length, IfOk, true, false};
 ghost use Rattle.run_windows.specs.Costs.{greatest_sum, window_limit};
 ghost use Rattle.run_windows.specs.Windows.{numbers_of, is_target_made, IsBound};
 ghost use Rattle.run_windows.specs.Settling.{TakeCounts, AreBelow, slack, IsMet, HasGrown, IsFound};
-ghost use Rattle.run_windows.specs.Demand.{demand_limit, hundredths, IsDemand};
+ghost use Rattle.run_windows.specs.Demand.{IsDemand};
 
 use crate::curves::{counts_ahead, has_cycle, raise_rates};
 use crate::rounds::{WINDOW_LIMIT, made_within, number_of, window_counts};
@@ -11,7 +11,6 @@ use crate::window::{NEVER, Window};
 use crate::{Costs, Made, Start};
 use sloth_base::{Result, TASK_LIMIT};
 use std::alloc::Global;
-use text_pieces::push;
 
 fn is_target_made(target: Option<usize>, numbers: &[Made]) -> bool
     ensures { result ≡ is_target_made target (numbers_of numbers.now) }
@@ -51,11 +50,7 @@ pub fn window_bound(costs: &Costs, window: &Window, numbers: &mut [Made]) -> Opt
 pub fn room(alloc: Global, count: usize) -> Result<Vec<Made>>
     ensures { IfOk result (λ numbers. length numbers.items ≡ count) }
 {
-    let mut numbers = Vec::new(alloc);
-    for i in 0..count {
-        push(&mut numbers, NEVER)?;
-    }
-    Ok(numbers)
+    Ok(Vec::from_elem(alloc, NEVER, count)?)
 }
 
 /// Makes the numbers of a task what comes of it, where that is more: whether one has grown.
@@ -151,28 +146,6 @@ const DEMAND_LIMIT: u64 = 8_000_000_000;
 /// The counts of which a demand is told.
 const DEMAND_SPAN: u64 = 2_000_000_000;
 
-fn hundredths(counts: u64) -> u32
-    requires { counts ≤ demand_limit }
-    ensures { result ≡ hundredths counts }
-{
-    ((counts + 19_999_999) / 20_000_000) as u32
-}
-
-fn told_demand(costs: &Costs, numbers: &mut [Made]) -> Option<u32>
-    requires costs { TakeCounts costs.now }
-    requires count { length numbers.old ≡ length costs.now.tasks }
-    ensures { IsDemand costs.now result }
-{
-    let window = Window {
-        target: None,
-        start: Start::Free,
-        front: 0,
-        span: Some(DEMAND_SPAN),
-    };
-    let counts = bound(costs, &window, DEMAND_LIMIT, numbers)?;
-    Some(hundredths(counts))
-}
-
 /// How many hundredths of the processor's counts the arrivals within 2,000,000,000 counts ask for, rounded up; none
 /// where it is above 400, or where what it is computed from has no limit.
 pub fn demand(alloc: Global, costs: &Costs) -> Result<Option<u32>>
@@ -180,5 +153,14 @@ pub fn demand(alloc: Global, costs: &Costs) -> Result<Option<u32>>
     ensures { IfOk result (λ p. IsDemand costs.now p) }
 {
     let mut numbers = room(alloc, costs.tasks.items().len())?;
-    Ok(told_demand(costs, &mut numbers))
+    let window = Window {
+        target: None,
+        start: Start::Free,
+        front: 0,
+        span: Some(DEMAND_SPAN),
+    };
+    match bound(costs, &window, DEMAND_LIMIT, &mut numbers) {
+        Some(counts) => Ok(Some(((counts + 19_999_999) / 20_000_000) as u32)),
+        None => Ok(None),
+    }
 }

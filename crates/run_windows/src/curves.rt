@@ -10,12 +10,15 @@ ghost use Rattle.run_windows.specs.Costs.{capped};
 
 use crate::level::{counted, is_boot, makers, rule_of, task};
 use crate::rounds::{
-    ENDLESS, acts_on, arrivals, makings_within, number_of, of_makings, plus, reckoned,
-    round_makings, times,
+    ENDLESS, acts_on, arrivals, made_within, number_of, of_makings, plus, reckoned, round_makings,
+    times,
 };
 use crate::window::{NEVER, Rule, Window};
-use crate::{AlarmCosts, Costs, CounterCosts, Made, Makings, TaskCosts};
+use crate::{AlarmCosts, Costs, Made, Makings};
 use sloth_base::TASK_LIMIT;
+
+/// A number of makings of each task.
+pub type Row = [Made; TASK_LIMIT];
 
 /// At least `burst`, and besides `rate` in each 2,147,483,647 counts.
 #[derive(Clone, Copy)]
@@ -40,36 +43,30 @@ fn with_more(curve: Curve, number: u64, rate: u64, counts: u64, each: u64) -> Cu
 }
 
 // Besides a curve the counts of rounds.
-fn with_rounds(
-    curve: Curve,
-    numbers: &[Made],
-    rates: &[Made],
-    counts: u64,
-    tasks: &[TaskCosts],
-) -> Curve
+fn with_rounds(curve: Curve, made: &[Made], rates: &Row, counts: u64, costs: &Costs) -> Curve
     ensures { (more y : ℕ) (m : Numbers) → IsCurve curve more y
-        → ((k : ℕ) → IsAtMost (numbers_of numbers.now k) (m k))
+        → ((k : ℕ) → IsAtMost (numbers_of made.now k) (m k))
         → ((k : ℕ) → AreRatesOf (numbers_of rates.now k) more (m k))
-        → IsCurve result more (y + round_counts m 0 tasks.now) }
+        → IsCurve result more (y + round_counts m 0 costs.now.tasks) }
 {
     let mut sum = curve;
-    for (k, task) in tasks.iter().enumerate() {
-        let made = number_of(numbers, k);
+    for (k, task) in costs.tasks.items().iter().enumerate() {
+        let number = number_of(made, k);
         let by = number_of(rates, k);
         let (first, next) = (reckoned(task.first), reckoned(task.next));
-        let firsts = with_more(sum, made.activations, by.activations, counts, first);
-        sum = with_more(firsts, made.settings, by.settings, counts, next);
+        let firsts = with_more(sum, number.activations, by.activations, counts, first);
+        sum = with_more(firsts, number.settings, by.settings, counts, next);
     }
     sum
 }
 
 // Besides a curve those of ticks.
-fn with_ticks(curve: Curve, counts: u64, counters: &[CounterCosts]) -> Curve
+fn with_ticks(curve: Curve, counts: u64, costs: &Costs) -> Curve
     ensures { (more y : ℕ) → IsCurve curve more y → counts ≤ more
-        → IsCurve result more (y + tick_counts more counters.now) }
+        → IsCurve result more (y + tick_counts more costs.now.counters) }
 {
     let mut sum = curve;
-    for counter in counters {
+    for counter in costs.counters.items() {
         let ticks = arrivals(counts, counter.distance);
         let rate = arrival_rate(RATE_SPAN, counter.distance);
         sum = with_more(sum, ticks, rate, counts, u64::from(counter.tick));
@@ -88,14 +85,8 @@ fn least_counts(curve: Curve) -> u64
 }
 
 /// The counts below which there is no solution of a window, of which tasks are made that often, and by these rates.
-pub fn counts_ahead(
-    costs: &Costs,
-    window: &Window,
-    numbers: &[Made],
-    rates: &[Made],
-    counts: u64,
-) -> u64
-    requires below { AreBelow costs.now window.now numbers.now counts }
+pub fn counts_ahead(costs: &Costs, window: &Window, made: &[Made], rates: &Row, counts: u64) -> u64
+    requires below { AreBelow costs.now window.now made.now counts }
     requires rates { AreRates costs.now window.now rates.now }
     ensures { (m : Numbers) (more : ℕ) → IsSolution costs.now window.now m more → result ≤ more }
 {
@@ -106,8 +97,8 @@ pub fn counts_ahead(
         burst: window.front,
         rate: 0,
     };
-    let rounds = with_rounds(front, numbers, rates, counts, costs.tasks.items());
-    least_counts(with_ticks(rounds, counts, costs.counters.items()))
+    let rounds = with_rounds(front, made, rates, counts, costs);
+    least_counts(with_ticks(rounds, counts, costs))
 }
 
 /// The counts for which rates are told.
@@ -139,21 +130,13 @@ fn expiry_rate(boot: bool, alarm: &AlarmCosts, ticks: u64) -> u64
     arrival_rate(ticks, Some(alarm.cycle))
 }
 
-// Of those of a counter's alarms that set events of a task, or activate it.
-fn expiring_rate(
-    boot: bool,
-    sets: bool,
-    counter: usize,
-    task: usize,
-    ticks: u64,
-    alarms: &[AlarmCosts],
-) -> u64
+fn expiring_rate(boot: bool, sets: bool, costs: &Costs, c: usize, j: usize, ticks: u64) -> u64
     ensures { (counts x : ℕ) → IsRate ticks counts x
-        → IsRate result counts (expiring boot sets counter task x alarms.now) }
+        → IsRate result counts (expiring boot sets c j x costs.now.alarms) }
 {
     let mut total = 0;
-    for alarm in alarms {
-        if acts_on(sets, counter, task, alarm) {
+    for alarm in costs.alarms.items() {
+        if acts_on(sets, c, j, alarm) {
             total = plus(total, expiry_rate(boot, alarm, ticks));
         }
     }
@@ -161,26 +144,20 @@ fn expiring_rate(
 }
 
 // How often ticks set events of a task, or activate it.
-fn ticking_rate(
-    boot: bool,
-    sets: bool,
-    task: usize,
-    alarms: &[AlarmCosts],
-    counters: &[CounterCosts],
-) -> u64
-    ensures { (counts : ℕ) → IsRate result counts (ticking boot sets task counts alarms.now 0 counters.now) }
+fn ticking_rate(boot: bool, sets: bool, costs: &Costs, j: usize) -> u64
+    ensures { (counts : ℕ) → IsRate result counts (ticking boot sets j counts costs.now.alarms 0 costs.now.counters) }
 {
     let mut total = 0;
-    for (c, counter) in counters.iter().enumerate() {
+    for (c, counter) in costs.counters.items().iter().enumerate() {
         let ticks = arrival_rate(RATE_SPAN, counter.distance);
-        let made = expiring_rate(boot, sets, c, task, ticks, alarms);
+        let made = expiring_rate(boot, sets, costs, c, j, ticks);
         total = plus(total, ticks.min(made));
     }
     total
 }
 
 // The rates of a task, by those of the tasks that make it: whether they were less.
-fn raise(costs: &Costs, window: &Window, j: usize, rates: &mut [Made; TASK_LIMIT]) -> bool
+fn raise(costs: &Costs, window: &Window, j: usize, rates: &mut Row) -> bool
     requires inside { j < length costs.now.tasks }
     requires whole { window.now.span ≡ None }
     requires rates { AreRates costs.now window.now rates.old }
@@ -191,13 +168,11 @@ fn raise(costs: &Costs, window: &Window, j: usize, rates: &mut [Made; TASK_LIMIT
         return false;
     }
     let boot = is_boot(window.start);
-    let alarms = costs.alarms.items();
-    let counters = costs.counters.items();
     let arrived = arrival_rate(RATE_SPAN, task(costs, j).distance);
-    let ticked = ticking_rate(boot, false, j, alarms, counters);
+    let ticked = ticking_rate(boot, false, costs, j);
     let made = round_makings(false, rates, makers(costs, j));
     let activated = plus(plus(arrived, ticked), made);
-    let signalled = ticking_rate(boot, true, j, alarms, counters);
+    let signalled = ticking_rate(boot, true, costs, j);
     let set = plus(signalled, round_makings(true, rates, makers(costs, j)));
     let rate = counted(rule, activated, set);
     let old = rates[j];
@@ -209,7 +184,7 @@ fn raise(costs: &Costs, window: &Window, j: usize, rates: &mut [Made; TASK_LIMIT
 }
 
 /// Raises rates to those that follow from arrivals, where this is due.
-pub fn raise_rates(costs: &Costs, window: &Window, due: bool, rates: &mut [Made; TASK_LIMIT])
+pub fn raise_rates(costs: &Costs, window: &Window, due: bool, rates: &mut Row)
     requires rates { AreRates costs.now window.now rates.old }
     ensures { AreRates costs.now window.now rates.new }
 {
@@ -237,37 +212,25 @@ pub fn is_open(which: Rule) -> bool
     }
 }
 
-// Whether each setting of its events counts; or each activation.
-fn is_share_counted(sets: bool, which: Rule) -> bool
-    ensures { result ≡ true → 1 ≤ share_of sets (counted which 1 1) }
+// How often events of a task are set; or how often it is activated.
+fn share(sets: bool, made: Made) -> u64
+    ensures { result ≡ share_of sets made }
 {
-    let made = counted(which, 1, 1);
     if sets {
-        made.settings != 0
+        made.settings
     } else {
-        made.activations != 0
+        made.activations
     }
 }
 
 fn one_share(sets: bool) -> Made
     ensures { result ≡ one_share sets }
 {
-    if sets {
-        Made::new(0, 1)
-    } else {
-        Made::new(1, 0)
-    }
+    Made::new(u64::from(!sets), u64::from(sets))
 }
 
 // Marks a task that marked ones make: whether it was not marked.
-fn mark(
-    costs: &Costs,
-    window: &Window,
-    sets: bool,
-    t: usize,
-    j: usize,
-    marks: &mut [Made; TASK_LIMIT],
-) -> bool
+fn mark(costs: &Costs, window: &Window, sets: bool, t: usize, j: usize, marks: &mut Row) -> bool
     requires inside { j < length costs.now.tasks }
     requires marked { AreMultiples costs.now window.now sets t marks.old }
     ensures { AreMultiples costs.now window.now sets t marks.new }
@@ -290,7 +253,7 @@ fn mark(
     true
 }
 
-fn reach(costs: &Costs, window: &Window, sets: bool, t: usize, marks: &mut [Made; TASK_LIMIT])
+fn reach(costs: &Costs, window: &Window, sets: bool, t: usize, marks: &mut Row)
     requires marked { AreMultiples costs.now window.now sets t marks.old }
     ensures { AreMultiples costs.now window.now sets t marks.new }
 {
@@ -319,7 +282,7 @@ fn unmarked(marks: Made, numbers: Made) -> Made
 }
 
 // How often rounds of tasks that are not marked activate a task, or set its events.
-fn rest_makings(sets: bool, marks: &[Made; TASK_LIMIT], numbers: &[Made], makers: &[Makings]) -> u64
+fn rest_makings(sets: bool, marks: &Row, numbers: &[Made], makers: &[Makings]) -> u64
     ensures { result ≡ capped (round_makings sets (rest (numbers_of marks.now) (numbers_of numbers.now)) 0 makers.now) }
 {
     let mut total = 0;
@@ -331,20 +294,13 @@ fn rest_makings(sets: bool, marks: &[Made; TASK_LIMIT], numbers: &[Made], makers
 }
 
 // Whether a task, which something else makes, makes itself by the rounds that follow from its own.
-fn closes(
-    costs: &Costs,
-    window: &Window,
-    numbers: &[Made],
-    counts: u64,
-    sets: bool,
-    t: usize,
-) -> bool
+fn closes(costs: &Costs, window: &Window, made: &[Made], counts: u64, sets: bool, t: usize) -> bool
     requires inside { t < length costs.now.tasks }
-    requires below { AreBelow costs.now window.now numbers.now counts }
+    requires below { AreBelow costs.now window.now made.now counts }
     ensures { result ≡ true → HasNone costs.now window.now }
 {
     let rule = rule_of(costs, window, t);
-    if t >= TASK_LIMIT || !is_open(rule) || !is_share_counted(sets, rule) {
+    if t >= TASK_LIMIT || !is_open(rule) || share(sets, counted(rule, 1, 1)) == 0 {
         return false;
     }
     let mut marks = [NEVER; TASK_LIMIT];
@@ -353,10 +309,10 @@ fn closes(
     if round_makings(sets, &marks, makers(costs, t)) == 0 {
         return false;
     }
-    if makings_within(sets, costs, window, &[], counts, t) != 0 {
+    if share(sets, made_within(costs, window, &[], counts, t)) != 0 {
         return true;
     }
-    rest_makings(sets, &marks, numbers, makers(costs, t)) != 0
+    rest_makings(sets, &marks, made, makers(costs, t)) != 0
 }
 
 /// Whether some task makes itself so, of those that are made that often at least: then what comes has no end.

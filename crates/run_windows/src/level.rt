@@ -2,8 +2,8 @@
 ghost use Rattle.std.specs.Prelude.{◌≡◌, ◌≤◌, ◌&&◌};
 ghost use Rattle.run_windows.specs.Costs.{greatest_sum, reckoned, task, comes, making, makers, section_making};
 ghost use Rattle.run_windows.specs.Costs.{section, joins, lesser, section_counts};
-ghost use Rattle.run_windows.specs.Windows.{is_lower, is_left_out, is_below, is_round, rule_of, counted, greater};
-ghost use Rattle.run_windows.specs.Windows.{round_made, activated_once, begun, is_boot, span_of};
+ghost use Rattle.run_windows.specs.Windows.{is_lower, is_left_out, is_round, rule_of, counted, greater};
+ghost use Rattle.run_windows.specs.Windows.{round_made, begun, is_boot};
 ghost use Rattle.run_windows.specs.RunWindows.{is_joined, is_apart, call_path, may_serve, services_front, makes};
 ghost use Rattle.run_windows.specs.RunWindows.{services_of, is_made_in_front, activation_front, setting_front};
 ghost use Rattle.run_windows.specs.RunWindows.{start_counts, start_service, front_of};
@@ -95,22 +95,11 @@ pub fn is_left_out(costs: &Costs, h: usize, k: usize) -> bool
     is_lower(costs, h, k) || !comes(costs, k)
 }
 
-/// Whether a task is lower than h, and comes.
-pub fn is_below(costs: &Costs, h: usize, k: usize) -> bool
-    ensures { result ≡ is_below costs.now h k }
-{
-    is_lower(costs, h, k) && comes(costs, k)
-}
-
 /// Whether a window begins in a round of task j.
 pub fn is_round(start: Start, j: usize) -> bool
     ensures { result ≡ is_round start j }
 {
-    match start {
-        Start::Round(k) => k == j,
-        Start::Free | Start::Boot | Start::Activation(_) | Start::Setting(_) | Start::Section(_) =>
-            false,
-    }
+    matches!(start, Start::Round(k) if k == j)
 }
 
 /// Which makings of a task count in a window.
@@ -158,17 +147,10 @@ fn round_made(costs: &Costs, k: usize, j: usize) -> Made
     ensures { result ≡ round_made costs.now k j }
 {
     let makings = making(costs, k, j);
-    let set = if k == j { 1 } else { 0 };
     Made {
         activations: greater(makings.first_activations, makings.next_activations),
-        settings: greater(makings.first_settings, makings.next_settings) + set,
+        settings: greater(makings.first_settings, makings.next_settings) + u64::from(k == j),
     }
-}
-
-fn activated(test: bool) -> Made
-    ensures { result ≡ activated_once test }
-{
-    Made::new(if test { 1 } else { 0 }, 0)
 }
 
 /// What the start of a window makes of a task.
@@ -177,9 +159,9 @@ pub fn begun(costs: &Costs, window: &Window, j: usize) -> Made
 {
     match window.start {
         Start::Free => NEVER,
-        Start::Boot => activated(task(costs, j).is_autostarted),
-        Start::Activation(t) => activated(t == j),
-        Start::Setting(t) => Made::new(0, if t == j { 1 } else { 0 }),
+        Start::Boot => Made::new(u64::from(task(costs, j).is_autostarted), 0),
+        Start::Activation(t) => Made::new(u64::from(t == j), 0),
+        Start::Setting(t) => Made::new(0, u64::from(t == j)),
         Start::Section(k) => {
             let made = section_making(costs, window.target.unwrap_or(0), k, j);
             Made::new(reckoned(made.activations), reckoned(made.settings))
@@ -193,13 +175,6 @@ pub fn is_boot(start: Start) -> bool
     ensures { result ≡ is_boot start }
 {
     matches!(start, Start::Boot)
-}
-
-/// The counts within which a window of so many counts counts arrivals.
-pub fn span_of(window: &Window, counts: u64) -> u64
-    ensures { result ≡ span_of window.now counts }
-{
-    window.span.unwrap_or(counts)
 }
 
 /// How a task may be made Ready in front of a window.
@@ -324,14 +299,14 @@ fn joins(costs: &Costs, h: usize, k: usize) -> bool
 pub fn is_joined(costs: &Costs, h: usize, k: usize) -> bool
     ensures { result ≡ is_joined costs.now h k }
 {
-    is_below(costs, h, k) && joins(costs, h, k)
+    is_lower(costs, h, k) && comes(costs, k) && joins(costs, h, k)
 }
 
 /// Whether its sections count in their place.
 pub fn is_apart(costs: &Costs, h: usize, k: usize) -> bool
     ensures { result ≡ is_apart costs.now h k }
 {
-    is_below(costs, h, k) && !joins(costs, h, k)
+    is_lower(costs, h, k) && comes(costs, k) && !joins(costs, h, k)
 }
 
 /// The lesser of two greatest numbers, if there is one.

@@ -2,7 +2,7 @@
 ghost use Rattle.std.specs.Prelude.{◌≡◌, ◌<◌, ◌+◌, ◌-◌, Bool, length, IfOk, ◌++◌, OnOk, Some, cond};
 ghost use Rattle.run_windows.specs.Settling.{TakeCounts};
 ghost use Rattle.run_windows.specs.RunWindows.{margin, begun_item, lead_of, run_window, run_starts, IsNumber};
-ghost use Rattle.run_windows.specs.RunWindows.{start_if, task_starts, run_task_starts, start_service};
+ghost use Rattle.run_windows.specs.RunWindows.{start_if, task_starts, start_service};
 ghost use Rattle.run_windows.specs.Longest.{longer, IsLongerIf, IsLongest, AreParts};
 ghost use Rattle.run_windows.specs.Windows.{numbers_of, IsLeast};
 
@@ -185,15 +185,6 @@ fn push_task(starts: &mut Vec<Start>, costs: &Costs, h: usize, j: usize) -> Resu
     push_if(starts, is_joined(costs, h, j), Start::Round(j))
 }
 
-fn push_tasks(starts: &mut Vec<Start>, costs: &Costs, h: usize) -> Result<()>
-    ensures { OnOk result (starts.new.items ≡ starts.old.items ++ run_task_starts costs.now h 0 costs.now.tasks) }
-{
-    for j in 0..costs.tasks.items().len() {
-        push_task(starts, costs, h, j)?;
-    }
-    Ok(())
-}
-
 /// All starts of a task; or all but boot.
 pub fn run_starts(alloc: Global, costs: &Costs, h: usize, boot: bool) -> Result<Vec<Start>>
     ensures { IfOk result (λ list. list.items ≡ run_starts costs.now h boot) }
@@ -201,7 +192,9 @@ pub fn run_starts(alloc: Global, costs: &Costs, h: usize, boot: bool) -> Result<
     let mut starts = Vec::new(alloc);
     push(&mut starts, Start::Free)?;
     push_if(&mut starts, boot, Start::Boot)?;
-    push_tasks(&mut starts, costs, h)?;
+    for j in 0..costs.tasks.items().len() {
+        push_task(&mut starts, costs, h, j)?;
+    }
     Ok(starts)
 }
 

@@ -1,13 +1,15 @@
 //! What comes within a window: arrivals, expiries of alarms, activations, settings of events and counts.
 //! Numbers up to 8,000,000,001, for which all that is greater, or has no limit, stands.
-ghost use Rattle.std.specs.Prelude.{◌≡◌, cond, ◌+◌, ◌*◌, ◌≤◌};
+ghost use Rattle.std.specs.Prelude.{◌≡◌, ◌+◌, ◌*◌, ◌≤◌};
 ghost use Rattle.run_windows.specs.Costs.{capped, greatest_sum, reckoned};
-ghost use Rattle.run_windows.specs.Windows.{numbers_of, shared, of_makings, round_makings, rule_of, counted, activations, settings, round_counts, window_counts};
-ghost use Rattle.run_windows.specs.Arrivals.{arrivals, cyclic_expiries, expiries, acts_on, expiring, ticking, tick_counts};
+ghost use Rattle.run_windows.specs.Windows.{numbers_of, shared, of_makings, round_makings, rule_of, counted};
+ghost use Rattle.run_windows.specs.Windows.{activations, settings, round_counts, window_counts};
+ghost use Rattle.run_windows.specs.Arrivals.{arrivals, cyclic_expiries, expiries, acts_on, expiring, ticking};
+ghost use Rattle.run_windows.specs.Arrivals.{tick_counts};
 
-use crate::level::{begun, counted, is_boot, makers, rule_of, span_of};
+use crate::level::{begun, counted, is_boot, makers, rule_of, task};
 use crate::window::{NEVER, Window};
-use crate::{AlarmCosts, Costs, CounterCosts, Made, Makings, TaskCosts, task};
+use crate::{AlarmCosts, Costs, CounterCosts, Made, Makings, TaskCosts};
 
 /// How often task k is made; never behind the last one.
 pub fn number_of(numbers: &[Made], k: usize) -> Made
@@ -20,10 +22,8 @@ pub fn number_of(numbers: &[Made], k: usize) -> Made
 fn shared(made: Made, first: Option<u32>, next: Option<u32>) -> u64
     ensures { result ≡ capped (shared made first next) }
 {
-    plus(
-        times(made.activations, reckoned(first)),
-        times(made.settings, reckoned(next)),
-    )
+    let firsts = times(made.activations, reckoned(first));
+    plus(firsts, times(made.settings, reckoned(next)))
 }
 
 /// How often the rounds of a task that is made so often activate another one, or set its events.
@@ -58,40 +58,20 @@ fn round_counts(numbers: &[Made], tasks: &[TaskCosts]) -> u64
     total
 }
 
-/// How often a task is activated within a window of so many counts, or its events are set.
-pub fn makings_within(
-    sets: bool,
-    costs: &Costs,
-    window: &Window,
-    numbers: &[Made],
-    counts: u64,
-    j: usize,
-) -> u64
-    ensures { result ≡ cond sets (capped (settings costs.now window.now (numbers_of numbers.now) counts j))
-        (capped (activations costs.now window.now (numbers_of numbers.now) counts j)) }
-{
-    let span = span_of(window, counts);
-    let (alarms, counters) = (costs.alarms.items(), costs.counters.items());
-    let begun = begun(costs, window, j);
-    let first = if sets {
-        begun.settings
-    } else {
-        plus(begun.activations, arrivals(span, task(costs, j).distance))
-    };
-    let ticked = ticking(is_boot(window.start), sets, j, span, alarms, counters);
-    let made = round_makings(sets, numbers, makers(costs, j));
-    plus(plus(first, ticked), made)
-}
-
 /// How often a task is made within a window of so many counts, in which all are made that often.
 pub fn made_within(costs: &Costs, window: &Window, numbers: &[Made], counts: u64, j: usize) -> Made
     ensures { result ≡ counted (rule_of costs.now window.now j)
         (capped (activations costs.now window.now (numbers_of numbers.now) counts j))
         (capped (settings costs.now window.now (numbers_of numbers.now) counts j)) }
 {
-    let activated = makings_within(false, costs, window, numbers, counts, j);
-    let signalled = makings_within(true, costs, window, numbers, counts, j);
-    counted(rule_of(costs, window, j), activated, signalled)
+    let (boot, span) = (is_boot(window.start), window.span.unwrap_or(counts));
+    let begun = begun(costs, window, j);
+    let arrived = plus(begun.activations, arrivals(span, task(costs, j).distance));
+    let started = plus(arrived, ticking(boot, false, costs, j, span));
+    let activated = plus(started, round_makings(false, numbers, makers(costs, j)));
+    let signalled = plus(begun.settings, ticking(boot, true, costs, j, span));
+    let set = plus(signalled, round_makings(true, numbers, makers(costs, j)));
+    counted(rule_of(costs, window, j), activated, set)
 }
 
 /// The counts of a window of so many counts, in which tasks are made that often.
@@ -99,7 +79,7 @@ pub fn window_counts(costs: &Costs, window: &Window, numbers: &[Made], counts: u
     ensures { result ≡ capped (window_counts costs.now window.now (numbers_of numbers.now) counts) }
 {
     let rounds = round_counts(numbers, costs.tasks.items());
-    let ticks = tick_counts(span_of(window, counts), costs.counters.items());
+    let ticks = tick_counts(window.span.unwrap_or(counts), costs.counters.items());
     plus(plus(window.front, rounds), ticks)
 }
 
@@ -151,41 +131,26 @@ pub fn acts_on(sets: bool, counter: usize, task: usize, alarm: &AlarmCosts) -> b
     alarm.counter as usize == counter && (alarm.task as usize == task && alarm.sets_events == sets)
 }
 
-// The expiries of a counter's alarms that set events of a task, or activate it.
-fn expiring(
-    boot: bool,
-    sets: bool,
-    counter: usize,
-    task: usize,
-    ticks: u64,
-    alarms: &[AlarmCosts],
-) -> u64
-    ensures { result ≡ capped (expiring boot sets counter task ticks alarms.now) }
+fn expiring(boot: bool, sets: bool, costs: &Costs, c: usize, j: usize, ticks: u64) -> u64
+    ensures { result ≡ capped (expiring boot sets c j ticks costs.now.alarms) }
 {
     let mut total = 0;
-    for alarm in alarms {
-        if acts_on(sets, counter, task, alarm) {
+    for alarm in costs.alarms.items() {
+        if acts_on(sets, c, j, alarm) {
             total = plus(total, expiries(boot, alarm, ticks));
         }
     }
     total
 }
 
-/// How often ticks set events of a task, or activate it.
-pub fn ticking(
-    boot: bool,
-    sets: bool,
-    task: usize,
-    counts: u64,
-    alarms: &[AlarmCosts],
-    counters: &[CounterCosts],
-) -> u64
-    ensures { result ≡ capped (ticking boot sets task counts alarms.now 0 counters.now) }
+// How often ticks set events of a task, or activate it.
+fn ticking(boot: bool, sets: bool, costs: &Costs, j: usize, counts: u64) -> u64
+    ensures { result ≡ capped (ticking boot sets j counts costs.now.alarms 0 costs.now.counters) }
 {
     let mut total = 0;
-    for (c, counter) in counters.iter().enumerate() {
+    for (c, counter) in costs.counters.items().iter().enumerate() {
         let ticks = arrivals(counts, counter.distance);
-        let made = expiring(boot, sets, c, task, ticks, alarms);
+        let made = expiring(boot, sets, costs, c, j, ticks);
         total = plus(total, ticks.min(made));
     }
     total
@@ -209,19 +174,13 @@ pub const ENDLESS: u64 = 8_000_000_001;
 /// The counts above which a window has no bound.
 pub const WINDOW_LIMIT: u64 = 2_147_483_647;
 
-fn capped(number: u64) -> u64
-    ensures { result ≡ capped number }
-{
-    number.min(ENDLESS)
-}
-
 /// A greatest number as a number of counts: `ENDLESS` where there is none.
 pub fn reckoned(most: Option<u32>) -> u64
     ensures is { result ≡ reckoned most }
     ensures short { result ≤ greatest_sum }
 {
     match most {
-        Some(most) => capped(u64::from(most)),
+        Some(most) => u64::from(most).min(ENDLESS),
         None => ENDLESS,
     }
 }
@@ -230,12 +189,12 @@ pub fn reckoned(most: Option<u32>) -> u64
 pub fn plus(one: u64, other: u64) -> u64
     ensures { result ≡ capped (one + other) }
 {
-    capped(one.saturating_add(other))
+    one.saturating_add(other).min(ENDLESS)
 }
 
 /// The product of two numbers, `ENDLESS` where it is that or more.
 pub fn times(one: u64, other: u64) -> u64
     ensures { result ≡ capped (one * other) }
 {
-    capped(one.saturating_mul(other))
+    one.saturating_mul(other).min(ENDLESS)
 }

@@ -84,8 +84,5 @@ pub struct Longest {
 pub fn number_of(window: Option<Longest>) -> Option<u32>
     ensures { result ≡ number_of window }
 {
-    match window {
-        Some(window) => Some(window.number),
-        None => None,
-    }
+    Some(window?.number)
 }

@@ -1,9 +1,15 @@
 //! Instructions by mnemonic, operands in the order of RISC-V assembly; loads and stores name the base, then the offset.
+//! The loads and stores of memory by their width.
 ghost use Rattle.std.specs.Prelude.{◌≡◌};
-ghost use Rattle.rv32_instr.specs.declared.InstrKind.TheVariants.{Lui, Auipc, Jal, Jalr, Beq, Bne, Blt, Bge, Bltu, Bgeu, Lb, Lh, Lw, Lbu, Lhu, Sb, Sh, Sw, Addi, Slti, Sltiu, Xori, Ori, Andi, Slli, Srli, Srai, Add, Sub, Sll, Slt, Sltu, Xor, Srl, Sra, Or, And, Csrrw, Csrrs, Csrrwi, Csrrci, Mret};
+ghost use Rattle.rv32_instr.specs.declared.InstrKind.TheVariants.{Lui, Auipc, Jal, Jalr, Beq, Bne, Blt, Bge, Bltu};
+ghost use Rattle.rv32_instr.specs.declared.InstrKind.TheVariants.{Bgeu, Lb, Lh, Lw, Lbu, Lhu, Sb, Sh, Sw, Addi, Slti};
+ghost use Rattle.rv32_instr.specs.declared.InstrKind.TheVariants.{Sltiu, Xori, Ori, Andi, Slli, Srli, Srai, Add, Sub};
+ghost use Rattle.rv32_instr.specs.declared.InstrKind.TheVariants.{Sll, Slt, Sltu, Xor, Srl, Sra, Or, And, Csrrw, Csrrs};
+ghost use Rattle.rv32_instr.specs.declared.InstrKind.TheVariants.{Csrrwi, Csrrci, Mret};
+ghost use Rattle.rv32_instr.specs.Access.{load, store};
 
 use crate::InstrKind;
-use sloth_base::Reg;
+use sloth_base::{Reg, Width};
 
 pub const ZERO: Reg = Reg(0);
 
@@ -315,4 +321,28 @@ pub fn mret() -> InstrKind
     ensures { result ≡ Mret }
 {
     InstrKind::Mret
+}
+
+/// rd := what stands at base + offset.
+pub fn load(width: Width, rd: Reg, base: Reg, offset: i32) -> InstrKind
+    ensures { result ≡ load width rd base offset }
+{
+    match width {
+        Width::Byte => lb(rd, base, offset),
+        Width::Half => lh(rd, base, offset),
+        Width::Word => lw(rd, base, offset),
+        Width::ByteU => lbu(rd, base, offset),
+        Width::HalfU => lhu(rd, base, offset),
+    }
+}
+
+/// What stands at base + offset := the low part of rs.
+pub fn store(width: Width, rs: Reg, base: Reg, offset: i32) -> InstrKind
+    ensures { result ≡ store width rs base offset }
+{
+    match width {
+        Width::Byte | Width::ByteU => sb(rs, base, offset),
+        Width::Half | Width::HalfU => sh(rs, base, offset),
+        Width::Word => sw(rs, base, offset),
+    }
 }

@@ -2,10 +2,12 @@
 
 ghost use Rattle.std.specs.Prelude.{◌≡◌, Some, ◌↔◌};
 ghost use Rattle.rv32_instr.specs.Words.{opcode, rd, funct3, rs1, rs2, funct7, csr, imm_i, imm_s, imm_b, imm_u, imm_j};
-ghost use Rattle.rv32_instr.specs.Table.{Decode, jump, branch, load, store, immediate, register, control, fence, system};
+ghost use Rattle.rv32_instr.specs.Table.{Decode, jump, branch, load, store, immediate, register, control, fence};
+ghost use Rattle.rv32_instr.specs.Table.{system};
 ghost use Rattle.rv32_instr.specs.Encode.{IsWordOf};
 ghost use Rattle.rv32_instr.specs.declared.InstrKind.{InstrKind};
 
+use crate::asm::{auipc, jal, lui};
 use crate::encoding::{
     AUIPC, BRANCH, EBREAK, ECALL, JAL, JALR, LOAD, LUI, MISC_MEM, MRET, OP, OP_IMM, STORE, SYSTEM,
 };
@@ -188,25 +190,14 @@ fn register(funct7: u32, funct3: u32, rd: Reg, rs1: Reg, rs2: Reg) -> Option<Ins
 fn control(funct3: u32, rd: Reg, rs1: Reg, csr: u16) -> Option<InstrKind>
     ensures { result ≡ control funct3 rd rs1 csr }
 {
+    let number = rs1.0;
     match funct3 {
         0b001 => Some(InstrKind::Csrrw { rd, rs1, csr }),
         0b010 => Some(InstrKind::Csrrs { rd, rs1, csr }),
         0b011 => Some(InstrKind::Csrrc { rd, rs1, csr }),
-        0b101 => Some(InstrKind::Csrrwi {
-            rd,
-            number: rs1.0,
-            csr,
-        }),
-        0b110 => Some(InstrKind::Csrrsi {
-            rd,
-            number: rs1.0,
-            csr,
-        }),
-        0b111 => Some(InstrKind::Csrrci {
-            rd,
-            number: rs1.0,
-            csr,
-        }),
+        0b101 => Some(InstrKind::Csrrwi { rd, number, csr }),
+        0b110 => Some(InstrKind::Csrrsi { rd, number, csr }),
+        0b111 => Some(InstrKind::Csrrci { rd, number, csr }),
         _ => None,
     }
 }
@@ -240,18 +231,9 @@ fn decode_kind(word: u32) -> Option<InstrKind>
     ensures { result ≡ Decode word }
 {
     match opcode(word) {
-        LUI => Some(InstrKind::Lui {
-            rd: rd(word),
-            imm: imm_u(word),
-        }),
-        AUIPC => Some(InstrKind::Auipc {
-            rd: rd(word),
-            imm: imm_u(word),
-        }),
-        JAL => Some(InstrKind::Jal {
-            rd: rd(word),
-            imm: imm_j(word),
-        }),
+        LUI => Some(lui(rd(word), imm_u(word))),
+        AUIPC => Some(auipc(rd(word), imm_u(word))),
+        JAL => Some(jal(rd(word), imm_j(word))),
         JALR => jump(funct3(word), rd(word), rs1(word), imm_i(word)),
         BRANCH => branch(funct3(word), rs1(word), rs2(word), imm_b(word)),
         LOAD => load(funct3(word), rd(word), rs1(word), imm_i(word)),

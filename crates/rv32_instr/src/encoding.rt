@@ -36,7 +36,6 @@ fn r_word(funct7: u32, rs2: u8, rs1: Reg, funct3: u32, rd: Reg, opcode: u32) -> 
     word(funct7 << 5 | rs2 as u32, rs1.0, funct3, rd.0, opcode)
 }
 
-/// Format I.
 fn i_word(imm: i32, rs1: Reg, funct3: u32, rd: Reg, opcode: u32) -> u32
     requires { (rs1 < 32) × (funct3 < 8) × (rd < 32) × (opcode < 128) }
     ensures { result ≡ i_word imm rs1 funct3 rd opcode }
@@ -44,7 +43,6 @@ fn i_word(imm: i32, rs1: Reg, funct3: u32, rd: Reg, opcode: u32) -> u32
     word(part(imm, 0, 12), rs1.0, funct3, rd.0, opcode)
 }
 
-/// Format S.
 fn s_word(imm: i32, rs2: Reg, rs1: Reg, funct3: u32, opcode: u32) -> u32
     requires { (rs2 < 32) × (rs1 < 32) × (funct3 < 8) × (opcode < 128) }
     ensures { result ≡ s_word imm rs2 rs1 funct3 opcode }
@@ -53,7 +51,6 @@ fn s_word(imm: i32, rs2: Reg, rs1: Reg, funct3: u32, opcode: u32) -> u32
     word(high, rs1.0, funct3, part(imm, 0, 5) as u8, opcode)
 }
 
-/// Format B.
 fn b_word(imm: i32, rs2: Reg, rs1: Reg, funct3: u32, opcode: u32) -> u32
     requires { (rs2 < 32) × (rs1 < 32) × (funct3 < 8) × (opcode < 128) }
     ensures { result ≡ b_word imm rs2 rs1 funct3 opcode }
@@ -64,7 +61,6 @@ fn b_word(imm: i32, rs2: Reg, rs1: Reg, funct3: u32, opcode: u32) -> u32
     word(high, rs1.0, funct3, low as u8, opcode)
 }
 
-/// Format J.
 #[tactic(auto, using(crate::proofs::Joins::or_jump))]
 fn j_word(imm: i32, rd: Reg, opcode: u32) -> u32
     requires { (rd < 32) × (opcode < 128) }

@@ -11,7 +11,6 @@ ghost use Rattle.std.specs.Prelude.{◌≡◌};
 use sloth_base::Reg;
 use std::marker::Model;
 
-pub mod access;
 pub mod asm;
 pub mod block;
 pub mod csr;
@@ -20,11 +19,10 @@ pub mod effect;
 pub mod encoding;
 pub mod fields;
 
-pub use access::{load, store};
 pub use asm::{
     A0, A1, X1, X2, X3, X4, X30, X31, ZERO, add, addi, and, andi, auipc, beq, bge, bgeu, blt, bltu,
-    bne, csrrci, csrrs, csrrw, csrrwi, jal, jalr, lbu, lui, lw, mret, or, ori, sb, sll, slli, slt,
-    slti, sltiu, sltu, sra, srai, srl, srli, sub, sw, xor, xori,
+    bne, csrrci, csrrs, csrrw, csrrwi, jal, jalr, lbu, load, lui, lw, mret, or, ori, sb, sll, slli,
+    slt, slti, sltiu, sltu, sra, srai, srl, srli, store, sub, sw, xor, xori,
 };
 pub use block::Block;
 pub use csr::{ILEVEL, MEPC, MIE, MPIE, MSCRATCH, MSTATUS, PLEVEL};

@@ -1,5 +1,6 @@
 //! What each instruction does.
 ghost use Rattle.std.specs.Prelude.{◌≡◌, ◌<◌, ◌-◌, ◌%◌, slice_index, if◌then◌else◌, ◌==◌};
+ghost use Rattle.std.specs.Int.{w32, cast_signed};
 ghost use Rattle.rv32_instr.specs.Range.{InRange};
 ghost use Rattle.rv32_instr.specs.Effect.{effect};
 ghost use Rattle.sloth_base.specs.Arithmetic.{plus};
@@ -26,14 +27,8 @@ fn asked(kind: InstrKind, pc: u32, x: &[u32; 32]) -> Effect
     ensures { result ≡ effect kind pc x.now }
 {
     match kind {
-        InstrKind::Lui { rd, imm } => Effect::Write {
-            rd,
-            value: imm << 12,
-        },
-        InstrKind::Auipc { rd, imm } => Effect::Write {
-            rd,
-            value: pc.wrapping_add(imm << 12),
-        },
+        InstrKind::Lui { rd, imm } => write(rd, imm << 12),
+        InstrKind::Auipc { rd, imm } => write(rd, pc.wrapping_add(imm << 12)),
         InstrKind::Jal { rd, imm } => Effect::Jump {
             rd,
             target: plus(pc, imm),
@@ -44,16 +39,8 @@ fn asked(kind: InstrKind, pc: u32, x: &[u32; 32]) -> Effect
         },
         InstrKind::Beq { rs1, rs2, imm } => branch(at(x, rs1) == at(x, rs2), pc, imm),
         InstrKind::Bne { rs1, rs2, imm } => branch(at(x, rs1) != at(x, rs2), pc, imm),
-        InstrKind::Blt { rs1, rs2, imm } => branch(
-            at(x, rs1).cast_signed() < at(x, rs2).cast_signed(),
-            pc,
-            imm,
-        ),
-        InstrKind::Bge { rs1, rs2, imm } => branch(
-            at(x, rs1).cast_signed() >= at(x, rs2).cast_signed(),
-            pc,
-            imm,
-        ),
+        InstrKind::Blt { rs1, rs2, imm } => branch(signed(x, rs1) < signed(x, rs2), pc, imm),
+        InstrKind::Bge { rs1, rs2, imm } => branch(signed(x, rs1) >= signed(x, rs2), pc, imm),
         InstrKind::Bltu { rs1, rs2, imm } => branch(at(x, rs1) < at(x, rs2), pc, imm),
         InstrKind::Bgeu { rs1, rs2, imm } => branch(at(x, rs1) >= at(x, rs2), pc, imm),
         InstrKind::Lb { rd, rs1, imm } => load(Width::Byte, rd, at(x, rs1), imm),
@@ -64,113 +51,50 @@ fn asked(kind: InstrKind, pc: u32, x: &[u32; 32]) -> Effect
         InstrKind::Sb { rs1, rs2, imm } => store(Width::Byte, at(x, rs1), imm, at(x, rs2)),
         InstrKind::Sh { rs1, rs2, imm } => store(Width::Half, at(x, rs1), imm, at(x, rs2)),
         InstrKind::Sw { rs1, rs2, imm } => store(Width::Word, at(x, rs1), imm, at(x, rs2)),
-        InstrKind::Addi { rd, rs1, imm } => Effect::Write {
+        InstrKind::Addi { rd, rs1, imm } => write(rd, plus(at(x, rs1), imm)),
+        InstrKind::Slti { rd, rs1, imm } => write(rd, (signed(x, rs1) < imm) as u32),
+        InstrKind::Sltiu { rd, rs1, imm } => write(rd, (at(x, rs1) < imm.cast_unsigned()) as u32),
+        InstrKind::Xori { rd, rs1, imm } => write(rd, at(x, rs1) ^ imm.cast_unsigned()),
+        InstrKind::Ori { rd, rs1, imm } => write(rd, at(x, rs1) | imm.cast_unsigned()),
+        InstrKind::Andi { rd, rs1, imm } => write(rd, at(x, rs1) & imm.cast_unsigned()),
+        InstrKind::Slli { rd, rs1, amount } => write(rd, at(x, rs1) << amount),
+        InstrKind::Srli { rd, rs1, amount } => write(rd, at(x, rs1) >> amount),
+        InstrKind::Srai { rd, rs1, amount } => write(
             rd,
-            value: plus(at(x, rs1), imm),
-        },
-        InstrKind::Slti { rd, rs1, imm } => Effect::Write {
+            (signed(x, rs1) >> amount).cast_unsigned(),
+        ),
+        InstrKind::Add { rd, rs1, rs2 } => write(rd, at(x, rs1).wrapping_add(at(x, rs2))),
+        InstrKind::Sub { rd, rs1, rs2 } => write(rd, at(x, rs1).wrapping_sub(at(x, rs2))),
+        InstrKind::Sll { rd, rs1, rs2 } => write(rd, at(x, rs1) << (at(x, rs2) % 32)),
+        InstrKind::Slt { rd, rs1, rs2 } => write(rd, (signed(x, rs1) < signed(x, rs2)) as u32),
+        InstrKind::Sltu { rd, rs1, rs2 } => write(rd, (at(x, rs1) < at(x, rs2)) as u32),
+        InstrKind::Xor { rd, rs1, rs2 } => write(rd, at(x, rs1) ^ at(x, rs2)),
+        InstrKind::Srl { rd, rs1, rs2 } => write(rd, at(x, rs1) >> (at(x, rs2) % 32)),
+        InstrKind::Sra { rd, rs1, rs2 } => write(
             rd,
-            value: (at(x, rs1).cast_signed() < imm) as u32,
-        },
-        InstrKind::Sltiu { rd, rs1, imm } => Effect::Write {
-            rd,
-            value: (at(x, rs1) < imm.cast_unsigned()) as u32,
-        },
-        InstrKind::Xori { rd, rs1, imm } => Effect::Write {
-            rd,
-            value: at(x, rs1) ^ imm.cast_unsigned(),
-        },
-        InstrKind::Ori { rd, rs1, imm } => Effect::Write {
-            rd,
-            value: at(x, rs1) | imm.cast_unsigned(),
-        },
-        InstrKind::Andi { rd, rs1, imm } => Effect::Write {
-            rd,
-            value: at(x, rs1) & imm.cast_unsigned(),
-        },
-        InstrKind::Slli { rd, rs1, amount } => Effect::Write {
-            rd,
-            value: at(x, rs1) << amount,
-        },
-        InstrKind::Srli { rd, rs1, amount } => Effect::Write {
-            rd,
-            value: at(x, rs1) >> amount,
-        },
-        InstrKind::Srai { rd, rs1, amount } => Effect::Write {
-            rd,
-            value: (at(x, rs1).cast_signed() >> amount).cast_unsigned(),
-        },
-        InstrKind::Add { rd, rs1, rs2 } => Effect::Write {
-            rd,
-            value: at(x, rs1).wrapping_add(at(x, rs2)),
-        },
-        InstrKind::Sub { rd, rs1, rs2 } => Effect::Write {
-            rd,
-            value: at(x, rs1).wrapping_sub(at(x, rs2)),
-        },
-        InstrKind::Sll { rd, rs1, rs2 } => Effect::Write {
-            rd,
-            value: at(x, rs1) << (at(x, rs2) % 32),
-        },
-        InstrKind::Slt { rd, rs1, rs2 } => Effect::Write {
-            rd,
-            value: (at(x, rs1).cast_signed() < at(x, rs2).cast_signed()) as u32,
-        },
-        InstrKind::Sltu { rd, rs1, rs2 } => Effect::Write {
-            rd,
-            value: (at(x, rs1) < at(x, rs2)) as u32,
-        },
-        InstrKind::Xor { rd, rs1, rs2 } => Effect::Write {
-            rd,
-            value: at(x, rs1) ^ at(x, rs2),
-        },
-        InstrKind::Srl { rd, rs1, rs2 } => Effect::Write {
-            rd,
-            value: at(x, rs1) >> (at(x, rs2) % 32),
-        },
-        InstrKind::Sra { rd, rs1, rs2 } => Effect::Write {
-            rd,
-            value: (at(x, rs1).cast_signed() >> (at(x, rs2) % 32)).cast_unsigned(),
-        },
-        InstrKind::Or { rd, rs1, rs2 } => Effect::Write {
-            rd,
-            value: at(x, rs1) | at(x, rs2),
-        },
-        InstrKind::And { rd, rs1, rs2 } => Effect::Write {
-            rd,
-            value: at(x, rs1) & at(x, rs2),
-        },
+            (signed(x, rs1) >> (at(x, rs2) % 32)).cast_unsigned(),
+        ),
+        InstrKind::Or { rd, rs1, rs2 } => write(rd, at(x, rs1) | at(x, rs2)),
+        InstrKind::And { rd, rs1, rs2 } => write(rd, at(x, rs1) & at(x, rs2)),
         InstrKind::Fence { .. } => Effect::Nothing,
-        InstrKind::Csrrw { rd, rs1, csr } => Effect::Csr {
+        InstrKind::Csrrw { rd, rs1, csr } => csr_effect(rd, csr, Change::Replace(at(x, rs1))),
+        InstrKind::Csrrs { rd, rs1, csr } => csr_effect(rd, csr, set(rs1.0, at(x, rs1))),
+        InstrKind::Csrrc { rd, rs1, csr } => csr_effect(rd, csr, clear(rs1.0, at(x, rs1))),
+        InstrKind::Csrrwi { rd, number, csr } => csr_effect(
             rd,
             csr,
-            change: Change::Replace(at(x, rs1)),
-        },
-        InstrKind::Csrrs { rd, rs1, csr } => Effect::Csr {
+            Change::Replace(u32::from(number)),
+        ),
+        InstrKind::Csrrsi { rd, number, csr } => csr_effect(
             rd,
             csr,
-            change: set(rs1.0, at(x, rs1)),
-        },
-        InstrKind::Csrrc { rd, rs1, csr } => Effect::Csr {
+            set(number, u32::from(number)),
+        ),
+        InstrKind::Csrrci { rd, number, csr } => csr_effect(
             rd,
             csr,
-            change: clear(rs1.0, at(x, rs1)),
-        },
-        InstrKind::Csrrwi { rd, number, csr } => Effect::Csr {
-            rd,
-            csr,
-            change: Change::Replace(u32::from(number)),
-        },
-        InstrKind::Csrrsi { rd, number, csr } => Effect::Csr {
-            rd,
-            csr,
-            change: set(number, u32::from(number)),
-        },
-        InstrKind::Csrrci { rd, number, csr } => Effect::Csr {
-            rd,
-            csr,
-            change: clear(number, u32::from(number)),
-        },
+            clear(number, u32::from(number)),
+        ),
         InstrKind::Ecall | InstrKind::Ebreak => Effect::Environment,
         InstrKind::Mret => Effect::Return,
     }
@@ -183,7 +107,13 @@ fn at(x: &[u32; 32], number: Reg) -> u32
     x[usize::from(number.0)]
 }
 
-/// A sum with a signed number.
+fn signed(x: &[u32; 32], number: Reg) -> i32
+    requires { number < 32 }
+    ensures { result ≡ cast_signed w32 (slice_index x.now number) }
+{
+    at(x, number).cast_signed()
+}
+
 fn plus(value: u32, imm: i32) -> u32
     ensures { result ≡ plus value imm }
 {
@@ -203,6 +133,13 @@ fn branch(taken: bool, pc: u32, imm: i32) -> Effect
         taken,
         target: plus(pc, imm),
     }
+}
+
+#[inline(always)]
+fn write(rd: Reg, value: u32) -> Effect
+    ensures { result ≡ asks.Write rd value }
+{
+    Effect::Write { rd, value }
 }
 
 fn load(width: Width, rd: Reg, base: u32, imm: i32) -> Effect
@@ -225,7 +162,7 @@ fn store(width: Width, base: u32, imm: i32, value: u32) -> Effect
     }
 }
 
-/// Sets bits, unless the instruction's field is zero.
+// Sets bits, unless the instruction's field is zero.
 fn set(field: u8, bits: u32) -> Change
     ensures { result ≡ (if field == 0 then change.Keep else change.Set bits) }
 {
@@ -236,7 +173,6 @@ fn set(field: u8, bits: u32) -> Change
     }
 }
 
-/// Clears bits, unless the instruction's field is zero.
 fn clear(field: u8, bits: u32) -> Change
     ensures { result ≡ (if field == 0 then change.Keep else change.Clear bits) }
 {
@@ -245,4 +181,11 @@ fn clear(field: u8, bits: u32) -> Change
     } else {
         Change::Clear(bits)
     }
+}
+
+#[inline(always)]
+fn csr_effect(rd: Reg, csr: u16, change: Change) -> Effect
+    ensures { result ≡ asks.Csr rd csr change }
+{
+    Effect::Csr { rd, csr, change }
 }

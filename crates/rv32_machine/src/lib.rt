@@ -8,7 +8,6 @@
 //! instruction: `rv32_instr` (`Effect`, `Execute`); lines: `sloth_base` (`Choose`, `Take`, `Arrive`).
 #![tactic(auto)]
 
-mod arriving;
 pub mod effect;
 pub mod flat;
 pub mod laws;
@@ -20,4 +19,4 @@ pub use machine::Machine;
 pub use machine_memory::{Bus, SlothBus};
 pub use rv32_instr::{Bad, Stop};
 pub use sloth_base::Step;
-pub use step::{StepFront, blank_step};
+pub use step::{StepFront, blank_step, pending_line};

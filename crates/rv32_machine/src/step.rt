@@ -78,7 +78,7 @@ fn touched(effect: &Effect) -> Option<Line>
 /// The line that an address is the pending byte of.
 #[inline(always)]
 #[tactic(auto, using(std::proofs::lemmas::Bool::Decides::nat_tests))]
-fn pending_line(address: u32) -> Option<Line>
+pub fn pending_line(address: u32) -> Option<Line>
     ensures is { result ≡ pending_line address }
     ensures in_range { ForSome result (λ line. line < line_count) }
 {
@@ -95,7 +95,8 @@ impl<B: Bus> Machine<B> {
     /// One step: at most one line is taken, then one instruction is executed. A stop changes nothing.
     pub fn step(&mut self) -> Result<Step, Stop>
         requires { self.old.count < count_limit }
-        ensures ok { IfOk result (λ shown. advance self.old.count (state B.memory self.old) ≡ Goes shown (state B.memory self.new)) }
+        ensures ok { IfOk result (λ shown. advance self.old.count (state B.memory self.old)
+            ≡ Goes shown (state B.memory self.new)) }
         ensures err { IfErr result (λ stop. advance self.old.count (state B.memory self.old) ≡ Halts stop) }
         ensures same { OnErr result (state B.memory self.new ≡ state B.memory self.old) }
         ensures count { OnOk result (self.new.count ≡ self.old.count + 1) }
@@ -115,7 +116,8 @@ impl<B: Bus> Machine<B> {
     #[inline(always)]
     pub fn step_into(&mut self, shown: &mut Step) -> Result<(), Stop>
         requires { self.old.count < count_limit }
-        ensures ok { OnOk result (advance self.old.count (state B.memory self.old) ≡ Goes shown.new (state B.memory self.new)) }
+        ensures ok { OnOk result (advance self.old.count (state B.memory self.old)
+            ≡ Goes shown.new (state B.memory self.new)) }
         ensures err { IfErr result (λ stop. advance self.old.count (state B.memory self.old) ≡ Halts stop) }
         ensures same { OnErr result (state B.memory self.new ≡ state B.memory self.old) }
         ensures count { OnOk result (self.new.count ≡ self.old.count + 1) }
@@ -137,7 +139,8 @@ impl<B: Bus> Machine<B> {
     #[inline(always)]
     pub fn step_front(&mut self) -> Result<StepFront, Stop>
         requires { self.old.count < count_limit }
-        ensures ok { IfOk result (λ front. advance self.old.count (state B.memory self.old) ≡ Goes (step_of front (state B.memory self.new)) (state B.memory self.new)) }
+        ensures ok { IfOk result (λ front. advance self.old.count (state B.memory self.old)
+            ≡ Goes (step_of front (state B.memory self.new)) (state B.memory self.new)) }
         ensures err { IfErr result (λ stop. advance self.old.count (state B.memory self.old) ≡ Halts stop) }
         ensures same { OnErr result (state B.memory self.new ≡ state B.memory self.old) }
         ensures count { OnOk result (self.new.count ≡ self.old.count + 1) }
@@ -220,7 +223,8 @@ impl<B: Bus> Machine<B> {
     #[tactic(auto, unfolding(sloth_base::specs::Choose::choose))]
     pub fn line_to_take(&self) -> Option<Line>
         ensures is { result ≡ line_to_take (state B.memory self.now) }
-        ensures there { ForSome result (λ line. (line < line_count) × ((state B.memory self.now).core.controller ≡ true)) }
+        ensures there { ForSome result (λ line. (line < line_count)
+            × ((state B.memory self.now).core.controller ≡ true)) }
         ensures pending { ForSome result (λ line. slice_index (state B.memory self.now).core.pending line ≡ 1) }
     {
         if self.hart.mie {
@@ -235,7 +239,8 @@ impl<B: Bus> Machine<B> {
     fn execute_after(&mut self, line: &Option<Line>) -> Result<Option<Line>, Stop>
         requires there { ForSome line.now (λ l. (l < line_count) × ((state B.memory self.old).core.controller ≡ true)) }
         requires pending { ForSome line.now (λ l. slice_index (state B.memory self.old).core.pending l ≡ 1) }
-        ensures ok { IfOk result (λ touch. step (entry_state line.now (state B.memory self.old)) ≡ Going (state B.memory self.new)) }
+        ensures ok { IfOk result (λ touch. step (entry_state line.now (state B.memory self.old))
+            ≡ Going (state B.memory self.new)) }
         ensures touched { IfOk result (λ touch. touch ≡ touched (entry_state line.now (state B.memory self.old))) }
         ensures err { IfErr result (λ stop. step (entry_state line.now (state B.memory self.old)) ≡ Stopped stop) }
         ensures same { OnErr result (state B.memory self.new ≡ state B.memory self.old) }
@@ -254,7 +259,8 @@ impl<B: Bus> Machine<B> {
         requires in_range { line < line_count }
         requires there { (state B.memory self.old).core.controller ≡ true }
         requires pending { slice_index (state B.memory self.old).core.pending line ≡ 1 }
-        ensures ok { IfOk result (λ touch. step (take line (state B.memory self.old)) ≡ Going (state B.memory self.new)) }
+        ensures ok { IfOk result (λ touch. step (take line (state B.memory self.old))
+            ≡ Going (state B.memory self.new)) }
         ensures touched { IfOk result (λ touch. touch ≡ touched (take line (state B.memory self.old))) }
         ensures err { IfErr result (λ stop. step (take line (state B.memory self.old)) ≡ Stopped stop) }
         ensures same { OnErr result (state B.memory self.new ≡ state B.memory self.old) }
@@ -348,8 +354,10 @@ impl<B: Bus> Machine<B> {
 
     /// The instruction that pc points to, if the word there is one's.
     fn fetch(&mut self) -> Result<Option<Instr>, Stop>
-        ensures ok { IfOk result (λ instr. (in_ram (state B.memory self.old).pc 4 ≡ true) × (instr ≡ Decode (word_at_pc (state B.memory self.old)))) }
-        ensures err { IfErr result (λ reason. (in_ram (state B.memory self.old).pc 4 ≡ false) × (reason ≡ stop.Fetch (state B.memory self.old).pc)) }
+        ensures ok { IfOk result (λ instr. (in_ram (state B.memory self.old).pc 4 ≡ true)
+            × (instr ≡ Decode (word_at_pc (state B.memory self.old)))) }
+        ensures err { IfErr result (λ reason. (in_ram (state B.memory self.old).pc 4 ≡ false)
+            × (reason ≡ stop.Fetch (state B.memory self.old).pc)) }
         ensures state { state B.memory self.new ≡ state B.memory self.old }
         ensures hart { self.new.hart ≡ self.old.hart }
         ensures count { self.new.count ≡ self.old.count }

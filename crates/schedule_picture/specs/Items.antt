@@ -37,19 +37,16 @@ unfoldable pub last_item : Image → (addresses : List ℕ) → (from : ℕ) →
 last_item image addresses from zero = None
 last_item image addresses from (suc n) = option_or (address_item image (get_or addresses (from + n) 0)) (last_item image addresses from n)
 
--- what the listing says of them
-abbrev pub first_item_words : List (List ℕ) → Option Mark → List ℕ
-first_item_words functions None = []
-first_item_words functions (Some mark) = codes "," ++ mark_text functions mark
-
-abbrev pub last_item_words : List (List ℕ) → Option Mark → List ℕ
-last_item_words functions None = []
-last_item_words functions (Some mark) = codes " to" ++ mark_text functions mark
+-- what the listing says of one, behind these bytes
+abbrev pub item_words : (front : List ℕ) → List (List ℕ) → Option Mark → List ℕ
+item_words front functions None = []
+item_words front functions (Some mark) = front ++ mark_text functions mark
 
 -- both, at the counts from one to below another
 unfoldable pub items_words : Image → (addresses : List ℕ) → (from to : ℕ) → List ℕ
 items_words image addresses from to =
-    first_item_words image.funcs (first_item image addresses from (to - from)) ++ last_item_words image.funcs (last_item image addresses from (to - from))
+    item_words (codes ",") image.funcs (first_item image addresses from (to - from))
+    ++ item_words (codes " to") image.funcs (last_item image addresses from (to - from))
 
 -- a task's own code runs
 abbrev pub is_running : Look → Bool

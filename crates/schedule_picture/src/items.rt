@@ -4,7 +4,7 @@ ghost use Rattle.sloth_base.specs.ImageRange.{InFormat, AreAscending};
 ghost use Rattle.lane_drawing.specs.Bars.{IsBarInside};
 ghost use Rattle.trace_text.specs.Listing.{mark_on};
 ghost use Rattle.schedule_picture.specs.Items.{is_item, item_mark, address_item, first_item, last_item};
-ghost use Rattle.schedule_picture.specs.Items.{first_item_words, last_item_words, items_words, bar_words};
+ghost use Rattle.schedule_picture.specs.Items.{item_words, items_words, bar_words};
 
 use lane_drawing::{Bar, Look, Scale};
 use sloth_base::{Image, Mark, MarkKind};
@@ -16,7 +16,6 @@ fn is_item(kind: MarkKind) -> bool
     matches!(kind, MarkKind::Item | MarkKind::Jump)
 }
 
-// The mark on an address.
 fn found_mark(marks: &[Mark], address: u32) -> Option<Mark>
     requires { AreAscending marks.now }
     ensures { result ≡ mark_on marks.now address }
@@ -27,7 +26,6 @@ fn found_mark(marks: &[Mark], address: u32) -> Option<Mark>
     }
 }
 
-// A mark, if it is one of an item.
 fn item_mark(mark: Option<Mark>) -> Option<Mark>
     ensures { result ≡ item_mark mark }
 {
@@ -37,7 +35,6 @@ fn item_mark(mark: Option<Mark>) -> Option<Mark>
     }
 }
 
-// The mark of an item on the address of a count.
 fn count_item(image: &Image, addresses: &[u32], place: usize) -> Option<Mark>
     requires format { InFormat image.now }
     requires within { place < length addresses.now }
@@ -61,7 +58,6 @@ fn first_item(image: &Image, addresses: &[u32], from: usize, to: usize) -> Optio
     None
 }
 
-// The last one.
 fn last_item(image: &Image, addresses: &[u32], from: usize, to: usize) -> Option<Mark>
     requires format { InFormat image.now }
     requires ordered { from ≤ to }
@@ -76,27 +72,16 @@ fn last_item(image: &Image, addresses: &[u32], from: usize, to: usize) -> Option
     None
 }
 
-// Appends what the listing says of the first one.
-fn push_first(line: &mut LineText, image: &Image, mark: &Option<Mark>)
+// Appends what the listing says of a mark, if there is one, behind these bytes.
+fn push_item(line: &mut LineText, image: &Image, front: &[u8], mark: &Option<Mark>)
     requires format { InFormat image.now }
     requires room { length line.old ≤ 100 }
-    ensures words { line.new ≡ line.old ++ first_item_words image.now.funcs mark.now }
-    ensures short { length line.new ≤ length line.old + 85 }
+    requires few { length front.now ≤ 3 }
+    ensures words { line.new ≡ line.old ++ item_words front.now image.now.funcs mark.now }
+    ensures short { length line.new ≤ length line.old + 87 }
 {
     if let Some(mark) = mark {
-        line.push(b",");
-        push_mark(line, image.funcs.items(), mark);
-    }
-}
-
-// And of the last one.
-fn push_last(line: &mut LineText, image: &Image, mark: &Option<Mark>)
-    requires format { InFormat image.now }
-    requires room { length line.old ≤ 100 }
-    ensures { line.new ≡ line.old ++ last_item_words image.now.funcs mark.now }
-{
-    if let Some(mark) = mark {
-        line.push(b" to");
+        line.push(front);
         push_mark(line, image.funcs.items(), mark);
     }
 }
@@ -112,8 +97,8 @@ fn items_words(image: &Image, addresses: &[u32], from: usize, to: usize) -> Line
     let first = first_item(image, addresses, from, to);
     let last = last_item(image, addresses, from, to);
     let mut line = LineText::new();
-    push_first(&mut line, image, &first);
-    push_last(&mut line, image, &last);
+    push_item(&mut line, image, b",", &first);
+    push_item(&mut line, image, b" to", &last);
     line
 }
 
@@ -125,12 +110,8 @@ pub fn bar_words(image: &Image, addresses: &[u32], scale: Scale, bar: Bar) -> Li
     ensures { result ≡ bar_words image.now addresses.now scale.from bar }
 {
     if matches!(bar.look, Look::Runs) {
-        items_words(
-            image,
-            addresses,
-            (bar.from - scale.from) as usize,
-            (bar.to - scale.from) as usize,
-        )
+        let (from, to) = (bar.from - scale.from, bar.to - scale.from);
+        items_words(image, addresses, from as usize, to as usize)
     } else {
         LineText::new()
     }

@@ -3,12 +3,11 @@ ghost use Rattle.std.specs.Prelude.{ℕ, ◌≡◌, ◌≤◌, ◌<◌, ◌+◌,
 ghost use Rattle.sloth_base.specs.Limits.{task_limit, counter_limit};
 ghost use Rattle.lane_drawing.specs.Strips.{empty_lane, last_bar, ShowsMore, IsFreshStrip};
 ghost use Rattle.schedule_picture.specs.Lanes.{HaveChanged};
-ghost use Rattle.schedule_picture.specs.LaneLooks.{lane_look, is_tick, state_look};
+ghost use Rattle.schedule_picture.specs.LaneLooks.{lane_look, is_tick};
 
 use lane_drawing::{Look, Strip, task_look};
 use run_samples::Sample;
 use sloth_base::{FIRST_COUNTER_LINE, NoMemory, Result};
-use sloth_runner::task_states::Seen;
 use std::alloc::Global;
 
 /// So many lanes, and one for kernel code, that have shown nothing yet.
@@ -57,16 +56,6 @@ pub fn close(strips: &mut Vec<Strip>, count: u32) -> Result<()>
     Ok(())
 }
 
-fn state_look(seen: &Option<Seen>, kernel: bool, task: usize) -> Option<Look>
-    requires { task ≤ 29 }
-    ensures { result ≡ state_look seen.now kernel task }
-{
-    match seen {
-        None => None,
-        Some(seen) => task_look(seen.tasks[task], seen.running == task as u32 + 1, kernel),
-    }
-}
-
 fn is_tick(sample: &Sample, counter: usize) -> bool
     requires { counter < counter_limit }
     ensures { result ≡ is_tick sample.now counter }
@@ -77,7 +66,6 @@ fn is_tick(sample: &Sample, counter: usize) -> bool
     }
 }
 
-// This look, if it is shown.
 fn shown(look: Look, is_shown: bool) -> Option<Look>
     ensures { result ≡ cond is_shown (Some look) None }
 {
@@ -94,7 +82,10 @@ pub fn lane_look(tasks: usize, counters: usize, sample: &Sample, lane: usize) ->
 {
     let kernel = sample.interrupts.masked || sample.taken.is_some();
     if lane < tasks {
-        return state_look(&sample.seen, kernel, lane);
+        return match &sample.seen {
+            None => None,
+            Some(seen) => task_look(seen.tasks[lane], seen.running == lane as u32 + 1, kernel),
+        };
     }
     if lane < tasks + counters {
         return shown(Look::Tick, is_tick(sample, lane - tasks));

@@ -12,7 +12,6 @@ use lane_drawing::{Scale, arrow_line, expiry_line};
 use sloth_base::{Image, Result, TASK_LIMIT};
 use trace_text::LineText;
 
-// Whether who acts is one of the image's.
 fn has_actor(image: &Image, actor: &Actor) -> bool
     ensures { result ≡ has_actor image.now actor.now }
 {
@@ -22,7 +21,6 @@ fn has_actor(image: &Image, actor: &Actor) -> bool
     }
 }
 
-// Whether the task that is woken or activated is one of the image's.
 fn has_object(image: &Image, sign: &Sign) -> bool
     ensures { result ≡ has_object image.now sign.now }
 {
@@ -33,7 +31,6 @@ fn has_object(image: &Image, sign: &Sign) -> bool
     }
 }
 
-// Whether a mark is of the image, in the counts of a picture.
 fn is_marked(image: &Image, scale: Scale, mark: &Mark) -> bool
     ensures { result ≡ is_marked image.now scale mark.now }
 {
@@ -103,7 +100,6 @@ fn arrow_between(
     arrow_line(scale, mark.at, by, from, does, tasks[task].bytes(), to)
 }
 
-// The line of a mark.
 fn mark_line(image: &Image, levels: &[u8; TASK_LIMIT], scale: Scale, mark: &Mark) -> LineText
     requires format { InFormat image.now }
     requires scale { IsScale scale }

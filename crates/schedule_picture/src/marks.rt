@@ -2,11 +2,9 @@
 ghost use Rattle.std.specs.Prelude.{◌≡◌, ◌<◌, ◌++◌, OnOk, [], ◌∷◌, cond};
 ghost use Rattle.std.specs.List.{list_any};
 ghost use Rattle.sloth_base.specs.Limits.{task_limit, alarm_limit};
-ghost use Rattle.schedule_picture.specs.declared.marks.Actor.TheVariants.{Counter};
-ghost use Rattle.schedule_picture.specs.declared.marks.Sign.TheVariants.{Wakes, Activates, Expires};
-ghost use Rattle.schedule_picture.specs.Marks.{is_task_woken, comes_between, is_task_activated, acting, task_marks};
-ghost use Rattle.schedule_picture.specs.Marks.{tasks_marks, is_alarm_over, ticking, expiries};
-ghost use Rattle.schedule_picture.specs.Marks.{marks_when_open, marks_when_masked, marks_at, no_watch, watched};
+ghost use Rattle.schedule_picture.specs.Marks.{comes_between, is_task_activated, acting, task_marks};
+ghost use Rattle.schedule_picture.specs.Marks.{tasks_marks, ticking, expiries};
+ghost use Rattle.schedule_picture.specs.Marks.{marks_at, no_watch, watched};
 
 use lane_drawing::{is_activated, is_over, is_woken};
 use run_samples::Sample;
@@ -38,19 +36,11 @@ pub struct Mark {
     pub sign: Sign,
 }
 
-// Whether an arrival of a line comes after a count, and at another at the latest.
-fn comes_between(line: usize, after: u32, last: u32, arrival: &Arrival) -> bool
-    ensures { result ≡ comes_between line after last arrival.now }
-{
-    usize::from(arrival.line.0) == line && (after < arrival.at && arrival.at <= last)
-}
-
 fn has_come(arrivals: &[Arrival], line: usize, after: u32, last: u32) -> bool
     ensures { result ≡ list_any (comes_between line after last) arrivals.now }
 {
-    arrivals
-        .iter()
-        .any(|arrival| comes_between(line, after, last, arrival))
+    arrivals.iter().any(|arrival| usize::from(arrival.line.0) == line
+        && (after < arrival.at && arrival.at <= last))
 }
 
 // Whether a task is Suspended at one count and Ready at the next that finds interrupts open, and no arrival of its own
@@ -66,25 +56,18 @@ fn is_task_activated(arrivals: &[Arrival], before: &Seen, now: &Seen, task: usiz
 fn acting(taken: &Option<Line>, running: u32) -> Option<Actor>
     ensures { result ≡ acting taken.now running }
 {
-    match taken {
-        None => {
-            if running == 0 {
-                None
-            } else {
-                Some(Actor::Task(running - 1))
-            }
+    let Some(line) = taken else {
+        if running == 0 {
+            return None;
         }
-        Some(line) => {
-            if line.0 < FIRST_COUNTER_LINE {
-                None
-            } else {
-                Some(Actor::Counter(line.0 - FIRST_COUNTER_LINE))
-            }
-        }
+        return Some(Actor::Task(running - 1));
+    };
+    if line.0 < FIRST_COUNTER_LINE {
+        return None;
     }
+    Some(Actor::Counter(line.0 - FIRST_COUNTER_LINE))
 }
 
-// Appends a mark, if it is one.
 fn push_marked(marks: &mut Vec<Mark>, is_one: bool, mark: Mark) -> Result<()>
     ensures { OnOk result (marks.new.items ≡ marks.old.items ++ cond is_one (mark ∷ []) []) }
 {
@@ -94,44 +77,6 @@ fn push_marked(marks: &mut Vec<Mark>, is_one: bool, mark: Mark) -> Result<()>
     Ok(())
 }
 
-// Appends the mark of a task, if it is woken.
-fn push_wake(marks: &mut Vec<Mark>, by: Actor, before: &Seen, now: &Seen, task: usize) -> Result<()>
-    requires { task < task_limit }
-    ensures { OnOk result (marks.new.items ≡ marks.old.items
-        ++ cond (is_task_woken before.now now.now task) (record { at = now.now.count; actor = by; sign = Wakes task }
-        ∷ []) []) }
-{
-    let mark = Mark {
-        at: now.count,
-        actor: by,
-        sign: Sign::Wakes(task as u8),
-    };
-    push_marked(marks, is_woken(before.tasks[task], now.tasks[task]), mark)
-}
-
-// Appends the mark of a task, if it is activated.
-fn push_activation(
-    marks: &mut Vec<Mark>,
-    arrivals: &[Arrival],
-    by: Actor,
-    before: &Seen,
-    now: &Seen,
-    task: usize,
-) -> Result<()>
-    requires { task < task_limit }
-    ensures { OnOk result (marks.new.items ≡ marks.old.items
-        ++ cond (is_task_activated arrivals.now before.now now.now task)
-        (record { at = now.now.count; actor = by; sign = Activates task } ∷ []) []) }
-{
-    let mark = Mark {
-        at: now.count,
-        actor: by,
-        sign: Sign::Activates(task as u8),
-    };
-    push_marked(marks, is_task_activated(arrivals, before, now, task), mark)
-}
-
-// Appends what is marked of a task.
 fn push_task_marks(
     marks: &mut Vec<Mark>,
     arrivals: &[Arrival],
@@ -143,12 +88,22 @@ fn push_task_marks(
     requires { task < task_limit }
     ensures { OnOk result (marks.new.items ≡ marks.old.items ++ task_marks arrivals.now by before.now now.now task) }
 {
-    push_wake(marks, by, before, now, task)?;
-    push_activation(marks, arrivals, by, before, now, task)?;
+    let wakes = Mark {
+        at: now.count,
+        actor: by,
+        sign: Sign::Wakes(task as u8),
+    };
+    let activates = Mark {
+        at: now.count,
+        actor: by,
+        sign: Sign::Activates(task as u8),
+    };
+    push_marked(marks, is_woken(before.tasks[task], now.tasks[task]), wakes)?;
+    let activated = is_task_activated(arrivals, before, now, task);
+    push_marked(marks, activated, activates)?;
     Ok(())
 }
 
-// Appends what is marked of all tasks.
 fn push_tasks_marks(
     marks: &mut Vec<Mark>,
     arrivals: &[Arrival],
@@ -168,38 +123,13 @@ fn push_tasks_marks(
 fn ticking(taken: &Option<Line>) -> Option<u8>
     ensures { result ≡ ticking taken.now }
 {
-    match taken {
-        None => None,
-        Some(line) => {
-            if line.0 < FIRST_COUNTER_LINE {
-                None
-            } else {
-                Some(line.0 - FIRST_COUNTER_LINE)
-            }
-        }
-    }
-}
-
-// Appends the mark of an alarm, if it expires.
-fn push_expiry(
-    marks: &mut Vec<Mark>,
-    at: u32,
-    counter: u8,
-    before: &[u32; ALARM_LIMIT],
-    now: &[u32; ALARM_LIMIT],
-    alarm: usize,
-) -> Result<()>
-    requires { alarm < alarm_limit }
-    ensures { OnOk result (marks.new.items ≡ marks.old.items
-        ++ cond (is_alarm_over before.now now.now alarm)
-        (record { at = at; actor = Counter counter; sign = Expires alarm } ∷ []) []) }
-{
-    let mark = Mark {
-        at,
-        actor: Actor::Counter(counter),
-        sign: Sign::Expires(alarm as u8),
+    let Some(line) = taken else {
+        return None;
     };
-    push_marked(marks, is_over(before[alarm], now[alarm]), mark)
+    if line.0 < FIRST_COUNTER_LINE {
+        return None;
+    }
+    Some(line.0 - FIRST_COUNTER_LINE)
 }
 
 // Appends the marks of the alarms that expire at the tick of a counter which begins at a count.
@@ -213,47 +143,14 @@ fn push_expiries(
     ensures { OnOk result (marks.new.items ≡ marks.old.items ++ expiries at counter before.now now.now alarm_limit) }
 {
     for alarm in 0..ALARM_LIMIT {
-        push_expiry(marks, at, counter, before, now, alarm)?;
+        let mark = Mark {
+            at,
+            actor: Actor::Counter(counter),
+            sign: Sign::Expires(alarm as u8),
+        };
+        push_marked(marks, is_over(before[alarm], now[alarm]), mark)?;
     }
     Ok(())
-}
-
-// Appends what a count marks that finds interrupts open, behind one that did.
-fn push_when_open(
-    marks: &mut Vec<Mark>,
-    arrivals: &[Arrival],
-    last: &Sample,
-    now: &Option<Seen>,
-) -> Result<()>
-    ensures { OnOk result (marks.new.items
-        ≡ marks.old.items ++ marks_when_open arrivals.now last.now.taken last.now.seen now.now) }
-{
-    let (Some(before), Some(now)) = (&last.seen, now) else {
-        return Ok(());
-    };
-    match acting(&last.taken, before.running) {
-        Some(by) => push_tasks_marks(marks, arrivals, by, before, now),
-        None => Ok(()),
-    }
-}
-
-// Appends what a count marks that finds interrupts masked.
-fn push_when_masked(
-    marks: &mut Vec<Mark>,
-    last: &Sample,
-    before: &[u32; ALARM_LIMIT],
-    now: &[u32; ALARM_LIMIT],
-) -> Result<()>
-    ensures { OnOk result (marks.new.items
-        ≡ marks.old.items ++ marks_when_masked last.now.taken last.now.seen before.now now.now) }
-{
-    let Some(seen) = &last.seen else {
-        return Ok(());
-    };
-    match ticking(&last.taken) {
-        Some(counter) => push_expiries(marks, seen.count, counter, before, now),
-        None => Ok(()),
-    }
 }
 
 // Appends what a count marks, behind the last one that found interrupts open, if one did.
@@ -272,9 +169,20 @@ fn push_marks(
         return Ok(());
     };
     if sample.interrupts.masked {
-        push_when_masked(marks, last, before, now)
-    } else {
-        push_when_open(marks, arrivals, last, &sample.seen)
+        let Some(seen) = &last.seen else {
+            return Ok(());
+        };
+        return match ticking(&last.taken) {
+            Some(counter) => push_expiries(marks, seen.count, counter, before, now),
+            None => Ok(()),
+        };
+    }
+    let (Some(old), Some(seen)) = (&last.seen, &sample.seen) else {
+        return Ok(());
+    };
+    match acting(&last.taken, old.running) {
+        Some(by) => push_tasks_marks(marks, arrivals, by, old, seen),
+        None => Ok(()),
     }
 }
 

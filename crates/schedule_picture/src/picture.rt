@@ -27,7 +27,6 @@ pub enum Picture {
     Stopped(Halt),
 }
 
-// Takes the first samples, so many of them.
 fn skip(sampler: &mut Sampler, from: u32) -> Result<(), Halt>
     requires few { from ≤ count_limit }
     requires sampling { IsSampling sampler.old }

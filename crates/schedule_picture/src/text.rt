@@ -4,11 +4,12 @@ ghost use Rattle.schedule_picture.specs.Items.{bar_words};
 ghost use Rattle.sloth_base.specs.ImageRange.{InFormat};
 ghost use Rattle.sloth_base.specs.Limits.{task_limit, counter_limit, name_limit, picture_limit, count_limit};
 ghost use Rattle.lane_drawing.specs.Bars.{IsBarInside};
-ghost use Rattle.lane_drawing.specs.Drawing.{is_above};
 ghost use Rattle.lane_drawing.specs.Scale.{IsScale};
 ghost use Rattle.schedule_picture.specs.Drawn.{IsDrawable, drawing_of};
 ghost use Rattle.schedule_picture.specs.LaneLooks.{owned_lanes};
-ghost use Rattle.schedule_picture.specs.Picture.{longest_length, longest_name, picture_scale, tasks_above, bar_lines, task_lane, task_lanes, counter_lane, counter_lanes, picture_text, admission_line, is_shown, shown_arrivals};
+ghost use Rattle.schedule_picture.specs.Picture.{longest_length, picture_scale, tasks_above, bar_lines, task_lane};
+ghost use Rattle.schedule_picture.specs.Picture.{task_lanes, counter_lane, counter_lanes, picture_text, admission_line};
+ghost use Rattle.schedule_picture.specs.Picture.{is_shown, shown_arrivals};
 ghost use Rattle.std.specs.List.{flat_map};
 
 use crate::items::bar_words;
@@ -34,7 +35,6 @@ pub struct Drawn<'a> {
     pub strips: &'a [Strip],
 }
 
-// The length of the longest name, and at least that of `kernel`.
 #[tactic(auto, using(crate::proofs::Drawing::no_names, crate::proofs::Drawing::one_name_more))]
 fn longest_length(names: &[Name]) -> usize
     requires { All (λ name. length name ≤ name_limit) names.now }
@@ -49,16 +49,6 @@ fn longest_length(names: &[Name]) -> usize
     longest
 }
 
-// The length of the longest name of a lane.
-fn longest_name(image: &Image) -> usize
-    requires { InFormat image.now }
-    ensures is { result ≡ longest_name image.now }
-    ensures some { 6 ≤ result }
-    ensures short { result ≤ name_limit }
-{
-    longest_length(image.tasks.items()).max(longest_length(image.counters.items()))
-}
-
 /// Where the counts of a picture stand.
 pub fn picture_scale(image: &Image, from: u32, to: u32) -> Scale
     requires format { InFormat image.now }
@@ -68,20 +58,13 @@ pub fn picture_scale(image: &Image, from: u32, to: u32) -> Scale
     ensures is { result ≡ picture_scale image.now from to }
     ensures scale { IsScale result }
 {
+    let (tasks, counters) = (image.tasks.items(), image.counters.items());
+    let longest = longest_length(tasks).max(longest_length(counters));
     Scale {
-        left: 24 + 8 * longest_name(image) as u32,
+        left: 24 + 8 * longest as u32,
         from,
         to,
     }
-}
-
-// Whether a task stands above another.
-fn is_above(levels: &[u8; TASK_LIMIT], task: usize, other: usize) -> bool
-    requires task { task < task_limit }
-    requires other { other < task_limit }
-    ensures { result ≡ is_above levels.now task other }
-{
-    levels[task] > levels[other] || levels[task] == levels[other] && task < other
 }
 
 /// How many of the tasks stand above one.
@@ -94,7 +77,7 @@ pub fn tasks_above(levels: &[u8; TASK_LIMIT], tasks: usize, task: usize) -> u32
 {
     let mut above = 0;
     for other in 0..tasks {
-        if is_above(levels, other, task) {
+        if levels[other] > levels[task] || levels[other] == levels[task] && other < task {
             above += 1;
         }
     }
@@ -109,7 +92,6 @@ pub fn row_middle(row: u32) -> u32
     64 + 40 * row
 }
 
-// The bars of a lane.
 fn lane_bars<'a>(drawn: &Drawn<'a>, lane: usize) -> &'a [Bar]
     requires drawable { IsDrawable drawn.now }
     requires lane { lane ≤ owned_lanes drawn.now.image.now }
@@ -119,7 +101,6 @@ fn lane_bars<'a>(drawn: &Drawn<'a>, lane: usize) -> &'a [Bar]
     drawn.strips[lane].bars()
 }
 
-// Appends a task's bars.
 fn push_bars(
     text: &mut Vec<u8>,
     drawn: &Drawn,
@@ -142,7 +123,6 @@ fn push_bars(
     Ok(())
 }
 
-// Appends the lane of a task.
 #[tactic(auto, unfolding(crate::specs::Picture::task_lane))]
 fn push_task(text: &mut Vec<u8>, drawn: &Drawn, task: usize) -> Result<()>
     requires drawable { IsDrawable drawn.now }
@@ -154,17 +134,10 @@ fn push_task(text: &mut Vec<u8>, drawn: &Drawn, task: usize) -> Result<()>
     let middle = row_middle(tasks_above(&drawn.levels, names.len(), task));
     push_name(text, drawn.scale, name, middle)?;
     push_bars(text, drawn, name, middle, lane_bars(drawn, task))?;
-    push_arrivals(
-        text,
-        drawn.scale,
-        name,
-        middle,
-        drawn.admissions,
-        task as u8,
-    )
+    let line = task as u8;
+    push_arrivals(text, drawn.scale, name, middle, drawn.admissions, line)
 }
 
-// Appends the lane of a counter.
 #[tactic(auto, unfolding(crate::specs::Picture::counter_lane))]
 fn push_counter(text: &mut Vec<u8>, drawn: &Drawn, counter: usize) -> Result<()>
     requires drawable { IsDrawable drawn.now }
@@ -179,7 +152,6 @@ fn push_counter(text: &mut Vec<u8>, drawn: &Drawn, counter: usize) -> Result<()>
     push_arrivals(text, drawn.scale, name, middle, drawn.admissions, line)
 }
 
-// Appends the lanes of the tasks.
 fn push_tasks(text: &mut Vec<u8>, drawn: &Drawn, tasks: usize) -> Result<()>
     requires drawable { IsDrawable drawn.now }
     requires tasks { tasks ≡ length drawn.now.image.now.tasks }
@@ -191,7 +163,6 @@ fn push_tasks(text: &mut Vec<u8>, drawn: &Drawn, tasks: usize) -> Result<()>
     Ok(())
 }
 
-// Appends the lanes of the counters.
 fn push_counters(text: &mut Vec<u8>, drawn: &Drawn, counters: usize) -> Result<()>
     requires drawable { IsDrawable drawn.now }
     requires counters { counters ≡ length drawn.now.image.now.counters }
@@ -218,13 +189,8 @@ pub fn drawn_text(alloc: Global, drawn: &Drawn) -> Result<Vec<u8>>
     push_tasks(&mut text, drawn, tasks)?;
     push_counters(&mut text, drawn, counters)?;
     let middle = row_middle(last as u32);
-    push_lane(
-        &mut text,
-        drawn.scale,
-        b"kernel",
-        middle,
-        lane_bars(drawn, last),
-    )?;
+    let bars = lane_bars(drawn, last);
+    push_lane(&mut text, drawn.scale, b"kernel", middle, bars)?;
     push_marks(
         &mut text,
         drawn.image,
@@ -237,7 +203,6 @@ pub fn drawn_text(alloc: Global, drawn: &Drawn) -> Result<Vec<u8>>
     Ok(text)
 }
 
-// Whether an arrival is of a line, in the counts of a picture.
 fn is_shown(scale: Scale, line: u8, admission: &Admission) -> bool
     ensures { result ≡ is_shown scale line admission.now }
 {

@@ -2,3 +2,4 @@ pub mod SectionWays
 pub mod Trials
 pub mod Standings
 pub mod ShownWays
+pub mod Trying

@@ -9,52 +9,36 @@ use walk_sums::Point;
 /// The most points of a cycle that is given.
 pub const LONGEST: usize = 1_000_000;
 
-// A function that was reached: whether raised, at which item of which one before, if not first.
+// A function that was reached, at its first item, and which one before calls it at which item, if it is not the first.
 #[derive(Clone, Copy)]
 struct Reached {
-    func: usize,
-    whole: bool,
-    item: usize,
-    before: Option<usize>,
+    at: Frame,
+    before: Option<(usize, usize)>,
 }
 
 fn least_frame(func: usize, item: usize, whole: bool) -> Frame {
-    Frame {
-        point: Point { func, item },
-        whole,
-        mode: Mode::Least,
-    }
+    let point = Point { func, item };
+    let mode = Mode::Least;
+    Frame { point, whole, mode }
 }
 
 fn is_known(reached: &[Reached], func: usize, whole: bool) -> bool {
     reached
         .iter()
-        .any(|one| one.func == func && one.whole == whole)
+        .any(|one| one.at.point.func == func && one.at.whole == whole)
 }
 
 // Reaches what the items of a function call.
-fn reach_all(
-    tables: &Tables,
-    reached: &mut Vec<Reached>,
-    turn: usize,
-    from: Reached,
-) -> Result<()> {
-    let Some(place) = tables.place(from.func, from.whole) else {
+fn reach_all(tables: &Tables, reached: &mut Vec<Reached>, turn: usize, from: Frame) -> Result<()> {
+    let Some(place) = tables.place(from.point.func, from.whole) else {
         return Ok(());
     };
-    let before = Some(turn);
     for item in 0..place.func.items.items().len() {
         if let Some((func, whole)) = place.call(item) {
             if !is_known(reached.as_slice(), func, whole) {
-                push(
-                    reached,
-                    Reached {
-                        func,
-                        whole,
-                        item,
-                        before,
-                    },
-                )?;
+                let at = least_frame(func, 0, whole);
+                let before = Some((turn, item));
+                push(reached, Reached { at, before })?;
             }
         }
     }
@@ -69,14 +53,14 @@ fn reached_frames(
     item: usize,
 ) -> Result<Vec<Frame>> {
     let mut frames = Vec::new(alloc);
-    let (mut next, mut item) = (Some(turn), item);
+    let mut next = Some((turn, item));
     for _turn in 0..reached.len() {
-        if let Some(turn) = next {
+        if let Some((turn, item)) = next {
             if turn < reached.len() {
-                let at = reached[turn];
-                push(&mut frames, least_frame(at.func, item, at.whole))?;
-                item = at.item;
-                next = at.before;
+                let mut at = reached[turn].at;
+                at.point.item = item;
+                push(&mut frames, at)?;
+                next = reached[turn].before;
             }
         }
     }
@@ -88,21 +72,14 @@ fn reached_frames(
 pub fn cycle_start(tables: &Tables, body: usize, whole: bool) -> Result<Vec<Frame>> {
     let alloc = tables.walks.alloc();
     let mut reached = Vec::new(alloc);
-    push(
-        &mut reached,
-        Reached {
-            func: body,
-            whole,
-            item: 0,
-            before: None,
-        },
-    )?;
+    let (at, before) = (least_frame(body, 0, whole), None);
+    push(&mut reached, Reached { at, before })?;
     for turn in 0..2 * tables.walks.app().funcs.items().len() + 1 {
         if reached.len() <= turn {
             return Ok(Vec::new(alloc));
         }
-        let from = reached[turn];
-        if let Some(item) = tables.cycle(from.func, from.whole).first() {
+        let from = reached[turn].at;
+        if let Some(item) = tables.cycle(from.point.func, from.whole).first() {
             return reached_frames(alloc, reached.as_slice(), turn, *item);
         }
         reach_all(tables, &mut reached, turn, from)?;

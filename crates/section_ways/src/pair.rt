@@ -9,21 +9,11 @@ use std::marker::Model;
 use walk_sums::Walks;
 
 /// Walked task code, a task, and a lower one.
+#[derive(Drop)]
 pub struct Trial<'a> {
     pub walks: &'a Walks<'a>,
     pub above: usize,
     pub task: usize,
-}
-
-// Written out: what is derived is proved anew wherever a value is let go.
-impl Drop for Trial<'_> {
-    fn drop(self) {
-        let Trial {
-            walks: _,
-            above: _,
-            task: _,
-        } = self;
-    }
 }
 
 impl<'a> Model for Trial<'a> {

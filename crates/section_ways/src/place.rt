@@ -16,6 +16,7 @@ pub struct Nexts {
 }
 
 /// A function and what is known of its body, and whether its callers raise the task; else its ceilings have to.
+#[derive(Drop)]
 pub struct Place<'t> {
     pub tables: &'t Tables<'t>,
     pub func: &'t Func,
@@ -23,25 +24,10 @@ pub struct Place<'t> {
     pub whole: bool,
 }
 
-// Written out: what is derived is proved anew wherever a value is let go.
-impl Drop for Place<'_> {
-    fn drop(self) {
-        let Place {
-            tables: _,
-            func: _,
-            body: _,
-            whole: _,
-        } = self;
-    }
-}
-
 impl Place<'_> {
     /// The operation of an item, if there is one.
     pub fn op(&self, item: usize) -> Option<Op> {
-        match self.func.items.items().get(item) {
-            Some(item) => Some(item.op),
-            None => None,
-        }
+        Some(self.func.items.items().get(item)?.op)
     }
 
     /// Whether the task is raised before an item that walks reach.
@@ -60,11 +46,7 @@ impl Place<'_> {
     }
 
     fn live_item(&self, item: usize) -> Option<usize> {
-        if self.is_alive(item) {
-            Some(item)
-        } else {
-            None
-        }
+        self.is_alive(item).then_some(item)
     }
 
     // The item behind one, past a call where the function returns.
@@ -83,10 +65,7 @@ impl Place<'_> {
     // The item to which one jumps.
     fn jump(&self, item: usize) -> Option<usize> {
         let label = way(self.op(item)?)?;
-        match self.func.labels.items().get(label as usize) {
-            Some(place) => self.live_item(place.item as usize),
-            None => None,
-        }
+        self.live_item(self.func.labels.items().get(label as usize)?.item as usize)
     }
 
     // Whether no section goes on behind an item.
@@ -124,13 +103,8 @@ impl Place<'_> {
                 further.behind_call(inner).behind_item()
             },
             Op::Return => RETURN_SIZE,
-            _ => {
-                if counts(op) {
-                    further.behind_item()
-                } else {
-                    NO_SIZE
-                }
-            },
+            _ if counts(op) => further.behind_item(),
+            _ => NO_SIZE,
         }
     }
 
@@ -145,14 +119,12 @@ impl Place<'_> {
             item,
             inside: Some(Mode::Back),
         };
-        match mode {
-            Mode::On => {
-                let inside = Some(Mode::On);
-                let size = self.tables.part(func, whole, Mode::On).size;
-                greater(Part { size, item, inside }, left)
-            },
-            _ => left,
+        if !matches!(mode, Mode::On) {
+            return left;
         }
+        let inside = Some(Mode::On);
+        let size = self.tables.part(func, whole, Mode::On).size;
+        greater(Part { size, item, inside }, left)
     }
 
     /// The greatest part of the function that goes on in this mode, by the sizes from its items.

@@ -1,7 +1,7 @@
 //! A search of a body: its items in an order of finish, each behind those that it goes on to, or the first cycle.
 use crate::place::{Nexts, Place};
 use crate::sizes::{NO_SIZE, Size, item_size};
-use crate::tables::{Entry, no_entry};
+use crate::tables::{Entry, Tables, no_entry};
 use crate::walking::Mode;
 use bound_rules::number_at;
 use sloth_base::Result;
@@ -16,37 +16,22 @@ const OPEN: u32 = 2;
 const DONE: u32 = 3;
 
 // What each item is, and those that are open, each behind one that goes on to it.
+#[derive(Drop)]
 struct Search {
     states: Vec<u32>,
     stack: Vec<usize>,
 }
 
-// Written out: what is derived is proved anew wherever a value is let go.
-impl Drop for Search {
-    fn drop(self) {
-        let Search {
-            states: _,
-            stack: _,
-        } = self;
-    }
-}
-
 impl Search {
-    fn has(&self, item: Option<usize>, state: u32) -> bool {
-        match item {
-            Some(item) => number_at(self.states.as_slice(), item) == state,
-            None => false,
-        }
+    fn has(&self, item: usize, state: u32) -> bool {
+        number_at(self.states.as_slice(), item) == state
     }
 
     // One of these that is in this state.
     fn next(&self, nexts: Nexts, state: u32) -> Option<usize> {
-        if self.has(nexts.lower, state) {
-            nexts.lower
-        } else if self.has(nexts.higher, state) {
-            nexts.higher
-        } else {
-            None
+        match nexts.lower {
+            Some(item) if self.has(item, state) => Some(item),
+            _ => nexts.higher.filter(|item| self.has(*item, state)),
         }
     }
 
@@ -123,9 +108,12 @@ fn dive(place: &Place, search: &mut Search, entry: &mut Entry) -> Result<()> {
     Ok(())
 }
 
-/// What is known of a function, by the items before which the task is raised.
-pub fn searched(place: &Place) -> Result<Entry> {
-    let alloc = place.tables.walks.alloc();
+/// What is known of a function, by the items before which the task is raised; nothing of one that is not there.
+pub fn searched(tables: &Tables, func: usize, whole: bool) -> Result<Entry> {
+    let alloc = tables.walks.alloc();
+    let Some(place) = tables.place(func, whole) else {
+        return no_entry(alloc, 0);
+    };
     let count = place.func.items.items().len();
     let mut entry = no_entry(alloc, count)?;
     let mut search = Search {
@@ -133,9 +121,9 @@ pub fn searched(place: &Place) -> Result<Entry> {
         stack: Vec::new(alloc),
     };
     for item in 0..count {
-        if place.is_alive(item) && search.has(Some(item), NEW) {
+        if place.is_alive(item) && search.has(item, NEW) {
             search.open(item)?;
-            dive(place, &mut search, &mut entry)?;
+            dive(&place, &mut search, &mut entry)?;
         }
     }
     entry.most = place.greatest(entry.sizes.as_slice(), Mode::On);

@@ -43,10 +43,7 @@ pub const NO_PART: Part = Part {
 
 /// The size from this item on, none where there is no such item.
 pub fn item_size(sizes: &[Size], item: usize) -> Size {
-    match sizes.get(item) {
-        Some(size) => *size,
-        None => NO_SIZE,
-    }
+    sizes.get(item).copied().unwrap_or(NO_SIZE)
 }
 
 fn sum(one: u32, other: u32) -> u32 {

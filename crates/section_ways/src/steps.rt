@@ -6,8 +6,8 @@ ghost use Rattle.code_rules.specs.Code.{IsItem, IsPathStep};
 ghost use Rattle.osek_scheduler.specs.Apart.{static_priority};
 ghost use Rattle.osek_blocking.specs.Walks.{chains_itself};
 ghost use Rattle.walk_sums.specs.Activations.{ceiling_before, is_plain};
-ghost use Rattle.section_ways.specs.Standings.{AreTold, is_raised_at, IsAdvance};
 ghost use Rattle.walk_sums.specs.Positions.{place_of, position_of};
+ghost use Rattle.section_ways.specs.Trying.{is_raised_position, IsToldStack, Advances};
 
 use crate::pair::Trial;
 use bound_rules::number_at;
@@ -107,12 +107,9 @@ impl Trial<'_> {
         to: Point,
     ) -> Result<bool>
         requires item { IsItem self.now.app at.point.func at.point.item (op_is.Invoke called) }
-        requires told { AreTold self.now.config self.now.app self.now.above self.now.task stack.old.items }
-        requires raised { at.raised ≡
-            is_raised_at self.now.config self.now.app self.now.above self.now.task (position_of stack.old.items) }
-        ensures { IfOk result (λ goes. goes ≡ true
-            → IsAdvance self.now.config self.now.app self.now.above self.now.task
-            (place_of at.point ∷ position_of stack.old.items) stack.new.items to) }
+        requires told { IsToldStack self.now stack.old.items }
+        requires raised { at.raised ≡ is_raised_position self.now (position_of stack.old.items) }
+        ensures { IfOk result (Advances self.now (place_of at.point ∷ position_of stack.old.items) stack.new.items to) }
     {
         if !is_entry(called, to) {
             return Ok(false);
@@ -126,10 +123,8 @@ impl Trial<'_> {
     // Back to behind the call.
     fn leave(&self, stack: &mut Vec<Standing>, at: Standing, to: Point) -> Result<bool>
         requires item { IsItem self.now.app at.point.func at.point.item op_is.Return }
-        requires told { AreTold self.now.config self.now.app self.now.above self.now.task stack.old.items }
-        ensures { IfOk result (λ goes. goes ≡ true
-            → IsAdvance self.now.config self.now.app self.now.above self.now.task
-            (place_of at.point ∷ position_of stack.old.items) stack.new.items to) }
+        requires told { IsToldStack self.now stack.old.items }
+        ensures { IfOk result (Advances self.now (place_of at.point ∷ position_of stack.old.items) stack.new.items to) }
     {
         let Some(caller) = stack.pop() else {
             return Ok(false);
@@ -146,12 +141,9 @@ impl Trial<'_> {
     fn stay(&self, stack: &mut Vec<Standing>, at: Standing, op: Op, to: Point) -> Result<bool>
         requires item { IsItem self.now.app at.point.func at.point.item op }
         requires plain { is_plain op ≡ true }
-        requires told { AreTold self.now.config self.now.app self.now.above self.now.task stack.old.items }
-        requires raised { at.raised ≡
-            is_raised_at self.now.config self.now.app self.now.above self.now.task (position_of stack.old.items) }
-        ensures { IfOk result (λ goes. goes ≡ true
-            → IsAdvance self.now.config self.now.app self.now.above self.now.task
-            (place_of at.point ∷ position_of stack.old.items) stack.new.items to) }
+        requires told { IsToldStack self.now stack.old.items }
+        requires raised { at.raised ≡ is_raised_position self.now (position_of stack.old.items) }
+        ensures { IfOk result (Advances self.now (place_of at.point ∷ position_of stack.old.items) stack.new.items to) }
     {
         if !goes_inside(self.app(), at.point, to) {
             return Ok(false);
@@ -163,12 +155,9 @@ impl Trial<'_> {
 
     // From a position behind which only the functions around it are on the stack.
     fn advance_inner(&self, stack: &mut Vec<Standing>, at: Standing, to: Point) -> Result<bool>
-        requires told { AreTold self.now.config self.now.app self.now.above self.now.task stack.old.items }
-        requires raised { at.raised ≡
-            is_raised_at self.now.config self.now.app self.now.above self.now.task (position_of stack.old.items) }
-        ensures { IfOk result (λ goes. goes ≡ true
-            → IsAdvance self.now.config self.now.app self.now.above self.now.task
-            (place_of at.point ∷ position_of stack.old.items) stack.new.items to) }
+        requires told { IsToldStack self.now stack.old.items }
+        requires raised { at.raised ≡ is_raised_position self.now (position_of stack.old.items) }
+        ensures { IfOk result (Advances self.now (place_of at.point ∷ position_of stack.old.items) stack.new.items to) }
     {
         let Some(op) = point_op(self.app(), at.point) else {
             return Ok(false);
@@ -182,10 +171,8 @@ impl Trial<'_> {
 
     /// Goes to the position with this innermost point, if a walk does; else says no, and the stack has no meaning.
     pub fn advance(&self, stack: &mut Vec<Standing>, to: Point) -> Result<bool>
-        requires { AreTold self.now.config self.now.app self.now.above self.now.task stack.old.items }
-        ensures { IfOk result (λ goes. goes ≡ true
-            → IsAdvance self.now.config self.now.app self.now.above self.now.task
-            (position_of stack.old.items) stack.new.items to) }
+        requires { IsToldStack self.now stack.old.items }
+        ensures { IfOk result (Advances self.now (position_of stack.old.items) stack.new.items to) }
     {
         let Some(at) = stack.pop() else {
             return Ok(false);

@@ -52,25 +52,17 @@ impl Drop for Tables<'_> {
 impl Tables<'_> {
     /// A function at a level, if there is one.
     pub fn place(&self, func: usize, whole: bool) -> Option<Place<'_>> {
-        let (funcs, bodies) = (self.walks.app().funcs.items(), self.walks.bodies());
-        if func < funcs.len() && func < bodies.len() {
-            Some(Place {
-                tables: self,
-                func: &funcs[func],
-                body: &bodies[func],
-                whole,
-            })
-        } else {
-            None
-        }
+        Some(Place {
+            tables: self,
+            func: self.walks.app().funcs.items().get(func)?,
+            body: self.walks.bodies().get(func)?,
+            whole,
+        })
     }
 
     /// What an item calls, and whether raised.
     pub fn call(&self, func: usize, whole: bool, item: usize) -> Option<(usize, bool)> {
-        match self.place(func, whole) {
-            Some(place) => place.call(item),
-            None => None,
-        }
+        self.place(func, whole)?.call(item)
     }
 
     fn entry(&self, func: usize, whole: bool) -> Option<&Entry> {
@@ -106,12 +98,8 @@ impl Tables<'_> {
 
 /// Nothing known of so many items.
 pub fn no_entry(alloc: Global, count: usize) -> Result<Entry> {
-    let mut sizes = Vec::new(alloc);
-    for _item in 0..count {
-        push(&mut sizes, NO_SIZE)?;
-    }
     Ok(Entry {
-        sizes,
+        sizes: vec![in alloc; NO_SIZE; count]?,
         cycle: Vec::new(alloc),
         most: NO_PART,
         out: NO_PART,
@@ -126,13 +114,7 @@ fn no_entries(alloc: Global, count: usize) -> Result<Vec<Entry>> {
     Ok(entries)
 }
 
-fn found_entry(tables: &Tables, func: usize, whole: bool) -> Result<Entry> {
-    match tables.place(func, whole) {
-        Some(place) => searched(&place),
-        None => no_entry(tables.walks.alloc(), 0),
-    }
-}
-
+// Puts what is found of a function in the place of its entry.
 fn put(entries: &mut [Entry], func: usize, entry: Entry) {
     if func < entries.len() {
         entries[func] = entry;
@@ -141,20 +123,17 @@ fn put(entries: &mut [Entry], func: usize, entry: Entry) {
 
 /// The tables of walked task code for a priority.
 pub fn all_tables<'a>(walks: &'a Walks<'a>, priority: u32) -> Result<Tables<'a>> {
-    let alloc = walks.alloc();
     let count = walks.app().funcs.items().len();
-    let whole = no_entries(alloc, count)?;
-    let own = no_entries(alloc, count)?;
     let mut tables = Tables {
         walks,
         priority,
-        whole,
-        own,
+        whole: no_entries(walks.alloc(), count)?,
+        own: no_entries(walks.alloc(), count)?,
     };
     for func in walks.order() {
-        let entry = found_entry(&tables, *func, true)?;
+        let entry = searched(&tables, *func, true)?;
         put(tables.whole.as_mut_slice(), *func, entry);
-        let entry = found_entry(&tables, *func, false)?;
+        let entry = searched(&tables, *func, false)?;
         put(tables.own.as_mut_slice(), *func, entry);
     }
     Ok(tables)

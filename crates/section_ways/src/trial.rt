@@ -1,18 +1,17 @@
 //! Whether points are those of a section.
-ghost use Rattle.std.specs.Prelude.{◌≡◌, ◌<◌, ◌++◌, ◌∷◌, [], get_or, length, true, false, IfOk, IfSome};
+ghost use Rattle.std.specs.Prelude.{◌≡◌, ◌<◌, get_or, length, true, false, IfOk, IfSome};
 ghost use Rattle.sloth_base.specs.Named.{function, operation};
 ghost use Rattle.sloth_base.specs.declared.app.Op.TheVariants as op_is;
 ghost use Rattle.code_rules.specs.Code.{IsItem};
 ghost use Rattle.osek_blocking.specs.Sections.{IsLower, is_counted, is_schedule};
 ghost use Rattle.walk_sums.specs.Activations.{ReachesItem};
-ghost use Rattle.walk_sums.specs.Positions.{no_point, position_of};
-ghost use Rattle.section_ways.specs.Standings.{AreTold, IsStart, IsRaisedAt, IsSectionStep, IsStretch, is_raised_at};
+ghost use Rattle.walk_sums.specs.Positions.{no_point};
+ghost use Rattle.section_ways.specs.Trying.{IsToldStack, IsStartStack, IsRaisedStack, GoesFurther, GoesThrough};
 
 use crate::pair::Trial;
 use crate::steps::point_op;
 use bound_rules::{is_marked, is_schedule};
 use sloth_base::{App, Op, Result, Service};
-use std::alloc::Global;
 use text_pieces::push;
 use walk_sums::{Point, Standing, is_same};
 
@@ -62,15 +61,6 @@ fn counts_here(app: &App, at: Point, point: Point) -> bool
     }
 }
 
-// The stack of one function in progress.
-fn single_stack(alloc: Global, at: Standing) -> Result<Vec<Standing>>
-    ensures { IfOk result (λ stack. stack.items ≡ at ∷ []) }
-{
-    let mut stack = Vec::new(alloc);
-    push(&mut stack, at)?;
-    Ok(stack)
-}
-
 impl Trial<'_> {
     fn is_reached(&self, point: Point) -> bool
         ensures known { result ≡ true → point.func < length self.now.app.funcs }
@@ -88,12 +78,14 @@ impl Trial<'_> {
         self.is_reached(to) && is_call(self.app(), from, to.func)
     }
 
-    // A further function in progress, called at this point, in front of which the stack is that of those around it.
-    fn take_call(&self, stack: &mut Vec<Standing>, at: Standing, to: Point) -> Result<bool>
-        requires { IsStart self.now.config self.now.app self.now.above self.now.task (stack.old.items ++ at ∷ []) }
-        ensures { IfOk result (λ taken. taken ≡ true
-            → IsStart self.now.config self.now.app self.now.above self.now.task stack.new.items) }
+    // A further function in progress, which the innermost of these calls.
+    fn take_next(&self, stack: &mut Vec<Standing>, to: Point) -> Result<bool>
+        requires { IsStartStack self.now stack.old.items }
+        ensures { IfOk result (λ taken. taken ≡ true → IsStartStack self.now stack.new.items) }
     {
+        let Some(at) = stack.pop() else {
+            return Ok(false);
+        };
         if !self.leads_into(at.point, to) {
             return Ok(false);
         }
@@ -103,21 +95,9 @@ impl Trial<'_> {
         Ok(true)
     }
 
-    fn take_next(&self, stack: &mut Vec<Standing>, to: Point) -> Result<bool>
-        requires { IsStart self.now.config self.now.app self.now.above self.now.task stack.old.items }
-        ensures { IfOk result (λ taken. taken ≡ true
-            → IsStart self.now.config self.now.app self.now.above self.now.task stack.new.items) }
-    {
-        let Some(at) = stack.pop() else {
-            return Ok(false);
-        };
-        self.take_call(stack, at, to)
-    }
-
     fn take_all(&self, stack: &mut Vec<Standing>, points: &[Point]) -> Result<bool>
-        requires { IsStart self.now.config self.now.app self.now.above self.now.task stack.old.items }
-        ensures { IfOk result (λ taken. taken ≡ true
-            → IsStart self.now.config self.now.app self.now.above self.now.task stack.new.items) }
+        requires { IsStartStack self.now stack.old.items }
+        ensures { IfOk result (λ taken. taken ≡ true → IsStartStack self.now stack.new.items) }
     {
         for number in 1..points.len() {
             if !self.take_next(stack, points[number])? {
@@ -138,7 +118,7 @@ impl Trial<'_> {
     /// The position of these points, the outermost first, if walks lead to it.
     pub fn walked_stack(&self, points: &[Point]) -> Result<Option<Vec<Standing>>>
         ensures found { IfOk result (λ found. IfSome found (λ stack.
-            IsStart self.now.config self.now.app self.now.above self.now.task stack.items)) }
+            IsStartStack self.now stack.items)) }
         ensures lower { IsLower self.now.config self.now.above self.now.task }
     {
         let body = self.body();
@@ -150,7 +130,8 @@ impl Trial<'_> {
             return Ok(None);
         }
         let raised = self.is_always_raised();
-        let mut stack = single_stack(self.walks.alloc(), Standing { point, raised })?;
+        let mut stack = Vec::new(self.walks.alloc());
+        push(&mut stack, Standing { point, raised })?;
         if self.take_all(&mut stack, points)? {
             Ok(Some(stack))
         } else {
@@ -158,13 +139,15 @@ impl Trial<'_> {
         }
     }
 
-    // Whether this one, behind these, is at the point, which counts, and the task is raised there.
-    fn stands_there(&self, stack: &mut Vec<Standing>, at: Standing, point: Point) -> Result<bool>
-        requires { at.raised ≡
-            is_raised_at self.now.config self.now.app self.now.above self.now.task (position_of stack.old.items) }
-        ensures { IfOk result (λ stands. stands ≡ true → (stack.new.items ≡ stack.old.items ++ at ∷ [])
-            × IsRaisedAt self.now.config self.now.app self.now.above self.now.task (stack.old.items ++ at ∷ []) point) }
+    // Whether the innermost point is this one, counts, and the task is raised there.
+    fn is_there(&self, stack: &mut Vec<Standing>, point: Point) -> Result<bool>
+        requires { IsToldStack self.now stack.old.items }
+        ensures { IfOk result (λ stands. stands ≡ true
+            → (stack.new.items ≡ stack.old.items) × IsRaisedStack self.now stack.old.items point) }
     {
+        let Some(at) = stack.pop() else {
+            return Ok(false);
+        };
         push(stack, at)?;
         if !counts_here(self.app(), at.point, point) {
             return Ok(false);
@@ -172,25 +155,11 @@ impl Trial<'_> {
         Ok(self.is_raised(at))
     }
 
-    // Whether the innermost point is this one, counts, and the task is raised there.
-    fn is_there(&self, stack: &mut Vec<Standing>, point: Point) -> Result<bool>
-        requires { AreTold self.now.config self.now.app self.now.above self.now.task stack.old.items }
-        ensures { IfOk result (λ stands. stands ≡ true → (stack.new.items ≡ stack.old.items)
-            × IsRaisedAt self.now.config self.now.app self.now.above self.now.task stack.old.items point) }
-    {
-        let Some(at) = stack.pop() else {
-            return Ok(false);
-        };
-        self.stands_there(stack, at, point)
-    }
-
     // Whether a section goes on from one point to the next.
     fn goes_further(&self, stack: &mut Vec<Standing>, from: Point, to: Point) -> Result<bool>
-        requires at { IsRaisedAt self.now.config self.now.app self.now.above self.now.task stack.old.items from }
-        requires told { AreTold self.now.config self.now.app self.now.above self.now.task stack.old.items }
-        ensures { IfOk result (λ goes. goes ≡ true
-            → IsSectionStep self.now.config self.now.app self.now.above self.now.task
-            stack.old.items stack.new.items from to) }
+        requires at { IsRaisedStack self.now stack.old.items from }
+        requires told { IsToldStack self.now stack.old.items }
+        ensures { IfOk result (GoesFurther self.now stack.old.items stack.new.items from to) }
     {
         if !is_calm(self.app(), from) {
             return Ok(false);
@@ -204,12 +173,9 @@ impl Trial<'_> {
     // Whether a section goes on from the first of these points to the others.
     fn goes_through(&self, stack: &mut Vec<Standing>, points: &[Point]) -> Result<bool>
         requires some { 0 < length points.now }
-        requires told { AreTold self.now.config self.now.app self.now.above self.now.task stack.old.items }
-        requires at { IsRaisedAt self.now.config self.now.app self.now.above self.now.task
-            stack.old.items (get_or points.now 0 no_point) }
-        ensures { IfOk result (λ goes. goes ≡ true
-            → IsStretch self.now.config self.now.app self.now.above self.now.task
-            stack.old.items stack.new.items points.now) }
+        requires told { IsToldStack self.now stack.old.items }
+        requires at { IsRaisedStack self.now stack.old.items (get_or points.now 0 no_point) }
+        ensures { IfOk result (GoesThrough self.now stack.old.items stack.new.items points.now) }
     {
         for number in 1..points.len() {
             if !self.goes_further(stack, points[number - 1], points[number])? {
@@ -222,10 +188,8 @@ impl Trial<'_> {
     /// Whether these are points of a section from the position of the stack, each of which counts: the stack is then
     /// the last position.
     pub fn is_section(&self, stack: &mut Vec<Standing>, points: &[Point]) -> Result<bool>
-        requires { AreTold self.now.config self.now.app self.now.above self.now.task stack.old.items }
-        ensures { IfOk result (λ is. is ≡ true
-            → IsStretch self.now.config self.now.app self.now.above self.now.task
-            stack.old.items stack.new.items points.now) }
+        requires { IsToldStack self.now stack.old.items }
+        ensures { IfOk result (GoesThrough self.now stack.old.items stack.new.items points.now) }
     {
         if points.is_empty() {
             return Ok(false);

@@ -60,36 +60,12 @@ fn leave(tables: &Tables, frames: &mut Vec<Frame>, left: Frame) -> Result<bool> 
     let Some(mut caller) = frames.pop() else {
         return Ok(false);
     };
-    let Some(behind) = caller.point.item.checked_add(1) else {
-        return Ok(false);
-    };
-    caller.point.item = behind;
+    caller.point.item = caller.point.item.saturating_add(1);
     push(frames, caller)?;
-    Ok(0 < further_size(tables, caller, Some(behind)))
+    Ok(0 < further_size(tables, caller, Some(caller.point.item)))
 }
 
-// Into what an item calls; `next` is the item behind the call.
-fn enter(
-    tables: &Tables,
-    frames: &mut Vec<Frame>,
-    frame: Frame,
-    func: usize,
-    next: Option<usize>,
-) -> Result<bool> {
-    let inner = tables.size(func, true, 0);
-    let further = further_size(tables, frame, next);
-    let mode = match frame.mode {
-        Mode::On if inner.on < both(inner.back, further) => Mode::Back,
-        mode => mode,
-    };
-    push(frames, frame)?;
-    let point = Point { func, item: 0 };
-    let whole = true;
-    push(frames, Frame { point, whole, mode })?;
-    Ok(true)
-}
-
-// Goes to the next position; or says that the part ends.
+// Goes to the next position, into what an item calls; or says that the part ends.
 fn step(tables: &Tables, frames: &mut Vec<Frame>) -> Result<bool> {
     let Some(mut frame) = frames.pop() else {
         return Ok(false);
@@ -103,7 +79,19 @@ fn step(tables: &Tables, frames: &mut Vec<Frame>) -> Result<bool> {
     };
     match op {
         Op::Return => leave(tables, frames, frame),
-        Op::Invoke { func } => enter(tables, frames, frame, func.0 as usize, nexts.lower),
+        Op::Invoke { func } => {
+            let func = func.0 as usize;
+            let inner = tables.size(func, true, 0);
+            let further = further_size(tables, frame, nexts.lower);
+            let mode = match frame.mode {
+                Mode::On if inner.on < both(inner.back, further) => Mode::Back,
+                mode => mode,
+            };
+            push(frames, frame)?;
+            let (point, whole) = (Point { func, item: 0 }, true);
+            push(frames, Frame { point, whole, mode })?;
+            Ok(true)
+        },
         _ => {
             let Some(item) = choice(tables, frame, nexts) else {
                 return Ok(false);

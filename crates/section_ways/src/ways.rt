@@ -3,6 +3,7 @@ ghost use Rattle.std.specs.Prelude.{◌≡◌, ◌<◌, ◌+◌, length, true, I
 ghost use Rattle.osek_blocking.specs.Sections.{IsLower};
 ghost use Rattle.bound_rules.specs.declared.bound.Bound.TheVariants as bound_is;
 ghost use Rattle.section_ways.specs.ShownWays.{ArePointsOf, IsShown};
+ghost use Rattle.section_ways.specs.Trying.{ArePoints};
 
 use crate::cycles::{cycle_points, cycle_start};
 use crate::pair::Trial;
@@ -41,8 +42,8 @@ impl Trial<'_> {
         points: Vec<Point>,
         items: u32,
     ) -> Result<Option<Vec<Point>>>
-        ensures { IfOk result (λ found. IfSome found (λ points. ArePointsOf self.now.config self.now.app self.now.above
-            (bound_is.Items items) self.now.task points.items)) }
+        ensures { IfOk result (λ found.
+            IfSome found (λ points. ArePoints self.now (bound_is.Items items) points.items)) }
     {
         if !has_items(points.as_slice(), items) {
             return Ok(None);
@@ -55,8 +56,8 @@ impl Trial<'_> {
 
     // The points of a section of the task of an item less.
     fn section(&self, tables: &Tables, items: u32) -> Result<Option<Vec<Point>>>
-        ensures { IfOk result (λ found. IfSome found (λ points. ArePointsOf self.now.config self.now.app self.now.above
-            (bound_is.Items items) self.now.task points.items)) }
+        ensures { IfOk result (λ found.
+            IfSome found (λ points. ArePoints self.now (bound_is.Items items) points.items)) }
     {
         let alloc = self.walks.alloc();
         let mut frames = section_start(tables, self.body(), self.is_always_raised())?;
@@ -69,8 +70,7 @@ impl Trial<'_> {
 
     // These points without the last one, which is the first again, if they are those of a cycle.
     fn proven_cycle(&self, start: &[Point], mut points: Vec<Point>) -> Result<Option<Vec<Point>>>
-        ensures { IfOk result (λ found. IfSome found (λ points. ArePointsOf self.now.config self.now.app self.now.above
-            bound_is.Endless self.now.task points.items)) }
+        ensures { IfOk result (λ found. IfSome found (λ points. ArePoints self.now bound_is.Endless points.items)) }
     {
         if !self.is_closed_way(start, points.as_slice())? {
             return Ok(None);
@@ -83,8 +83,7 @@ impl Trial<'_> {
 
     // The points of a cycle of the task.
     fn cycle(&self, tables: &Tables) -> Result<Option<Vec<Point>>>
-        ensures { IfOk result (λ found. IfSome found (λ points. ArePointsOf self.now.config self.now.app self.now.above
-            bound_is.Endless self.now.task points.items)) }
+        ensures { IfOk result (λ found. IfSome found (λ points. ArePoints self.now bound_is.Endless points.items)) }
     {
         let frames = cycle_start(tables, self.body(), self.is_always_raised())?;
         let start = frame_points(self.walks.alloc(), frames.as_slice())?;
@@ -97,8 +96,7 @@ impl Trial<'_> {
 
     // The points of which a bound is made, if they are the task's.
     fn points(&self, tables: &Tables, bound: Bound) -> Result<Option<Vec<Point>>>
-        ensures { IfOk result (λ found. IfSome found (λ points. ArePointsOf self.now.config self.now.app self.now.above
-            bound self.now.task points.items)) }
+        ensures { IfOk result (λ found. IfSome found (λ points. ArePoints self.now bound points.items)) }
     {
         match bound {
             Bound::Items(items) => self.section(tables, items),

@@ -14,7 +14,7 @@ pub struct NumberedAlarm {
 }
 
 /// The counter's alarms among these.
-pub fn alarms_of(
+pub fn numbered_alarms(
     alloc: Global,
     alarms: &[AlarmDecl],
     counter: u32,

@@ -4,16 +4,31 @@
 //! From an opening mark, with any arrivals: the effect within 160 instructions, and the length (`block`; a file of
 //! `specs/` for each). The way back, the look at a task: `block_parts` (`Back`, `SuspensionTest`); leaving:
 //! `masked_code` (`Kernel`).
-ghost use Rattle.std.specs.Prelude.{◌≡◌, IfOk, length};
+ghost use Rattle.std.specs.Prelude.{◌≡◌, IfOk, length, ◌<◌, ◌++◌, OnOk};
 ghost use Rattle.code_lengths.specs.CodeLengths.{service_length};
 ghost use Rattle.block_parts.specs.ServiceBlock.{IsServiceBlock};
 ghost use Rattle.service_gen.specs.EventBlock.{HasEventBlock, IsEventServiceBlock, no_marks};
+ghost use Rattle.sloth_base.specs.MemoryMap.{line_count};
+ghost use Rattle.service_gen.specs.EventPieces.{own_finding_code, mask_adding_code, controller_address_code};
+ghost use Rattle.service_gen.specs.EventPieces.{own_saving_code};
+ghost use Rattle.block_parts.specs.Events.{enabling_code};
+ghost use Rattle.sloth_base.specs.Limits.{task_limit};
+ghost use Rattle.service_gen.specs.SetEvent.{IsSetEventCode};
+ghost use Rattle.service_gen.specs.ClearEvent.{IsClearEventCode};
+ghost use Rattle.service_gen.specs.GetEvent.{IsGetEventCode};
+ghost use Rattle.service_gen.specs.WaitEvent.{IsWaitEventCode};
 
-use crate::{clear_event, get_event, set_event, wait_event};
-use block_parts::opening;
-use rv32_instr::{Block, Instr};
-use sloth_base::{Config, Levels, List, Result, Service, block_number};
-use sloth_region::Map;
+use block_parts::services::ask_awaited;
+use block_parts::{
+    BACK, OWN_ACTIVE, OWN_EVENTS, WAKE, clear_own, go_back, keep, leave, look, open, opening,
+    raise, refuse, tell_events,
+};
+use masked_code::{X5, past, put, save};
+use rv32_instr::{
+    A0, Block, Instr, X1, X2, X3, X4, X30, ZERO, add, addi, and, beq, lui, lw, or, sb, slli, sw,
+};
+use sloth_base::{Config, E_OK, Levels, List, Reg, Result, Service, block_number};
+use sloth_region::{CONTEXT_BYTES, CONTROLLER_HIGH, CUR, Map, enabled_byte, events};
 use std::alloc::{AllocError, Global};
 
 /// The block of a service on events with its object, at its address in the map. Its first instruction, under an opening
@@ -48,10 +63,123 @@ fn code(alloc: Global, service: Service, object: u8) -> Result<Vec<Instr>, Alloc
     ensures serves { IfOk result (λ code. IsEventServiceBlock service object code.items) }
 {
     match service {
-        Service::SetEvent => set_event::code(alloc, object),
-        Service::ClearEvent => clear_event::code(alloc),
-        Service::GetEvent => get_event::code(alloc, object),
-        Service::WaitEvent => wait_event::code(alloc),
+        Service::SetEvent => set_event(alloc, object),
+        Service::ClearEvent => clear_event(alloc),
+        Service::GetEvent => get_event(alloc, object),
+        Service::WaitEvent => wait_event(alloc),
         _ => unreachable!(),
     }
+}
+
+/// x1 := the place of the running task's words: they stand there and directly before. Uses another register.
+fn find_own(code: &mut Vec<Instr>, other: Reg) -> Result<(), AllocError>
+    requires { other < line_count }
+    ensures { OnOk result (code.new.items ≡ code.old.items ++ own_finding_code other) }
+{
+    put!(code; lw(X1, X4, CUR), slli(other, X1, 3), slli(X1, X1, 2), add(X1, X1, other), add(X1, X1, X4))
+}
+
+/// How many instructions `add_events` adds.
+const ADD: u32 = 3;
+
+/// How many instructions `ask_awaited` adds.
+const ASK: u32 = 4;
+
+/// The look at the task, its events, its line where one of them is awaited, and the way back.
+pub(crate) fn set_event(alloc: Global, task: u8) -> Result<Vec<Instr>, AllocError>
+    requires { task < task_limit }
+    ensures { IfOk result (λ code. IsSetEventCode task code.items) }
+{
+    let mut code = Vec::new(alloc);
+    open(&mut code)?;
+    look(&mut code, task)?;
+    refuse(&mut code, ADD + ASK + WAKE)?;
+    add_events(&mut code, task)?;
+    ask_awaited(&mut code, task)?;
+    raise(&mut code, task)?;
+    enable(&mut code, task)?;
+    go_back(&mut code)?;
+    Ok(code)
+}
+
+/// The running task's events without those of the mask, and the way back.
+pub(crate) fn clear_event(alloc: Global) -> Result<Vec<Instr>, AllocError>
+    ensures { IfOk result (λ code. IsClearEventCode code.items) }
+{
+    let mut code = Vec::new(alloc);
+    open(&mut code)?;
+    find_own(&mut code, A0)?;
+    clear_own(&mut code)?;
+    go_back(&mut code)?;
+    Ok(code)
+}
+
+/// The look at the task, its events where it isn't Suspended, and the way back.
+pub(crate) fn get_event(alloc: Global, task: u8) -> Result<Vec<Instr>, AllocError>
+    requires { task < task_limit }
+    ensures { IfOk result (λ code. IsGetEventCode task code.items) }
+{
+    let mut code = Vec::new(alloc);
+    open(&mut code)?;
+    look(&mut code, task)?;
+    tell_events(&mut code, task)?;
+    go_back(&mut code)?;
+    Ok(code)
+}
+
+/// The events that the running task waits for, from 12 * `cur` behind the service words.
+const OWN_WAIT: i32 = 0;
+
+/// The enable byte of its line, from `cur` behind the controller's address.
+const OWN_ENABLED: i32 = 31;
+
+/// The look at the events, and then the way back, or the rest and the way to what runs below.
+pub(crate) fn wait_event(alloc: Global) -> Result<Vec<Instr>, AllocError>
+    ensures { IfOk result (λ code. IsWaitEventCode code.items) }
+{
+    let mut code = Vec::new(alloc);
+    open(&mut code)?;
+    find_own(&mut code, X3)?;
+    put!(&mut code; lw(X3, X1, OWN_EVENTS), and(X3, X3, X30), beq(X3, ZERO, past(2 + BACK)))?;
+    hold_controller(&mut code)?;
+    put!(&mut code; addi(A0, ZERO, E_OK as i32))?;
+    go_back(&mut code)?;
+    put!(&mut code; sw(ZERO, X1, OWN_ACTIVE), sw(X30, X1, OWN_WAIT))?;
+    save_own(&mut code)?;
+    keep(&mut code)?;
+    hold_controller(&mut code)?;
+    put!(&mut code; add(X5, X5, X3), sb(ZERO, X5, OWN_ENABLED))?;
+    leave(&mut code)?;
+    Ok(code)
+}
+
+/// x3 := the controller's address again.
+fn hold_controller(code: &mut Vec<Instr>) -> Result<(), AllocError>
+    ensures { OnOk result (code.new.items ≡ code.old.items ++ controller_address_code) }
+{
+    put!(code; lui(X3, CONTROLLER_HIGH))
+}
+
+/// Saves the registers in the context directly below x2.
+fn save_own(code: &mut Vec<Instr>) -> Result<(), AllocError>
+    ensures { OnOk result (code.new.items ≡ code.old.items ++ own_saving_code) }
+{
+    put!(code; addi(X1, X2, -CONTEXT_BYTES))?;
+    save(code, 5, 32, X1)
+}
+
+/// Adds the events of the mask in x30 to the task's, which stay in x1.
+fn add_events(code: &mut Vec<Instr>, task: u8) -> Result<(), AllocError>
+    requires { task < task_limit }
+    ensures { OnOk result (code.new.items ≡ code.old.items ++ mask_adding_code task) }
+{
+    put!(code; lw(X1, X4, events(task)), or(X1, X1, X30), sw(X1, X4, events(task)))
+}
+
+/// Enables the task's line. x1 holds 1.
+fn enable(code: &mut Vec<Instr>, task: u8) -> Result<(), AllocError>
+    requires { task < task_limit }
+    ensures { OnOk result (code.new.items ≡ code.old.items ++ enabling_code task) }
+{
+    put!(code; sb(X1, X3, enabled_byte(task)))
 }

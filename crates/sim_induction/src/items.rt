@@ -1,7 +1,8 @@
 //! The counts of items.
 ghost use Rattle.std.specs.Prelude.{ℕ, ◌≡◌, ◌≤◌, get_or, IfOk};
 ghost use Rattle.code_rules.specs.AppRange.{IsTaskCode};
-ghost use Rattle.sim_induction.specs.Items.{length_of, AreLengths, served_counts, going_counts, leaving_counts, ending_counts};
+ghost use Rattle.sim_induction.specs.Items.{length_of, AreLengths, served_counts, going_counts, leaving_counts};
+ghost use Rattle.sim_induction.specs.Items.{ending_counts};
 
 use code_lengths::{leaving_path, served_path};
 use osek_blocking::chains_itself;
@@ -76,12 +77,12 @@ pub fn length_of(lengths: &ItemLengths, func: usize, item: usize) -> u32
     ensures { result ≡ length_of lengths.now.bodies func item }
 {
     match lengths.bodies.items().get(func) {
-        Some(body) => length_in(body.items(), item),
+        Some(body) => item_length(body.items(), item),
         None => 0,
     }
 }
 
-fn length_in(body: &[u32], item: usize) -> u32
+fn item_length(body: &[u32], item: usize) -> u32
     ensures { result ≡ get_or body.now item 0 }
 {
     match body.get(item) {

@@ -1,21 +1,21 @@
-//! All routines of an image. The ticks of all counters.
+//! All routines of an image: the prologues of all tasks, the ticks of all counters, the services that are wanted.
 ghost use Rattle.std.specs.Prelude.{◌≡◌, ◌++◌, [], IfOk, OnOk, ◌<◌, length};
+ghost use Rattle.sloth_base.specs.Blocks.{block_count};
+ghost use Rattle.sloth_base.specs.ConfigRange.{InRange};
 ghost use Rattle.sloth_link.specs.Image.{MayLink};
 ghost use Rattle.sloth_build.specs.Gathered.{MayGenerate, IsGathered};
-ghost use Rattle.sloth_base.specs.ConfigRange.{InRange};
-ghost use Rattle.sloth_build.specs.Prologues.{Each};
+ghost use Rattle.sloth_build.specs.Prologues.{MayStartTasks, IsPrologue, Each};
+ghost use Rattle.sloth_build.specs.Services.{IsServiceNumber, AreServed, IsService, AreServices};
 ghost use Rattle.sloth_build.specs.Ticks.{IsTickBlock};
 
-use crate::prologues::prologues;
-use crate::services::services;
 use mem_map::wanted_blocks;
 use rv32_instr::Block;
-use service_gen::tick;
-use sloth_base::{App, Config, Levels, Result};
+use service_gen::{block, tick};
+use sloth_base::{App, BLOCK_COUNT, Config, Levels, Result, TaskId, block_object, block_service};
 use sloth_region::Map;
 use std::alloc::Global;
 use text_pieces::push;
-use vector_gen::{boot, idle, vectors};
+use vector_gen::{boot, idle, prologue, vectors};
 
 // Appends blocks behind others.
 fn append(blocks: &mut Vec<Block>, mut more: Vec<Block>) -> Result<()>
@@ -67,15 +67,6 @@ pub fn gather(
     Ok(blocks)
 }
 
-// The tick of one counter.
-fn one(alloc: Global, counter: u32, config: &Config, levels: &Levels, map: &Map) -> Result<Block>
-    requires exists { counter < length config.now.counters }
-    requires range { InRange config.now }
-    ensures { IfOk result (IsTickBlock config.now map.now counter) }
-{
-    tick(alloc, counter, config, levels, map)
-}
-
 /// The tick of each counter, in the order of the counters.
 pub fn ticks(alloc: Global, config: &Config, levels: &Levels, map: &Map) -> Result<Vec<Block>>
     requires { InRange config.now }
@@ -85,7 +76,64 @@ pub fn ticks(alloc: Global, config: &Config, levels: &Levels, map: &Map) -> Resu
     let mut blocks = Vec::new(alloc);
     let count = config.counters.items().len() as u32;
     for counter in 0..count {
-        push(&mut blocks, one(alloc, counter, config, levels, map)?)?;
+        push(&mut blocks, tick(alloc, counter, config, levels, map)?)?;
+    }
+    Ok(blocks)
+}
+
+/// The prologue of each task, in the order of the tasks.
+pub fn prologues(
+    alloc: Global,
+    config: &Config,
+    app: &App,
+    levels: &Levels,
+    map: &Map,
+) -> Result<Vec<Block>>
+    requires may_start { MayStartTasks config.now app.now levels.now map.now }
+    ensures count { IfOk result (λ blocks. length blocks.items ≡ length config.now.tasks) }
+    ensures each { IfOk result (λ blocks. Each (IsPrologue config.now app.now levels.now map.now) blocks.items) }
+{
+    let mut blocks = Vec::new(alloc);
+    let count = config.tasks.items().len() as u32;
+    for task in 0..count {
+        push(
+            &mut blocks,
+            prologue(alloc, TaskId(task), config, app, levels, map)?,
+        )?;
+    }
+    Ok(blocks)
+}
+
+// The code of a service by its place.
+fn served(alloc: Global, place: usize, config: &Config, levels: &Levels, map: &Map) -> Result<Block>
+    requires served { IsServiceNumber config.now place }
+    requires range { InRange config.now }
+    requires below { place < block_count }
+    ensures { IfOk result (IsService config.now levels.now map.now place) }
+{
+    match block_service(place) {
+        Some(service) => block(alloc, service, block_object(place), config, levels, map),
+        None => unreachable!(),
+    }
+}
+
+/// The code of each wanted service (by its place in the table of blocks), in the order of the table.
+pub fn services(
+    alloc: Global,
+    wanted: &[bool; BLOCK_COUNT],
+    config: &Config,
+    levels: &Levels,
+    map: &Map,
+) -> Result<Vec<Block>>
+    requires served { AreServed config.now wanted.now }
+    requires range { InRange config.now }
+    ensures { IfOk result (λ blocks. AreServices config.now levels.now map.now wanted.now blocks.items) }
+{
+    let mut blocks = Vec::new(alloc);
+    for number in 0..BLOCK_COUNT {
+        if wanted[number] {
+            push(&mut blocks, served(alloc, number, config, levels, map)?)?;
+        }
     }
     Ok(blocks)
 }

@@ -11,7 +11,5 @@
 
 pub mod building;
 pub mod gathering;
-pub mod prologues;
-pub mod services;
 
 pub use building::{Built, build};

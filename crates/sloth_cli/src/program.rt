@@ -5,7 +5,7 @@ ghost use Rattle.std.specs.Process.{exit_status};
 ghost use Rattle.sloth_io.specs.FileStore.{shown_files, untold_files};
 ghost use Rattle.sloth_io.specs.OutSink.{shown_output, accepted_bytes, given_bytes};
 ghost use Rattle.command_line.specs.Command.{words_of};
-ghost use Rattle.core_commands.specs.ProgramRun.{IsProgramRun, IsProcessEnd, HasGivenRun};
+ghost use Rattle.core_commands.specs.ProgramRun.{IsProgramRun, IsProcessEnd};
 ghost use Rattle.sloth_commands.specs.ToolFiles.{IsToolAnswer};
 ghost use Rattle.sloth_cli.specs.ProgramRun.{HasProgramRun};
 
@@ -30,7 +30,8 @@ pub fn run_over<R: Files, P: Print>(
     requires files { shown_files files.old ≡ untold_files 0 0 0 [] [] [] }
     requires out { accepted_bytes out.old ≡ [] }
     requires faults { (shown_output out.old).faults ≡ 0 }
-    ensures { IsProgramRun IsToolAnswer (words_of words.now) (shown_files files.new) (given_bytes out.new) (shown_output out.new).faults result }
+    ensures { IsProgramRun IsToolAnswer
+        (words_of words.now) (shown_files files.new) (given_bytes out.new) (shown_output out.new).faults result }
 {
     sloth_top(alloc, words, files, out)
 }
@@ -58,19 +59,12 @@ pub fn run_words(rt: &(impl Files + Print + Input + AllocGlobal), words: &[Strin
     }
 }
 
-// Runs the command of the program's words, if they can be had.
-fn answer_given(rt: &(impl Env + Files + Print + Input + AllocGlobal)) -> Status
-    ensures { HasGivenRun HasProgramRun result }
-{
-    match words_given(rt) {
-        Ok(words) => run_words(rt, words.as_slice()),
-        Err(status) => status,
-    }
-}
-
 /// Runs the command of the program's words, and answers with the number of its status.
 pub fn run_program(rt: &(impl Env + Files + Print + Input + AllocGlobal)) -> ExitCode
     ensures { IsProcessEnd HasProgramRun (exit_status result) }
 {
-    ExitCode::from(answer_given(rt).code())
+    match words_given(rt) {
+        Ok(words) => ExitCode::from(run_words(rt, words.as_slice()).code()),
+        Err(status) => ExitCode::from(status.code()),
+    }
 }

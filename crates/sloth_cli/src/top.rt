@@ -5,13 +5,16 @@ ghost use Rattle.sloth_io.specs.Store.{call_files};
 ghost use Rattle.command_line.specs.Command.{words_of, IsCommand, NoTool, Uses};
 ghost use Rattle.command_line.specs.Words.{use_of};
 ghost use Rattle.core_commands.specs.CommandFiles.{ReadsInOrder};
-ghost use Rattle.core_commands.specs.Top.{world, IsTopAnswer, HasUsageAnswer, HasOverwriteAnswer, HasRefusalAnswer, IsComplete};
-ghost use Rattle.core_commands.specs.ImageAnswers.{HasImageFaultAnswer, HasNoImageAnswer, HasExecRefusedAnswer, HasExecutedAnswer, HasListedAnswer};
+ghost use Rattle.core_commands.specs.Top.{world, IsTopAnswer, HasUsageAnswer, HasOverwriteAnswer, HasRefusalAnswer};
+ghost use Rattle.core_commands.specs.Top.{IsComplete};
+ghost use Rattle.core_commands.specs.ImageAnswers.{HasImageFaultAnswer, HasNoImageAnswer, HasExecRefusedAnswer};
+ghost use Rattle.core_commands.specs.ImageAnswers.{HasExecutedAnswer, HasListedAnswer};
 ghost use Rattle.core_commands.specs.SampleAnswers.{HasSampleRefusedAnswer, HasSampledAnswer};
 ghost use Rattle.sloth_commands.specs.BuiltFormulas.{BuiltFilesAreRight};
 ghost use Rattle.sloth_commands.specs.BuiltRegisters.{BuiltImagesShowRegisters};
 ghost use Rattle.sloth_commands.specs.BuiltResponses.{BuiltRunsKeepResponses};
-ghost use Rattle.sloth_commands.specs.BuiltRuns.{BuiltRunsAreChecked, BuiltRunsHaveRequests, BuiltRunsKeepBlockingBounds};
+ghost use Rattle.sloth_commands.specs.BuiltRuns.{BuiltRunsAreChecked, BuiltRunsHaveRequests};
+ghost use Rattle.sloth_commands.specs.BuiltRuns.{BuiltRunsKeepBlockingBounds};
 ghost use Rattle.sloth_commands.specs.ToolAnswers.{HasToolAnswer, HasToolDoneAnswer};
 ghost use Rattle.sloth_commands.specs.ToolFiles.{IsToolAnswer};
 ghost use Rattle.sloth_commands.specs.ToolLines.{HasToolLines};
@@ -44,16 +47,15 @@ fn tool_of(words: &[String]) -> Option<ToolWords<'_>>
 // Does what the words say, and puts a failure's last line; words of no tool go to the top call of the commands that
 // build and run. Each way out proves the clauses; from the first one those of `sloth_top` follow, by a law each.
 fn answer<F: Store, S: Sink>(alloc: Global, words: &[String], files: &mut F, out: &mut S) -> Status
-    ensures answers { IsTopAnswer IsToolAnswer (words_of words.now)
-        (world (call_files (F.seen files.old) (F.seen files.new)) (S.seen out.old)) (world (F.seen files.new) (S.seen out.new)) result }
-    ensures overwrite { HasOverwriteAnswer (words_of words.now)
-        (world (call_files (F.seen files.old) (F.seen files.new)) (S.seen out.old)) (world (F.seen files.new) (S.seen out.new)) result }
+    ensures answers { IsTopAnswer IsToolAnswer (words_of words.now) (world (call_files
+        (F.seen files.old) (F.seen files.new)) (S.seen out.old)) (world (F.seen files.new) (S.seen out.new)) result }
+    ensures overwrite { HasOverwriteAnswer (words_of words.now) (world (call_files
+        (F.seen files.old) (F.seen files.new)) (S.seen out.old)) (world (F.seen files.new) (S.seen out.new)) result }
     ensures passed { result ≢ Status.WriteFault → S.passed_on out.new }
     ensures handed { Stays (S.seen out.old).faults (S.seen out.new).faults → S.passed_on out.new }
     ensures reads { ReadsInOrder (words_of words.now) (F.seen files.old) (F.seen files.new) }
-    ensures lines { HasToolLines (words_of words.now)
-        (world (call_files (F.seen files.old) (F.seen files.new)) (S.seen out.old)) (world (F.seen files.new) (S.seen out.new))
-        (S.pieces out.old) (S.pieces out.new) result }
+    ensures lines { HasToolLines (words_of words.now) (world (call_files (F.seen files.old) (F.seen files.new))
+        (S.seen out.old)) (world (F.seen files.new) (S.seen out.new)) (S.pieces out.old) (S.pieces out.new) result }
 {
     let Some(tool) = tool_of(words) else {
         return core_top(alloc, words, files, out);
@@ -74,40 +76,39 @@ pub fn sloth_top<F: Store, S: Sink>(
     files: &mut F,
     out: &mut S,
 ) -> Status
-    ensures answers { IsTopAnswer IsToolAnswer (words_of words.now)
-        (world (call_files (F.seen files.old) (F.seen files.new)) (S.seen out.old)) (world (F.seen files.new) (S.seen out.new)) result }
-    ensures usage { HasUsageAnswer (words_of words.now)
-        (world (call_files (F.seen files.old) (F.seen files.new)) (S.seen out.old)) (world (F.seen files.new) (S.seen out.new)) result }
-    ensures refused { HasRefusalAnswer (words_of words.now)
-        (world (call_files (F.seen files.old) (F.seen files.new)) (S.seen out.old)) (world (F.seen files.new) (S.seen out.new)) result }
-    ensures complete { IsComplete IsToolAnswer (words_of words.now)
-        (world (call_files (F.seen files.old) (F.seen files.new)) (S.seen out.old)) (world (F.seen files.new) (S.seen out.new)) result }
-    ensures fault { HasImageFaultAnswer (words_of words.now)
-        (world (call_files (F.seen files.old) (F.seen files.new)) (S.seen out.old)) (world (F.seen files.new) (S.seen out.new)) result }
-    ensures no_image { HasNoImageAnswer (words_of words.now)
-        (world (call_files (F.seen files.old) (F.seen files.new)) (S.seen out.old)) (world (F.seen files.new) (S.seen out.new)) result }
-    ensures exec_refused { HasExecRefusedAnswer (words_of words.now)
-        (world (call_files (F.seen files.old) (F.seen files.new)) (S.seen out.old)) (world (F.seen files.new) (S.seen out.new)) result }
-    ensures executed { HasExecutedAnswer IsToolAnswer (words_of words.now)
-        (world (call_files (F.seen files.old) (F.seen files.new)) (S.seen out.old)) (world (F.seen files.new) (S.seen out.new)) result }
-    ensures listed { HasListedAnswer IsToolAnswer (words_of words.now)
-        (world (call_files (F.seen files.old) (F.seen files.new)) (S.seen out.old)) (world (F.seen files.new) (S.seen out.new)) result }
-    ensures sample_refused { HasSampleRefusedAnswer (words_of words.now)
-        (world (call_files (F.seen files.old) (F.seen files.new)) (S.seen out.old)) (world (F.seen files.new) (S.seen out.new)) result }
-    ensures sampled { HasSampledAnswer IsToolAnswer (words_of words.now)
-        (world (call_files (F.seen files.old) (F.seen files.new)) (S.seen out.old)) (world (F.seen files.new) (S.seen out.new)) result }
-    ensures tool { HasToolAnswer (words_of words.now)
-        (world (call_files (F.seen files.old) (F.seen files.new)) (S.seen out.old)) (world (F.seen files.new) (S.seen out.new)) result }
-    ensures tool_done { HasToolDoneAnswer (words_of words.now)
-        (world (call_files (F.seen files.old) (F.seen files.new)) (S.seen out.old)) (world (F.seen files.new) (S.seen out.new)) result }
-    ensures overwrite { HasOverwriteAnswer (words_of words.now)
-        (world (call_files (F.seen files.old) (F.seen files.new)) (S.seen out.old)) (world (F.seen files.new) (S.seen out.new)) result }
+    ensures answers { IsTopAnswer IsToolAnswer (words_of words.now) (world (call_files
+        (F.seen files.old) (F.seen files.new)) (S.seen out.old)) (world (F.seen files.new) (S.seen out.new)) result }
+    ensures usage { HasUsageAnswer (words_of words.now) (world (call_files (F.seen files.old) (F.seen files.new))
+        (S.seen out.old)) (world (F.seen files.new) (S.seen out.new)) result }
+    ensures refused { HasRefusalAnswer (words_of words.now) (world (call_files (F.seen files.old) (F.seen files.new))
+        (S.seen out.old)) (world (F.seen files.new) (S.seen out.new)) result }
+    ensures complete { IsComplete IsToolAnswer (words_of words.now) (world (call_files
+        (F.seen files.old) (F.seen files.new)) (S.seen out.old)) (world (F.seen files.new) (S.seen out.new)) result }
+    ensures fault { HasImageFaultAnswer (words_of words.now) (world (call_files (F.seen files.old) (F.seen files.new))
+        (S.seen out.old)) (world (F.seen files.new) (S.seen out.new)) result }
+    ensures no_image { HasNoImageAnswer (words_of words.now) (world (call_files (F.seen files.old) (F.seen files.new))
+        (S.seen out.old)) (world (F.seen files.new) (S.seen out.new)) result }
+    ensures exec_refused { HasExecRefusedAnswer (words_of words.now) (world (call_files
+        (F.seen files.old) (F.seen files.new)) (S.seen out.old)) (world (F.seen files.new) (S.seen out.new)) result }
+    ensures executed { HasExecutedAnswer IsToolAnswer (words_of words.now) (world (call_files
+        (F.seen files.old) (F.seen files.new)) (S.seen out.old)) (world (F.seen files.new) (S.seen out.new)) result }
+    ensures listed { HasListedAnswer IsToolAnswer (words_of words.now) (world (call_files
+        (F.seen files.old) (F.seen files.new)) (S.seen out.old)) (world (F.seen files.new) (S.seen out.new)) result }
+    ensures sample_refused { HasSampleRefusedAnswer (words_of words.now) (world (call_files
+        (F.seen files.old) (F.seen files.new)) (S.seen out.old)) (world (F.seen files.new) (S.seen out.new)) result }
+    ensures sampled { HasSampledAnswer IsToolAnswer (words_of words.now) (world (call_files
+        (F.seen files.old) (F.seen files.new)) (S.seen out.old)) (world (F.seen files.new) (S.seen out.new)) result }
+    ensures tool { HasToolAnswer (words_of words.now) (world (call_files (F.seen files.old) (F.seen files.new))
+        (S.seen out.old)) (world (F.seen files.new) (S.seen out.new)) result }
+    ensures tool_done { HasToolDoneAnswer (words_of words.now) (world (call_files (F.seen files.old) (F.seen files.new))
+        (S.seen out.old)) (world (F.seen files.new) (S.seen out.new)) result }
+    ensures overwrite { HasOverwriteAnswer (words_of words.now) (world (call_files
+        (F.seen files.old) (F.seen files.new)) (S.seen out.old)) (world (F.seen files.new) (S.seen out.new)) result }
     ensures passed { result ≢ Status.WriteFault → S.passed_on out.new }
     ensures handed { Stays (S.seen out.old).faults (S.seen out.new).faults → S.passed_on out.new }
     ensures reads { ReadsInOrder (words_of words.now) (F.seen files.old) (F.seen files.new) }
-    ensures lines { HasToolLines (words_of words.now)
-        (world (call_files (F.seen files.old) (F.seen files.new)) (S.seen out.old)) (world (F.seen files.new) (S.seen out.new))
-        (S.pieces out.old) (S.pieces out.new) result }
+    ensures lines { HasToolLines (words_of words.now) (world (call_files (F.seen files.old) (F.seen files.new))
+        (S.seen out.old)) (world (F.seen files.new) (S.seen out.new)) (S.pieces out.old) (S.pieces out.new) result }
     ensures bounds { BuiltRunsKeepBlockingBounds }
     ensures responses { BuiltRunsKeepResponses }
     ensures checked { BuiltRunsAreChecked }

@@ -2,7 +2,8 @@
 ghost use Rattle.sloth_commands.specs.BuiltFormulas.{BuiltFilesAreRight};
 ghost use Rattle.sloth_commands.specs.BuiltRegisters.{BuiltImagesShowRegisters};
 ghost use Rattle.sloth_commands.specs.BuiltResponses.{BuiltRunsKeepResponses};
-ghost use Rattle.sloth_commands.specs.BuiltRuns.{BuiltRunsAreChecked, BuiltRunsHaveRequests, BuiltRunsKeepBlockingBounds};
+ghost use Rattle.sloth_commands.specs.BuiltRuns.{BuiltRunsAreChecked, BuiltRunsHaveRequests};
+ghost use Rattle.sloth_commands.specs.BuiltRuns.{BuiltRunsKeepBlockingBounds};
 ghost use Rattle.sloth_commands.specs.CheckedRuns.{SoundRunsAreChecked};
 ghost use Rattle.sloth_commands.specs.PrintedMap.{PrintsMapOfImage};
 

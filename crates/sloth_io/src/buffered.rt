@@ -1,12 +1,12 @@
-//! A writer behind a buffer.
-ghost use Rattle.std.specs.Prelude.{◌≡◌, ◌++◌, [], OnErr, OnOk};
+//! A writer behind a buffer. Bytes that are taken and not yet written.
+ghost use Rattle.std.specs.Prelude.{◌≡◌, ◌++◌, [], OnErr, OnOk, ◌+◌, ◌≤◌, length};
 ghost use Rattle.std.specs.Io.KnownBytes.{Appends};
 ghost use Rattle.sloth_io.specs.Buffered.{PassesOn, BreaksOff};
 
 use crate::SinkFault;
-use crate::backlog::{Backlog, MOST};
 use crate::replaced_files::write_whole;
 use std::io::Write;
+use std::marker::Model;
 
 /// A writer, and the bytes that were put and are not yet written to it. Behind a failure nothing is held back.
 #[derive(Drop)]
@@ -15,7 +15,6 @@ pub struct Buffered<W> {
     backlog: Backlog,
 }
 
-// Writes bytes, or fails where not all were taken.
 fn write_all<W: Write>(to: &mut W, bytes: &[u8]) -> Result<(), SinkFault>
     ensures ok { OnOk result (Appends (W.contents to.old) (W.contents to.new) bytes.now) }
     ensures err { OnErr result (BreaksOff (W.contents to.old) (W.contents to.new) bytes.now) }
@@ -66,7 +65,6 @@ impl<W: Write> Buffered<W> {
         self.begin(piece)
     }
 
-    // Puts bytes where nothing is held back.
     fn begin(&mut self, piece: &[u8]) -> Result<(), SinkFault>
         requires { self.old.backlog ≡ [] }
         ensures ok { OnOk result
@@ -79,5 +77,68 @@ impl<W: Write> Buffered<W> {
         }
         self.backlog.push(piece);
         Ok(())
+    }
+}
+
+/// The greatest number of bytes that are held back.
+pub const MOST: usize = 8192;
+
+/// At most 8,192 bytes. Contracts see them as a list. Calls on it take no memory.
+#[derive(Drop)]
+pub struct Backlog {
+    bytes: [u8; MOST],
+    count: usize,
+}
+
+impl Model for Backlog {
+    ghost use Rattle.std.specs.Prelude.{List, ℕ, take, ◌≤◌};
+
+    ghost Value = { List ℕ };
+
+    ghost view = { λ backlog. take backlog.count backlog.bytes };
+
+    ghost invariant = { λ backlog. backlog.count ≤ 8192 };
+}
+
+impl Backlog {
+    /// No bytes.
+    pub fn new() -> Backlog
+        ensures { result ≡ [] }
+    {
+        Backlog {
+            bytes: [0; MOST],
+            count: 0,
+        }
+    }
+
+    /// The bytes.
+    pub fn bytes(&self) -> &[u8]
+        ensures { result.now ≡ self.now }
+    {
+        &self.bytes[..self.count]
+    }
+
+    /// How many bytes more it can have.
+    pub fn room(&self) -> usize
+        ensures { result + length self.now ≡ 8192 }
+    {
+        MOST - self.count
+    }
+
+    /// Appends bytes.
+    pub fn push(&mut self, piece: &[u8])
+        requires { length self.old + length piece.now ≤ 8192 }
+        ensures { self.new ≡ self.old ++ piece.now }
+    {
+        let end = self.count + piece.len();
+        self.bytes[self.count..end].copy_from_slice(piece);
+        self.count = end;
+    }
+
+    /// Has no bytes any more.
+    pub fn clear(&mut self)
+        ensures { self.new ≡ [] }
+    {
+        self.count = 0;
     }
 }

@@ -5,10 +5,10 @@ ghost use Rattle.std.specs.Io.{appended_bytes};
 ghost use Rattle.sloth_io.specs.Store.{IsAppended, IsMissing, IsTooLong, IsUnwritten, IsFileWritten, MayBeOneFile};
 ghost use Rattle.sloth_io.specs.Store.{KeepsOthers, KeepsFiles, KeepsReads, said_same};
 ghost use Rattle.sloth_io.specs.FileStore.{IsGivenTo, IsWholeRest, HasPrefix, HasPrefixBeyond, HasPrefixWithin};
+ghost use Rattle.sloth_io.specs.FileStore.{is_one_plain_file, shown_files, taken_bytes, untold_files, files_after_read};
 ghost use Rattle.sloth_io.specs.declared.replaced_files.Found.{Found};
 ghost use Rattle.sloth_io.specs.System.{Opened, Followed, added};
 ghost use Rattle.sloth_io.specs.Replaced.{IsReplaced, IsUnreplaced};
-ghost use Rattle.sloth_io.specs.FileStore.{is_one_plain_file, shown_files, taken_bytes, untold_files, files_after_read};
 
 use crate::history::History;
 use crate::replaced_files::{read_whole, replace_file};
@@ -61,7 +61,6 @@ impl<S: System> SystemFiles<S> {
         self.failed_reads
     }
 
-    // Tells what a read delivered that was done, and counts one that was not.
     fn tell_read(&mut self, outcome: Result<(), StoreFault>, name: &str, bytes: &[u8])
         ensures told { shown_files self.new ≡ files_after_read outcome name.now bytes.now (shown_files self.old) }
         ensures keeps { KeepsFiles (shown_files self.old) (shown_files self.new) }
@@ -79,7 +78,6 @@ impl<S: System> SystemFiles<S> {
     }
 }
 
-// Opens a file and reads it whole.
 fn read_file<S: System>(
     system: &mut S,
     name: &str,
@@ -101,7 +99,6 @@ fn read_file<S: System>(
     read_whole(&mut file, limit, into)
 }
 
-// Takes back what a read appended that was not done.
 fn take_back(outcome: Result<(), StoreFault>, before: usize, into: &mut Vec<u8>)
     ensures ok { OnOk outcome (into.new.items ≡ into.old.items) }
     ensures err { OnErr outcome (into.new.items ≡ take before into.old.items) }

@@ -22,7 +22,6 @@ pub struct MemSink {
     pieces: History,
 }
 
-// How many bytes the call of this number takes before it fails.
 fn call_limit(fails: &[(u32, u32)], call: u32) -> Option<u32>
     ensures { result ≡ limit_of call fails.now }
 {

@@ -1,15 +1,14 @@
 //! A store in memory.
-ghost use Rattle.std.specs.Prelude.{◌≡◌, ◌≢◌, ◌≤◌, ◌<◌, IsTrue, None, Some, true, length, All};
-ghost use Rattle.std.specs.Prelude.{OnErr, OnOk, IfOk, IfSome, IfNone, IsOkUnless, MatchOption, is_ok, is_err};
-ghost use Rattle.std.specs.Prelude.{if◌then◌else◌};
+ghost use Rattle.std.specs.Prelude.{◌≡◌, ◌≢◌, ◌≤◌, ◌<◌, None, Some, length, All, OnErr, OnOk, IfOk, IfSome, IfNone};
+ghost use Rattle.std.specs.Prelude.{IsOkUnless, MatchOption, is_ok, is_err, if◌then◌else◌};
 ghost use Rattle.std.specs.List.{AllPairs};
 ghost use Rattle.sloth_io.specs.Counts.{count_after_call, next_call};
 ghost use Rattle.sloth_io.specs.Slots.{bytes_named, files_with};
-ghost use Rattle.sloth_io.specs.MemStore.{IsFreshStore, is_next_call_failed, files_of, IsStoreCalled};
-ghost use Rattle.sloth_io.specs.MemStore.{is_too_long, read_fault, shown_files, is_next_write_done};
-ghost use Rattle.sloth_io.specs.MemStore.{IsDelivered, fault_by, is_overlong, reads_after};
-ghost use Rattle.sloth_io.specs.Store.{IsAppended, IsMissing, IsTooLong, IsUnwritten, IsFileWritten, MayBeOneFile};
-ghost use Rattle.sloth_io.specs.Store.{KeepsOthers, KeepsFiles, KeepsReads, said_same};
+ghost use Rattle.sloth_io.specs.MemStore.{IsFreshStore, is_next_call_failed, files_of, IsStoreCalled, is_too_long};
+ghost use Rattle.sloth_io.specs.MemStore.{read_fault, shown_files, is_next_write_done, IsDelivered, fault_by};
+ghost use Rattle.sloth_io.specs.MemStore.{is_overlong, reads_after};
+ghost use Rattle.sloth_io.specs.Store.{IsAppended, IsMissing, IsTooLong, IsUnwritten, IsFileWritten, KeepsOthers};
+ghost use Rattle.sloth_io.specs.Store.{KeepsFiles, KeepsReads};
 
 pub use crate::MemFile;
 use crate::history::History;
@@ -88,7 +87,6 @@ impl MemStore {
         fails
     }
 
-    // Appends the bytes of a file of at most `limit` bytes, where the call is not to fail.
     fn deliver(
         &self,
         fails: bool,
@@ -117,7 +115,6 @@ impl MemStore {
         Ok(())
     }
 
-    // Tells what a read delivered that was done, and counts one that was too long.
     fn tell_read(&mut self, outcome: Result<(), StoreFault>, name: &str, bytes: &[u8])
         ensures slots { self.new.slots ≡ self.old.slots }
         ensures failing { self.new.fails ≡ self.old.fails }
@@ -198,11 +195,7 @@ impl Store for MemStore {
         Err(StoreFault::Failed)
     }
 
-    fn is_same(&mut self, one: &str, other: &str) -> bool
-        ensures yes { result ≡ true → MayBeOneFile (shown_files self.old) one.now other.now }
-        ensures no { IsTrue (shown_files self.old).tells → one.now ≡ other.now → result ≡ true }
-        ensures said { shown_files self.new ≡ said_same result one.now other.now (shown_files self.old) }
-    {
+    fn is_same(&mut self, one: &str, other: &str) -> bool {
         let is = one == other;
         if is {
             self.same = self.same.and(one.as_bytes(), other.as_bytes());

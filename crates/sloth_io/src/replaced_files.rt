@@ -1,11 +1,14 @@
 //! Files that are written anew: until all is written, and where anything fails, what stood there stands there.
 //! What the system tells of a file. Whole transfers of bytes, in as many calls as they take.
-ghost use Rattle.std.specs.Prelude.{◌≡◌, ◌≢◌, ◌++◌, [], ◌∷◌, Option, List, ℕ, IfOk, Some, None, false, true, codes, string_bytes, ◌≤◌, OnOk, length, take};
+ghost use Rattle.std.specs.Prelude.{◌≡◌, ◌≢◌, ◌++◌, [], ◌∷◌, Option, List, ℕ, IfOk, Some, None, false, true, codes};
+ghost use Rattle.std.specs.Prelude.{string_bytes, ◌≤◌, OnOk, length, take};
 ghost use Rattle.std.specs.Io.KnownBytes.{Appends, Consumes, IsAtEnd};
 ghost use Rattle.sloth_io.specs.declared.replaced_files.Found.{Found};
 ghost use Rattle.sloth_io.specs.FileStore.{IsGivenTo, HasPrefix, HasPrefixBeyond, HasPrefixWithin};
 ghost use Rattle.sloth_io.specs.System.{Call, Synced, added, LeavesFile, LeavesFiles};
-ghost use Rattle.sloth_io.specs.Replaced.{is_written_there, is_users_link, has_owner, may_follow, owner_calls, tried_calls, first_mode, mode_calls, filling_calls, calls_in_place, calls_beside, calls_there, IsReplaced, IsUnreplaced};
+ghost use Rattle.sloth_io.specs.Replaced.{is_written_there, is_users_link, has_owner, may_follow, owner_calls};
+ghost use Rattle.sloth_io.specs.Replaced.{tried_calls, first_mode, mode_calls, filling_calls, calls_in_place};
+ghost use Rattle.sloth_io.specs.Replaced.{calls_beside, calls_there, IsReplaced, IsUnreplaced};
 ghost use Rattle.std.specs.Io.{appended_bytes};
 
 use crate::{StoreFault, System};
@@ -17,30 +20,20 @@ use std::io::{Read, Write};
 fn stays_there(found: Option<Found>) -> bool
     ensures { result ≡ is_written_there found }
 {
-    match found {
-        Some(found) => !found.plain || found.names > 1,
-        None => false,
-    }
+    matches!(found, Some(found) if !found.plain || found.names > 1)
 }
 
 // It is a link that root did not make.
 fn needs_owner(found: Option<Found>) -> bool
     ensures { result ≡ is_users_link found }
 {
-    match found {
-        Some(found) => found.link && found.owner != 0,
-        None => false,
-    }
+    matches!(found, Some(found) if found.link && found.owner != 0)
 }
 
-// Both are there, and belong to one user.
 fn is_of_owner(found: Option<Found>, own: Option<Found>) -> bool
     ensures { result ≡ has_owner found own }
 {
-    match (found, own) {
-        (Some(found), Some(own)) => found.owner == own.owner,
-        _ => false,
-    }
+    matches!((found, own), (Some(found), Some(own)) if found.owner == own.owner)
 }
 
 // A link is followed that belongs to root or to the user of this process.
@@ -96,7 +89,6 @@ fn write_open<S: System>(
     system.sync(file)
 }
 
-// The same, and closes it.
 fn fill<S: System>(system: &mut S, file: S::File, found: Option<Found>, bytes: &[u8]) -> bool
     ensures given { result ≡ true → IsGivenTo S.File.contents bytes.now }
     ensures done { result ≡ true → (to : Option (List ℕ)) × Appends (S.File.contents file) to bytes.now
@@ -109,7 +101,6 @@ fn fill<S: System>(system: &mut S, file: S::File, found: Option<Found>, bytes: &
     done
 }
 
-// Fills a new file, and gives it the name of the old one.
 fn put_in_place<S: System>(
     system: &mut S,
     name: &str,
@@ -158,20 +149,7 @@ fn write_beside<S: System>(
     false
 }
 
-// Writes what is no plain file where it is.
-fn write_there<S: System>(system: &mut S, name: &str, bytes: &[u8]) -> bool
-    ensures given { result ≡ true → IsGivenTo S.File.contents bytes.now }
-    ensures done { result ≡ true → (from to : Option (List ℕ)) × Appends from to bytes.now
-        × (S.calls system.new ≡ added (S.calls system.old) (calls_there name.now from to)) }
-    ensures failed { (further : List Call) × (S.calls system.new ≡ added (S.calls system.old) further) }
-{
-    let Some(file) = system.empty_file(name) else {
-        return false;
-    };
-    fill(system, file, None, bytes)
-}
-
-// The same of a link only where root or the user of this process made it.
+// Writes what is no plain file where it is; a link only where root or the user of this process made it.
 fn replace_there<S: System>(system: &mut S, found: Option<Found>, name: &str, bytes: &[u8]) -> bool
     ensures given { result ≡ true → IsGivenTo S.File.contents bytes.now }
     ensures done { result ≡ true → (own : Option Found) × (from to : Option (List ℕ)) × Appends from to bytes.now
@@ -182,7 +160,10 @@ fn replace_there<S: System>(system: &mut S, found: Option<Found>, name: &str, by
     if !is_followed(system, found) {
         return false;
     }
-    write_there(system, name, bytes)
+    let Some(file) = system.empty_file(name) else {
+        return false;
+    };
+    fill(system, file, None, bytes)
 }
 
 // A file that is there can be opened to write it.
@@ -196,7 +177,6 @@ fn is_writable<S: System>(system: &mut S, name: &str, found: Option<Found>) -> b
     }
 }
 
-// The name of a new file beside the one of this name.
 fn beside_name(alloc: Global, name: &str) -> Result<String>
     ensures { IfOk result (λ text. string_bytes text ≡ name.now ++ codes ".new") }
 {

@@ -61,7 +61,6 @@ pub fn named_bytes<'a>(slots: &'a [Slot], name: &[u8]) -> Option<&'a [u8]>
     None
 }
 
-// The place of the file of a name.
 fn named_place(slots: &[Slot], name: &[u8]) -> Option<usize>
     ensures found { IfSome result (IsFilePlace name.now (map file_of slots.now)) }
     ensures within { IfSome result (λ place. place < length slots.now) }

@@ -1,8 +1,7 @@
 //! Named files.
 ghost use Rattle.std.specs.Prelude.{◌≡◌, ◌≢◌, IsTrue, true, OnErr, OnOk, length};
 ghost use Rattle.sloth_io.specs.Store.{Files, IsAppended, IsMissing, IsTooLong, IsUnwritten, IsFileWritten};
-ghost use Rattle.sloth_io.specs.Store.{MayBeOneFile};
-ghost use Rattle.sloth_io.specs.Store.{KeepsOthers, KeepsFiles, KeepsReads, said_same};
+ghost use Rattle.sloth_io.specs.Store.{MayBeOneFile, KeepsOthers, KeepsFiles, KeepsReads, said_same};
 
 use thiserror::Error;
 

@@ -9,7 +9,6 @@
 //! (`InPlace`); the map: `mem_map` (`Zones`).
 #![tactic(auto)]
 
-pub mod items;
 pub mod laws;
 pub mod linking;
 

@@ -4,10 +4,11 @@ ghost use Rattle.sloth_base.specs.declared.refusal.Part.TheVariants.{Src};
 ghost use Rattle.sloth_base.specs.Search.{Somewhere};
 ghost use Rattle.asm_scopes.specs.Statements.{label_names};
 ghost use Rattle.asm_scopes.specs.Bodies.{function_names};
-ghost use Rattle.stage_faults.specs.ToldNames.{is_header_beyond, is_line_beyond, ToldHeader, ToldBodyLine, ToldLineName, ToldBody};
+ghost use Rattle.stage_faults.specs.ToldNames.{is_header_beyond, is_line_beyond, ToldHeader, ToldBodyLine};
+ghost use Rattle.stage_faults.specs.ToldNames.{ToldLineName, ToldBody};
 ghost use Rattle.stage_faults.specs.Told.{Adds};
 
-use crate::Note;
+use crate::Notes;
 use crate::notes::{add_bare, add_named};
 use asm_lines::{Mnemonic, Operand, SourceLine};
 use asm_parse::{
@@ -20,14 +21,6 @@ use text_pieces::{Names, push};
 
 // ---- headers
 
-// The name that A7 concerns on a line: on the first a task without a body, if there is one.
-fn strange_name<'t>(lacking: Option<&'t [u8]>, number: u32, name: &'t [u8]) -> &'t [u8] {
-    match lacking {
-        Some(task) if number == 1 => task,
-        _ => name,
-    }
-}
-
 // A6 of a header behind so many bodies, or a body behind more than there may be.
 fn is_header_beyond(count: usize, header: &SourceLine) -> bool
     ensures { result ≡ is_header_beyond count header.now }
@@ -37,7 +30,7 @@ fn is_header_beyond(count: usize, header: &SourceLine) -> bool
 
 // Behind the first `count` bodies, which begin on the lines `earlier`.
 fn add_header_faults<'t>(
-    notes: &mut Vec<Note<'t>>,
+    notes: &mut Notes<'t>,
     scope: &Scope,
     lacking: Option<&'t [u8]>,
     earlier: &[u32],
@@ -55,13 +48,15 @@ fn add_header_faults<'t>(
     add_named(notes, doubled, number, Code::A5, name, first)?;
     add_bare(notes, is_header_beyond(count, header), number, Code::A6)?;
     let strange = is_strange(scope, header);
-    let name = strange_name(lacking, number, name);
+    let name = match lacking {
+        Some(task) if number == 1 => task,
+        _ => name,
+    };
     add_named(notes, strange, number, Code::A7, name, None)
 }
 
 // ---- lines
 
-// The first name that no object of the wanted kind has.
 fn unknown_operand<'t>(
     scope: &Scope,
     labels: &Names,
@@ -76,24 +71,6 @@ fn unknown_operand<'t>(
     b""
 }
 
-fn unknown_name<'t>(scope: &Scope, labels: &Names, line: &'t SourceLine) -> &'t [u8] {
-    match line {
-        SourceLine::Statement { mnemonic, operands } => {
-            unknown_operand(scope, labels, *mnemonic, operands.items())
-        },
-        _ => b"",
-    }
-}
-
-// The line of an earlier label of the name of this one.
-fn first_label(labels: &Names, earlier: &[u32], line: &SourceLine) -> Option<u32> {
-    if is_label(line) {
-        line_of_first(labels, earlier, name_of(line))
-    } else {
-        None
-    }
-}
-
 // The name that A5 concerns: that of a doubled label, else the first that names nothing.
 fn misnamed<'t>(
     scope: &Scope,
@@ -103,7 +80,12 @@ fn misnamed<'t>(
 ) -> &'t [u8] {
     match first {
         Some(_) => name_of(line),
-        None => unknown_name(scope, labels, line),
+        None => match line {
+            SourceLine::Statement { mnemonic, operands } => {
+                unknown_operand(scope, labels, *mnemonic, operands.items())
+            },
+            _ => b"",
+        },
     }
 }
 
@@ -116,7 +98,7 @@ fn is_line_beyond(items: usize, line: &SourceLine) -> bool
 
 // Behind the first labels, so many, which stand on the lines `earlier`.
 fn add_line_faults<'t>(
-    notes: &mut Vec<Note<'t>>,
+    notes: &mut Notes<'t>,
     scope: &Scope,
     labels: &Names,
     earlier: &[u32],
@@ -129,7 +111,11 @@ fn add_line_faults<'t>(
         notes.old.items notes.new.items) }
 {
     let test = is_misnamed(scope, labels, before.count, line);
-    let first = first_label(labels, earlier, line);
+    let first = if is_label(line) {
+        line_of_first(labels, earlier, name_of(line))
+    } else {
+        None
+    };
     let name = misnamed(scope, labels, first, line);
     add_named(notes, test, number, Code::A5, name, first)?;
     add_bare(notes, is_line_beyond(before.items, line), number, Code::A6)
@@ -138,7 +124,7 @@ fn add_line_faults<'t>(
 // The faults of the lines of a body, whose header stands on line `number` behind so many items.
 fn line_faults<'t>(
     alloc: Global,
-    notes: &mut Vec<Note<'t>>,
+    notes: &mut Notes<'t>,
     scope: &Scope,
     labels: &Names,
     items: usize,
@@ -168,10 +154,9 @@ fn line_faults<'t>(
 
 // ---- bodies
 
-// The faults of a body behind the first bodies, so many, which begin on the lines `earlier`.
 fn body_faults<'t>(
     alloc: Global,
-    notes: &mut Vec<Note<'t>>,
+    notes: &mut Notes<'t>,
     scope: &Scope,
     lacking: Option<&'t [u8]>,
     earlier: &[u32],
@@ -195,7 +180,7 @@ fn body_faults<'t>(
 /// The faults of these bodies. `lacking`: the first task without a body, if there is one.
 pub fn body_notes<'t>(
     alloc: Global,
-    notes: &mut Vec<Note<'t>>,
+    notes: &mut Notes<'t>,
     scope: &Scope,
     lacking: Option<&'t [u8]>,
     bodies: &[Body<'t>],

@@ -1,8 +1,6 @@
 //! The faults of a stage, each and no other, with the names that they concern.
-//!
-//! Of an OIL tree `model_notes` (O7 to O15, `specs/ToldModel`), of lines `line_notes` (A1 to A4, `specs/ToldLines`,
-//! `specs/ToldNarrow`), of names and limits `name_notes` (A5 to A7, `specs/ToldNames`). That a list has all faults of a
-//! set: `specs/Told`. In order, one for each line and code: `told_list`.
+//! Of an OIL tree (`model_notes`, `specs/ToldModel`), of lines (`line_notes`, `specs/ToldLines`), of names and limits
+//! (`name_notes`, `specs/ToldNames`), in order, one for each line and code (`told_list`, `specs/Told`).
 #![tactic(auto)]
 
 mod bodies;
@@ -19,6 +17,6 @@ mod symbols;
 pub mod told_list;
 
 pub use names::name_notes;
-pub use notes::{Note, Position, line_notes};
+pub use notes::{Note, Notes, Position, line_notes};
 pub use oil_stage::model_notes;
 pub use told_list::{order, put_in_order};

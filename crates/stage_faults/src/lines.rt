@@ -4,7 +4,7 @@ ghost use Rattle.sloth_base.specs.declared.refusal.Part.TheVariants.{Src};
 ghost use Rattle.stage_faults.specs.Told.{Adds};
 ghost use Rattle.stage_faults.specs.ToldLines.{is_misplaced, is_told_a1, is_told_a4, ToldLine, ToldFault};
 
-use crate::Note;
+use crate::Notes;
 use crate::notes::add_bare;
 use asm_lines::{SourceLine, after_line, is_a1, is_a2, is_a3, is_a4, takes};
 use sloth_base::{Code, Result};
@@ -39,7 +39,7 @@ pub fn is_told_a4(line: &SourceLine) -> bool
 
 // The faults of a line, but A1 where it comes from the place alone and an earlier one did.
 fn add_faults<'t>(
-    notes: &mut Vec<Note<'t>>,
+    notes: &mut Notes<'t>,
     inside: bool,
     earlier: bool,
     number: u32,
@@ -66,7 +66,7 @@ fn is_open(inside: bool, earlier: bool) -> bool
 }
 
 /// The faults of these lines. Of those that are A1 by their place alone, as the missing `end`, the first.
-pub fn add_all<'t>(notes: &mut Vec<Note<'t>>, lines: &[SourceLine]) -> Result<()>
+pub fn add_all<'t>(notes: &mut Notes<'t>, lines: &[SourceLine]) -> Result<()>
     requires { length lines.now < 2 ^ 32 }
     ensures { OnOk result (Adds Src (ToldFault lines.now) notes.old.items notes.new.items) }
 {

@@ -6,17 +6,16 @@ ghost use Rattle.asm_scopes.specs.Scopes.{scope_of};
 ghost use Rattle.stage_faults.specs.ToldNames.{ToldName};
 ghost use Rattle.stage_faults.specs.Told.{AreAll};
 
-use crate::Note;
+use crate::Notes;
 use crate::bodies::body_notes;
 use crate::notes::add_named;
 use crate::symbols::symbol_notes;
 use asm_lines::SourceLine;
 use asm_parse::is_body_missing;
-use asm_scopes::{Body, Scope, scope_of, task_body_names};
+use asm_scopes::{Body, scope_of, task_body_names};
 use sloth_base::{Code, Config, Result};
 use std::alloc::Global;
 
-// The first task without a body.
 fn task_without_body<'t>(
     alloc: Global,
     config: &'t Config,
@@ -31,39 +30,23 @@ fn task_without_body<'t>(
     Ok(None)
 }
 
-// The faults in these lines, which may use these names.
-fn notes_in_scope<'t>(
-    alloc: Global,
-    config: &'t Config,
-    lines: &'t [SourceLine],
-    bodies: &[Body<'t>],
-    scope: &Scope,
-) -> Result<Vec<Note<'t>>>
-    requires few { length lines.now < 2 ^ 32 }
-    requires bodies { bodies.now ≡ bodies_of lines.now }
-    requires scope { scope.now ≡ scope_of config.now lines.now bodies.now }
-    ensures { IfOk result (λ notes. AreAll Src (ToldName config.now lines.now) notes.items) }
-{
-    let mut notes = Vec::new(alloc);
-    let lacking = task_without_body(alloc, config, bodies)?;
-    let lacks = is_body_missing(alloc, config, bodies)?;
-    symbol_notes(alloc, &mut notes, &scope.symbols, lines)?;
-    body_notes(alloc, &mut notes, scope, lacking, bodies)?;
-    add_named(&mut notes, lacks, 1, Code::A7, lacking.unwrap_or(b""), None)?;
-    Ok(notes)
-}
-
 /// The faults of names and limits in these lines with these bodies.
 pub fn name_notes<'t>(
     alloc: Global,
     config: &'t Config,
     lines: &'t [SourceLine],
     bodies: &[Body<'t>],
-) -> Result<Vec<Note<'t>>>
+) -> Result<Notes<'t>>
     requires few { length lines.now < 2 ^ 32 }
     requires bodies { bodies.now ≡ bodies_of lines.now }
     ensures { IfOk result (λ notes. AreAll Src (ToldName config.now lines.now) notes.items) }
 {
     let scope = scope_of(alloc, config, lines, bodies)?;
-    notes_in_scope(alloc, config, lines, bodies, &scope)
+    let mut notes = Vec::new(alloc);
+    let lacking = task_without_body(alloc, config, bodies)?;
+    let lacks = is_body_missing(alloc, config, bodies)?;
+    symbol_notes(alloc, &mut notes, &scope.symbols, lines)?;
+    body_notes(alloc, &mut notes, &scope, lacking, bodies)?;
+    add_named(&mut notes, lacks, 1, Code::A7, lacking.unwrap_or(b""), None)?;
+    Ok(notes)
 }

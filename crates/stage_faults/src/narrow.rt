@@ -1,6 +1,6 @@
 //! A4 of lines that load or store less than a word, whose places may be words of the frame in form alone.
 ghost use Rattle.std.specs.Prelude.{◌≡◌, ◌<◌, ◌^◌, map, length, IfOk, OnOk};
-ghost use Rattle.std.specs.List.{list_any, take_while};
+ghost use Rattle.std.specs.List.{take_while, list_any};
 ghost use Rattle.sloth_base.specs.ImageRange.{continues_word};
 ghost use Rattle.sloth_base.specs.declared.refusal.Part.TheVariants.{Src};
 ghost use Rattle.sloth_base.specs.Search.{Somewhere};
@@ -11,7 +11,7 @@ ghost use Rattle.stage_faults.specs.Told.{Adds};
 ghost use Rattle.stage_faults.specs.ToldNarrow.{is_narrow, first_word, behind_word, is_narrow_a4, NarrowFault};
 ghost use Rattle.stage_faults.specs.ToldLines.{is_told_a4};
 
-use crate::Note;
+use crate::Notes;
 use crate::lines::is_told_a4;
 use crate::notes::add_bare;
 use asm_lines::{SourceLine, read_lines};
@@ -87,7 +87,7 @@ fn is_narrow_a4(alloc: Global, line: &[u8]) -> Result<bool>
 
 // ---- all lines
 
-fn add_lines<'t>(alloc: Global, notes: &mut Vec<Note<'t>>, lines: &[&[u8]]) -> Result<()>
+fn add_lines<'t>(alloc: Global, notes: &mut Notes<'t>, lines: &[&[u8]]) -> Result<()>
     requires { length lines.now < 2 ^ 32 }
     ensures { OnOk result (Adds Src (Somewhere NarrowFault (map referent lines.now)) notes.old.items notes.new.items) }
 {
@@ -99,7 +99,7 @@ fn add_lines<'t>(alloc: Global, notes: &mut Vec<Note<'t>>, lines: &[&[u8]]) -> R
 }
 
 /// A4 of the lines of a text that load or store less than a word.
-pub fn add_narrow<'t>(alloc: Global, notes: &mut Vec<Note<'t>>, text: &[u8]) -> Result<()>
+pub fn add_narrow<'t>(alloc: Global, notes: &mut Notes<'t>, text: &[u8]) -> Result<()>
     requires { length text.now < 4294967295 }
     ensures { OnOk result (Adds Src (Somewhere NarrowFault (lines text.now)) notes.old.items notes.new.items) }
 {

@@ -4,12 +4,11 @@ ghost use Rattle.sloth_base.specs.declared.refusal.Part.{Part};
 ghost use Rattle.sloth_base.specs.Cases.{CaseOf, fault_at};
 ghost use Rattle.stage_faults.specs.Told.{Adds, AreAll};
 ghost use Rattle.sloth_base.specs.declared.refusal.Part.TheVariants.{Src};
-ghost use Rattle.asm_lines.specs.Faults.{source_lines};
 ghost use Rattle.stage_faults.specs.ToldNarrow.{ToldForm};
 
 use crate::lines::add_all;
 use crate::narrow::add_narrow;
-use asm_lines::{SourceLine, read_lines};
+use asm_lines::read_lines;
 use sloth_base::{Code, Result};
 use std::alloc::Global;
 use text_pieces::push;
@@ -55,9 +54,11 @@ pub struct Note<'t> {
     pub position: Position,
 }
 
-// One fault more.
+/// Faults of a text.
+pub type Notes<'t> = Vec<Note<'t>>;
+
 fn add<'t>(
-    notes: &mut Vec<Note<'t>>,
+    notes: &mut Notes<'t>,
     line: u32,
     code: Code,
     name: &'t [u8],
@@ -82,7 +83,7 @@ fn add<'t>(
 
 /// One fault more where a test says so, with the name that it concerns and the line of an earlier thing.
 pub fn add_named<'t>(
-    notes: &mut Vec<Note<'t>>,
+    notes: &mut Notes<'t>,
     test: bool,
     line: u32,
     code: Code,
@@ -99,7 +100,7 @@ pub fn add_named<'t>(
 
 /// One fault more at a position where a test says so, with the name that it concerns.
 pub fn add_placed<'t>(
-    notes: &mut Vec<Note<'t>>,
+    notes: &mut Notes<'t>,
     test: bool,
     line: u32,
     code: Code,
@@ -116,7 +117,7 @@ pub fn add_placed<'t>(
 
 /// A fault more that follows from another, so is not told, where a test says so.
 pub fn add_following<'t>(
-    notes: &mut Vec<Note<'t>>,
+    notes: &mut Notes<'t>,
     test: bool,
     line: u32,
     code: Code,
@@ -139,28 +140,20 @@ pub fn add_following<'t>(
 }
 
 /// One fault more where a test says so, with no name.
-pub fn add_bare<'t>(notes: &mut Vec<Note<'t>>, test: bool, line: u32, code: Code) -> Result<()>
+pub fn add_bare<'t>(notes: &mut Notes<'t>, test: bool, line: u32, code: Code) -> Result<()>
     ensures { OnOk result ((part : Part) → Adds part (CaseOf part test line code) notes.old.items notes.new.items) }
 {
     add_named(notes, test, line, code, b"", None)
 }
 
-fn faults<'t>(alloc: Global, text: &[u8], lines: &[SourceLine]) -> Result<Vec<Note<'t>>>
-    requires few { length text.now < 4294967295 }
-    requires lines { lines.now ≡ source_lines text.now }
-    ensures { IfOk result (λ notes. AreAll Src (ToldForm text.now) notes.items) }
-{
-    let mut notes = Vec::new(alloc);
-    add_all(&mut notes, lines)?;
-    add_narrow(alloc, &mut notes, text)?;
-    Ok(notes)
-}
-
 /// The faults of the lines of a text. Of those that are A1 by their place alone, as the missing `end`, the first.
-pub fn line_notes<'t>(alloc: Global, text: &[u8]) -> Result<Vec<Note<'t>>>
+pub fn line_notes<'t>(alloc: Global, text: &[u8]) -> Result<Notes<'t>>
     requires { length text.now < 4294967295 }
     ensures { IfOk result (λ notes. AreAll Src (ToldForm text.now) notes.items) }
 {
     let lines = read_lines(alloc, text)?;
-    faults(alloc, text, lines.items())
+    let mut notes = Vec::new(alloc);
+    add_all(&mut notes, lines.items())?;
+    add_narrow(alloc, &mut notes, text)?;
+    Ok(notes)
 }

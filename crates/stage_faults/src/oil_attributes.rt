@@ -9,7 +9,7 @@ ghost use Rattle.stage_faults.specs.ToldModel.{is_at_fault, is_inside, fault_beh
 
 use crate::notes::{add_following, add_named, add_placed};
 use crate::oil_objects::Tables;
-use crate::{Note, Position};
+use crate::{Notes, Position};
 use oil_parse::{OilAttr, OilValue};
 use oil_rules::attribute_faults::is_unlisted;
 use oil_rules::{Front, is_refused, opened, place_by, refers_to_none};
@@ -25,7 +25,6 @@ pub fn value_word(value: &OilValue) -> &[u8] {
     }
 }
 
-// O8, O10 or O12 of the attribute itself.
 fn is_at_fault(
     objects: &Front,
     scheduler: bool,
@@ -64,7 +63,7 @@ fn fault_behind(fault: Option<u32>, at_fault: bool, attr: &OilAttr) -> Option<u3
 
 // O8 of an attribute, in the block of one at fault or not.
 fn add_unlisted<'t>(
-    notes: &mut Vec<Note<'t>>,
+    notes: &mut Notes<'t>,
     row: Option<Attribute>,
     follows: bool,
     attr: &'t OilAttr,
@@ -81,7 +80,7 @@ fn add_unlisted<'t>(
 }
 
 fn add_row_faults<'t>(
-    notes: &mut Vec<Note<'t>>,
+    notes: &mut Notes<'t>,
     tables: &Tables,
     row: Option<Attribute>,
     follows: bool,
@@ -110,7 +109,7 @@ fn add_row_faults<'t>(
 /// itself follows from that.
 pub fn add_attributes<'t>(
     alloc: Global,
-    notes: &mut Vec<Note<'t>>,
+    notes: &mut Notes<'t>,
     tables: &Tables,
     limits: Limits,
     place: Place,

@@ -9,7 +9,7 @@ ghost use Rattle.stage_faults.specs.Told.{Adds};
 
 use crate::notes::{add_bare, add_placed};
 use crate::oil_attributes::value_word;
-use crate::{Note, Position};
+use crate::{Notes, Position};
 use oil_parse::{OilAttr, OilObject};
 use oil_rules::blocks::is_unlisted;
 use oil_rules::{Block, NamedTask, blocks_of, lacks_part};
@@ -31,7 +31,7 @@ struct Spot {
 }
 
 fn add_inner_fault<'t>(
-    notes: &mut Vec<Note<'t>>,
+    notes: &mut Notes<'t>,
     limits: Limits,
     place: Place,
     block: &NamedTask,
@@ -58,7 +58,7 @@ fn add_inner_fault<'t>(
 
 fn add_inner_faults<'t>(
     alloc: Global,
-    notes: &mut Vec<Note<'t>>,
+    notes: &mut Notes<'t>,
     limits: Limits,
     place: Place,
     block: &NamedTask,
@@ -90,7 +90,7 @@ fn add_inner_faults<'t>(
 
 fn add_block<'t>(
     alloc: Global,
-    notes: &mut Vec<Note<'t>>,
+    notes: &mut Notes<'t>,
     tasks: &TaskEvents,
     limits: Limits,
     head: Position,
@@ -113,7 +113,7 @@ fn add_block<'t>(
 
 fn add_blocks<'t>(
     alloc: Global,
-    notes: &mut Vec<Note<'t>>,
+    notes: &mut Notes<'t>,
     tasks: &TaskEvents,
     limits: Limits,
     own: Position,
@@ -134,7 +134,7 @@ fn add_blocks<'t>(
 
 fn add_in_blocks<'t>(
     alloc: Global,
-    notes: &mut Vec<Note<'t>>,
+    notes: &mut Notes<'t>,
     tasks: &TaskEvents,
     counters: &CounterLimits,
     own: Position,
@@ -153,7 +153,7 @@ fn add_in_blocks<'t>(
 
 fn add_alarm<'t>(
     alloc: Global,
-    notes: &mut Vec<Note<'t>>,
+    notes: &mut Notes<'t>,
     tasks: &TaskEvents,
     counters: &CounterLimits,
     own: Position,
@@ -173,7 +173,7 @@ fn add_alarm<'t>(
 /// The faults in the blocks of the alarms among these objects.
 pub fn add_alarms<'t>(
     alloc: Global,
-    notes: &mut Vec<Note<'t>>,
+    notes: &mut Notes<'t>,
     tasks: &TaskEvents,
     counters: &CounterLimits,
     objects: &'t [OilObject],

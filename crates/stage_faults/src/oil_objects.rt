@@ -11,12 +11,12 @@ ghost use Rattle.stage_faults.specs.ToldModel.{is_told_above, ToldKnown, ToldInn
 use crate::notes::{add_bare, add_named, add_placed};
 use crate::oil_attributes::add_attributes;
 use crate::oil_tasks::{add_events, add_of_task};
-use crate::{Note, Position};
+use crate::{Notes, Position};
 use oil_parse::{OilObject, OilTree};
 use oil_rules::{Front, is_above, is_doubled, is_strange_mode, lacks_attribute};
 use oil_table::{CounterLimits, EventTable, is_nowhere, is_of_kind, place_of};
 use sloth_base::{
-    ALARM_LIMIT, COUNTER_LIMIT, Code, EVENT_LIMIT, NoMemory, RESOURCE_LIMIT, Result, TASK_LIMIT,
+    ALARM_LIMIT, COUNTER_LIMIT, Code, EVENT_LIMIT, RESOURCE_LIMIT, Result, TASK_LIMIT,
 };
 use std::alloc::Global;
 
@@ -40,7 +40,7 @@ fn is_told_above(front: &Front, object: &OilObject) -> bool
 }
 
 fn add_known<'t>(
-    notes: &mut Vec<Note<'t>>,
+    notes: &mut Notes<'t>,
     scheduler: bool,
     front: &Front,
     own: Position,
@@ -60,7 +60,7 @@ fn add_known<'t>(
 
 fn add_known_object<'e, 't: 'e>(
     alloc: Global,
-    notes: &mut Vec<Note<'t>>,
+    notes: &mut Notes<'t>,
     tables: &Tables<'e>,
     front: &Front,
     own: Position,
@@ -81,7 +81,7 @@ fn add_known_object<'e, 't: 'e>(
     add_of_task(alloc, notes, tables.events, front, object)
 }
 
-fn add_kind<'t>(notes: &mut Vec<Note<'t>>, object: &'t OilObject) -> Result<()>
+fn add_kind<'t>(notes: &mut Notes<'t>, object: &'t OilObject) -> Result<()>
     ensures { OnOk result (Adds Oil (KindFault object.now) notes.old.items notes.new.items) }
 {
     let kind = object.kind.bytes();
@@ -93,7 +93,7 @@ fn add_kind<'t>(notes: &mut Vec<Note<'t>>, object: &'t OilObject) -> Result<()>
 
 fn add_objects<'e, 't: 'e>(
     alloc: Global,
-    notes: &mut Vec<Note<'t>>,
+    notes: &mut Notes<'t>,
     objects: &'t [OilObject],
     tables: &Tables<'e>,
 ) -> Result<()>
@@ -115,7 +115,7 @@ fn add_objects<'e, 't: 'e>(
 /// The faults that are told of a tree's objects, but those in the blocks of alarms.
 pub fn add_tree<'e, 't: 'e>(
     alloc: Global,
-    notes: &mut Vec<Note<'t>>,
+    notes: &mut Notes<'t>,
     tree: &'t OilTree,
     tables: &Tables<'e>,
 ) -> Result<()>

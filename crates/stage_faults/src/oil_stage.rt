@@ -6,7 +6,7 @@ ghost use Rattle.oil_table.specs.Events.{events_of};
 ghost use Rattle.stage_faults.specs.Told.{AreAll};
 ghost use Rattle.stage_faults.specs.ToldModel.{ToldModel};
 
-use crate::Note;
+use crate::Notes;
 use crate::oil_blocks::add_alarms;
 use crate::oil_objects::{Tables, add_tree};
 use oil_parse::OilTree;
@@ -24,7 +24,7 @@ fn tabled_notes<'e, 't: 'e>(
     tasks: &TaskEvents,
     scheduler: bool,
     events: &'e EventTable<'e>,
-) -> Result<Vec<Note<'t>>>
+) -> Result<Notes<'t>>
     requires objects { objects.now ≡ tree.now.objects }
     requires counters { counters.now ≡ tree.now.objects }
     requires tasks { tasks.now ≡ tree.now.objects }
@@ -49,7 +49,7 @@ fn notes_with_events<'t>(
     tree: &'t OilTree,
     event_names: &Names,
     events: &[EventDecl],
-) -> Result<Vec<Note<'t>>>
+) -> Result<Notes<'t>>
     requires event_numbers { event_names.now ≡ names_of (codes "EVENT") tree.now.objects }
     requires events { events.now ≡ events_of tree.now.objects }
     ensures { IfOk result (λ notes. AreAll Oil (ToldModel tree.now) notes.items) }
@@ -64,7 +64,7 @@ fn notes_with_events<'t>(
 }
 
 /// The faults that are told of a tree. O11 of an object and O13 are without names.
-pub fn model_notes<'t>(alloc: Global, tree: &'t OilTree) -> Result<Vec<Note<'t>>>
+pub fn model_notes<'t>(alloc: Global, tree: &'t OilTree) -> Result<Notes<'t>>
     ensures { IfOk result (λ notes. AreAll Oil (ToldModel tree.now) notes.items) }
 {
     let objects = tree.objects.items();

@@ -8,7 +8,7 @@ ghost use Rattle.oil_rules.specs.TaskFaults.{TaskFault};
 ghost use Rattle.oil_rules.specs.TreeFaults.{TaskFaults};
 ghost use Rattle.stage_faults.specs.Told.{Adds};
 
-use crate::Note;
+use crate::Notes;
 use crate::notes::{add_bare, add_named};
 use crate::oil_attributes::value_word;
 use oil_parse::{OilAttr, OilObject};
@@ -18,7 +18,7 @@ use sloth_base::{Code, Result};
 use std::alloc::Global;
 
 fn add_task_faults<'t>(
-    notes: &mut Vec<Note<'t>>,
+    notes: &mut Notes<'t>,
     front: &Front,
     given: bool,
     before: &References,
@@ -38,7 +38,7 @@ fn add_task_faults<'t>(
 
 fn add_of_attributes<'e, 't: 'e>(
     alloc: Global,
-    notes: &mut Vec<Note<'t>>,
+    notes: &mut Notes<'t>,
     events: &'e EventTable<'e>,
     front: &Front,
     attrs: &'t [OilAttr],
@@ -59,7 +59,7 @@ fn add_of_attributes<'e, 't: 'e>(
 /// O13 and O15 of the attributes of an object, if it is a task.
 pub fn add_of_task<'e, 't: 'e>(
     alloc: Global,
-    notes: &mut Vec<Note<'t>>,
+    notes: &mut Notes<'t>,
     events: &'e EventTable<'e>,
     front: &Front,
     object: &'t OilObject,
@@ -73,7 +73,7 @@ pub fn add_of_task<'e, 't: 'e>(
 }
 
 /// O15 of the events that find no free bit.
-pub fn add_events<'t>(notes: &mut Vec<Note<'t>>, objects: &'t [OilObject]) -> Result<()>
+pub fn add_events<'t>(notes: &mut Notes<'t>, objects: &'t [OilObject]) -> Result<()>
     ensures { OnOk result (Adds Oil (Somewhere (BitFault objects.now) objects.now) notes.old.items notes.new.items) }
 {
     let mut taken = number_masks(objects);

@@ -6,7 +6,7 @@ ghost use Rattle.asm_scopes.specs.Statements.{symbol_names};
 ghost use Rattle.stage_faults.specs.ToldNames.{is_symbol_beyond, ToldSymbol, ToldData};
 ghost use Rattle.stage_faults.specs.Told.{Adds};
 
-use crate::Note;
+use crate::Notes;
 use crate::bodies::{line_of_first, push_line};
 use crate::notes::{add_bare, add_named};
 use asm_lines::SourceLine;
@@ -26,7 +26,7 @@ fn is_symbol_beyond(count: usize, bytes: usize, line: &SourceLine) -> bool
 
 // Behind the first `count` symbols, which stand on the lines `earlier` and have so many bytes.
 fn add_faults<'t>(
-    notes: &mut Vec<Note<'t>>,
+    notes: &mut Notes<'t>,
     symbols: &Names,
     earlier: &[u32],
     count: usize,
@@ -49,7 +49,7 @@ fn add_faults<'t>(
 /// The faults of the symbols that these lines declare.
 pub fn symbol_notes<'t>(
     alloc: Global,
-    notes: &mut Vec<Note<'t>>,
+    notes: &mut Notes<'t>,
     symbols: &Names,
     lines: &'t [SourceLine],
 ) -> Result<()>

@@ -1,9 +1,9 @@
 //! Faults as they are told: in order, each once.
-ghost use Rattle.std.specs.Prelude.{◌≡◌, ◌+◌, ◌||◌, nat_lt, IfOk, OnOk};
+ghost use Rattle.std.specs.Prelude.{◌≡◌, ◌+◌, ◌||◌, IfOk, OnOk};
 ghost use Rattle.std.specs.List.Sorted.{IsPermutation, IsNonDecreasingBy};
 ghost use Rattle.stage_faults.specs.Told.{note_order, told_from, AreInOrder, TellSame};
 
-use crate::Note;
+use crate::{Note, Notes};
 use sloth_base::Result;
 use std::alloc::Global;
 use text_pieces::push;
@@ -21,12 +21,6 @@ fn order_behind(note: &Note) -> u64
     u64::from(note.line) * 64 + u64::from(note.code as u8) + 1
 }
 
-fn is_left_out(place: u64, note: &Note) -> bool
-    ensures { result ≡ (note.now.follows || nat_lt (note_order note.now) place) }
-{
-    note.follows || order(note) < place
-}
-
 /// The same faults by line, and on one line by code.
 pub fn put_in_order(notes: &mut Vec<Note>) -> Result<()>
     ensures permutation { OnOk result (IsPermutation notes.old.items notes.new.items) }
@@ -37,13 +31,13 @@ pub fn put_in_order(notes: &mut Vec<Note>) -> Result<()>
 }
 
 // Of faults in order the first of each place.
-fn distinct<'t>(alloc: Global, notes: &[Note<'t>]) -> Result<Vec<Note<'t>>>
+fn distinct<'t>(alloc: Global, notes: &[Note<'t>]) -> Result<Notes<'t>>
     ensures { IfOk result (λ list. list.items ≡ told_from 0 notes.now) }
 {
     let mut list = Vec::new(alloc);
     let mut place = 0;
     for note in notes {
-        if !is_left_out(place, note) {
+        if !(note.follows || order(note) < place) {
             push(&mut list, *note)?;
             place = order_behind(note);
         }
@@ -53,7 +47,7 @@ fn distinct<'t>(alloc: Global, notes: &[Note<'t>]) -> Result<Vec<Note<'t>>>
 
 /// These faults by line, and on one line by code, one for each line and code; those that follow from others are left
 /// out. Sorts the list that is given.
-pub fn told_list<'t>(alloc: Global, notes: &mut Vec<Note<'t>>) -> Result<Vec<Note<'t>>>
+pub fn told_list<'t>(alloc: Global, notes: &mut Notes<'t>) -> Result<Notes<'t>>
     ensures in_order { IfOk result (λ list. AreInOrder list.items) }
     ensures same { IfOk result (λ list. TellSame notes.old.items list.items) }
 {

@@ -12,7 +12,7 @@ use Rattle.map_text.specs.declared.piece_rows.Row.{Row}
 use Rattle.mem_map.proofs.OnePlan.{AreAlike, one_plan}
 use Rattle.mem_map.specs.Planned.{IsPlanned}
 use Rattle.sloth_source.proofs.Unique.{one_meaning}
-use Rattle.symbol_image.specs.declared.line_places.Origins.{Origins}
+use Rattle.map_text.specs.declared.line_places.Origins.{Origins}
 use Rattle.symbol_image.specs.SymbolFile.{laid_file, laid_parts, parts_borders, symbol_file}
 use Rattle.sloth_build.specs.ImageOf.{HasPlannedMap}
 use Rattle.symbol_build.specs.SymbolFiles.{FitsEachImage, IsFileOfImage, OneSymbolFile, parts_of, source_origins}

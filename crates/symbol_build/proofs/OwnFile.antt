@@ -15,7 +15,7 @@ use Rattle.mem_map.specs.Planned.{IsPlanned}
 use Rattle.mem_map.specs.StackParts.{no_extent}
 use Rattle.mem_map.specs.Stacks.{address_behind_data}
 use Rattle.symbol_image.specs.FileParts.{MayShow}
-use Rattle.symbol_image.specs.declared.line_places.Origins.{Origins}
+use Rattle.map_text.specs.declared.line_places.Origins.{Origins}
 use Rattle.symbol_image.specs.SymbolFile.{symbol_file}
 use Rattle.symbol_build.proofs.OneFile.{same_file}
 use Rattle.symbol_build.proofs.Shown.{may_show}

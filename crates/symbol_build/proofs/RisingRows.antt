@@ -11,9 +11,9 @@ use Rattle.symbol_image.specs.LineMachine.{AreRisingRows}
 use Rattle.map_text.specs.LineRows.{first_rows, item_address, item_rows, last_row, line_rows, row}
 use Rattle.map_text.specs.declared.line_rows.LineRow.{LineRow}
 use Rattle.symbol_image.specs.FileRows.{file_rows, row_from}
-use Rattle.symbol_image.specs.LinePlaces.{no_place}
+use Rattle.map_text.specs.LinePlaces.{no_place}
 use Rattle.symbol_image.specs.declared.line_section.FileRow.{FileRow}
-use Rattle.symbol_image.specs.declared.line_places.Place.{Place}
+use Rattle.map_text.specs.declared.line_places.Place.{Place}
 use Rattle.symbol_build.proofs.SmallPlaces.{AreSmall, IsSmall}
 use Rattle.symbol_build.proofs.RisingLines.{BodiesRise, ItemsRise}
 

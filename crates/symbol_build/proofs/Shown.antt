@@ -22,7 +22,7 @@ use Rattle.mem_map.specs.Zones.{all_stacks, code_zone, data_zone}
 use Rattle.mem_map.specs.Plan.{items_at, prologues_at, services_at, ticks_at}
 use Rattle.map_text.specs.LineRows.{item_count}
 use Rattle.map_text.specs.Borders.{HasBorders}
-use Rattle.symbol_image.specs.declared.line_places.Origins.{Origins}
+use Rattle.map_text.specs.declared.line_places.Origins.{Origins}
 use Rattle.symbol_image.specs.FileParts.{MayShow}
 use Rattle.symbol_image.specs.FrameRows.{HasFrames}
 use Rattle.symbol_build.specs.SymbolFiles.{parts_of}

@@ -11,8 +11,8 @@ use Rattle.text_pieces.specs.Lines.{lines}
 use Rattle.asm_lines.specs.Faults.{source_lines}
 use Rattle.asm_lines.specs.declared.source_line.SourceLine.{SourceLine}
 use Rattle.asm_scopes.specs.Statements.{closes_body}
-use Rattle.symbol_image.specs.LinePlaces.{is_stated, line_places, names_behind, no_place, number_or, place_behind, place_here, stated_line, stated_name, stated_place}
-use Rattle.symbol_image.specs.declared.line_places.Place.{Place}
+use Rattle.map_text.specs.LinePlaces.{is_stated, line_places, names_behind, no_place, number_or, place_behind, place_here, stated_line, stated_name, stated_place}
+use Rattle.map_text.specs.declared.line_places.Place.{Place}
 use Rattle.symbol_build.specs.SymbolFiles.{source_origins}
 
 abbrev pub IsSmall : Place → Type 0

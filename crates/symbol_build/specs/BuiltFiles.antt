@@ -5,7 +5,7 @@ use Rattle.sloth_base.specs.declared.app.App.{App}
 use Rattle.sloth_base.specs.declared.config.Config.{Config}
 use Rattle.sloth_base.specs.declared.image.Image.{Image}
 use Rattle.symbol_image.specs.FileParts.{MayShow}
-use Rattle.symbol_image.specs.declared.line_places.Origins.{Origins}
+use Rattle.map_text.specs.declared.line_places.Origins.{Origins}
 use Rattle.symbol_image.specs.Loading.{Loads}
 use Rattle.symbol_build.specs.SymbolFiles.{IsBuilt, IsFileOfImage, parts_of}
 

@@ -8,8 +8,8 @@ use Rattle.mem_map.specs.Zones.{data_zone}
 use Rattle.symbol_image.specs.EntryTree.{HasCodeEntries}
 use Rattle.symbol_image.specs.LineMachine.{HasMatrix, wanted_matrix}
 use Rattle.symbol_image.specs.LineSection.{line_program, line_section}
-use Rattle.symbol_image.specs.DataLines.{data_lines}
-use Rattle.symbol_image.specs.declared.line_places.Origins.{Origins}
+use Rattle.map_text.specs.DataLines.{data_lines}
+use Rattle.map_text.specs.declared.line_places.Origins.{Origins}
 use Rattle.symbol_image.specs.Layout.{Section}
 use Rattle.symbol_image.specs.SymbolFile.{kinds_section}
 use Rattle.symbol_build.specs.SymbolFiles.{IsSymbolFile, source_origins}

@@ -13,7 +13,7 @@ use Rattle.map_text.specs.LineRows.{line_rows}
 use Rattle.symbol_image.specs.LineSection.{line_program}
 use Rattle.symbol_image.specs.FileRows.{file_rows}
 use Rattle.symbol_image.specs.declared.line_section.FileRow.{FileRow}
-use Rattle.symbol_image.specs.declared.line_places.Place.{Place}
+use Rattle.map_text.specs.declared.line_places.Place.{Place}
 use Rattle.symbol_build.specs.SymbolFiles.{source_origins}
 
 -- the rows of task code by its map, where the lines of its source have these places

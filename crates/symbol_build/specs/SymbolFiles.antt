@@ -15,9 +15,9 @@ use Rattle.asm_lines.specs.Faults.{source_lines}
 use Rattle.sloth_build.specs.ImageOf.{HasPlannedMap}
 use Rattle.sloth_source.specs.Texts.{AreAccepted}
 use Rattle.symbol_image.specs.FileParts.{FileParts}
-use Rattle.symbol_image.specs.LinePlaces.{line_origins}
+use Rattle.map_text.specs.LinePlaces.{line_origins}
 use Rattle.symbol_image.specs.SymbolFile.{symbol_file}
-use Rattle.symbol_image.specs.declared.line_places.Origins.{Origins}
+use Rattle.map_text.specs.declared.line_places.Origins.{Origins}
 use Rattle.text_pieces.specs.Lines.{lines}
 
 -- An image of a configuration and its task code, as it is built: each of its runs is one of the abstract scheduler, no stretch takes more than its

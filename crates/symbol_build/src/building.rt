@@ -2,8 +2,6 @@
 ghost use Rattle.std.specs.Prelude.{◌≡◌, ◌≤◌, ◌<◌, IfErr, IfOk, length};
 ghost use Rattle.sloth_base.specs.Limits.{file_limit};
 ghost use Rattle.sloth_base.specs.declared.image.Image.{Image as AnyImage};
-ghost use Rattle.sloth_base.specs.Order.{NoFault};
-ghost use Rattle.asm_lines.specs.Faults.{SourceLinesFault, source_lines};
 ghost use Rattle.sloth_build.specs.Gathered.{MayBuild};
 ghost use Rattle.map_text.specs.Listable.{IsListable};
 ghost use Rattle.sloth_source.specs.Texts.{SourcesErrorIs};
@@ -11,41 +9,27 @@ ghost use Rattle.symbol_image.specs.FileParts.{MayShow};
 ghost use Rattle.symbol_image.specs.SymbolFile.{symbol_file};
 ghost use Rattle.symbol_build.specs.SymbolFiles.{IsFileOfImage, IsSymbolFile, parts_of, source_origins};
 
-use asm_lines::SourceLine;
-use map_text::map_rows;
+use asm_lines::read_lines;
+use map_text::{Origins, line_origins, map_rows};
 use mem_map::plan;
-use sloth_base::{App, Bounds, BuildError, Config, List, NoMemory, Result};
+use sloth_base::{App, Bounds, BuildError, Config, Result};
 use sloth_build::building::image;
 use sloth_region::Map;
 use sloth_source::{Source, read};
 use std::alloc::Global;
-use symbol_image::{Origins, Parts, line_origins, symbol_file};
+use symbol_image::{Parts, symbol_file};
 use text_pieces::lines;
-
-// What the lines of a source are, in which there is no fault, so that only memory can be wanting.
-fn read_statements(alloc: Global, src: &[u8]) -> Result<List<SourceLine>>
-    requires short { length src.now < 4294967295 }
-    requires none { NoFault (SourceLinesFault src.now) }
-    ensures { IfOk result (λ lines. lines ≡ source_lines src.now) }
-{
-    match asm_lines::read(alloc, src) {
-        Ok(lines) => Ok(lines),
-        Err(_) => Err(NoMemory),
-    }
-}
 
 // Where it declares its symbols, and where its lines come from.
 fn source_origins(alloc: Global, src: &[u8]) -> Result<Origins>
     requires short { length src.now ≤ file_limit }
-    requires none { NoFault (SourceLinesFault src.now) }
     ensures { IfOk result (λ found. found ≡ source_origins src.now) }
 {
-    let statements = read_statements(alloc, src)?;
+    let statements = read_lines(alloc, src)?;
     let texts = lines(alloc, src)?;
     line_origins(alloc, texts.as_slice(), statements.items())
 }
 
-// The file of these parts.
 fn parts_file<'t>(
     alloc: Global,
     name: &'t [u8],
@@ -72,7 +56,6 @@ fn parts_file<'t>(
     symbol_file(alloc, &parts, rows.as_slice())
 }
 
-// The file of the image of task code, whose source has this name.
 fn planned_file(
     alloc: Global,
     name: &[u8],
@@ -82,7 +65,6 @@ fn planned_file(
     bounds: &Bounds,
 ) -> Result<Vec<u8>>
     requires short { length src.now ≤ file_limit }
-    requires none { NoFault (SourceLinesFault src.now) }
     requires may { MayBuild config.now app.now bounds.now }
     ensures { IfOk result (λ file.
         (image : AnyImage) × IsFileOfImage config.now app.now name.now (source_origins src.now) image file.items) }
@@ -90,15 +72,8 @@ fn planned_file(
     let image = image(alloc, config, app, bounds)?;
     let map = plan(alloc, app, config, bounds)?;
     let origins = source_origins(alloc, src)?;
-    parts_file(
-        alloc,
-        name,
-        &origins,
-        config,
-        app,
-        &map,
-        image.memory.items(),
-    )
+    let memory = image.memory.items();
+    parts_file(alloc, name, &origins, config, app, &map, memory)
 }
 
 /// The debuggers' file of an image of these texts, the second of this name, at most 4 MiB each; or the first refusal.

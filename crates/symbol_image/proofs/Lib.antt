@@ -8,6 +8,5 @@ pub mod OneProgram
 pub mod Put
 pub mod Reading
 pub mod Showing
-pub mod StatedPlaces
 pub mod Steps
 pub mod Whole

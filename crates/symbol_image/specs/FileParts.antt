@@ -5,7 +5,7 @@ use Rattle.sloth_base.specs.declared.config.Config.{Config}
 use Rattle.sloth_region.specs.declared.region.Map.{Map}
 use Rattle.mem_map.specs.Zones.{data_zone}
 use Rattle.map_text.specs.Borders.{HasBorders}
-use Rattle.symbol_image.specs.declared.line_places.Origins.{Origins}
+use Rattle.map_text.specs.declared.line_places.Origins.{Origins}
 use Rattle.symbol_image.specs.FrameRows.{HasFrames}
 use Rattle.symbol_image.specs.WordSymbols.{HasWords}
 

@@ -1,9 +1,9 @@
 -- Which line of which file each address of task code comes from.
 use Rattle.std.specs.Prelude.{ℕ, ◌-◌, ◌==◌, cond, List, map, get_or}
 use Rattle.map_text.specs.declared.line_rows.LineRow.{LineRow}
-use Rattle.symbol_image.specs.LinePlaces.{no_place}
+use Rattle.map_text.specs.LinePlaces.{no_place}
 use Rattle.symbol_image.specs.declared.line_section.FileRow.{FileRow}
-use Rattle.symbol_image.specs.declared.line_places.Place.{Place}
+use Rattle.map_text.specs.declared.line_places.Place.{Place}
 
 -- the row of an address that comes from this file's line
 abbrev pub row_from : (address file line : ℕ) → FileRow

@@ -1,13 +1,7 @@
--- Segments as the code has them.
+-- What the headers ask of the zones of an image.
 use Rattle.std.specs.Prelude.{ℕ, ◌+◌, ◌≡◌, ◌≤◌}
 use Rattle.sloth_base.specs.MemoryMap.{memory_base, vectors_base}
-use Rattle.symbol_image.specs.Headers as headers
 use Rattle.map_text.specs.declared.borders.Borders.{Borders}
-use Rattle.map_text.specs.declared.segments.Segment.{Segment}
-
--- a segment
-abbrev pub segment_of : Segment → headers.Segment
-segment_of s = record { from = s.from; to = s.to; end = s.end; flags = s.flags }
 
 -- the data begin behind the vector words, and the memory ends behind them
 pub record AreOrdered (borders : Borders) : Type 0 where

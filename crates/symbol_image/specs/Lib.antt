@@ -1,6 +1,5 @@
 pub mod Abbreviations
 pub mod BodyFrames
-pub mod DataLines
 pub mod Entries
 pub mod EntryBytes
 pub mod EntryTree
@@ -15,12 +14,10 @@ pub mod Headers
 pub mod Layout
 pub mod LayoutViews
 pub mod LineMachine
-pub mod LinePlaces
 pub mod LineSection
 pub mod Loading
 pub mod Reading
 pub mod Sections
-pub mod StatedPlaces
 pub mod SymbolFile
 pub mod SymbolTable
 pub mod Symbols

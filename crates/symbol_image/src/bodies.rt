@@ -3,8 +3,8 @@ ghost use Rattle.std.specs.Prelude.{◌≡◌, ◌≤◌, ◌+◌, ◌++◌, OnO
 ghost use Rattle.std.specs.List.{list_any};
 ghost use Rattle.sloth_base.specs.Limits.{item_limit};
 ghost use Rattle.symbol_image.specs.Entries.{all_body_bytes, body_entries, body_entry, end_entries, frame_entries};
-ghost use Rattle.symbol_image.specs.Entries.{frame_type_entries, has_below, inner_labels};
-ghost use Rattle.symbol_image.specs.Entries.{label_entry, stands_before};
+ghost use Rattle.symbol_image.specs.Entries.{frame_type_entries, has_below, inner_labels, stands_before};
+ghost use Rattle.symbol_image.specs.Entries.{label_entry};
 ghost use Rattle.symbol_image.specs.EntryBytes.{entries_bytes, entry_bytes};
 ghost use Rattle.map_text.specs.LineRows.{item_count};
 
@@ -14,16 +14,10 @@ use image_file::put_u32;
 use map_text::{body_end, item_address};
 use sloth_base::{Func, Label, Places, Result};
 
-fn stands_before(items: usize, label: &Label) -> bool
-    ensures { result ≡ stands_before items label.now }
-{
-    (label.item as usize) < items
-}
-
 fn any_stands_before(items: usize, labels: &[Label]) -> bool
     ensures { result ≡ list_any (stands_before items) labels.now }
 {
-    labels.iter().any(|label| stands_before(items, label))
+    labels.iter().any(|label| (label.item as usize) < items)
 }
 
 fn has_below(func: &Func) -> bool
@@ -35,7 +29,6 @@ fn has_below(func: &Func) -> bool
     any_stands_before(func.items.items().len(), func.labels.items())
 }
 
-// Appends the type of the words of a frame, if it has any.
 fn put_frame_type(info: &mut Vec<u8>, types: Types, words: u32) -> Result<()>
     ensures { OnOk result (info.new.items ≡ info.old.items ++ entries_bytes (frame_type_entries types words)) }
 {
@@ -59,7 +52,6 @@ fn put_frame(info: &mut Vec<u8>, at: usize, words: u32) -> Result<()>
     put_bytes(info, &[2, 114, 0])
 }
 
-// Appends a label of a body, the first item of which has this place.
 fn put_label(
     info: &mut Vec<u8>,
     places: &Places,
@@ -75,10 +67,8 @@ fn put_label(
     put_text(info, label.name.bytes())?;
     put_bytes(info, &[1])?;
     put_u32(info, label.line)?;
-    put_u32(
-        info,
-        item_address(places, end, number + label.item as usize),
-    )
+    let address = item_address(places, end, number + label.item as usize);
+    put_u32(info, address)
 }
 
 fn put_labels(
@@ -94,14 +84,13 @@ fn put_labels(
 {
     let items = func.items.items().len();
     for label in func.labels.items() {
-        if stands_before(items, label) {
+        if (label.item as usize) < items {
             put_label(info, places, end, number, label)?;
         }
     }
     Ok(())
 }
 
-// Appends the entry of a body alone, from an address to another.
 fn put_body_alone(info: &mut Vec<u8>, func: &Func, low: u32, high: u32) -> Result<()>
     ensures { OnOk result (info.new.items ≡ info.old.items ++ entry_bytes (body_entry func.now low high)) }
 {
@@ -114,7 +103,6 @@ fn put_body_alone(info: &mut Vec<u8>, func: &Func, low: u32, high: u32) -> Resul
     put_u32(info, high)
 }
 
-// Appends the end of what stands below a body, if something does.
 fn put_end(info: &mut Vec<u8>, below: bool) -> Result<()>
     ensures { OnOk result (info.new.items ≡ info.old.items ++ entries_bytes (end_entries below)) }
 {
@@ -124,7 +112,6 @@ fn put_end(info: &mut Vec<u8>, below: bool) -> Result<()>
     Ok(())
 }
 
-// Appends the entries of a body, the first item of which has this place.
 fn put_body(
     info: &mut Vec<u8>,
     types: Types,

@@ -36,7 +36,6 @@ fn put_next_address(rules: &mut Vec<u8>, at: u32, to: u32) -> Result<()>
     put_half(rules, instructions)
 }
 
-// Appends how many bytes above x2 the caller's frame begins.
 fn put_frame_offset(rules: &mut Vec<u8>, bytes: u32) -> Result<()>
     ensures { OnOk result (rules.new.items ≡ rules.old.items ++ frame_at bytes) }
 {
@@ -44,7 +43,6 @@ fn put_frame_offset(rules: &mut Vec<u8>, bytes: u32) -> Result<()>
     put_unsigned(rules, bytes)
 }
 
-// The words of a body below its caller's frame.
 fn own_words(func: &Func) -> u32
     requires { func.now.frame_words ≤ frame_limit }
     ensures { result ≡ own_words func.now }
@@ -139,7 +137,6 @@ fn put_item(
     }
 }
 
-// Appends the rules of the items of a body, the first of which has this place.
 fn put_items(
     rules: &mut Vec<u8>,
     app: &App,

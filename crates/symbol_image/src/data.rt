@@ -1,7 +1,8 @@
 //! The entries of data. The types of data.
-ghost use Rattle.std.specs.Prelude.{◌≡◌, ◌++◌, OnOk, get_or, length};
-ghost use Rattle.symbol_image.specs.Entries.{all_symbol_bytes, array_entries, at_address, base_type, symbol_entries, type_entries, type_place, variable_entry, data_shape};
-ghost use Rattle.symbol_image.specs.EntryBytes.{Location, entries_bytes, entry_bytes, value_bytes};
+ghost use Rattle.std.specs.Prelude.{◌≡◌, ◌++◌, IfOk, OnOk, get_or, length};
+ghost use Rattle.symbol_image.specs.Entries.{all_symbol_bytes, array_entries, base_type, symbol_entries, type_entries};
+ghost use Rattle.symbol_image.specs.Entries.{type_place, variable_entry, data_shape};
+ghost use Rattle.symbol_image.specs.EntryBytes.{entries_bytes, entry_bytes};
 
 use crate::fields::{put_bytes, put_length, put_text};
 use image_file::put_u32;
@@ -28,36 +29,26 @@ pub fn put_array(info: &mut Vec<u8>, types: Types, element: usize, count: usize)
     put_bytes(info, &[0])
 }
 
-// Appends the type of a shape, where it is not one of the two.
-fn put_type(info: &mut Vec<u8>, types: Types, shape: Shape) -> Result<()>
-    ensures { OnOk result (info.new.items ≡ info.old.items ++ entries_bytes (type_entries types shape)) }
+// Appends the type of a shape, where it is not one of the two, and says where it stands.
+fn put_type(info: &mut Vec<u8>, types: Types, shape: Shape) -> Result<usize>
+    ensures put { IfOk result (λ place. info.new.items ≡ info.old.items ++ entries_bytes (type_entries types shape)) }
+    ensures place { IfOk result (λ place. place ≡ type_place types shape (length info.old.items)) }
 {
+    let at = info.len();
     match shape {
-        Shape::OneWord | Shape::OneByte => Ok(()),
-        Shape::Words(count) => put_array(info, types, types.word, count),
-        Shape::Bytes(count) => put_array(info, types, types.byte, count),
+        Shape::OneWord => Ok(types.word),
+        Shape::OneByte => Ok(types.byte),
+        Shape::Words(count) => {
+            put_array(info, types, types.word, count)?;
+            Ok(at)
+        }
+        Shape::Bytes(count) => {
+            put_array(info, types, types.byte, count)?;
+            Ok(at)
+        }
     }
 }
 
-// Where the type of a shape stands whose own entries stand at a place.
-fn type_place(types: Types, shape: Shape, at: usize) -> usize
-    ensures { result ≡ type_place types shape at }
-{
-    match shape {
-        Shape::OneWord => types.word,
-        Shape::OneByte => types.byte,
-        Shape::Words(_) | Shape::Bytes(_) => at,
-    }
-}
-
-fn put_location(info: &mut Vec<u8>, address: u32) -> Result<()>
-    ensures { OnOk result (info.new.items ≡ info.old.items ++ value_bytes (Location (at_address address))) }
-{
-    put_bytes(info, &[5, 3])?;
-    put_u32(info, address)
-}
-
-// Appends a symbol whose type stands at a place, with its line and its address.
 fn put_variable(
     info: &mut Vec<u8>,
     kind: usize,
@@ -73,7 +64,8 @@ fn put_variable(
     put_bytes(info, &[1])?;
     put_u32(info, line)?;
     put_length(info, kind)?;
-    put_location(info, address)
+    put_bytes(info, &[5, 3])?;
+    put_u32(info, address)
 }
 
 fn put_symbol(
@@ -86,10 +78,8 @@ fn put_symbol(
     ensures { OnOk result (info.new.items
         ≡ info.old.items ++ entries_bytes (symbol_entries types (length info.old.items) symbol.now line address)) }
 {
-    let at = info.len();
-    let shape = data_shape(symbol.bytes.items().len());
-    put_type(info, types, shape)?;
-    put_variable(info, type_place(types, shape, at), symbol, line, address)
+    let place = put_type(info, types, data_shape(symbol.bytes.items().len()))?;
+    put_variable(info, place, symbol, line, address)
 }
 
 fn number_or_zero(numbers: &[u32], place: usize) -> u32

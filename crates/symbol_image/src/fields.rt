@@ -1,7 +1,7 @@
 //! The fields of which sections are made.
 ghost use Rattle.std.specs.Prelude.{◌≡◌, ◌≤◌, ◌++◌, IfOk, OnOk};
 ghost use Rattle.image_file.specs.Fields.{four_bytes, two_bytes};
-ghost use Rattle.symbol_image.specs.Fields.{groups, negative_leb, signed_leb, sized, text_bytes, unsigned_leb};
+ghost use Rattle.symbol_image.specs.Fields.{groups, negative_leb, sized, text_bytes, unsigned_leb};
 
 use image_file::{put_u16, put_u32};
 use sloth_base::Result;
@@ -47,8 +47,8 @@ pub fn put_half(section: &mut Vec<u8>, number: u32) -> Result<()>
     put_u16(section, (number % TWO_BYTES) as u16)
 }
 
-// Appends a number in groups of seven bits, the last of which is below a limit.
-fn put_groups(section: &mut Vec<u8>, limit: u32, number: u32) -> Result<()>
+/// Appends a number in groups of seven bits, the last of which is below a limit of 16 to 128.
+pub fn put_groups(section: &mut Vec<u8>, limit: u32, number: u32) -> Result<()>
     requires { (16 ≤ limit) × (limit ≤ 128) }
     ensures { OnOk result (section.new.items ≡ section.old.items ++ groups limit 4 number) }
 {
@@ -67,14 +67,6 @@ pub fn put_unsigned(section: &mut Vec<u8>, number: u32) -> Result<()>
     ensures { OnOk result (section.new.items ≡ section.old.items ++ unsigned_leb number) }
 {
     put_groups(section, 128, number)
-}
-
-/// Appends a number as a signed LEB128.
-#[tactic(auto, unfolding(crate::specs::Fields::signed_leb))]
-pub fn put_signed(section: &mut Vec<u8>, number: u32) -> Result<()>
-    ensures { OnOk result (section.new.items ≡ section.old.items ++ signed_leb number) }
-{
-    put_groups(section, 64, number)
 }
 
 /// Appends a number that is so much below zero as a signed LEB128 of five groups.

@@ -8,11 +8,12 @@ ghost use Rattle.symbol_image.specs.FrameRows.{HasFrames};
 ghost use Rattle.symbol_image.specs.HeaderViews.{AreOrdered, IsMemoryWithin};
 ghost use Rattle.symbol_image.specs.Layout.{all_laid, laid_with, padded, strings, with_names};
 ghost use Rattle.symbol_image.specs.LayoutViews.{laid_of};
-ghost use Rattle.symbol_image.specs.SymbolFile.{code_sections, data_sections, debugging_sections, entries_section, laid_file, frames_section, lines_section, loaded, part_sections, rows_of, symbol_file, symbol_section, table_sections};
+ghost use Rattle.symbol_image.specs.SymbolFile.{code_sections, data_sections, debugging_sections, entries_section};
+ghost use Rattle.symbol_image.specs.SymbolFile.{laid_file, frames_section, lines_section, loaded, part_sections};
+ghost use Rattle.symbol_image.specs.SymbolFile.{rows_of, symbol_file, symbol_section, table_sections};
 ghost use Rattle.symbol_image.specs.Symbols.{locals_of, all_symbols};
 ghost use Rattle.symbol_image.specs.WordSymbols.{HasWords};
 
-use crate::Origins;
 use crate::abbreviations::abbreviation_section;
 use crate::fields::put_bytes;
 use crate::frames::frame_section;
@@ -25,27 +26,27 @@ use crate::line_section::line_section;
 use crate::symbol::{Symbol, push_globals, push_locals};
 use crate::symbol_table::{Tables, symbol_tables};
 use crate::word_symbols::push_words;
-use map_text::{Borders, Range, Row, code_range, image_borders};
+use map_text::{Borders, Origins, Row, image_borders};
 use sloth_base::{App, Config, MEMORY_BASE, Result, VECTORS_BASE};
 use sloth_region::Map;
 use std::alloc::Global;
 use std::marker::Model;
 
 /// A section is loaded and written, or loaded and executed.
-const SECTION_WRITTEN: u32 = 3;
+const WRITTEN: u32 = 3;
 
-const SECTION_EXECUTED: u32 = 6;
+const EXECUTED: u32 = 6;
 
-fn lay_loaded(laid: &mut Laid, name: &[u8], flags: u32, memory: &[u8], range: Range) -> Result<()>
-    requires { (memory_base ≤ range.from) × (range.from ≤ range.to) × (range.to ≤ memory_base + length memory.now) }
+fn load(laid: &mut Laid, name: &[u8], flags: u32, memory: &[u8], from: u32, to: u32) -> Result<()>
+    requires { (memory_base ≤ from) × (from ≤ to) × (to ≤ memory_base + length memory.now) }
     ensures { OnOk result (laid_of laid.new
-        ≡ laid_with (laid_of laid.old) (loaded name.now flags memory.now range.from range.to)) }
+        ≡ laid_with (laid_of laid.old) (loaded name.now flags memory.now from to)) }
 {
-    let contents = &memory[(range.from - MEMORY_BASE) as usize..(range.to - MEMORY_BASE) as usize];
+    let contents = &memory[(from - MEMORY_BASE) as usize..(to - MEMORY_BASE) as usize];
     let fields = SectionFields {
         kind: 1,
         flags,
-        address: range.from,
+        address: from,
         size: contents.len(),
         link: 0,
         info: 0,
@@ -55,31 +56,17 @@ fn lay_loaded(laid: &mut Laid, name: &[u8], flags: u32, memory: &[u8], range: Ra
     lay(laid, name, fields, contents)
 }
 
-fn lay_code(laid: &mut Laid, memory: &[u8], borders: &Borders) -> Result<()>
+// Lays out what is loaded: words and code, then data and stacks.
+fn lay_memory(laid: &mut Laid, memory: &[u8], borders: &Borders) -> Result<()>
     requires { IsMemoryWithin (length memory.now) borders.now }
-    ensures { OnOk result (laid_of laid.new ≡ all_laid (laid_of laid.old) (code_sections memory.now borders.now)) }
+    ensures { OnOk result (laid_of laid.new
+        ≡ all_laid (all_laid (laid_of laid.old) (code_sections memory.now borders.now)) (data_sections memory.now
+        borders.now)) }
 {
-    let words = Range {
-        from: MEMORY_BASE,
-        to: VECTORS_BASE,
-    };
-    let code = code_range(borders);
-    lay_loaded(laid, b".words", SECTION_WRITTEN, memory, words)?;
-    lay_loaded(laid, b".text", SECTION_EXECUTED, memory, code)
-}
-
-fn lay_data(laid: &mut Laid, memory: &[u8], borders: &Borders) -> Result<()>
-    requires { IsMemoryWithin (length memory.now) borders.now }
-    ensures { OnOk result (laid_of laid.new ≡ all_laid (laid_of laid.old) (data_sections memory.now borders.now)) }
-{
-    let data = Range {
-        from: borders.code_end,
-        to: borders.end,
-    };
-    lay_loaded(laid, b".data", SECTION_WRITTEN, memory, data)?;
+    let (code_end, end) = (borders.code_end, borders.end);
     let stacks = SectionFields {
         kind: 8,
-        flags: SECTION_WRITTEN,
+        flags: WRITTEN,
         address: borders.stacks,
         size: borders.top.saturating_sub(borders.stacks) as usize,
         link: 0,
@@ -87,6 +74,9 @@ fn lay_data(laid: &mut Laid, memory: &[u8], borders: &Borders) -> Result<()>
         align: 16,
         entry: 0,
     };
+    load(laid, b".words", WRITTEN, memory, MEMORY_BASE, VECTORS_BASE)?;
+    load(laid, b".text", EXECUTED, memory, VECTORS_BASE, code_end)?;
+    load(laid, b".data", WRITTEN, memory, code_end, end)?;
     lay(laid, b".stack", stacks, b"")
 }
 
@@ -227,8 +217,7 @@ fn lay_parts(
     ensures { OnOk result (laid_of laid.new
         ≡ padded (with_names (all_laid (laid_of laid.old) (part_sections parts.now borders.now rows.now)))) }
 {
-    lay_code(laid, parts.memory, borders)?;
-    lay_data(laid, parts.memory, borders)?;
+    lay_memory(laid, parts.memory, borders)?;
     lay_debugging(alloc, laid, parts, borders.code_end, rows)?;
     lay_symbols(alloc, laid, parts, borders, rows)?;
     lay_names(alloc, laid)?;

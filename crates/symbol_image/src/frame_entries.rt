@@ -1,10 +1,12 @@
 //! The entries of frames.
-ghost use Rattle.std.specs.Prelude.{◌≡◌, ◌++◌, IfOk, OnOk};
-ghost use Rattle.symbol_image.specs.FrameEntries.{common_bytes, common_entry, frame_entry, is_unknown, padded};
+ghost use Rattle.std.specs.Prelude.{◌≡◌, ◌++◌, OnOk};
+ghost use Rattle.symbol_image.specs.FrameEntries.{common_entry, is_unknown, padded};
+ghost use Rattle.symbol_image.specs.Frames.{entry_of};
 ghost use Rattle.symbol_image.specs.Fields.{sized};
 
 use crate::fields::{put_bytes, put_length, put_unsigned};
 use image_file::put_u32;
+use map_text::Row;
 use sloth_base::Result;
 use std::alloc::Global;
 
@@ -29,21 +31,6 @@ fn put_entry(section: &mut Vec<u8>, mut bytes: Vec<u8>) -> Result<()>
     put_bytes(section, bytes.as_slice())
 }
 
-// What entries have in common.
-fn common_bytes(alloc: Global, column: u32, unknown: bool) -> Result<Vec<u8>>
-    ensures { IfOk result (λ bytes. bytes.items ≡ common_bytes column unknown) }
-{
-    let mut bytes = Vec::new(alloc);
-    put_u32(&mut bytes, COMMON)?;
-    put_bytes(&mut bytes, &[3, 0, 4, 124])?;
-    put_unsigned(&mut bytes, column)?;
-    put_bytes(&mut bytes, &[12, 2, 0])?;
-    if unknown {
-        put_unknown(&mut bytes, column)?;
-    }
-    Ok(bytes)
-}
-
 /// Appends what entries have in common that go back by a column, which may be unknown.
 pub fn put_common_entry(
     alloc: Global,
@@ -53,25 +40,31 @@ pub fn put_common_entry(
 ) -> Result<()>
     ensures { OnOk result (section.new.items ≡ section.old.items ++ common_entry column unknown) }
 {
-    let bytes = common_bytes(alloc, column, unknown)?;
+    let mut bytes = Vec::new(alloc);
+    put_u32(&mut bytes, COMMON)?;
+    put_bytes(&mut bytes, &[3, 0, 4, 124])?;
+    put_unsigned(&mut bytes, column)?;
+    put_bytes(&mut bytes, &[12, 2, 0])?;
+    if unknown {
+        put_unknown(&mut bytes, column)?;
+    }
     put_entry(section, bytes)
 }
 
-/// Appends the entry of so many bytes of code at an address, by the common one at a place.
+/// Appends the entry of a row's bytes, by the common one at a place.
 pub fn put_frame_entry(
     alloc: Global,
     section: &mut Vec<u8>,
     common: u32,
-    address: u32,
-    bytes: u32,
     rules: &[u8],
+    row: &Row,
 ) -> Result<()>
-    ensures { OnOk result (section.new.items ≡ section.old.items ++ frame_entry common address bytes rules.now) }
+    ensures { OnOk result (section.new.items ≡ section.old.items ++ entry_of common rules.now row.now) }
 {
     let mut entry = Vec::new(alloc);
     put_u32(&mut entry, common)?;
-    put_u32(&mut entry, address)?;
-    put_u32(&mut entry, bytes)?;
+    put_u32(&mut entry, row.base)?;
+    put_u32(&mut entry, row.len)?;
     put_bytes(&mut entry, rules)?;
     put_entry(section, entry)
 }

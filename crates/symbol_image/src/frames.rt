@@ -4,9 +4,8 @@ ghost use Rattle.std.specs.List.{flat_map};
 ghost use Rattle.sloth_base.specs.Limits.{item_limit};
 ghost use Rattle.map_text.specs.LineRows.{item_count};
 ghost use Rattle.symbol_image.specs.FrameRows.{HasFrames};
-ghost use Rattle.symbol_image.specs.Frames.{body_entry, entry_of, first_loss, frame_section, loses};
+ghost use Rattle.symbol_image.specs.Frames.{body_entry, first_loss, frame_section, loses};
 ghost use Rattle.symbol_image.specs.Frames.{loss_rule, prologue_rules, row_entry, service_rules, memory_word, writes};
-ghost use Rattle.symbol_image.specs.Frames.{writes_csr};
 
 use crate::body_frames::body_rules;
 use crate::fields::{put_bytes, put_unsigned};
@@ -49,7 +48,6 @@ fn byte_or_zero(memory: &[u8], at: usize) -> u32
     }
 }
 
-// The number of four bytes.
 fn memory_word(memory: &[u8], at: usize) -> u32
     requires { at ≤ 8589934592 }
     ensures { result ≡ memory_word memory.now at }
@@ -68,20 +66,14 @@ fn writes(register: u32, word: u32) -> bool
     !(opcode == 35 || opcode == 99 || opcode == 15) && word / 128 % 32 == register
 }
 
-// Whether an instruction is a csrrw of this CSR.
-fn writes_csr(csr: u32, word: u32) -> bool
-    ensures { result ≡ writes_csr csr word }
-{
-    word % 128 == 115 && word / 4096 % 8 == 1 && word / 1_048_576 == csr
-}
-
 // Whether the way back is not known behind an instruction.
 fn loses(what: Lost, word: u32) -> bool
     ensures { result ≡ loses what word }
 {
     match what {
         Lost::ByService => writes(2, word) || writes(31, word),
-        Lost::ByPrologue => writes(1, word) || writes_csr(MEPC, word),
+        Lost::ByPrologue => writes(1, word)
+            || (word % 128 == 115 && word / 4096 % 8 == 1 && word / 1_048_576 == MEPC),
     }
 }
 
@@ -141,19 +133,6 @@ fn prologue_rules(alloc: Global, memory: &[u8], base: u32, len: u32) -> Result<V
     Ok(rules)
 }
 
-fn put_entry(
-    alloc: Global,
-    section: &mut Vec<u8>,
-    common: u32,
-    rules: &[u8],
-    row: &Row,
-) -> Result<()>
-    ensures { OnOk result (section.new.items ≡ section.old.items ++ entry_of common rules.now row.now) }
-{
-    put_frame_entry(alloc, section, common, row.base, row.len, rules)
-}
-
-// The items of the first bodies, so many of them, together.
 fn items_before(funcs: &[Func], number: usize) -> usize
     requires few { item_count (take number funcs.now) ≤ item_limit }
     requires there { number ≤ length funcs.now }
@@ -181,10 +160,9 @@ fn put_body(
     let funcs = app.funcs.items();
     let first = items_before(funcs, row.number);
     let rules = body_rules(alloc, app, places, code_end, first, &funcs[row.number])?;
-    put_entry(alloc, section, ITEMS_AT, rules.as_slice(), row)
+    put_frame_entry(alloc, section, ITEMS_AT, rules.as_slice(), row)
 }
 
-// Appends the entry of a row, if it is code.
 fn put_row(
     alloc: Global,
     section: &mut Vec<u8>,
@@ -199,15 +177,15 @@ fn put_row(
         ≡ section.old.items ++ row_entry app.now places.now code_end memory.now row.now) }
 {
     match row.kind {
-        Kind::Boot | Kind::Idle => put_entry(alloc, section, ITEMS_AT, &[], row),
-        Kind::Vectors | Kind::Tick => put_entry(alloc, section, TAKEN_AT, &[], row),
+        Kind::Boot | Kind::Idle => put_frame_entry(alloc, section, ITEMS_AT, &[], row),
+        Kind::Vectors | Kind::Tick => put_frame_entry(alloc, section, TAKEN_AT, &[], row),
         Kind::Prologue => {
             let rules = prologue_rules(alloc, memory, row.base, row.len)?;
-            put_entry(alloc, section, TAKEN_AT, rules.as_slice(), row)
+            put_frame_entry(alloc, section, TAKEN_AT, rules.as_slice(), row)
         }
         Kind::Service => {
             let rules = service_rules(alloc, memory, row.base, row.len)?;
-            put_entry(alloc, section, SERVICES_AT, rules.as_slice(), row)
+            put_frame_entry(alloc, section, SERVICES_AT, rules.as_slice(), row)
         }
         Kind::Code => {
             if row.number < app.funcs.items().len() {

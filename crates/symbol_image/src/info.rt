@@ -1,10 +1,9 @@
 //! The section of entries.
-ghost use Rattle.std.specs.Prelude.{◌≡◌, ◌≤◌, ◌+◌, ◌++◌, ◌∷◌, [], IfOk, OnOk, drop, length};
-ghost use Rattle.std.specs.List.{flat_map};
+ghost use Rattle.std.specs.Prelude.{◌≡◌, ◌≤◌, ◌+◌, ◌++◌, ◌∷◌, [], IfOk, drop, length};
 ghost use Rattle.sloth_base.specs.Limits.{item_limit};
-ghost use Rattle.symbol_image.specs.Entries.{base_type, byte_name, info_section, unit_bytes, unit_names, unit_places};
+ghost use Rattle.symbol_image.specs.Entries.{base_type, byte_name, info_section, unit_bytes};
 ghost use Rattle.symbol_image.specs.Entries.{word_name};
-ghost use Rattle.symbol_image.specs.EntryBytes.{entries_bytes, entry_bytes, value_bytes};
+ghost use Rattle.symbol_image.specs.EntryBytes.{entries_bytes, entry_bytes};
 ghost use Rattle.map_text.specs.LineRows.{item_count};
 
 use crate::bodies::put_bodies;
@@ -18,37 +17,21 @@ use std::alloc::Global;
 /// The bytes of a unit's length.
 const LENGTH: usize = 4;
 
-// Appends what a unit is: its kind, who made it, its language, its source and its directory.
-fn put_unit_names(info: &mut Vec<u8>, source: &[u8]) -> Result<()>
-    ensures { OnOk result (info.new.items ≡ info.old.items ++ 1 ∷ flat_map value_bytes (unit_names source.now)) }
-{
-    put_bytes(info, &[1])?;
-    put_text(info, b"sloth")?;
-    put_bytes(info, &[12])?;
-    put_text(info, source)?;
-    put_text(info, b".")
-}
-
-// Appends from where to where a unit goes, and where its lines stand.
-fn put_unit_places(info: &mut Vec<u8>, low: u32, high: u32) -> Result<()>
-    ensures { OnOk result (info.new.items ≡ info.old.items ++ flat_map value_bytes (unit_places low high)) }
-{
-    put_u32(info, low)?;
-    put_u32(info, high)?;
-    put_u32(info, 0)
-}
-
-// A unit behind room for its length: its header, and its entry, from an address to another.
 fn unit(alloc: Global, source: &[u8], low: u32, high: u32) -> Result<Vec<u8>>
     ensures { IfOk result (λ info. info.items ≡ 0 ∷ 0 ∷ 0 ∷ 0 ∷ unit_bytes source.now low high) }
 {
     let mut info = Vec::from_slice(alloc, &[0, 0, 0, 0, 4, 0, 0, 0, 0, 0, 4])?;
-    put_unit_names(&mut info, source)?;
-    put_unit_places(&mut info, low, high)?;
+    put_bytes(&mut info, &[1])?;
+    put_text(&mut info, b"sloth")?;
+    put_bytes(&mut info, &[12])?;
+    put_text(&mut info, source)?;
+    put_text(&mut info, b".")?;
+    put_u32(&mut info, low)?;
+    put_u32(&mut info, high)?;
+    put_u32(&mut info, 0)?;
     Ok(info)
 }
 
-// What stands behind the room for a length.
 fn behind_length(info: &[u8]) -> &[u8]
     requires { 4 ≤ length info.now }
     ensures { result.now ≡ drop 4 info.now }

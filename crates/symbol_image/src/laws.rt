@@ -4,7 +4,6 @@ ghost use Rattle.symbol_image.specs.LineMachine.{OneMatrix, ProgramHasRows};
 ghost use Rattle.symbol_image.specs.Loading.{LoadedOnce, MemoryIsLoaded, NothingElseIsLoaded};
 ghost use Rattle.symbol_image.specs.Reading.{SymbolsReadBack};
 ghost use Rattle.symbol_image.specs.Sections.{SectionsAgree};
-ghost use Rattle.symbol_image.specs.StatedPlaces.{FilesAreNames, OthersHaveNone, PlacesAreStated};
 
 /// Each byte of an image's memory is loaded to its address by one segment alone, and no other byte of the file is.
 pub fn memory_is_loaded_once()
@@ -27,13 +26,6 @@ pub fn sections_and_segments_agree()
 pub fn lines_are_rows()
     ensures makes { ProgramHasRows }
     ensures one { OneMatrix }
-{}
-
-/// A source line comes from the place that the last comment above it in its body states, if any; the files have names.
-pub fn places_are_stated()
-    ensures stated { PlacesAreStated }
-    ensures none { OthersHaveNone }
-    ensures files { FilesAreNames }
 {}
 
 /// Entries read by the table of kinds; each symbol, with the type of its bytes, and each body is among them.

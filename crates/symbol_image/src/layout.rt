@@ -1,9 +1,8 @@
 //! Sections one behind the other, with their headers and names.
-ghost use Rattle.std.specs.Prelude.{◌≡◌, ◌++◌, ◌∷◌, [], IfOk, OnOk};
-ghost use Rattle.std.specs.List.{flat_map};
+ghost use Rattle.std.specs.Prelude.{◌≡◌, ◌++◌, [], IfOk, OnOk};
 ghost use Rattle.image_file.specs.Fields.{four_bytes};
 ghost use Rattle.symbol_image.specs.Layout.{laid_with, none_laid, padded, section_header, unloaded};
-ghost use Rattle.symbol_image.specs.Layout.{whole, with_names};
+ghost use Rattle.symbol_image.specs.Layout.{with_names};
 ghost use Rattle.symbol_image.specs.LayoutViews.{laid_of, section_of};
 
 use crate::fields::{put_bytes, put_length, put_text};
@@ -35,40 +34,16 @@ pub struct SectionFields {
     pub entry: u32,
 }
 
-// Appends where the name of a section stands, what it is, and where its bytes stand.
-fn put_place(headers: &mut Vec<u8>, name: usize, at: usize, fields: SectionFields) -> Result<()>
-    ensures { OnOk result (headers.new.items
-        ≡ headers.old.items ++ flat_map four_bytes (name ∷ fields.kind ∷ fields.flags ∷ fields.address ∷ at ∷ [])) }
+fn put_header(headers: &mut Vec<u8>, name: usize, at: usize, fields: SectionFields) -> Result<()>
+    ensures { OnOk result (headers.new.items ≡ headers.old.items ++ section_header name at (section_of [] fields [])) }
 {
     put_length(headers, name)?;
     put_words(headers, &[fields.kind, fields.flags, fields.address])?;
-    put_length(headers, at)
-}
-
-fn put_fields(headers: &mut Vec<u8>, fields: SectionFields) -> Result<()>
-    ensures { OnOk result (headers.new.items
-        ≡ headers.old.items ++ flat_map four_bytes (fields.size ∷ fields.link ∷ fields.info ∷ fields.align
-        ∷ fields.entry ∷ [])) }
-{
+    put_length(headers, at)?;
     put_length(headers, fields.size)?;
     put_words(headers, &[fields.link])?;
     put_length(headers, fields.info)?;
     put_words(headers, &[fields.align, fields.entry])
-}
-
-// Appends the header of a section whose name and whose bytes stand at these places.
-fn put_header(headers: &mut Vec<u8>, name: usize, at: usize, fields: SectionFields) -> Result<()>
-    ensures { OnOk result (headers.new.items ≡ headers.old.items ++ section_header name at (section_of [] fields [])) }
-{
-    put_place(headers, name, at, fields)?;
-    put_fields(headers, fields)
-}
-
-fn put_zeros(contents: &mut Vec<u8>) -> Result<()>
-    ensures { OnOk result (contents.new.items ≡ whole contents.old.items) }
-{
-    let zeros = (4 - contents.len() % 4) % 4;
-    put_bytes(contents, &[0; 3][..zeros])
 }
 
 /// Sections that are laid out: their bytes in the file, their headers, their names.
@@ -98,7 +73,7 @@ pub fn none_laid(alloc: Global) -> Result<Laid>
 pub fn lay(laid: &mut Laid, name: &[u8], fields: SectionFields, contents: &[u8]) -> Result<()>
     ensures { OnOk result (laid_of laid.new ≡ laid_with (laid_of laid.old) (section_of name.now fields contents.now)) }
 {
-    put_zeros(&mut laid.contents)?;
+    lay_end(laid)?;
     let at = FRONT + laid.contents.len();
     put_header(&mut laid.headers, laid.names.len(), at, fields)?;
     put_bytes(&mut laid.contents, contents)?;
@@ -109,7 +84,8 @@ pub fn lay(laid: &mut Laid, name: &[u8], fields: SectionFields, contents: &[u8])
 pub fn lay_end(laid: &mut Laid) -> Result<()>
     ensures { OnOk result (laid_of laid.new ≡ padded (laid_of laid.old)) }
 {
-    put_zeros(&mut laid.contents)
+    let zeros = (4 - laid.contents.len() % 4) % 4;
+    put_bytes(&mut laid.contents, &[0; 3][..zeros])
 }
 
 /// A section of a kind that no one loads.

@@ -5,11 +5,9 @@
 //! (`sections_and_segments_agree`); each symbol reads back from its tables (`symbols_read_back`; `specs/Symbols`,
 //! `specs/SymbolTable`). Layout and headers: `specs/Layout`, `specs/Headers`.
 //!
-//! A line comes from the file and the line that the last comment `#line 16 "door.c"` above it in its body states, else
-//! from the source (`line_origins`, `places_are_stated`; `specs/LinePlaces`, `specs/StatedPlaces`). On the standard's
-//! machine of lines the program makes exactly the rows (`lines_are_rows`; `specs/LineMachine`), and the entries are
-//! read by the table of kinds (`entries_show_code`; `specs/EntryTree`). Frames: `specs/FrameEntries`,
-//! `specs/BodyFrames`; fields: `specs/Fields`.
+//! Where lines come from: `map_text` (`line_origins`). On the standard's machine of lines the program makes exactly the
+//! rows (`lines_are_rows`; `specs/LineMachine`), and the entries are read by the table of kinds (`entries_show_code`;
+//! `specs/EntryTree`). Frames: `specs/FrameEntries`, `specs/BodyFrames`; fields: `specs/Fields`.
 #![tactic(auto)]
 
 pub mod abbreviations;
@@ -24,11 +22,9 @@ pub mod headers;
 pub mod info;
 pub mod laws;
 pub mod layout;
-pub mod line_places;
 pub mod line_section;
 pub mod symbol;
 pub mod symbol_table;
 pub mod word_symbols;
 
 pub use file::{Parts, symbol_file};
-pub use line_places::{Origins, Place, data_lines, line_origins};

@@ -2,18 +2,17 @@
 ghost use Rattle.std.specs.Prelude.{◌≡◌, ◌≤◌, ◌++◌, IfOk, OnOk};
 ghost use Rattle.sloth_base.specs.Limits.{item_limit};
 ghost use Rattle.map_text.specs.LineRows.{item_count, line_rows};
-ghost use Rattle.symbol_image.specs.LineSection.{address_from, end_behind, file_from, further_rows, line_from, line_header, line_program, line_section, line_unit, place_from, row_behind};
+ghost use Rattle.symbol_image.specs.LineSection.{address_from, file_from, further_rows, line_from, line_header};
+ghost use Rattle.symbol_image.specs.LineSection.{line_program, line_section, line_unit, place_from};
 ghost use Rattle.symbol_image.specs.Fields.{sized};
 ghost use Rattle.symbol_image.specs.FileRows.{file_rows, file_row};
 
-use crate::Origins;
 use crate::fields::{
-    put_bytes, put_length, put_negative, put_signed, put_text, put_unsigned, sized,
+    put_bytes, put_groups, put_length, put_negative, put_text, put_unsigned, sized,
 };
-use crate::line_places::{NO_PLACE, Place};
 use image_file::{put_u16, put_u32};
-use map_text::LineRow;
 use map_text::line_rows::line_rows;
+use map_text::{LineRow, NO_PLACE, Origins, Place};
 use sloth_base::{App, Places, Result};
 use std::alloc::Global;
 
@@ -24,7 +23,6 @@ const BEGINNING: FileRow = FileRow {
     line: 1,
 };
 
-// The header behind its length.
 fn line_header(alloc: Global, source: &[u8], files: &[u8]) -> Result<Vec<u8>>
     ensures { IfOk result (λ header. header.items ≡ line_header source.now files.now) }
 {
@@ -37,7 +35,6 @@ fn line_header(alloc: Global, source: &[u8], files: &[u8]) -> Result<Vec<u8>>
     Ok(header)
 }
 
-// Appends that a file is reached from another.
 fn put_file(section: &mut Vec<u8>, file: u32, to: u32) -> Result<()>
     ensures { OnOk result (section.new.items ≡ section.old.items ++ file_from file to) }
 {
@@ -48,7 +45,7 @@ fn put_file(section: &mut Vec<u8>, file: u32, to: u32) -> Result<()>
     put_unsigned(section, to)
 }
 
-// Appends that a line is reached from another.
+#[tactic(auto, unfolding(crate::specs::Fields::signed_leb))]
 fn put_line(section: &mut Vec<u8>, line: u32, to: u32) -> Result<()>
     ensures { OnOk result (section.new.items ≡ section.old.items ++ line_from line to) }
 {
@@ -56,10 +53,9 @@ fn put_line(section: &mut Vec<u8>, line: u32, to: u32) -> Result<()>
     if to < line {
         return put_negative(section, line - to);
     }
-    put_signed(section, to - line)
+    put_groups(section, 64, to - line)
 }
 
-// Appends that a row's file and line are reached from those of another, and the row.
 fn put_place(section: &mut Vec<u8>, from: FileRow, row: FileRow) -> Result<()>
     ensures { OnOk result (section.new.items ≡ section.old.items ++ place_from from row) }
 {
@@ -68,27 +64,11 @@ fn put_place(section: &mut Vec<u8>, from: FileRow, row: FileRow) -> Result<()>
     put_bytes(section, &[1])
 }
 
-// Appends that an address is reached from another.
 fn put_address(section: &mut Vec<u8>, address: u32, to: u32) -> Result<()>
     ensures { OnOk result (section.new.items ≡ section.old.items ++ address_from address to) }
 {
     put_bytes(section, &[2])?;
     put_unsigned(section, to.saturating_sub(address))
-}
-
-fn put_row(section: &mut Vec<u8>, from: FileRow, row: FileRow) -> Result<()>
-    ensures { OnOk result (section.new.items ≡ section.old.items ++ row_behind from row) }
-{
-    put_address(section, from.address, row.address)?;
-    put_place(section, from, row)
-}
-
-// Appends the end of all rows behind one of this address.
-fn put_end(section: &mut Vec<u8>, address: u32, end: u32) -> Result<()>
-    ensures { OnOk result (section.new.items ≡ section.old.items ++ end_behind address end) }
-{
-    put_address(section, address, end)?;
-    put_bytes(section, &[0, 1, 1])
 }
 
 // Appends the rows behind a first one, whose lines have these places, and the end of them all.
@@ -105,10 +85,12 @@ fn put_further(
     let mut last = first;
     for row in rows {
         let next = file_row(places, *row);
-        put_row(section, last, next)?;
+        put_address(section, last.address, next.address)?;
+        put_place(section, last, next)?;
         last = next;
     }
-    put_end(section, last.address, end)
+    put_address(section, last.address, end)?;
+    put_bytes(section, &[0, 1, 1])
 }
 
 #[tactic(auto, unfolding(crate::specs::LineSection::line_program))]

@@ -33,23 +33,19 @@ pub struct Symbol {
     pub binding: Binding,
 }
 
-// Appends the local symbol of a row's bytes.
 fn push_local(symbols: &mut Vec<Symbol>, name: List<u8>, kind: SymbolKind, row: &Row) -> Result<()>
     ensures { OnOk result (symbols.new.items ≡ symbols.old.items ++ local_at name kind row.now) }
 {
-    push(
-        symbols,
-        Symbol {
-            name,
-            address: row.base,
-            size: row.len as usize,
-            kind,
-            binding: Binding::Local,
-        },
-    )
+    let symbol = Symbol {
+        name,
+        address: row.base,
+        size: row.len as usize,
+        kind,
+        binding: Binding::Local,
+    };
+    push(symbols, symbol)
 }
 
-// Appends the symbol of a kernel's piece of which there is one.
 fn push_single(
     alloc: Global,
     symbols: &mut Vec<Symbol>,
@@ -60,21 +56,6 @@ fn push_single(
     ensures { OnOk result (symbols.new.items ≡ symbols.old.items ++ local_at name.now kind row.now) }
 {
     let name = copied(alloc, name)?;
-    push_local(symbols, name, kind, row)
-}
-
-// Appends the symbol of a kernel's piece for an object.
-fn push_joined(
-    alloc: Global,
-    symbols: &mut Vec<Symbol>,
-    one: &[u8],
-    other: &[u8],
-    kind: SymbolKind,
-    row: &Row,
-) -> Result<()>
-    ensures { OnOk result (symbols.new.items ≡ symbols.old.items ++ local_at (joined one.now other.now) kind row.now) }
-{
-    let name = joined(alloc, one, other)?;
     push_local(symbols, name, kind, row)
 }
 
@@ -96,26 +77,22 @@ fn push_row_local(
         Kind::Boot => push_single(alloc, symbols, b"kernel$boot", code, row),
         Kind::Idle => push_single(alloc, symbols, b"kernel$idle", code, row),
         Kind::Prologue => {
-            let task = config.task_name(number);
-            push_joined(alloc, symbols, b"prologue", task, code, row)
-        }
-        Kind::Tick => {
-            let counter = config.counter_name(number);
-            push_joined(alloc, symbols, b"tick", counter, code, row)
-        }
-        Kind::Service => {
-            let name = block_symbol(alloc, config, number)?;
+            let name = joined(alloc, b"prologue", config.task_name(number))?;
             push_local(symbols, name, code, row)
         }
+        Kind::Tick => {
+            let name = joined(alloc, b"tick", config.counter_name(number))?;
+            push_local(symbols, name, code, row)
+        }
+        Kind::Service => push_local(symbols, block_symbol(alloc, config, number)?, code, row),
         Kind::Shared => push_single(alloc, symbols, b"kernel$stack", data, row),
         Kind::Stack => {
-            let task = config.task_name(number);
-            push_joined(alloc, symbols, b"stack", task, data, row)
+            let name = joined(alloc, b"stack", config.task_name(number))?;
+            push_local(symbols, name, data, row)
         }
     }
 }
 
-// Appends a global symbol of so many of a row's bytes.
 fn push_global(
     alloc: Global,
     symbols: &mut Vec<Symbol>,
@@ -126,34 +103,24 @@ fn push_global(
 ) -> Result<()>
     ensures { OnOk result (symbols.new.items ≡ symbols.old.items ++ global_at name.now kind size row.now) }
 {
-    let name = copied(alloc, name)?;
-    push(
-        symbols,
-        Symbol {
-            name,
-            address: row.base,
-            size,
-            kind,
-            binding: Binding::Global,
-        },
-    )
+    let symbol = Symbol {
+        name: copied(alloc, name)?,
+        address: row.base,
+        size,
+        kind,
+        binding: Binding::Global,
+    };
+    push(symbols, symbol)
 }
 
-// Appends the symbol of a row, if it is a body or data.
 fn push_row_global(alloc: Global, symbols: &mut Vec<Symbol>, app: &App, row: &Row) -> Result<()>
     ensures { OnOk result (symbols.new.items ≡ symbols.old.items ++ global_symbols app.now row.now) }
 {
     match row.kind {
         Kind::Code => {
             let name = app.function_name(row.number);
-            push_global(
-                alloc,
-                symbols,
-                name,
-                SymbolKind::Function,
-                row.len as usize,
-                row,
-            )
+            let size = row.len as usize;
+            push_global(alloc, symbols, name, SymbolKind::Function, size, row)
         }
         Kind::Data => {
             let name = app.symbol_name(row.number);

@@ -27,7 +27,6 @@ fn section_number(borders: &Borders, address: u32) -> u16
     }
 }
 
-// Binding and kind in one byte.
 fn symbol_info(symbol: &Symbol) -> u8
     ensures { result ≡ symbol_info symbol.now }
 {
@@ -42,7 +41,6 @@ fn symbol_info(symbol: &Symbol) -> u8
     binding * 16 + kind
 }
 
-// Appends a symbol whose name stands at a place of the names.
 fn put_symbol(table: &mut Vec<u8>, borders: &Borders, name: usize, symbol: &Symbol) -> Result<()>
     ensures { OnOk result (table.new.items ≡ table.old.items ++ symbol_bytes borders.now name symbol.now) }
 {

@@ -4,8 +4,8 @@ ghost use Rattle.sloth_base.specs.Limits.{alarm_limit, counter_limit, resource_l
 ghost use Rattle.sloth_base.specs.ConfigRange.{scheduler_number};
 ghost use Rattle.sloth_region.specs.Layout.{saved_level};
 ghost use Rattle.map_text.specs.PieceNames.{joined};
-ghost use Rattle.symbol_image.specs.Symbols.{alarm_words, counter_words, state_and_clock_symbols};
-ghost use Rattle.symbol_image.specs.Symbols.{context_and_level_symbols, kernel_object, resume_words, saved_words};
+ghost use Rattle.symbol_image.specs.Symbols.{alarm_words, counter_words};
+ghost use Rattle.symbol_image.specs.Symbols.{kernel_object, resume_words, saved_words};
 ghost use Rattle.symbol_image.specs.Symbols.{scheduler_words, state_words, word_symbol, word_symbols};
 ghost use Rattle.symbol_image.specs.WordSymbols.{HasWords};
 
@@ -25,7 +25,6 @@ use text_pieces::push;
 /// The bytes of a word.
 const BYTES: usize = 4;
 
-// A local object of so many bytes at an offset.
 fn kernel_object(name: List<u8>, offset: u32, size: usize) -> Symbol
     requires { offset ≤ 1023 }
     ensures { result ≡ kernel_object name offset size }
@@ -90,13 +89,8 @@ fn push_counters(alloc: Global, symbols: &mut Vec<Symbol>, counters: &[CounterDe
 {
     for number in 0..counters.len() {
         let name = counters[number].name.bytes();
-        push_word(
-            alloc,
-            symbols,
-            b"value",
-            name,
-            counter_value(number as u8) as u32,
-        )?;
+        let offset = counter_value(number as u8) as u32;
+        push_word(alloc, symbols, b"value", name, offset)?;
     }
     Ok(())
 }
@@ -120,13 +114,8 @@ fn push_resumes(alloc: Global, symbols: &mut Vec<Symbol>, tasks: &[TaskDecl]) ->
 {
     for number in 0..tasks.len() {
         let name = tasks[number].name.bytes();
-        push_word(
-            alloc,
-            symbols,
-            b"resume",
-            name,
-            resume(number as u32) as u32,
-        )?;
+        let offset = resume(number as u32) as u32;
+        push_word(alloc, symbols, b"resume", name, offset)?;
     }
     Ok(())
 }
@@ -149,7 +138,6 @@ fn scheduler_level() -> u32
     saved(RES_SCHEDULER as u8) as u32
 }
 
-// Appends the level at which RES_SCHEDULER was taken, if it exists.
 fn push_scheduler(alloc: Global, symbols: &mut Vec<Symbol>, exists: bool) -> Result<()>
     ensures { OnOk result (symbols.new.items ≡ symbols.old.items ++ scheduler_words exists) }
 {
@@ -160,41 +148,20 @@ fn push_scheduler(alloc: Global, symbols: &mut Vec<Symbol>, exists: bool) -> Res
     Ok(())
 }
 
-// Appends those of the words that say what runs, of the states of tasks, and of the clock.
-fn push_first(alloc: Global, symbols: &mut Vec<Symbol>, config: &Config) -> Result<()>
-    requires { HasWords config.now }
-    ensures { OnOk result (symbols.new.items ≡ symbols.old.items ++ state_and_clock_symbols config.now) }
-{
-    push_object(alloc, symbols, b"kernel$cur", CUR as u32, BYTES)?;
-    push_states(alloc, symbols, config.tasks.items())?;
-    push_counters(alloc, symbols, config.counters.items())?;
-    push_alarms(alloc, symbols, config.alarms.items())
-}
-
-// Appends those of the words behind them.
-fn push_last(alloc: Global, symbols: &mut Vec<Symbol>, config: &Config) -> Result<()>
-    requires { HasWords config.now }
-    ensures { OnOk result (symbols.new.items ≡ symbols.old.items ++ context_and_level_symbols config.now) }
-{
-    push_object(alloc, symbols, b"kernel$below", BELOW_WORD as u32, BYTES)?;
-    push_resumes(alloc, symbols, config.tasks.items())?;
-    push_levels(alloc, symbols, config.resources.items())?;
-    push_scheduler(alloc, symbols, config.res_scheduler)?;
-    push_object(
-        alloc,
-        symbols,
-        b"kernel$idle_context",
-        IDLE_CONTEXT as u32,
-        CONTEXT_BYTES as usize,
-    )
-}
-
 /// Appends the symbols of all service words, and that of the context of the idle loop.
 #[tactic(auto, unfolding(crate::specs::Symbols::word_symbols))]
 pub fn push_words(alloc: Global, symbols: &mut Vec<Symbol>, config: &Config) -> Result<()>
     requires { HasWords config.now }
     ensures { OnOk result (symbols.new.items ≡ symbols.old.items ++ word_symbols config.now) }
 {
-    push_first(alloc, symbols, config)?;
-    push_last(alloc, symbols, config)
+    push_object(alloc, symbols, b"kernel$cur", CUR as u32, BYTES)?;
+    push_states(alloc, symbols, config.tasks.items())?;
+    push_counters(alloc, symbols, config.counters.items())?;
+    push_alarms(alloc, symbols, config.alarms.items())?;
+    push_object(alloc, symbols, b"kernel$below", BELOW_WORD as u32, BYTES)?;
+    push_resumes(alloc, symbols, config.tasks.items())?;
+    push_levels(alloc, symbols, config.resources.items())?;
+    push_scheduler(alloc, symbols, config.res_scheduler)?;
+    let (offset, size) = (IDLE_CONTEXT as u32, CONTEXT_BYTES as usize);
+    push_object(alloc, symbols, b"kernel$idle_context", offset, size)
 }

@@ -1,8 +1,5 @@
-//! The commands `elf` and `unelf`. The command `symbols`.
-ghost use Rattle.std.specs.Prelude.{◌≡◌, ℕ, List as Sequence, IfOk, length, ◌≤◌};
-ghost use Rattle.sloth_base.specs.ImageRange.{InFormat};
-ghost use Rattle.elf_image.specs.ElfText.{ElfText};
-ghost use Rattle.image_file.specs.ImageText.{ImageText};
+//! The commands `elf`, `unelf` and `symbols`.
+ghost use Rattle.std.specs.Prelude.{◌≡◌, IfOk, length, ◌≤◌};
 ghost use Rattle.tool_commands.specs.Lines.{written_line};
 ghost use Rattle.tool_commands.specs.ElfAnswers.{IsElfAnswer, IsUnelfAnswer};
 ghost use Rattle.sloth_base.specs.Limits.{file_limit};
@@ -28,33 +25,18 @@ pub fn written(alloc: Global, file: Vec<u8>) -> Result<Outcome>
     })
 }
 
-// The answer to an image that was read.
-fn elf_answer(alloc: Global, image: &Image) -> Result<ToolAnswer>
-    requires { InFormat image.now }
-    ensures { (img : Sequence ℕ) → ImageText img image.now → IfOk result (λ answer. IsElfAnswer img answer) }
-{
-    let file = write_elf(alloc, image)?;
-    Ok(ToolAnswer::Done(written(alloc, file)?))
-}
-
 /// The ELF file of an image file, or the image file's first fault.
 pub fn elf(alloc: Global, bytes: &[u8]) -> Result<ToolAnswer>
     ensures { IfOk result (λ answer. IsElfAnswer bytes.now answer) }
 {
     match read_image(alloc, bytes) {
-        Ok(image) => elf_answer(alloc, &image),
+        Ok(image) => {
+            let file = write_elf(alloc, &image)?;
+            Ok(ToolAnswer::Done(written(alloc, file)?))
+        }
         Err(ImageError::Fault(fault)) => Ok(ToolAnswer::NotAnImage(fault)),
         Err(ImageError::Memory) => Err(NoMemory),
     }
-}
-
-// The answer to an image that was read of an ELF file.
-fn unelf_answer(alloc: Global, image: &Image) -> Result<ToolAnswer>
-    requires { InFormat image.now }
-    ensures { (elf : Sequence ℕ) → ElfText elf image.now → IfOk result (λ answer. IsUnelfAnswer elf answer) }
-{
-    let file = write_image(alloc, image)?;
-    Ok(ToolAnswer::Done(written(alloc, file)?))
 }
 
 /// The image file of an ELF file, or the ELF file's first fault.
@@ -62,7 +44,10 @@ pub fn unelf(alloc: Global, bytes: &[u8]) -> Result<ToolAnswer>
     ensures { IfOk result (λ answer. IsUnelfAnswer bytes.now answer) }
 {
     match read_elf(alloc, bytes) {
-        Ok(image) => unelf_answer(alloc, &image),
+        Ok(image) => {
+            let file = write_image(alloc, &image)?;
+            Ok(ToolAnswer::Done(written(alloc, file)?))
+        }
         Err(ElfError::Fault(fault)) => Ok(ToolAnswer::NotAnElf(fault)),
         Err(ElfError::Memory) => Err(NoMemory),
     }
@@ -74,10 +59,5 @@ pub fn symbols(alloc: Global, oil: &[u8], src: &[u8], name: &[u8]) -> Result<Too
     requires src { length src.now ≤ file_limit }
     ensures { IfOk result (λ answer. IsSymbolsAnswer oil.now src.now name.now answer) }
 {
-    let file = match symbols_file(alloc, oil, src, name) {
-        Ok(file) => file,
-        Err(BuildError::Refused(refusal)) => return Ok(ToolAnswer::Refused(refusal)),
-        Err(BuildError::Memory) => return Err(NoMemory),
-    };
-    Ok(ToolAnswer::Done(written(alloc, file)?))
+    answer!(symbols_file(alloc, oil, src, name), file => Ok(ToolAnswer::Done(written(alloc, file)?)))
 }

@@ -5,13 +5,10 @@ ghost use Rattle.command_line.specs.Command.{words_of};
 ghost use Rattle.command_line.specs.Tools.{input_count, file_count, counts_limit, AreCounts};
 ghost use Rattle.tool_commands.specs.Answers.{IsAnswer, input};
 
-use crate::at_all_command::at_all;
-use crate::at_command::at;
 use crate::elf_commands::{elf, symbols, unelf};
-use crate::picture_command::picture;
 use crate::response_command::{response, run_response, task_response};
+use crate::run_commands::{at, at_all, picture, wave};
 use crate::source_commands::{bounds, latency, losses, lower_counts, map, orti, shares, unused};
-use crate::wave_command::wave;
 use crate::why_command::{infer, labels, task_bound, trace_reason, why};
 use command_line::{Counts, Tool, ToolAnswer, number_of, window_of};
 use sloth_base::{List, Result};

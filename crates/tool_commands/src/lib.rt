@@ -8,17 +8,25 @@
 //! the answer of `check`: `command_line` (`Tools`, `Statuses`).
 #![tactic(auto)]
 
-mod at_all_command;
-mod at_command;
+// The answer to what is made of texts, or the refusal of the texts.
+macro_rules! answer {
+    ($made:expr, $of:ident => $answer:expr) => {
+        match $made {
+            Ok($of) => $answer,
+            Err(BuildError::Refused(refusal)) => Ok(ToolAnswer::Refused(refusal)),
+            Err(BuildError::Memory) => Err(NoMemory),
+        }
+    };
+}
+
 pub mod at_lines;
 mod elf_commands;
 pub mod judging;
 pub mod laws;
 pub mod lines;
-mod picture_command;
 mod response_command;
+mod run_commands;
 mod source_commands;
-mod wave_command;
 mod why_command;
 
 pub use command_line::{Outcome, ToolAnswer, TraceFault};

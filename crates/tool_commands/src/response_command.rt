@@ -1,8 +1,8 @@
 //! The command `response`.
 ghost use Rattle.std.specs.Prelude.{◌≡◌, ◌≤◌, IfOk, length};
-ghost use Rattle.sloth_base.specs.Limits.{file_limit};
-ghost use Rattle.sloth_base.specs.Limits.{count_limit};
-ghost use Rattle.tool_commands.specs.ResponseAnswers.{IsResponseAnswer, IsTaskResponseAnswer, IsRunResponseAnswer, response_answer, run_answer};
+ghost use Rattle.sloth_base.specs.Limits.{count_limit, file_limit};
+ghost use Rattle.tool_commands.specs.ResponseAnswers.{IsResponseAnswer, IsTaskResponseAnswer, IsRunResponseAnswer};
+ghost use Rattle.tool_commands.specs.ResponseAnswers.{response_answer, run_answer};
 
 use command_line::{Outcome, ToolAnswer};
 use response_text::{Told, response_parts, response_text};
@@ -32,11 +32,7 @@ pub fn response(alloc: Global, oil: &[u8], src: &[u8], load: &[u8]) -> Result<To
     requires load { length load.now ≤ file_limit }
     ensures { IfOk result (λ answer. IsResponseAnswer oil.now src.now load.now answer) }
 {
-    match response_text(alloc, oil, src, load) {
-        Ok(told) => Ok(response_answer(alloc, told)),
-        Err(BuildError::Refused(refusal)) => Ok(ToolAnswer::Refused(refusal)),
-        Err(BuildError::Memory) => Err(NoMemory),
-    }
+    answer!(response_text(alloc, oil, src, load), told => Ok(response_answer(alloc, told)))
 }
 
 #[tactic(auto, using(crate::proofs::ResponseAnswers::task_told_answer))]
@@ -93,9 +89,5 @@ pub fn run_response(
     requires few { n ≤ count_limit }
     ensures { IfOk result (λ answer. IsRunResponseAnswer oil.now src.now load.now arr.now n answer) }
 {
-    match run_text(alloc, oil, src, load, arr, n) {
-        Ok(told) => Ok(run_answer(alloc, told)),
-        Err(BuildError::Refused(refusal)) => Ok(ToolAnswer::Refused(refusal)),
-        Err(BuildError::Memory) => Err(NoMemory),
-    }
+    answer!(run_text(alloc, oil, src, load, arr, n), told => Ok(run_answer(alloc, told)))
 }

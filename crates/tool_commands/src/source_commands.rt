@@ -1,5 +1,5 @@
-//! The commands that print what two texts mean: `bounds` alone and with `latency` or `counts`, `map`, `shares`, `unused`; and `losses`.
-//! The command `orti`.
+//! The commands that tell what two texts mean: `bounds` alone and with `latency` or `counts`, `map`, `shares`, `unused`,
+//! `losses`, `orti`.
 ghost use Rattle.std.specs.Prelude.{◌≤◌, IfOk, length};
 ghost use Rattle.sloth_base.specs.Limits.{count_limit, file_limit};
 ghost use Rattle.tool_commands.specs.BoundsAnswers.{IsBoundsAnswer, IsLatencyAnswer, IsLowerCountsAnswer};
@@ -19,24 +19,13 @@ use shares_text::{shares_text, unused_text};
 use sloth_base::{BuildError, NoMemory, Result};
 use std::alloc::Global;
 
-// The answer of lines, or of the refusal of the texts.
-macro_rules! lines_answer {
-    ($alloc:expr, $lines:expr) => {
-        match $lines {
-            Ok(text) => Ok(told($alloc, text)),
-            Err(BuildError::Refused(refusal)) => Ok(ToolAnswer::Refused(refusal)),
-            Err(BuildError::Memory) => Err(NoMemory),
-        }
-    };
-}
-
 /// How much work of lower tasks may stand between each task's becoming Ready and its entry; or the first refusal.
 pub fn bounds(alloc: Global, oil: &[u8], src: &[u8]) -> Result<ToolAnswer>
     requires oil { length oil.now ≤ file_limit }
     requires src { length src.now ≤ file_limit }
     ensures { IfOk result (λ answer. IsBoundsAnswer oil.now src.now answer) }
 {
-    lines_answer!(alloc, bounds_text(alloc, oil, src))
+    answer!(bounds_text(alloc, oil, src), text => Ok(told(alloc, text)))
 }
 
 /// The same, and how long the task of highest priority may wait for its entry; or the first refusal.
@@ -45,7 +34,7 @@ pub fn latency(alloc: Global, oil: &[u8], src: &[u8]) -> Result<ToolAnswer>
     requires src { length src.now ≤ file_limit }
     ensures { IfOk result (λ answer. IsLatencyAnswer oil.now src.now answer) }
 {
-    lines_answer!(alloc, latency_lines(alloc, oil, src))
+    answer!(latency_lines(alloc, oil, src), text => Ok(told(alloc, text)))
 }
 
 /// How many counts of lower tasks may stand between each task's becoming Ready and its entry; or the first refusal.
@@ -54,7 +43,7 @@ pub fn lower_counts(alloc: Global, oil: &[u8], src: &[u8]) -> Result<ToolAnswer>
     requires src { length src.now ≤ file_limit }
     ensures { IfOk result (λ answer. IsLowerCountsAnswer oil.now src.now answer) }
 {
-    lines_answer!(alloc, lower_count_lines(alloc, oil, src))
+    answer!(lower_count_lines(alloc, oil, src), text => Ok(told(alloc, text)))
 }
 
 /// What the image of these texts takes of memory, and what its tasks need of the stacks; or the first refusal.
@@ -63,7 +52,7 @@ pub fn map(alloc: Global, oil: &[u8], src: &[u8]) -> Result<ToolAnswer>
     requires src { length src.now ≤ file_limit }
     ensures { IfOk result (λ answer. IsMapAnswer oil.now src.now answer) }
 {
-    lines_answer!(alloc, map_text(alloc, oil, src))
+    answer!(map_text(alloc, oil, src), text => Ok(told(alloc, text)))
 }
 
 /// Which data the tasks of these texts share, and what keeps their accesses apart; or the first refusal.
@@ -72,7 +61,7 @@ pub fn shares(alloc: Global, oil: &[u8], src: &[u8]) -> Result<ToolAnswer>
     requires src { length src.now ≤ file_limit }
     ensures { IfOk result (λ answer. IsSharesAnswer oil.now src.now answer) }
 {
-    lines_answer!(alloc, shares_text(alloc, oil, src))
+    answer!(shares_text(alloc, oil, src), text => Ok(told(alloc, text)))
 }
 
 /// What nothing in these texts uses, and the tasks that nothing activates; or the first refusal.
@@ -81,7 +70,7 @@ pub fn unused(alloc: Global, oil: &[u8], src: &[u8]) -> Result<ToolAnswer>
     requires src { length src.now ≤ file_limit }
     ensures { IfOk result (λ answer. IsUnusedAnswer oil.now src.now answer) }
 {
-    lines_answer!(alloc, unused_text(alloc, oil, src))
+    answer!(unused_text(alloc, oil, src), text => Ok(told(alloc, text)))
 }
 
 /// What n instructions of a run of these texts ask of tasks and counters, and what of it is lost; or the first refusal.
@@ -92,7 +81,7 @@ pub fn losses(alloc: Global, oil: &[u8], src: &[u8], arr: &[u8], n: u32) -> Resu
     requires n { n ≤ count_limit }
     ensures { IfOk result (λ answer. IsLossesAnswer oil.now src.now arr.now n answer) }
 {
-    lines_answer!(alloc, losses_text(alloc, oil, src, arr, n))
+    answer!(losses_text(alloc, oil, src, arr, n), text => Ok(told(alloc, text)))
 }
 
 /// The file by which debuggers find the objects of the kernel of these texts; or the first refusal.
@@ -101,10 +90,5 @@ pub fn orti(alloc: Global, oil: &[u8], src: &[u8]) -> Result<ToolAnswer>
     requires src { length src.now ≤ file_limit }
     ensures { IfOk result (λ answer. IsOrtiAnswer oil.now src.now answer) }
 {
-    let file = match orti_text(alloc, oil, src) {
-        Ok(file) => file,
-        Err(BuildError::Refused(refusal)) => return Ok(ToolAnswer::Refused(refusal)),
-        Err(BuildError::Memory) => return Err(NoMemory),
-    };
-    Ok(ToolAnswer::Done(written(alloc, file)?))
+    answer!(orti_text(alloc, oil, src), file => Ok(ToolAnswer::Done(written(alloc, file)?)))
 }

@@ -1,6 +1,5 @@
-//! The command `why`. The command `why` of the lists of labels. The command `infer`.
-//! The command `why` of a text of events.
-ghost use Rattle.std.specs.Prelude.{◌≡◌, ◌≤◌, codes, IfOk, length};
+//! The commands that tell why: `why`, of the lists of labels, of one task's bound, of a text of events; and `infer`.
+ghost use Rattle.std.specs.Prelude.{◌≤◌, IfOk, length};
 ghost use Rattle.sloth_base.specs.Limits.{file_limit};
 ghost use Rattle.why_text.specs.WhyLines.{IsWhy};
 ghost use Rattle.why_text.specs.declared.explaining.Why.TheVariants as why_is;
@@ -37,13 +36,6 @@ fn explained(
     Ok(List::from_vec(text))
 }
 
-fn accepted(alloc: Global) -> Result<Vec<u8>>
-    ensures { IfOk result (λ text. text.items ≡ codes "accepted\n") }
-{
-    let text = Vec::from_slice(alloc, b"accepted\n")?;
-    Ok(text)
-}
-
 /// That these texts are accepted, or their first refusal and what stands behind it.
 pub fn why(alloc: Global, oil: &[u8], src: &[u8]) -> Result<ToolAnswer>
     requires oil { length oil.now ≤ file_limit }
@@ -51,10 +43,7 @@ pub fn why(alloc: Global, oil: &[u8], src: &[u8]) -> Result<ToolAnswer>
     ensures { IfOk result (λ answer. IsWhyAnswer oil.now src.now answer) }
 {
     match explain(alloc, oil, src)? {
-        Why::Accepted => {
-            let text = accepted(alloc)?;
-            Ok(told(alloc, text))
-        },
+        Why::Accepted => Ok(told(alloc, Vec::from_slice(alloc, b"accepted\n")?)),
         Why::Refused { refusal, lines } => {
             let text = explained(alloc, oil, src, refusal, lines.items())?;
             Ok(ToolAnswer::Explained {
@@ -82,13 +71,6 @@ pub fn task_bound(alloc: Global, oil: &[u8], src: &[u8], name: &[u8]) -> Result<
     }
 }
 
-fn filled(alloc: Global) -> Result<Vec<u8>>
-    ensures { IfOk result (λ text. text.items ≡ codes "filled\n") }
-{
-    let text = Vec::from_slice(alloc, b"filled\n")?;
-    Ok(text)
-}
-
 // What stands behind a refusal before the rules of task code.
 fn refused(alloc: Global, oil: &[u8], src: &[u8]) -> Result<ToolAnswer>
     requires oil { length oil.now ≤ file_limit }
@@ -106,10 +88,7 @@ pub fn labels(alloc: Global, oil: &[u8], src: &[u8]) -> Result<ToolAnswer>
     ensures { IfOk result (λ answer. IsLabelsAnswer oil.now src.now answer) }
 {
     match labels_text(alloc, oil, src)? {
-        LabelAnswer::Filled => {
-            let text = filled(alloc)?;
-            Ok(told(alloc, text))
-        },
+        LabelAnswer::Filled => Ok(told(alloc, Vec::from_slice(alloc, b"filled\n")?)),
         LabelAnswer::NoLists(text) => Ok(ToolAnswer::Explained {
             kind: Explanation::NoHolds,
             text,

@@ -75,22 +75,6 @@ fn top(alloc: Global, words: &[String], files: &mut MemStore, out: &mut MemSink)
     debug(alloc, files, &mut input, out, &mut transcript, &asked)
 }
 
-impl Outcome {
-    // What the command of these words makes of these files.
-    fn fill(&mut self, alloc: Global, words: &[String], files: &mut MemStore, out: &mut MemSink) {
-        let status = top(alloc, words, files, out);
-        push(&mut self.text, shown(out.taken()));
-        self.printed = out.taken().len();
-        if let Ok(ended) = format!(in alloc; "=== {status:?}\n") {
-            push(&mut self.text, &ended);
-        }
-        append(&mut self.img, files.file("out").unwrap_or(b""));
-        if self.img.is_empty() {
-            append(&mut self.img, files.file("img").unwrap_or(b""));
-        }
-    }
-}
-
 /// Calls that are to fail: those of the store by their numbers from 1, and those of the sink, each with the bytes that
 /// it takes before.
 #[derive(Drop)]
@@ -138,7 +122,16 @@ pub fn command_outcome(
     if let Ok(files) = store(alloc, texts, img, &faults.store) {
         if let Ok(out) = MemSink::new(alloc, SPACE, &faults.sink) {
             let (mut files, mut out) = (files, out);
-            outcome.fill(alloc, words.as_slice(), &mut files, &mut out);
+            let status = top(alloc, words.as_slice(), &mut files, &mut out);
+            push(&mut outcome.text, shown(out.taken()));
+            outcome.printed = out.taken().len();
+            if let Ok(ended) = format!(in alloc; "=== {status:?}\n") {
+                push(&mut outcome.text, &ended);
+            }
+            append(&mut outcome.img, files.file("out").unwrap_or(b""));
+            if outcome.img.is_empty() {
+                append(&mut outcome.img, files.file("img").unwrap_or(b""));
+            }
         }
     }
     outcome
@@ -157,7 +150,7 @@ pub fn run(rows: &mut Rows, word: &str, line: &str, texts: &mut Texts) {
         "summed" => {
             let (sum, ended) = (checksum(text.as_bytes()), text.lines().last().unwrap_or(""));
             let lines = text.lines().count();
-            form!(rows; "% lines % %\n"; Number(lines as u64), Address(sum), Text(ended))
+            form!(rows; "% lines % %\n"; Number(lines as i64), Address(sum), Text(ended))
         }
         _ => rows.text(text),
     }
@@ -170,13 +163,11 @@ pub fn run_both(rows: &mut Rows, lines: &str, texts: &mut Texts) {
     let none = Faults::new(rows.alloc);
     let first = command_outcome(rows.alloc, one, texts, &texts.img, &none);
     let second = command_outcome(rows.alloc, other, texts, &first.img, &none);
-    let same = first.text == second.text;
-    let text = if same {
-        "both % bytes\n"
+    if first.text == second.text {
+        form!(rows; "both % bytes\n"; ; first.text.len());
     } else {
-        "they differ\n"
-    };
-    form!(rows; text; ; first.text.len());
+        rows.text("they differ\n");
+    }
     refill(&mut texts.img, &second.img);
 }
 
@@ -200,7 +191,7 @@ pub fn run_series(rows: &mut Rows, word: &str, asked: &str, texts: &mut Texts) {
         let size = if cut { more as usize } else { whole };
         let outcome = cut_outcome(rows.alloc, line, texts, size);
         if outcome.text != last {
-            form!(rows; text; Number(more as u64), Text(&outcome.text));
+            form!(rows; text; Number(more as i64), Text(&outcome.text));
             last = outcome.text;
         }
         if !cut {
@@ -234,11 +225,9 @@ pub fn run_failing(rows: &mut Rows, asked: &str, texts: &Texts) {
     faults.read(puts);
     let answer = command_outcome(rows.alloc, line, texts, &texts.img, &faults);
     rows.text(&answer.text);
-    if answer.img == texts.img {
-        rows.text("IMG as before\n");
-    } else if answer.img == whole.img {
-        rows.text("IMG the image\n");
-    } else {
-        rows.text("IMG another\n");
-    }
+    rows.text(match (answer.img == texts.img, answer.img == whole.img) {
+        (true, _) => "IMG as before\n",
+        (false, true) => "IMG the image\n",
+        (false, false) => "IMG another\n",
+    });
 }

@@ -10,37 +10,31 @@ use oil_parse::{OilObject, OilTree, OilValue, Token, TokenKind};
 use prio_levels::assign;
 use sloth_base::{Action, AlarmDecl, Config, TaskDecl, counter_names, task_names};
 
-// Appends the line and the kind of a token.
-fn put_kind(rows: &mut Rows, token: &Token) {
-    form!(rows; "% "; ; token.line);
-    match token.kind {
-        TokenKind::Word => rows.text("Word"),
-        TokenKind::Number(number) => form!(rows; "Number(%)"; ; number),
-        TokenKind::Text => rows.text("Text"),
-        TokenKind::Sign => rows.text("Sign"),
-    }
-}
-
 /// Prints the line, the kind and the bytes of each token.
 pub fn list_tokens(rows: &mut Rows, tokens: &[Token]) {
     for token in tokens {
-        put_kind(rows, token);
-        form!(rows; " %\n"; Bytes(token.span));
+        form_value!(rows, token.kind;
+            TokenKind::Word => "% Word %\n" [Number(token.line as i64), Bytes(token.span)];
+            TokenKind::Number(number) => "% Number(%) %\n"
+                [Number(token.line as i64), Number(i64::try_from(number).unwrap_or(i64::MAX)), Bytes(token.span)];
+            TokenKind::Text => "% Text %\n" [Number(token.line as i64), Bytes(token.span)];
+            TokenKind::Sign => "% Sign %\n" [Number(token.line as i64), Bytes(token.span)];
+        )
     }
 }
 
 fn shown_value(value: &OilValue) -> Piece<'_> {
     match value {
         OilValue::Word(word) => Bytes(word.bytes()),
-        OilValue::Number(number) => Number(*number as u64),
+        OilValue::Number(number) => Number(*number as i64),
         OilValue::Text(text) => Bytes(text.bytes()),
     }
 }
 
 fn list_object(rows: &mut Rows, object: &OilObject) {
-    form!(rows; "% % %\n"; Number(object.line as u64), Bytes(object.kind.bytes()), Bytes(object.name.bytes()));
+    form!(rows; "% % %\n"; Number(object.line as i64), Bytes(object.kind.bytes()), Bytes(object.name.bytes()));
     for attr in object.attrs.items() {
-        form!(rows; "% % % = %\n"; Number(attr.line as u64), Number(attr.depth as u64), Bytes(attr.name.bytes()),
+        form!(rows; "% % % = %\n"; Number(attr.line as i64), Number(attr.depth as i64), Bytes(attr.name.bytes()),
             shown_value(&attr.value));
     }
 }
@@ -55,7 +49,7 @@ pub fn list_tree(rows: &mut Rows, tree: &OilTree) {
 
 fn list_task(rows: &mut Rows, task: &TaskDecl) {
     form!(rows; "task % % extended %\nnon % autostart % events %\n"; Bytes(task.name.bytes()),
-        Number(task.priority as u64), Flag(task.extended), Flag(task.non), Flag(task.autostart); task.events);
+        Number(task.priority as i64), Flag(task.extended), Flag(task.non), Flag(task.autostart); task.events);
     list_numbers(rows, "lists", task.resources.items())
 }
 
@@ -102,7 +96,7 @@ pub fn list_config(rows: &mut Rows, config: &Config)
     rows.debug(&levels.task);
     rows.text("\nceilings ");
     rows.debug(&levels.ceiling);
-    form!(rows; "\ntop % scheduler %\n"; Number(levels.top as u64), Flag(config.res_scheduler))
+    form!(rows; "\ntop % scheduler %\n"; Number(levels.top as i64), Flag(config.res_scheduler))
 }
 
 /// Prints the entries of a load's text for a configuration.

@@ -44,42 +44,25 @@ const EVENTS: [Event; 12] = [
     Event::Tick(NONE),
 ];
 
-// Appends an event.
-fn put_event(rows: &mut Rows, event: &Event) {
-    match event {
-        Event::Admit(task) => form!(rows; "Admit(%)"; ; *task),
-        Event::Enter(task) => form!(rows; "Enter(%)"; ; *task),
-        Event::Run {
-            task,
-            func,
-            item,
-            result,
-        } => form!(rows;
-            "Run { task: %, func: %, item: %, result: % }"; ; *task, *func, *item, *result),
-        Event::Call {
-            task,
-            service,
-            status,
-        } => {
-            form!(rows; "Call { task: %, service: %, status: % }";
-                Number(*task as u64), Bytes(service.name()), Number(*status as u64))
-        }
-        Event::Left { task, service } => {
-            form!(rows; "Left { task: %, service: % }"; Number(*task as u64), Bytes(service.name()))
-        }
-        Event::Back(task) => form!(rows; "Back(%)"; ; *task),
-        Event::Due(counter) => form!(rows; "Due(%)"; ; *counter),
-        Event::Tick(counter) => form!(rows; "Tick(%)"; ; *counter),
-        Event::Boot => rows.text("Boot"),
-        Event::Idle => rows.text("Idle"),
-        Event::Stray => rows.text("Stray"),
-    }
-}
-
 // Appends an event with its counts.
 fn put_stamped(rows: &mut Rows, event: &Stamped) {
     form!(rows; "% % "; ; event.stamp.from, event.stamp.at);
-    put_event(rows, &event.event);
+    form_value!(rows, &event.event;
+        Event::Boot => "Boot" [];
+        Event::Admit(task) => "Admit(%)" [] *task;
+        Event::Enter(task) => "Enter(%)" [] *task;
+        Event::Run { task, func, item, result } =>
+            "Run { task: %, func: %, item: %, result: % }" [] *task, *func, *item, *result;
+        Event::Call { task, service, status } =>
+            "Call { task: %, service: %, status: % }" [Number(*task as i64), Bytes(service.name())] *status;
+        Event::Left { task, service } =>
+            "Left { task: %, service: % }" [Number(*task as i64), Bytes(service.name())];
+        Event::Back(task) => "Back(%)" [] *task;
+        Event::Idle => "Idle" [];
+        Event::Stray => "Stray" [];
+        Event::Due(counter) => "Due(%)" [] *counter;
+        Event::Tick(counter) => "Tick(%)" [] *counter;
+    );
     rows.text("\n");
 }
 
@@ -163,30 +146,23 @@ fn drain(rows: &mut Rows, observer: &mut Observer)
     }
 }
 
-// The events of the first hundred of these steps, each a line with its numbers.
-fn list_observed(rows: &mut Rows, observer: &mut Observer, steps: &str)
-    requires new { expected_count observer.old ≡ 0 }
-    requires drained { remaining observer.old ≡ [] }
+/// The events that an observer tells of the first hundred of these steps, each a line with its numbers, under the marks
+/// of an image and with these arrivals.
+pub fn list_steps(rows: &mut Rows, image: &Image, arrivals: &[Arrival], steps: &str) -> Told
+    requires format { InFormat image.now }
+    requires arrivals { AreArrivals (owners_named image.now) arrivals.now }
 {
+    let mut observer = Observer::new(rows.alloc, image, arrivals)?;
     let mut count: u32 = 0;
     let mut before = [0; 5];
     for line in steps.lines() {
         if count < 100 {
             let numbers = hex_words(line);
             observer.feed(&step(count, &before, &numbers));
-            drain(rows, observer);
+            drain(rows, &mut observer);
             count += 1;
             before = numbers;
         }
     }
-}
-
-/// The events that an observer tells of these steps under the marks of an image, with these arrivals.
-pub fn list_steps(rows: &mut Rows, image: &Image, arrivals: &[Arrival], steps: &str) -> Told
-    requires format { InFormat image.now }
-    requires arrivals { AreArrivals (owners_named image.now) arrivals.now }
-{
-    let mut observer = Observer::new(rows.alloc, image, arrivals)?;
-    list_observed(rows, &mut observer, steps);
     Ok(())
 }

@@ -1,7 +1,5 @@
 //! Public calls on the image file.
-ghost use Rattle.sloth_base.specs.Arrivals.{AreArrivals};
 ghost use Rattle.sloth_base.specs.ImageRange.{InFormat};
-ghost use Rattle.sloth_base.specs.Owners.{owners_named};
 
 use crate::events::{list_events, list_steps};
 use crate::machine::{list_machine, list_pairs, list_word};
@@ -9,39 +7,21 @@ use crate::rows::Piece::{Bytes, Flag, Number};
 use crate::rows::{Rows, Told, shown};
 use crate::texts::{Texts, short};
 use image_file::{read_image, write_image};
-use sloth_base::{Arrival, BuildError, Image};
+use sloth_base::{BuildError, Image};
 use sloth_cli::{RunEnd, Runner};
 use sloth_io::MemSink;
 use trace_text::{Form, listing_line, read_arrivals};
 
-// The length of an image as a file, and whether the same memory is read from it.
-fn list_file(rows: &mut Rows, image: &Image) -> Told
+// What an observer tells of the steps before, what a `run` puts, or how many of its events are entries.
+fn list_runs(rows: &mut Rows, asked: &str, image: &Image, texts: &Texts) -> Told
     requires { InFormat image.now }
 {
-    let file = write_image(rows.alloc, image)?;
-    let again = match read_image(rows.alloc, &file) {
-        Ok(read) => read.memory.items() == image.memory.items(),
-        Err(_) => false,
-    };
-    form!(rows; "file % read back %\n"; Number(file.len() as u64), Flag(again));
-    Ok(())
-}
-
-// What an observer tells of these steps, what a `run` puts, or how many of its events are entries.
-fn list_arrived(
-    rows: &mut Rows,
-    asked: &str,
-    image: &Image,
-    arrivals: &[Arrival],
-    steps: &str,
-) -> Told
-    requires format { InFormat image.now }
-    requires arrivals { AreArrivals (owners_named image.now) arrivals.now }
-{
+    let (arr, tasks) = (short(&texts.arr)?, image.tasks.items());
+    let arrivals = read_arrivals(rows.alloc, arr, tasks, image.counters.items())?;
     if asked == "steps" {
-        return list_steps(rows, image, arrivals, steps);
+        return list_steps(rows, image, arrivals.as_slice(), shown(&texts.lines));
     }
-    let mut runner = Runner::new(rows.alloc, image, arrivals)?;
+    let mut runner = Runner::new(rows.alloc, image, arrivals.as_slice())?;
     if asked == "entries" {
         rows.numbers("entries", &[runner.tally(400).counts[2]]);
         return Ok(());
@@ -52,21 +32,19 @@ fn list_arrived(
     Ok(())
 }
 
-// The same with the arrivals of a text.
-fn list_runs(rows: &mut Rows, asked: &str, image: &Image, texts: &Texts) -> Told
-    requires { InFormat image.now }
-{
-    let (arr, tasks) = (short(&texts.arr)?, image.tasks.items());
-    let arrivals = read_arrivals(rows.alloc, arr, tasks, image.counters.items())?;
-    list_arrived(rows, asked, image, arrivals.as_slice(), shown(&texts.lines))
-}
-
-// The image as a `file`, as lines (`listing`), as memory, or as it runs.
+// The image as lines (`listing`), as memory, as it runs, or as a `file`: its length, and whether its memory is read back.
 fn list_asked(rows: &mut Rows, asked: &str, image: &Image, texts: &Texts) -> Told
     requires { InFormat image.now }
 {
     match asked {
-        "file" => return list_file(rows, image),
+        "file" => {
+            let file = write_image(rows.alloc, image)?;
+            let again = match read_image(rows.alloc, &file) {
+                Ok(read) => read.memory.items() == image.memory.items(),
+                Err(_) => false,
+            };
+            form!(rows; "file % read back %\n"; Number(file.len() as i64), Flag(again))
+        }
         "listing" => form!(rows; "listing %\n"; Bytes(listing_line(image, 0).bytes())),
         "word" => return list_word(rows, image),
         "stops" => return list_pairs(rows, true, image, shown(&texts.lines)),
@@ -80,8 +58,6 @@ fn list_asked(rows: &mut Rows, asked: &str, image: &Image, texts: &Texts) -> Tol
 
 /// Answers what public calls give of the image file.
 pub fn list_image_file(rows: &mut Rows, asked: &str, texts: &Texts) -> Told {
-    match read_image(rows.alloc, &texts.img) {
-        Ok(image) => list_asked(rows, asked, &image, texts),
-        Err(_) => Err(BuildError::Memory),
-    }
+    let image = read_image(rows.alloc, &texts.img).map_err(|_| BuildError::Memory)?;
+    list_asked(rows, asked, &image, texts)
 }

@@ -71,28 +71,22 @@ fn levels() -> Levels
     }
 }
 
-// The first item of the body.
-fn places(alloc: Global) -> Result<Places>
-    ensures { IfOk result (λ places. (length places.first ≡ 1) × All (λ i. i < length places.items) places.first) }
-{
-    let items = Vec::from_slice(alloc, &[0x8000_1b74])?;
-    let first = Vec::from_slice(alloc, &[0])?;
-    Ok(Places {
-        items: List::from_vec(items),
-        first: List::from_vec(first),
-        symbols: List::from_vec(Vec::new(alloc)),
-        blocks: [0x8000_1000; BLOCK_COUNT],
-    })
-}
-
 // Where all stands: the task's prologue, the end of its stack, and the first item of its body.
 fn map(alloc: Global) -> Result<Map>
     ensures reach { IfOk result (λ map. AreInReach map.handlers) }
     ensures tops { IfOk result (λ map. (length map.tops ≡ 1) × All IsStackTop map.tops) }
-    ensures items { IfOk result (λ map. (length map.places.first ≡ 1) × All (λ i. i < length map.places.items) map.places.first) }
+    ensures items { IfOk
+        result (λ map. (length map.places.first ≡ 1) × All (λ i. i < length map.places.items) map.places.first) }
 {
     let tops = Vec::from_slice(alloc, &[0x8000_2e00])?;
-    let places = places(alloc)?;
+    let items = Vec::from_slice(alloc, &[0x8000_1b74])?;
+    let first = Vec::from_slice(alloc, &[0])?;
+    let places = Places {
+        items: List::from_vec(items),
+        first: List::from_vec(first),
+        symbols: List::from_vec(Vec::new(alloc)),
+        blocks: [0x8000_1000; BLOCK_COUNT],
+    };
     let mut handlers = [IDLE; LINE_COUNT];
     handlers[0] = 0x800f_fffc;
     Ok(Map {
@@ -124,7 +118,8 @@ fn is_called(service: Service, object: u32, config: &Config) -> bool
 // The prologue of the task of a configuration, with a frame of so many words.
 fn entry(alloc: Global, words: u32, config: &Config, map: &Map) -> Result<Block>
     requires tops { (length map.now.tops ≡ 1) × All IsStackTop map.now.tops }
-    requires items { (length map.now.places.first ≡ 1) × All (λ i. i < length map.now.places.items) map.now.places.first }
+    requires items { (length map.now.places.first ≡ 1)
+        × All (λ i. i < length map.now.places.items) map.now.places.first }
 {
     if words > FRAME_LIMIT as u32 || config.tasks.items().len() != 1 {
         return Err(NoMemory);
@@ -168,32 +163,22 @@ fn list_block(rows: &mut Rows, title: &str, block: &Block) {
     }
 }
 
-// Prints a block of a kernel, asked by a title and further words.
-fn list_asked(rows: &mut Rows, asked: &str, config: &Config, map: &Map) -> Told
-    requires range { InRange config.now }
-    requires reach { AreInReach map.now.handlers }
-    requires tops { (length map.now.tops ≡ 1) × All IsStackTop map.now.tops }
-    requires items { (length map.now.places.first ≡ 1) × All (λ i. i < length map.now.places.items) map.now.places.first }
-{
-    let alloc = rows.alloc;
-    let (title, rest) = asked.split_once(' ').unwrap_or((asked, ""));
-    let made = match title {
-        "vectors" => vectors(alloc, map),
-        "idle" => idle(alloc, map),
-        "boot" => boot(alloc, config, &levels(), map),
-        "tick" => first_tick(alloc, config, map),
-        "prologue" => entry(alloc, rest.parse::<u32>().unwrap_or(0), config, map),
-        _ => block(alloc, rest, config, map),
-    };
-    list_block(rows, title, &made?);
-    Ok(())
-}
-
 /// Prints a kernel's code: `vectors`, `idle`, `boot`, `tick` of the first counter, the prologue of the task with so
 /// many frame words (`prologue 32`), or the block of a service with an object (`service ActivateTask 29`).
 pub fn list_kernel(rows: &mut Rows, asked: &str, config: &Config) -> Told
     requires { InRange config.now }
 {
-    let map = map(rows.alloc)?;
-    list_asked(rows, asked, config, &map)
+    let alloc = rows.alloc;
+    let map = map(alloc)?;
+    let (title, rest) = asked.split_once(' ').unwrap_or((asked, ""));
+    let made = match title {
+        "vectors" => vectors(alloc, &map),
+        "idle" => idle(alloc, &map),
+        "boot" => boot(alloc, config, &levels(), &map),
+        "tick" => first_tick(alloc, config, &map),
+        "prologue" => entry(alloc, rest.parse::<u32>().unwrap_or(0), config, &map),
+        _ => block(alloc, rest, config, &map),
+    };
+    list_block(rows, title, &made?);
+    Ok(())
 }

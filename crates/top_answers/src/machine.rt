@@ -95,7 +95,7 @@ fn list_first_step(rows: &mut Rows, machine: &mut Machine<SlothBus>)
     requires { machine.old.count < count_limit }
 {
     match machine.step() {
-        Ok(step) => form!(rows; "step % at %\n"; Number(step.count as u64), Address(step.pc)),
+        Ok(step) => form!(rows; "step % at %\n"; Number(step.count as i64), Address(step.pc)),
         Err(_) => rows.text("stopped\n"),
     }
     machine.bus_mut().arrive(Line(1));
@@ -103,13 +103,13 @@ fn list_first_step(rows: &mut Rows, machine: &mut Machine<SlothBus>)
 }
 
 fn list_stop(rows: &mut Rows, stop: Stop) {
-    match stop {
-        Stop::Fetch(pc) => form!(rows; "Fetch(%)\n"; ; pc),
-        Stop::Illegal(word) => form!(rows; "Illegal(%)\n"; ; word),
-        Stop::Environment => rows.text("Environment\n"),
-        Stop::Misaligned(address) => form!(rows; "Misaligned(%)\n"; ; address),
-        Stop::Access(address) => form!(rows; "Access(%)\n"; ; address),
-    }
+    form_value!(rows, stop;
+        Stop::Fetch(pc) => "Fetch(%)\n" [] pc;
+        Stop::Illegal(word) => "Illegal(%)\n" [] word;
+        Stop::Environment => "Environment\n" [];
+        Stop::Misaligned(address) => "Misaligned(%)\n" [] address;
+        Stop::Access(address) => "Access(%)\n" [] address;
+    )
 }
 
 // What the second of two instructions does.

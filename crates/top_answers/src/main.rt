@@ -1,41 +1,33 @@
 //! Runs commands of the program on files in memory, and prints what they print and how they end. A text ends before a
 //! line `=== oil`, `=== src`, `=== arr` or `=== img`, which says what it is; it stays until the next one of its kind. A
 //! line `%repeat N TEXT` in it stands for copies (`Texts::add_line`). Other lines after `=== `:
-//! - `image HEX` makes the image file of these bytes, `change AT HEX` writes bytes over those from a place on, and
-//!   those beyond the end behind it; `-AT` counts from the end; `drop 2` takes out line 2, `shorten` the last byte;
+//! - `image HEX` makes the image file of these bytes, `change AT HEX` writes bytes over those from a place on (`-AT`
+//!   counts from the end) and behind its end; `drop 2` takes out line 2, `shorten` the last byte;
 //! - `text` prints the image file as a text, `checksum` how many bytes it has and a checksum of them;
-//! - `cut`, and a command such as `exec img arr 10`: it is run with the image file cut to each length, and each new
-//!   answer is printed;
-//! - `lengthened`, and a number and a command, such as `600 order oil src arr img 300`: it is run with 0 to 600 line
-//!   feeds more after each text, and each new answer is printed;
-//! - `keep`, and a command: what it prints takes the place of the image file;
-//! - `both`, and two commands with ` / ` between them: they are run one after the other, and it is printed whether they
-//!   answer alike;
+//! - `cut` and a command, such as `exec img arr 10`: run with the image file cut to each length; each new answer is
+//!   printed. `lengthened`, a number and a command: with 0 to so many line feeds more after each text, likewise;
+//! - `keep` and a command: what it prints takes the place of the image file;
+//! - `both` and two commands with ` / ` between them: run one after the other, and whether they answer alike;
 //! - `failing`, and calls of the store, calls of the sink and a command with ` / ` between them, such as `3 4 / 2:1 /
-//!   build oil src img`: it is run while calls 3 and 4 of the store fail, and call 2 of the sink once it has taken a
-//!   byte; after its answer stands whether the image file is as before, the image that is left where no call fails, or
-//!   another. The image file is then put back;
-//! - `summed`, and a command: it is run, and how it ends, how many lines it prints and a checksum of them are printed;
+//!   build oil src img`: calls 3 and 4 of the store fail, and call 2 of the sink once it has taken a byte; after the
+//!   answer stands whether the image file is as before, the image that is left where no call fails, or another. The
+//!   image file is then put back;
+//! - `summed` and a command: how it ends, how many lines it prints and a checksum of them;
 //! - `sweep`, and words such as `1 400 High / run oil src arr img 3000 / once enter High / each run High High 0 /
-//!   last`: the command is run once for each of the moments, with one arrival of the task then, and what the questions
-//!   ask of the lines of all runs is printed;
-//! - a command, such as `order oil src arr img 5000`: it is run on the files of these names. The image file that it
-//!   leaves is kept; one that reads the image file writes to `out`, which takes its place. On the input of `debug img
-//!   arr` comes the OIL text. Nothing after `=== ` is a command without words.
+//!   last`: the command is run with one arrival of the task at each of the moments, and what the questions ask of the
+//!   lines of all runs is printed;
+//! - a command, such as `order oil src arr img 5000`, or nothing, for one without words. The image file that it leaves
+//!   is kept; one that reads the image file writes to `out`, which takes its place. On the input of `debug img arr`
+//!   comes the OIL text.
 //!
 //! What the readers alone make of a text is asked by `read` and a word after it: `tokens`, `tree` and `config` of an
-//! OIL text, `counts`, `listing`, `sizes` and `stacks` of task source, and `load` of a load, beside the last OIL text.
-//! `read generated 7 2` asks for the application that is generated from the seed 7 with 2 tasks. These texts have no
-//! line feed after their last line.
-//!
-//! `instructions` asks for the instruction of each word that stands before it on a line, in hexadecimal. `words boot`
-//! and the like ask for the code of a kernel of the last OIL text (`kernel`).
-//!
-//! `source sizes` and the like ask for what public calls give of the OIL text and the task source that no command shows
-//! (`sources`), `calls file` and the like of the image file (`images`): `stops` and `touched` of a machine that
-//! executes the two words at the front of each line before, behind which the line says what they are, `steps` of an
-//! observer that is fed the steps before, a line each (`events`). `region`, `instruction`, `controller` and `summary`
-//! need no file.
+//! OIL text, `counts`, `listing`, `sizes` and `stacks` of task source, `load` of a load, beside the last OIL text, or
+//! `generated 7 2` of the application of the seed 7 with 2 tasks. These texts have no line feed after their last line.
+//! `instructions` asks for the instruction of each word that stands before it on a line, in hexadecimal; `words boot`
+//! and the like for the code of a kernel of the last OIL text (`kernel`); `source sizes` and the like for what public
+//! calls give of both texts that no command shows (`sources`), `calls file` and the like of the image file (`images`):
+//! `stops` and `touched` of a machine that executes the two words in front of each line before, `steps` of an observer
+//! that is fed the steps before (`events`). `region`, `instruction`, `controller` and `summary` need no file.
 //!
 //! The lines before `=== system` say what is done with files of the system (`system`): the folder `data` has those of
 //! commands, and the picture of a run that the README shows is drawn anew and compared with the file `door.svg`. At
@@ -46,7 +38,14 @@
 macro_rules! form {
     ($rows:expr; $text:expr; $($piece:expr),*) => { $rows.form($text, &[$($piece),*]) };
     ($rows:expr; $text:expr; $($piece:expr),*; $($number:expr),*) => {
-        $rows.form($text, &[$($piece,)* $($crate::rows::Piece::Number(($number) as u64)),*])
+        $rows.form($text, &[$($piece,)* $($crate::rows::Piece::Number(($number) as i64)),*])
+    };
+}
+
+// Appends the text behind the pattern of a value, with the pieces and numbers of its fields.
+macro_rules! form_value {
+    ($rows:expr, $value:expr; $($shape:pat => $text:literal [$($piece:expr),*] $($number:expr),*;)*) => {
+        match $value { $($shape => form!($rows; $text; $($piece),*; $($number),*),)* }
     };
 }
 
@@ -88,7 +87,7 @@ fn answer(rows: &mut Rows, asked: &str, word: &str, rest: &str, texts: &mut Text
         "text" => rows.text(shown(&texts.img)),
         "checksum" => {
             let sum = checksum(&texts.img);
-            form!(rows; "% bytes %\n"; Number(texts.img.len() as u64), Address(sum))
+            form!(rows; "% bytes %\n"; Number(texts.img.len() as i64), Address(sum))
         }
         "both" => run_both(rows, rest, texts),
         "cut" | "lengthened" => run_series(rows, word, rest, texts),

@@ -1,8 +1,6 @@
 //! What OIL texts, task source and loads mean, or how they are refused.
 ghost use Rattle.std.specs.Prelude.{IfOk};
 ghost use Rattle.sloth_base.specs.ConfigRange.{InRange};
-ghost use Rattle.code_rules.specs.WellFormed.{WellFormed};
-ghost use Rattle.stack_bounds.specs.Bounds.{AreBounds};
 
 use crate::configuration::{list_config, list_load, list_tokens, list_tree};
 use crate::kernel::list_kernel;
@@ -14,7 +12,7 @@ use app_gen::sample;
 use asm_parse::parse_app;
 use oil_parse::{parse, tokens};
 use oil_rules::resolve;
-use sloth_base::{App, Bounds, BuildError, Config, TASK_LIMIT};
+use sloth_base::{BuildError, Config, TASK_LIMIT};
 use sloth_source::read;
 use stack_bounds::offsets;
 use std::alloc::Global;
@@ -28,7 +26,7 @@ pub fn list_error(rows: &mut Rows, told: Told) {
         Ok(()) => {}
         Err(BuildError::Refused(refusal)) => {
             let code = name(CODES, refusal.code as usize);
-            form!(rows; "refused % %\n"; Number(refusal.line as u64), Text(code))
+            form!(rows; "refused % %\n"; Number(refusal.line as i64), Text(code))
         }
         Err(BuildError::Memory) => rows.text("no memory\n"),
     }
@@ -54,14 +52,6 @@ fn answer_syntax(rows: &mut Rows, asked: &str, text: &[u8]) -> Told {
     Ok(())
 }
 
-// What task source means beside a configuration.
-fn answer_code(rows: &mut Rows, asked: &str, config: &Config, text: &[u8]) -> Told
-    requires { InRange config.now }
-{
-    let app = parse_app(rows.alloc, short(text)?, config)?;
-    list_code(rows, asked, &app)
-}
-
 // What a configuration is, what code its kernel has, or what a load or task source means beside it.
 fn answer_beside(rows: &mut Rows, asked: &str, config: &Config, text: &[u8]) -> Told
     requires { InRange config.now }
@@ -72,7 +62,10 @@ fn answer_beside(rows: &mut Rows, asked: &str, config: &Config, text: &[u8]) -> 
     match asked {
         "config" => list_config(rows, config),
         "load" => return list_load(rows, config, text),
-        _ => return answer_code(rows, asked, config, text),
+        _ => {
+            let app = parse_app(rows.alloc, short(text)?, config)?;
+            return list_code(rows, asked, &app);
+        }
     }
     Ok(())
 }
@@ -83,20 +76,12 @@ fn answer_configured(rows: &mut Rows, asked: &str, oil: &[u8], text: &[u8]) -> T
     answer_beside(rows, asked, &config, text)
 }
 
-// What the tasks of a configuration need of the stacks.
-fn list_offsets(rows: &mut Rows, config: &Config, app: &App, bounds: &Bounds) -> Told
-    requires well_formed { WellFormed config.now app.now }
-    requires bounds { AreBounds config.now app.now bounds.now }
-{
-    let offsets = offsets(rows.alloc, config, app, bounds)?;
-    list_stacks(rows, bounds, &offsets);
-    Ok(())
-}
-
 // What the tasks of a text need of the stacks.
 fn answer_stacks(rows: &mut Rows, oil: &[u8], text: &[u8]) -> Told {
     let source = read(rows.alloc, short(oil)?, short(text)?)?;
-    list_offsets(rows, &source.config, &source.app, &source.bounds)
+    let offsets = offsets(rows.alloc, &source.config, &source.app, &source.bounds)?;
+    list_stacks(rows, &source.bounds, &offsets);
+    Ok(())
 }
 
 // The two texts and the arrivals of the application that a seed and a number of tasks ask for.

@@ -11,8 +11,7 @@ pub type Told = Result<(), BuildError>;
 pub enum Piece<'a> {
     Text(&'a str),
     Bytes(&'a [u8]),
-    Number(u64),
-    Signed(i32),
+    Number(i64),
     Address(u32),
     Flag(bool),
 }
@@ -65,7 +64,6 @@ impl Rows {
             Piece::Text(text) => return self.text(text),
             Piece::Bytes(bytes) => return self.text(shown(bytes)),
             Piece::Number(number) => format!(in self.alloc; "{number}"),
-            Piece::Signed(number) => format!(in self.alloc; "{number}"),
             Piece::Address(address) => format!(in self.alloc; "{address:08x}"),
             Piece::Flag(flag) => format!(in self.alloc; "{flag}"),
         };

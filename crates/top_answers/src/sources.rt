@@ -1,57 +1,28 @@
 //! Public calls on a configuration's texts and task code: rules, stack bytes, generators, abstract scheduler.
 ghost use Rattle.std.specs.Prelude.{◌≡◌, ◌<◌, length};
-ghost use Rattle.call_graph.specs.Ranks.{RanksOf};
 ghost use Rattle.code_rules.specs.AppRange.{IsTaskCode};
 ghost use Rattle.code_rules.specs.WellFormed.{WellFormed};
-ghost use Rattle.rv32_expand.specs.InPlace.{IsAppItem};
 ghost use Rattle.rv32_expand.specs.Sizes.{AgreeWithSizes, HasWordAddresses, IsVerified};
-ghost use Rattle.sloth_base.specs.ConfigRange.{InRange};
-ghost use Rattle.sloth_base.specs.Named.{function, item_of};
-ghost use Rattle.sloth_build.specs.Gathered.{MayBuild, MayGenerate};
+ghost use Rattle.sloth_base.specs.Named.{function};
+ghost use Rattle.sloth_build.specs.Gathered.{MayBuild};
 ghost use Rattle.sloth_link.specs.Image.{MayLink};
 
 use crate::rows::Piece::{Address, Flag};
 use crate::rows::{Rows, Told};
 use crate::task_code::list_stacks;
 use crate::texts::{Texts, short};
-use call_graph::Ranks;
 use osek_machine::Osek;
 use rv32_instr::Block;
-use sloth_base::{App, Bounds, Config, Event, Item, Levels, Places, TaskId};
+use sloth_base::{App, Bounds, Config, Event, Item, Places, TaskId};
 use sloth_build::build;
 use sloth_region::Map;
 use sloth_source::{read, read_checked};
 use stack_bounds::bound;
-use task_verify::Verified;
 
 // How much there is of each kind.
 fn list_sizes(rows: &mut Rows, config: &Config, app: &App) {
     let (tasks, funcs) = (config.tasks.items().len(), app.funcs.items().len());
     form!(rows; "tasks % functions % symbols %\n"; ; tasks, funcs, app.symbols.items().len())
-}
-
-// How many tasks and functions were verified, the stack bytes of the tasks, and of the stack that basic tasks share.
-fn list_accepted(rows: &mut Rows, verified: &Verified, ranks: &Ranks) -> Told
-    requires { RanksOf verified.now.app ranks.now }
-{
-    let (config, app) = (verified.config(), verified.app());
-    form!(rows; "verified % %\n"; ; config.tasks.items().len(), app.funcs.items().len());
-    let bounds = bound(rows.alloc, verified, ranks)?;
-    list_stacks(rows, &bounds, &[]);
-    Ok(())
-}
-
-// The code of an item of the first function.
-fn list_item(rows: &mut Rows, item: &Item, app: &App, places: &Places)
-    requires in_range { IsTaskCode app.now }
-    requires verified { IsVerified app.now }
-    requires is_item { IsAppItem app.now 0 0 }
-    requires is { item.now ≡ item_of (function app.now 0) 0 }
-    requires covers { HasWordAddresses app.now places.now }
-    requires agree { AgreeWithSizes app.now places.now }
-{
-    let code = rv32_expand::expand(item, 0, 0, app, places);
-    rows.numbers("item", &[code.len, rv32_expand::length(item, app)])
 }
 
 // The items of the first function.
@@ -62,6 +33,7 @@ fn first_items(app: &App) -> &[Item]
     app.funcs.items()[0].items.items()
 }
 
+// The code of the first item of the first function.
 fn list_first_item(rows: &mut Rows, app: &App, places: &Places)
     requires in_range { IsTaskCode app.now }
     requires verified { IsVerified app.now }
@@ -75,7 +47,8 @@ fn list_first_item(rows: &mut Rows, app: &App, places: &Places)
     if items.len() == 0 {
         return;
     }
-    list_item(rows, &items[0], app, places)
+    let code = rv32_expand::expand(&items[0], 0, 0, app, places);
+    rows.numbers("item", &[code.len, rv32_expand::length(&items[0], app)])
 }
 
 // The address of each routine and how many words it has, the code of an item, and the length of the image of these
@@ -92,33 +65,21 @@ fn list_parts(rows: &mut Rows, config: &Config, app: &App, map: &Map, blocks: &[
     Ok(())
 }
 
-// The image by a map, and what it is made of.
-fn list_planned(rows: &mut Rows, config: &Config, app: &App, levels: &Levels, map: &Map) -> Told
-    requires { MayGenerate config.now app.now levels.now map.now }
-{
-    let blocks = sloth_build::gathering::gather(rows.alloc, config, app, levels, map)?;
-    list_parts(rows, config, app, map, blocks.as_slice())
-}
-
 // What the generators give of task code.
 fn list_generated(rows: &mut Rows, config: &Config, app: &App, bounds: &Bounds) -> Told
     requires { MayBuild config.now app.now bounds.now }
 {
     let levels = prio_levels::assign(config);
     let map = mem_map::plan(rows.alloc, app, config, bounds)?;
-    list_planned(rows, config, app, &levels, &map)
-}
-
-// The levels of the first two tasks, of the first ceiling, and the highest one.
-fn list_levels(rows: &mut Rows, config: &Config)
-    requires { InRange config.now }
-{
-    let levels = prio_levels::assign(config);
-    form!(rows; "levels % % % %\n"; ; levels.task[0], levels.task[1], levels.ceiling[0], levels.top)
+    let blocks = sloth_build::gathering::gather(rows.alloc, config, app, &levels, &map)?;
+    list_parts(rows, config, app, &map, blocks.as_slice())
 }
 
 // Whether the abstract scheduler's first steps have a next state, and the states of the first two tasks behind them.
-fn list_steps(rows: &mut Rows, osek: &mut Osek) {
+fn list_scheduler(rows: &mut Rows, config: &Config, app: &App) -> Told
+    requires { WellFormed config.now app.now }
+{
+    let mut osek = Osek::boot(rows.alloc, config, app)?;
     let boot = osek.step(&Event::Boot).is_ok();
     let idle = osek.step(&Event::Idle).is_ok();
     form!(rows; "boot % idle %\n"; Flag(boot), Flag(idle));
@@ -128,13 +89,6 @@ fn list_steps(rows: &mut Rows, osek: &mut Osek) {
             rows.text("\n");
         }
     }
-}
-
-fn list_scheduler(rows: &mut Rows, config: &Config, app: &App) -> Told
-    requires { WellFormed config.now app.now }
-{
-    let mut osek = Osek::boot(rows.alloc, config, app)?;
-    list_steps(rows, &mut osek);
     Ok(())
 }
 
@@ -144,7 +98,10 @@ fn list_meaning(rows: &mut Rows, asked: &str, config: &Config, app: &App, bounds
 {
     match asked {
         "sizes" => list_sizes(rows, config, app),
-        "levels" => list_levels(rows, config),
+        "levels" => {
+            let levels = prio_levels::assign(config);
+            form!(rows; "levels % % % %\n"; ; levels.task[0], levels.task[1], levels.ceiling[0], levels.top)
+        }
         "generated" => return list_generated(rows, config, app, bounds),
         _ => return list_scheduler(rows, config, app),
     }
@@ -161,7 +118,14 @@ pub fn list_sources(rows: &mut Rows, asked: &str, texts: &Texts) -> Told {
     }
     if asked == "judged" {
         let checked = read_checked(rows.alloc, oil, src)?;
-        return list_accepted(rows, &checked.verified, &checked.ranks);
+        let (tasks, funcs) = (
+            checked.verified.config().tasks.items().len(),
+            checked.verified.app().funcs.items().len(),
+        );
+        form!(rows; "verified % %\n"; ; tasks, funcs);
+        let bounds = bound(rows.alloc, &checked.verified, &checked.ranks)?;
+        list_stacks(rows, &bounds, &[]);
+        return Ok(());
     }
     let source = read(rows.alloc, oil, src)?;
     list_meaning(rows, asked, &source.config, &source.app, &source.bounds)

@@ -82,7 +82,8 @@ fn act<R: Files>(rt: &R, rows: &mut Rows, files: &mut FileStore<'_, R>, word: &s
             let written = files.write(name, b"new").is_ok();
             form!(rows; "% written %\n"; Text(name), Flag(written));
         }
-        "failed" => form!(rows; "failed reads %\n"; Number(files.failed_reads())),
+        "failed" =>
+            form!(rows; "failed reads %\n"; Number(i64::try_from(files.failed_reads()).unwrap_or(i64::MAX))),
         "same" =>
             form!(rows; "% is % %\n"; Text(name), Text(rest), Flag(files.is_same(name, rest))),
         "equal" => {
@@ -94,31 +95,22 @@ fn act<R: Files>(rt: &R, rows: &mut Rows, files: &mut FileStore<'_, R>, word: &s
     }
 }
 
-// Does what a line says: `run`, and a command, whose status is printed; `put` to an output; or what is done to a file.
-fn act_on_line<R: Files + Print + Input + AllocGlobal>(
-    rt: &R,
-    rows: &mut Rows,
-    files: &mut FileStore<'_, R>,
-    line: &str,
-) {
-    let (word, rest) = line.split_once(' ').unwrap_or((line, ""));
-    match word {
-        "run" => {
-            let words = words(rows.alloc, rest);
-            let status = run_words(rt, words.as_slice());
-            rows.numbers("status", &[status.code().into()]);
-        }
-        "put" => list_put(rt, rows, rest == "memory"),
-        _ => act(rt, rows, files, word, rest),
-    }
-    rows.print(rt);
-}
-
-/// Does what lines say on files of the system, and prints what comes of it.
+/// Does what lines say on files of the system, and prints what comes of it: `run`, and a command, whose status is
+/// printed; `put` to an output; or what is done to a file.
 pub fn list_system(rt: &(impl Files + Print + Input + AllocGlobal), rows: &mut Rows, lines: &str) {
     rows.print(rt);
     let mut files = FileStore::new(rt, rt.alloc());
     for line in lines.lines() {
-        act_on_line(rt, rows, &mut files, line);
+        let (word, rest) = line.split_once(' ').unwrap_or((line, ""));
+        match word {
+            "run" => {
+                let words = words(rows.alloc, rest);
+                let status = run_words(rt, words.as_slice());
+                rows.numbers("status", &[status.code().into()]);
+            }
+            "put" => list_put(rt, rows, rest == "memory"),
+            _ => act(rt, rows, &mut files, word, rest),
+        }
+        rows.print(rt);
     }
 }

@@ -1,13 +1,13 @@
 //! The listing of task code.
 ghost use Rattle.code_rules.specs.AppRange.{IsTaskCode};
 
-use crate::rows::Piece::{Bytes, Number, Signed, Text};
+use crate::rows::Piece::{Bytes, Number, Text};
 use crate::rows::{Rows, Told};
 use rv32_expand::sizes;
 use sloth_base::Op::*;
 use sloth_base::{App, Bounds, Func, Op, ResId};
 
-/// Names of variants in their order.
+// Names of variants in their order.
 const ALU_KINDS: &str = "Add Sub Sll Slt Sltu Xor Srl Sra Or And";
 
 const IMM_KINDS: &str = "Addi Slti Sltiu Xori Ori Andi Slli Srli Srai";
@@ -28,102 +28,50 @@ pub fn list_numbers(rows: &mut Rows, text: &str, resources: &[ResId]) {
     }
 }
 
-// Appends an operation with a kind or a width: its name, and the name of that.
-fn put_named(rows: &mut Rows, op: &Op) {
-    match op {
-        Alu { kind, .. } => form!(rows; "Alu { kind: %"; Text(name(ALU_KINDS, *kind as usize))),
-        AluImm { kind, .. } =>
-            form!(rows; "AluImm { kind: %"; Text(name(IMM_KINDS, *kind as usize))),
-        Branch { kind, .. } =>
-            form!(rows; "Branch { kind: %"; Text(name(BRANCH_KINDS, *kind as usize))),
-        Load { width, .. } => form!(rows; "Load { width: %"; Text(name(WIDTHS, *width as usize))),
-        Store { width, .. } => form!(rows; "Store { width: %"; Text(name(WIDTHS, *width as usize))),
-        LoadAt { width, .. } =>
-            form!(rows; "LoadAt { width: %"; Text(name(WIDTHS, *width as usize))),
-        StoreAt { width, .. } =>
-            form!(rows; "StoreAt { width: %"; Text(name(WIDTHS, *width as usize))),
-        _ => {}
-    }
-}
-
-// Appends what such an operation holds besides, or another operation.
-fn put_fields(rows: &mut Rows, op: &Op) {
-    match op {
-        Alu { rd, rs1, rs2, .. } =>
-            form!(rows; ", rd: Reg(%), rs1: Reg(%), rs2: Reg(%) }"; ; rd.0, rs1.0, rs2.0),
-        AluImm { rd, rs1, imm, .. } =>
-            form!(rows; ", rd: Reg(%), rs1: Reg(%), imm: % }"; Number(rd.0 as u64), Number(rs1.0 as u64), Signed(*imm)),
-        Branch {
-            rs1,
-            rs2,
-            label,
-            ..
-        } => { form!(rows; ", rs1: Reg(%), rs2: Reg(%), label: % }"; ; rs1.0, rs2.0, *label) }
-        Load {
-            rd,
-            symbol,
-            offset,
-            ..
-        } => {
-            form!(rows; ", rd: Reg(%), symbol: SymId(%), offset: % }"; ; rd.0, symbol.0, *offset)
-        }
-        Store {
-            rs,
-            symbol,
-            offset,
-            ..
-        } => {
-            form!(rows; ", rs: Reg(%), symbol: SymId(%), offset: % }"; ; rs.0, symbol.0, *offset)
-        }
-        LoadAt {
-            rd,
-            symbol,
-            index,
-            mask,
-            ..
-        } => form!(rows;
-            ", rd: Reg(%), symbol: SymId(%), index: Reg(%), mask: % }"; ; rd.0, symbol.0, index.0, *mask),
-        StoreAt {
-            rs,
-            symbol,
-            index,
-            mask,
-            ..
-        } => form!(rows;
-            ", rs: Reg(%), symbol: SymId(%), index: Reg(%), mask: % }"; ; rs.0, symbol.0, index.0, *mask),
-        _ => put_plain(rows, op),
-    }
-}
-
-// Appends an operation without a kind or a width.
-fn put_plain(rows: &mut Rows, op: &Op) {
-    match op {
-        Lui { rd, imm } => form!(rows; "Lui { rd: Reg(%), imm: % }"; ; rd.0, *imm),
-        Li { rd, value } => form!(rows; "Li { rd: Reg(%), value: % }"; ; rd.0, *value),
-        FrameLoad { rd, word } => form!(rows; "FrameLoad { rd: Reg(%), word: % }"; ; rd.0, *word),
-        FrameStore { rs, word } => form!(rows; "FrameStore { rs: Reg(%), word: % }"; ; rs.0, *word),
-        Jump { label } => form!(rows; "Jump { label: % }"; ; *label),
-        Invoke { func } => form!(rows; "Invoke { func: FuncId(%) }"; ; func.0),
-        Return => rows.text("Return"),
-        Serve(call) => form!(rows; "Serve(Call { service: %, object: %, mask: % })";
-            Bytes(call.service.name()); call.object, call.mask),
-        _ => {}
-    }
+// Appends an operation with its fields.
+fn put_op(rows: &mut Rows, op: &Op) {
+    form_value!(rows, op;
+        Alu { kind, rd, rs1, rs2 } => "Alu { kind: %, rd: Reg(%), rs1: Reg(%), rs2: Reg(%) }"
+            [Text(name(ALU_KINDS, *kind as usize))] rd.0, rs1.0, rs2.0;
+        AluImm { kind, rd, rs1, imm } => "AluImm { kind: %, rd: Reg(%), rs1: Reg(%), imm: % }"
+            [Text(name(IMM_KINDS, *kind as usize))] rd.0, rs1.0, *imm;
+        Branch { kind, rs1, rs2, label } => "Branch { kind: %, rs1: Reg(%), rs2: Reg(%), label: % }"
+            [Text(name(BRANCH_KINDS, *kind as usize))] rs1.0, rs2.0, *label;
+        Load { width, rd, symbol, offset } => "Load { width: %, rd: Reg(%), symbol: SymId(%), offset: % }"
+            [Text(name(WIDTHS, *width as usize))] rd.0, symbol.0, *offset;
+        Store { width, rs, symbol, offset } => "Store { width: %, rs: Reg(%), symbol: SymId(%), offset: % }"
+            [Text(name(WIDTHS, *width as usize))] rs.0, symbol.0, *offset;
+        LoadAt { width, rd, symbol, index, mask } =>
+            "LoadAt { width: %, rd: Reg(%), symbol: SymId(%), index: Reg(%), mask: % }"
+            [Text(name(WIDTHS, *width as usize))] rd.0, symbol.0, index.0, *mask;
+        StoreAt { width, rs, symbol, index, mask } =>
+            "StoreAt { width: %, rs: Reg(%), symbol: SymId(%), index: Reg(%), mask: % }"
+            [Text(name(WIDTHS, *width as usize))] rs.0, symbol.0, index.0, *mask;
+        Lui { rd, imm } => "Lui { rd: Reg(%), imm: % }" [] rd.0, *imm;
+        Li { rd, value } => "Li { rd: Reg(%), value: % }" [] rd.0, *value;
+        FrameLoad { rd, word } => "FrameLoad { rd: Reg(%), word: % }" [] rd.0, *word;
+        FrameStore { rs, word } => "FrameStore { rs: Reg(%), word: % }" [] rs.0, *word;
+        Jump { label } => "Jump { label: % }" [] *label;
+        Invoke { func } => "Invoke { func: FuncId(%) }" [] func.0;
+        Return => "Return" [];
+        Serve(call) => "Serve(Call { service: %, object: %, mask: % })"
+            [Bytes(call.service.name())] call.object, call.mask;
+    )
 }
 
 /// Prints how many bodies, items, labels, symbols and bytes there are.
 fn list_counts(rows: &mut Rows, app: &App) {
-    let (mut items, mut labels, mut bytes): (u64, u64, u64) = (0, 0, 0);
+    let (mut items, mut labels, mut bytes): (i64, i64, i64) = (0, 0, 0);
     let (funcs, symbols) = (app.funcs.items(), app.symbols.items());
     for func in funcs {
-        items = items.saturating_add(func.items.items().len() as u64);
-        labels = labels.saturating_add(func.labels.items().len() as u64);
+        items = items.saturating_add(func.items.items().len() as i64);
+        labels = labels.saturating_add(func.labels.items().len() as i64);
     }
     for symbol in symbols {
-        bytes = bytes.saturating_add(symbol.bytes.items().len() as u64);
+        bytes = bytes.saturating_add(symbol.bytes.items().len() as i64);
     }
-    form!(rows; "bodies % items % labels %\n"; Number(funcs.len() as u64), Number(items), Number(labels));
-    form!(rows; "symbols % bytes %\n"; Number(symbols.len() as u64), Number(bytes))
+    form!(rows; "bodies % items % labels %\n"; Number(funcs.len() as i64), Number(items), Number(labels));
+    form!(rows; "symbols % bytes %\n"; Number(symbols.len() as i64), Number(bytes))
 }
 
 // Prints a body with its items and labels.
@@ -134,8 +82,7 @@ fn list_func(rows: &mut Rows, func: &Func) {
     }
     for item in func.items.items() {
         form!(rows; "% "; ; item.line);
-        put_named(rows, &item.op);
-        put_fields(rows, &item.op);
+        put_op(rows, &item.op);
         rows.text("\n");
     }
     for label in func.labels.items() {
@@ -161,12 +108,12 @@ fn list_sizes(rows: &mut Rows, app: &App) -> Told
     requires { IsTaskCode app.now }
 {
     let sizes = sizes(rows.alloc, app)?;
-    let mut all: u64 = 0;
+    let mut all: i64 = 0;
     for size in sizes.as_slice() {
-        all = all.saturating_add(u64::from(*size));
+        all = all.saturating_add(i64::from(*size));
     }
     let first = sizes.first().copied().unwrap_or(0);
-    form!(rows; "first % all %\n"; ; first, all);
+    form!(rows; "first % all %\n"; Number(i64::from(first)), Number(all));
     Ok(())
 }
 

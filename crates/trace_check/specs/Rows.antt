@@ -12,6 +12,8 @@ use Rattle.osek_machine.specs.Above.{is_line_above}
 use Rattle.trace_check.specs.Walk.{Walk}
 use Rattle.trace_check.specs.MachineEvents.{item_event, service_event}
 use Rattle.trace_check.specs.declared.rows.NextEvent.{NextEvent}
+use Rattle.trace_check.specs.declared.rows.Kind.{Kind}
+use Rattle.trace_check.specs.declared.rows.Kind.TheVariants as kind
 
 -- ---- limits
 
@@ -67,6 +69,12 @@ task_rows w t =
 unfoldable pub rows_below : ℕ → (ℕ → List NextEvent) → List NextEvent
 rows_below zero rows = []
 rows_below (suc n) rows = rows_below n rows ++ rows n
+
+-- an event that tells of nothing but a task or a counter
+abbrev pub event_of : Kind → ℕ → Event
+event_of kind.Tick k = event.Tick k
+event_of kind.Admit k = event.Admit k
+event_of kind.Due k = event.Due k
 
 -- all rows: the start, tasks, ticks, idle, and last the admissions
 abbrev pub all_rows : Walk → List NextEvent

@@ -15,17 +15,17 @@ ghost use Rattle.trace_check.specs.TraceText.{AreReadable, IsEventText, HasFirst
 use crate::lateness::{Lateness, lateness_reason};
 use sloth_base::declared_names::declared_names;
 use sloth_base::{
-    App, Arrival, Config, DeclaredNames, Event, FIRST_COUNTER_LINE, NoMemory, Stamp, Stamped,
+    App, Arrival, Config, DeclaredNames, Event, FIRST_COUNTER_LINE, Result, Stamp, Stamped,
 };
 use std::alloc::Global;
-use text_pieces::{before, behind, has, push};
+use text_pieces::pieces::Piece::{Number, Word};
+use text_pieces::{before, behind, has, line, push};
 use trace_text::{LineText, push_counts, push_event, read_line};
 
 // The line of the first counter.
 const FIRST_COUNTER: u32 = FIRST_COUNTER_LINE as u32;
 
-// The events of a text.
-fn read_events(alloc: Global, names: &DeclaredNames, text: &[u8]) -> Result<Vec<Stamped>, NoMemory>
+fn read_events(alloc: Global, names: &DeclaredNames, text: &[u8]) -> Result<Vec<Stamped>>
     requires { AreReadable names.now }
     ensures shows { IfOk result
         (λ events. (shown : Items AnyEvent)
@@ -45,7 +45,6 @@ fn read_events(alloc: Global, names: &DeclaredNames, text: &[u8]) -> Result<Vec<
     Ok(events)
 }
 
-// The event that admits an arrival of a moment and a line.
 fn admission(moment: u32, line: u32) -> Stamped
     ensures { result ≡ admission_at moment line }
 {
@@ -63,7 +62,6 @@ fn admission(moment: u32, line: u32) -> Stamped
     }
 }
 
-// The event's line that a text lacks.
 #[tactic(auto, unfolding(crate::specs::LatenessLines::missing_line))]
 fn missing_line(names: &DeclaredNames, moment: u32, line: u32) -> LineText
     requires { AreReadable names.now }
@@ -73,49 +71,30 @@ fn missing_line(names: &DeclaredNames, moment: u32, line: u32) -> LineText
     let mut text = LineText::new();
     text.push(b"missing ");
     push_counts(&mut text, &admission);
-    push_event(
-        &mut text,
-        &admission.event,
-        names.tasks.items(),
-        names.funcs.items(),
-        names.counters.items(),
-    );
+    let tasks = names.tasks.items();
+    let functions = names.funcs.items();
+    let counters = names.counters.items();
+    push_event(&mut text, &admission.event, tasks, functions, counters);
     text.push(b"\n");
     text
 }
 
-// The line of a place.
 #[tactic(auto, unfolding(crate::specs::LatenessLines::place_line))]
-fn place_line(place: u32) -> LineText
-    ensures { result ≡ place_line place }
-{
-    let mut line = LineText::new();
-    line.push(b"line ");
-    line.push_number(place);
-    line.push(b"\n");
-    line
-}
-
-// The lines of why events are not in time.
-fn lateness_lines(
-    alloc: Global,
-    names: &DeclaredNames,
-    reason: Lateness,
-) -> Result<Vec<u8>, NoMemory>
+fn lateness_lines(alloc: Global, names: &DeclaredNames, reason: Lateness) -> Result<Vec<u8>>
     requires { AreReadable names.now }
     ensures { IfOk result (λ lines. lines.items ≡ lateness_lines names.now reason) }
 {
     let mut lines = Vec::new(alloc);
     match reason {
         Lateness::Misplaced(place) | Lateness::Extra(place) => {
-            lines.extend_from_slice(place_line(place).bytes())?;
+            line!(&mut lines; Word(b"line "), Number(place), Word(b"\n"))?;
         }
         Lateness::Passed {
             place,
             moment,
             line,
         } => {
-            lines.extend_from_slice(place_line(place).bytes())?;
+            line!(&mut lines; Word(b"line "), Number(place), Word(b"\n"))?;
             lines.extend_from_slice(missing_line(names, moment, line).bytes())?;
         }
         Lateness::Missing { moment, line } => {
@@ -125,14 +104,13 @@ fn lateness_lines(
     Ok(lines)
 }
 
-// The same of these events.
 fn late_lines(
     alloc: Global,
     names: &DeclaredNames,
     arrivals: &[Arrival],
     events: &[Stamped],
     n: u32,
-) -> Result<Vec<u8>, NoMemory>
+) -> Result<Vec<u8>>
     requires names { AreReadable names.now }
     requires short { length events.now < 4294967295 }
     requires admits { AreLinesInRange events.now }
@@ -152,7 +130,7 @@ pub fn time_lines(
     arrivals: &[Arrival],
     text: &[u8],
     n: u32,
-) -> Result<Vec<u8>, NoMemory>
+) -> Result<Vec<u8>>
     requires well_formed { WellFormed config.now app.now }
     requires in_range { AreArrivals (owners_in config.now) arrivals.now }
     requires short { length text.now < 4294967295 }

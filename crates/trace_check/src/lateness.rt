@@ -1,10 +1,11 @@
 //! Why the events of a run are not in time.
-ghost use Rattle.std.specs.Prelude.{◌≡◌, ◌<◌, ◌≤◌, ◌==◌, ◌&&◌, IfOk, IfSome, IfNone, All, length, take, true, false};
+ghost use Rattle.std.specs.Prelude.{◌≡◌, ◌<◌, ◌≤◌, ◌==◌, ◌&&◌, IfOk, IfSome, IfNone, All, length, true, false};
 ghost use Rattle.sloth_base.specs.Options.{is_number};
 ghost use Rattle.sloth_base.specs.Events.{admitted_line};
 ghost use Rattle.osek_scheduler.specs.InTime.{AreAllAdmitted, admits_at, arrivals_at};
 ghost use Rattle.trace_check.specs.Counts.{AreLinesInRange};
-ghost use Rattle.trace_check.specs.Lateness.{AreInPlace, IsFirstDifference, IsFirstExtra, IsFirstPassing, IsFrontInPlace, IsLateness, NonePasses, Passes};
+ghost use Rattle.trace_check.specs.Lateness.{AreInPlace, IsFirstExtra, IsFirstPassing, IsFrontInPlace, IsLateness};
+ghost use Rattle.trace_check.specs.Lateness.{NonePasses, Passes};
 
 use crate::numbers::first_difference;
 use crate::pass::{Pass, admitted_line};
@@ -37,7 +38,6 @@ fn front_in_place(n: u32, arrivals: &[Arrival], events: &[Stamped]) -> usize
     events.len()
 }
 
-// Whether an event is the admission of an arrival of a moment and a line.
 fn is_admission(event: &Stamped, moment: u32, line: u32) -> bool
     ensures { result ≡ (is_number line (admitted_line event.now.event) && (event.now.stamp.at == moment)) }
 {
@@ -101,43 +101,7 @@ fn passing_place(events: &[Stamped], moment: u32) -> Option<u32>
     None
 }
 
-// Why events are not in time, of which so many in front are in place, by the first difference of these.
-fn explanation(
-    n: u32,
-    arrivals: &[Arrival],
-    events: &[Stamped],
-    count: usize,
-    number: u64,
-) -> Lateness
-    requires short { length events.now < 4294967295 }
-    requires in_place { IsFrontInPlace n arrivals.now events.now count }
-    requires differs { IsFirstDifference arrivals.now (take count events.now) number }
-    requires late { AreInPlace n arrivals.now events.now → AreAllAdmitted n arrivals.now events.now → ⊥ }
-    ensures { IsLateness n arrivals.now events.now result }
-{
-    let moment = (number / 4_294_967_296) as u32;
-    let line = (number % 4_294_967_296) as u32;
-    let front = &events[..count];
-    if moment >= n {
-        return Lateness::Misplaced(count as u32 + 1);
-    }
-    if let Some(place) = extra_place(arrivals, front, moment, line) {
-        return Lateness::Extra(place);
-    }
-    if let Some(place) = passing_place(front, moment) {
-        return Lateness::Passed {
-            place,
-            moment,
-            line,
-        };
-    }
-    if count < events.len() {
-        return Lateness::Misplaced(count as u32 + 1);
-    }
-    Lateness::Missing { moment, line }
-}
-
-/// Why events are not in time.
+/// Why events are not in time: by the first difference of those in front that are in place.
 pub fn lateness_reason(
     alloc: Global,
     n: u32,
@@ -151,6 +115,25 @@ pub fn lateness_reason(
     ensures { IfOk result (IsLateness n arrivals.now events.now) }
 {
     let count = front_in_place(n, arrivals, events);
-    let number = first_difference(alloc, arrivals, &events[..count])?;
-    Ok(explanation(n, arrivals, events, count, number))
+    let front = &events[..count];
+    let number = first_difference(alloc, arrivals, front)?;
+    let moment = (number / 4_294_967_296) as u32;
+    let line = (number % 4_294_967_296) as u32;
+    if moment >= n {
+        return Ok(Lateness::Misplaced(count as u32 + 1));
+    }
+    if let Some(place) = extra_place(arrivals, front, moment, line) {
+        return Ok(Lateness::Extra(place));
+    }
+    if let Some(place) = passing_place(front, moment) {
+        return Ok(Lateness::Passed {
+            place,
+            moment,
+            line,
+        });
+    }
+    if count < events.len() {
+        return Ok(Lateness::Misplaced(count as u32 + 1));
+    }
+    Ok(Lateness::Missing { moment, line })
 }

@@ -3,7 +3,7 @@ ghost use Rattle.std.specs.Prelude.{◌≡◌, ◌<◌, is_some, length};
 ghost use Rattle.osek_scheduler.specs.Next.{next_state};
 ghost use Rattle.osek_machine.specs.PlanSteps.{IsRead};
 ghost use Rattle.osek_machine.specs.Steps.{IsSound};
-ghost use Rattle.trace_check.specs.MachineEvents.{item_event, own_plan, planned_event, served_event, service_event, shown_result};
+ghost use Rattle.trace_check.specs.MachineEvents.{item_event, planned_event, service_event, shown_result};
 
 use osek_machine::{
     Osek, Store, answer_plan, back_plan, call_in, call_plan, entry_plan, events, is_idle,
@@ -51,18 +51,6 @@ pub fn has_next(osek: &Osek, event: &Event) -> bool
     is_next(osek.config(), osek.app(), osek.store(), event)
 }
 
-// The plan of the next item of a task, where that is no service.
-fn own_plan(_config: &Config, app: &App, store: &Store, task: u32) -> Option<Plan>
-    requires read { IsRead _config.now app.now store.now }
-    requires declared { task < length store.now.tasks }
-    ensures { result ≡ own_plan app.now task store.now }
-{
-    let own = store.task(task as usize);
-    let op = own_operation(app, own)?;
-    run_plan(app, store, own, &op)
-}
-
-// The result that a plan shows.
 fn shown_result(plan: Option<Plan>) -> Option<u32>
     ensures { result ≡ shown_result plan }
 {
@@ -73,14 +61,16 @@ fn shown_result(plan: Option<Plan>) -> Option<u32>
 }
 
 // The run of the next item of a task.
-fn own_run(config: &Config, app: &App, store: &Store, task: u32) -> Option<Event>
-    requires read { IsRead config.now app.now store.now }
+fn own_run(_config: &Config, app: &App, store: &Store, task: u32) -> Option<Event>
+    requires read { IsRead _config.now app.now store.now }
     requires declared { task < length store.now.tasks }
     ensures { result ≡ item_event app.now task store.now }
 {
-    let plan = own_plan(config, app, store, task);
+    let own = store.task(task as usize);
+    let op = own_operation(app, own)?;
+    let plan = run_plan(app, store, own, &op);
     let result = shown_result(plan)?;
-    let frame = store.task(task as usize).innermost()?;
+    let frame = own.innermost()?;
     Some(Event::Run {
         task,
         func: frame.func(),
@@ -89,26 +79,19 @@ fn own_run(config: &Config, app: &App, store: &Store, task: u32) -> Option<Event
     })
 }
 
-// A service that goes on with a status, or with which its task leaves.
-fn served_event(task: u32, service: Service, answer: Option<u32>) -> Event
-    ensures { result ≡ served_event task service answer }
-{
-    match answer {
-        Some(status) => Event::Call {
-            task,
-            service,
-            status,
-        },
-        None => Event::Left { task, service },
-    }
-}
-
-// The same by its plan, if there is one.
+// A service that goes on with a status, or with which its task leaves, by its plan, if there is one.
 fn planned_event(task: u32, service: Service, plan: Option<Plan>) -> Option<Event>
     ensures { result ≡ planned_event task service plan }
 {
     match plan {
-        Some(plan) => Some(served_event(task, service, plan.answer)),
+        Some(plan) => match plan.answer {
+            Some(status) => Some(Event::Call {
+                task,
+                service,
+                status,
+            }),
+            None => Some(Event::Left { task, service }),
+        },
         None => None,
     }
 }
@@ -121,8 +104,9 @@ fn own_service(config: &Config, app: &App, store: &Store, task: u32) -> Option<E
 {
     let op = own_operation(app, store.task(task as usize))?;
     let call = call_in(&op)?;
-    let plan = call_plan(config, store, call.service, task, &call);
-    planned_event(task, call.service, plan)
+    let service = call.service;
+    let plan = call_plan(config, store, service, task, &call);
+    planned_event(task, service, plan)
 }
 
 /// The run of the next item of a task.

@@ -1,10 +1,10 @@
-//! Admissions and arrivals counted by one number for each moment and line.
-//! The first moment at which admissions and arrivals differ in number.
+//! Admissions and arrivals counted by one number for each moment and line, and where they differ first.
 ghost use Rattle.std.specs.Prelude.{◌≡◌, ◌<◌, ◌+◌, ◌*◌, ◌++◌, [], IfOk, OnOk, map, All};
 ghost use Rattle.std.specs.Ordering.{nat_cmp};
 ghost use Rattle.std.specs.List.Sorted.{IsPermutation, IsSorted};
 ghost use Rattle.std.specs.Bool.{Decides};
-ghost use Rattle.trace_check.specs.Counts.{SameCounts, arrival_number, last_moment, may_leave, number_at, with_admit, AreLinesInRange, admit_numbers, least_apart};
+ghost use Rattle.trace_check.specs.Counts.{SameCounts, arrival_number, last_moment, may_leave, number_at, with_admit};
+ghost use Rattle.trace_check.specs.Counts.{AreLinesInRange, admit_numbers, least_apart};
 ghost use Rattle.sloth_base.specs.Events.{admitted_line};
 ghost use Rattle.trace_check.specs.Lateness.{IsFirstDifference};
 
@@ -54,7 +54,6 @@ pub fn sort(numbers: &mut Vec<u64>) -> Result<()>
     Ok(())
 }
 
-// Whether numbers are the same.
 fn are_same(ones: &[u64], others: &[u64]) -> bool
     ensures { Decides result (ones.now ≡ others.now) }
 {
@@ -92,7 +91,6 @@ pub fn may_leave(n: u32, most: u32, ends: u32, last: u32, arrivals: &[Arrival]) 
     }
 }
 
-// The numbers of admissions.
 fn admit_numbers(alloc: Global, events: &[Stamped]) -> Result<Vec<u64>>
     requires { All (λ e. e.stamp.at < 4294967295) events.now }
     ensures { IfOk result (λ numbers. numbers.items ≡ admit_numbers events.now) }

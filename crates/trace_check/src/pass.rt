@@ -1,7 +1,8 @@
 //! One pass over events and arrivals: stamps, where admits stand, and the order of admits next to each other.
 ghost use Rattle.std.specs.Prelude.{◌≡◌, ◌<◌, cond, option_copied, true, Some, None, IfSome};
 ghost use Rattle.sloth_base.specs.Events.{admitted_line, is_single};
-ghost use Rattle.trace_check.specs.Scan.{scan_after_admit, scan_after_other, behind_first, from_moment, is_stamped, scan_after_event, scan_start};
+ghost use Rattle.trace_check.specs.Scan.{scan_after_admit, scan_after_other, behind_first, from_moment, is_stamped};
+ghost use Rattle.trace_check.specs.Scan.{scan_after_event, scan_start};
 
 use sloth_base::{Arrival, Event, FIRST_COUNTER_LINE, Stamped};
 use std::marker::Model;
@@ -26,7 +27,8 @@ impl<'a> Model for Pass<'a> {
 
     ghost Value = { Scan };
 
-    ghost view = { λ pass. record { ends = pass.ends; begins = pass.begins; latest = pass.latest; base = pass.base.now; rest = pass.rest.now } };
+    ghost view = { λ pass.
+        record { ends = pass.ends; begins = pass.begins; latest = pass.latest; base = pass.base.now; rest = pass.rest.now } };
 }
 
 // What stands behind the first arrival of a line at a moment.
@@ -109,7 +111,6 @@ impl<'a> Pass<'a> {
         self.ends
     }
 
-    // Takes an admission.
     fn admit(&mut self, line: u64, moment: u32) -> bool
         ensures { cond result (Some self.new) None ≡ scan_after_admit self.old line moment }
     {
@@ -124,7 +125,6 @@ impl<'a> Pass<'a> {
         true
     }
 
-    // Takes another event.
     fn pass(&mut self, from: u32, at: u32) -> bool
         requires from { from < 4294967295 }
         requires at { at < 4294967295 }

@@ -11,9 +11,8 @@ ghost use Rattle.trace_check.specs.Verdicts.{IsFirstStray, IsLate};
 ghost use Rattle.trace_check.specs.declared.verdict.Verdict.TheVariants as verdict_is;
 ghost use Rattle.trace_check.specs.Reasons.{AreReasons, IsTraceReason};
 
-use crate::front::step_lines;
 use crate::late::time_lines;
-use crate::lines::verdict_text;
+use crate::lines::{step_lines, verdict_text};
 use crate::{Verdict, check};
 use run_inputs::{Inputs, read_inputs};
 use sloth_base::{App, Arrival, BuildError, Config, List, NoMemory, Refusal, Result};
@@ -30,7 +29,6 @@ pub enum TraceReason {
     No(List<u8>),
 }
 
-// Whether a verdict is yes.
 fn is_yes(verdict: Verdict) -> bool
     ensures yes { result ≡ true → verdict ≡ verdict_is.Yes }
     ensures other { result ≡ false → verdict ≢ verdict_is.Yes }
@@ -43,32 +41,33 @@ fn is_yes(verdict: Verdict) -> bool
     }
 }
 
-// The lines behind a verdict.
 fn lines_behind(
     alloc: Global,
-    config: &Config,
-    app: &App,
-    arrivals: &[Arrival],
+    inputs: &Inputs,
     trace: &[u8],
     n: u32,
     verdict: Verdict,
 ) -> Result<Vec<u8>>
-    requires well_formed { WellFormed config.now app.now }
-    requires in_range { AreArrivals (owners_in config.now) arrivals.now }
+    requires well_formed { WellFormed inputs.now.config inputs.now.app }
+    requires in_range { AreArrivals (owners_in inputs.now.config) inputs.now.arrivals.items }
     requires short { length trace.now < 4294967295 }
-    requires strays { (k : ℕ) → verdict ≡ verdict_is.Step k → IsFirstStray config.now app.now trace.now k }
-    requires late { verdict ≡ verdict_is.Time → IsLate config.now app.now arrivals.now trace.now n }
-    ensures { IfOk result (λ lines. AreReasons config.now app.now arrivals.now trace.now n verdict lines.items) }
+    requires strays { (k : ℕ) → verdict ≡ verdict_is.Step k
+        → IsFirstStray inputs.now.config inputs.now.app trace.now k }
+    requires late { verdict ≡ verdict_is.Time
+        → IsLate inputs.now.config inputs.now.app inputs.now.arrivals.items trace.now n }
+    ensures { IfOk result (λ lines.
+        AreReasons inputs.now.config inputs.now.app inputs.now.arrivals.items trace.now n verdict lines.items) }
 {
+    let config = &inputs.config;
+    let app = &inputs.app;
     match verdict {
         Verdict::Step(line) => step_lines(alloc, config, app, trace, line),
         Verdict::Yes => Ok(Vec::new(alloc)),
         Verdict::Line(_) => Ok(Vec::new(alloc)),
-        Verdict::Time => time_lines(alloc, config, app, arrivals, trace, n),
+        Verdict::Time => time_lines(alloc, config, app, inputs.arrivals.as_slice(), trace, n),
     }
 }
 
-// The verdict on a text, and what stands behind it.
 fn judged(alloc: Global, inputs: &Inputs, trace: &[u8], n: u32) -> Result<TraceReason>
     requires well_formed { WellFormed inputs.now.config inputs.now.app }
     requires in_range { AreArrivals (owners_in inputs.now.config) inputs.now.arrivals.items }
@@ -82,15 +81,7 @@ fn judged(alloc: Global, inputs: &Inputs, trace: &[u8], n: u32) -> Result<TraceR
     if is_yes(verdict) {
         return Ok(TraceReason::Yes);
     }
-    let lines = lines_behind(
-        alloc,
-        &inputs.config,
-        &inputs.app,
-        arrivals,
-        trace,
-        n,
-        verdict,
-    )?;
+    let lines = lines_behind(alloc, inputs, trace, n, verdict)?;
     let text = verdict_text(alloc, verdict, lines)?;
     Ok(TraceReason::No(text))
 }

@@ -1,18 +1,19 @@
-//! The rows of the events that may come next behind a walk.
-ghost use Rattle.std.specs.Prelude.{◌≡◌, ◌<◌, ◌≤◌, ◌++◌, IfOk, List, OnOk, Some, length};
+//! The rows of the events that may come next behind a walk, and before which count each must begin.
+ghost use Rattle.std.specs.Prelude.{◌≡◌, ◌<◌, ◌≤◌, ◌++◌, IfOk, List, OnOk, Some, length, ◌==◌, cond};
 ghost use Rattle.sloth_base.specs.declared.app.App.{App as AnyApp};
 ghost use Rattle.sloth_base.specs.declared.config.Config.{Config as AnyConfig};
-ghost use Rattle.sloth_base.specs.declared.service.Event.TheVariants as event_is;
 ghost use Rattle.sloth_base.specs.declared.service.Stamped.{Stamped as AnyEvent};
 ghost use Rattle.sloth_base.specs.Limits.{counter_limit, task_limit};
 ghost use Rattle.trace_check.specs.Walk.{IsWalked};
 ghost use Rattle.trace_check.specs.NextEvents.{AreNextEvents};
-ghost use Rattle.trace_check.specs.Rows.{all_rows, next_event, rows_below, rows_of, task_rows};
+ghost use Rattle.trace_check.specs.Rows.{all_rows, event_of, next_event, rows_below, rows_of, task_rows, event_limit};
+ghost use Rattle.trace_check.specs.Rows.{least_moment, leaves_count, lesser_limit, task_limit as service_limit};
+ghost use Rattle.std.specs.Int.{bit_at};
+ghost use Rattle.sloth_base.specs.MemoryMap.{line_count};
 
-use crate::limits::{event_limit, leaves_count};
 use crate::machine_events::{has_next, item_event, service_event};
 use crate::walk::Walk;
-use sloth_base::{Event, Result};
+use sloth_base::{Event, LINE_COUNT, Result, TaskId};
 use std::alloc::Global;
 use text_pieces::push;
 
@@ -58,7 +59,6 @@ fn push_task(rows: &mut Vec<NextEvent>, walk: &Walk, task: u32) -> Result<()>
     push_event(rows, walk, service_event(walk.osek(), task))
 }
 
-// The rows of all tasks.
 fn push_tasks(rows: &mut Vec<NextEvent>, walk: &Walk, tasks: u32) -> Result<()>
     requires { tasks ≡ length walk.now.machine.config.tasks }
     ensures { OnOk result (rows.new.items ≡ rows.old.items ++ rows_below tasks (task_rows walk.now)) }
@@ -69,40 +69,35 @@ fn push_tasks(rows: &mut Vec<NextEvent>, walk: &Walk, tasks: u32) -> Result<()>
     Ok(())
 }
 
-// The ticks that may come next.
-fn push_ticks(rows: &mut Vec<NextEvent>, walk: &Walk, counters: u32) -> Result<()>
-    ensures { OnOk result
-        (rows.new.items ≡ rows.old.items ++ rows_below counters (λ c. rows_of walk.now (Some (event_is.Tick c)))) }
+// An event that tells of nothing but a task or a counter.
+#[derive(Clone, Copy)]
+enum Kind {
+    Tick,
+    Admit,
+    Due,
+}
+
+fn event(kind: Kind, number: u32) -> Event
+    ensures { result ≡ event_of kind number }
 {
-    for counter in 0..counters {
-        push_event(rows, walk, Some(Event::Tick(counter)))?;
+    match kind {
+        Kind::Tick => Event::Tick(number),
+        Kind::Admit => Event::Admit(number),
+        Kind::Due => Event::Due(number),
+    }
+}
+
+// The events of a kind, of all tasks or counters.
+fn push_each(rows: &mut Vec<NextEvent>, walk: &Walk, kind: Kind, count: u32) -> Result<()>
+    ensures { OnOk result (rows.new.items ≡ rows.old.items
+        ++ rows_below count (λ k. rows_of walk.now (Some (event_of kind k)))) }
+{
+    for number in 0..count {
+        push_event(rows, walk, Some(event(kind, number)))?;
     }
     Ok(())
 }
 
-// The admissions of arrivals of tasks.
-fn push_admits(rows: &mut Vec<NextEvent>, walk: &Walk, tasks: u32) -> Result<()>
-    ensures { OnOk result
-        (rows.new.items ≡ rows.old.items ++ rows_below tasks (λ t. rows_of walk.now (Some (event_is.Admit t)))) }
-{
-    for task in 0..tasks {
-        push_event(rows, walk, Some(Event::Admit(task)))?;
-    }
-    Ok(())
-}
-
-// The admissions of arrivals of counters.
-fn push_dues(rows: &mut Vec<NextEvent>, walk: &Walk, counters: u32) -> Result<()>
-    ensures { OnOk result
-        (rows.new.items ≡ rows.old.items ++ rows_below counters (λ c. rows_of walk.now (Some (event_is.Due c)))) }
-{
-    for counter in 0..counters {
-        push_event(rows, walk, Some(Event::Due(counter)))?;
-    }
-    Ok(())
-}
-
-// All rows.
 fn push_all(rows: &mut Vec<NextEvent>, walk: &Walk, tasks: u32, counters: u32) -> Result<()>
     requires tasks { tasks ≡ length walk.now.machine.config.tasks }
     requires counters { counters ≡ length walk.now.machine.config.counters }
@@ -110,10 +105,10 @@ fn push_all(rows: &mut Vec<NextEvent>, walk: &Walk, tasks: u32, counters: u32) -
 {
     push_event(rows, walk, Some(Event::Boot))?;
     push_tasks(rows, walk, tasks)?;
-    push_ticks(rows, walk, counters)?;
+    push_each(rows, walk, Kind::Tick, counters)?;
     push_event(rows, walk, Some(Event::Idle))?;
-    push_admits(rows, walk, tasks)?;
-    push_dues(rows, walk, counters)
+    push_each(rows, walk, Kind::Admit, tasks)?;
+    push_each(rows, walk, Kind::Due, counters)
 }
 
 /// The events that may come next behind those of a walk.
@@ -130,4 +125,59 @@ pub fn next_events(alloc: Global, walk: &Walk) -> Result<Vec<NextEvent>>
     let mut rows = Vec::new(alloc);
     push_all(&mut rows, walk, tasks, counters)?;
     Ok(rows)
+}
+
+// The limit with the moment of a line, if that is in the row: the lesser of both.
+#[tactic(auto, using(std::proofs::lemmas::Nat::Bits::shr_and_one))]
+fn row_limit(row: u32, line: u32, limit: Option<u32>, moment: u32) -> Option<u32>
+    requires { line < line_count }
+    ensures { result ≡ cond (bit_at row line == 1) (lesser_limit limit moment) limit }
+{
+    if row >> line & 1 != 1 {
+        return limit;
+    }
+    match limit {
+        Some(limit) => Some(if moment < limit { moment } else { limit }),
+        None => Some(moment),
+    }
+}
+
+fn least_moment(row: u32, moments: &[u32; LINE_COUNT]) -> Option<u32>
+    ensures { result ≡ least_moment line_count (λ u. bit_at row u == 1) moments.now }
+{
+    let mut limit = None;
+    for line in 0..LINE_COUNT {
+        limit = row_limit(row, line as u32, limit, moments[line]);
+    }
+    limit
+}
+
+fn task_limit(walk: &Walk, task: u32) -> Option<u32>
+    ensures { result ≡ service_limit walk.now task }
+{
+    if !walk.is_running(task) {
+        return None;
+    }
+    let osek = walk.osek();
+    least_moment(osek.above(TaskId(task)), walk.moments())
+}
+
+/// The limit of an event.
+pub fn event_limit(walk: &Walk, event: &Event) -> Option<u32>
+    ensures { result ≡ event_limit walk.now event.now }
+{
+    match *event {
+        Event::Call { task, .. } | Event::Left { task, .. } => task_limit(walk, task),
+        _ => None,
+    }
+}
+
+/// Whether there is a count before a limit.
+pub fn leaves_count(limit: Option<u32>) -> bool
+    ensures { result ≡ leaves_count limit }
+{
+    match limit {
+        Some(limit) => limit != 0,
+        None => true,
+    }
 }

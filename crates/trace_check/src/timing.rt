@@ -1,11 +1,10 @@
 //! Events looked at one after the other, and whether arrivals are admitted in time.
-//! How long a stretch may be that the end of a run cuts off.
 ghost use Rattle.std.specs.Prelude.{◌≡◌, ◌<◌, ◌∷◌, ◌++◌, [], cond, IfOk, OnOk, All, List, ◌≤◌, length};
 ghost use Rattle.std.specs.Bool.{Decides};
 ghost use Rattle.sloth_base.specs.Arrivals.{AreRisingMoments};
 ghost use Rattle.sloth_base.specs.declared.service.Stamped.{Stamped as AnyEvent};
 ghost use Rattle.sloth_base.specs.Events.{is_boot};
-ghost use Rattle.sloth_base.specs.Stretches.{longest_stretch, Boots, stretch_limit};
+ghost use Rattle.sloth_base.specs.Stretches.{longest_stretch};
 ghost use Rattle.osek_scheduler.specs.InTime.{InTime};
 ghost use Rattle.trace_check.specs.Counts.{AreLinesInRange};
 ghost use Rattle.trace_check.specs.Timed.{HasFewClocks, TimedBy, is_late};
@@ -94,7 +93,7 @@ impl<'a> Timing<'a> {
             arrivals,
             pass: Pass::new(arrivals),
             admits: Vec::new(alloc),
-            most: boot_limit(config),
+            most: BOOT_INSTRUCTIONS,
             stopped: false,
         }
     }
@@ -140,24 +139,12 @@ impl<'a> Timing<'a> {
         if !are_admitted(alloc, front, &mut self.admits)? {
             return Ok(false);
         }
-        Ok(may_leave(
-            self.n,
-            self.most,
-            self.pass.ends(),
-            last_moment(front),
-            back,
-        ))
+        let ends = self.pass.ends();
+        let last = last_moment(front);
+        Ok(may_leave(self.n, self.most, ends, last, back))
     }
 }
 
-/// The most instructions of boot.
-pub fn boot_limit(_config: &Config) -> u32
-    ensures { result ≡ stretch_limit _config.now Boots }
-{
-    BOOT_INSTRUCTIONS
-}
-
-// How many alarms a counter has.
 fn alarm_count(config: &Config, counter: u32) -> usize
     ensures is { result ≡ alarms_of config.now counter }
     ensures few { result ≤ length config.now.alarms }
@@ -171,7 +158,6 @@ fn alarm_count(config: &Config, counter: u32) -> usize
     count
 }
 
-// The most alarms of one counter.
 fn most_alarms(config: &Config) -> usize
     requires { length config.now.counters ≤ counter_limit }
     ensures is { result ≡ most_alarms config.now }

@@ -14,7 +14,7 @@ use crate::Timing;
 use crate::late::next_event;
 use crate::walk::Walk;
 use sloth_base::declared_names::declared_names;
-use sloth_base::{App, Arrival, Config, DeclaredNames, NoMemory};
+use sloth_base::{App, Arrival, Config, DeclaredNames, Result};
 use std::alloc::Global;
 use text_pieces::behind;
 
@@ -38,7 +38,7 @@ fn judge_lines(
     walk: &mut Walk,
     timing: &mut Timing,
     text: &[u8],
-) -> Result<Verdict, NoMemory>
+) -> Result<Verdict>
     requires names { AreReadable names.now }
     requires rising { AreRisingMoments 1 timing.old.arrivals }
     requires lines { All (λ a. a.line < 4294967296) timing.old.arrivals }
@@ -75,7 +75,7 @@ pub fn check(
     arrivals: &[Arrival],
     text: &[u8],
     n: u32,
-) -> Result<Verdict, NoMemory>
+) -> Result<Verdict>
     requires well_formed { WellFormed config.now app.now }
     requires arrivals { AreArrivals (owners_in config.now) arrivals.now }
     requires short { length text.now < 4294967295 }

@@ -1,5 +1,6 @@
 //! Events followed along the abstract scheduler.
-ghost use Rattle.std.specs.Prelude.{◌≡◌, ◌<◌, ◌&&◌, ◌||◌, ◌==◌, ◌+◌, ◌∷◌, ◌++◌, [], not, IfOk, OnOk, OnErr, List, length, ltb, true, false};
+ghost use Rattle.std.specs.Prelude.{◌≡◌, ◌<◌, ◌&&◌, ◌||◌, ◌==◌, ◌+◌, ◌∷◌, ◌++◌, [], not, IfOk, OnOk, OnErr, List};
+ghost use Rattle.std.specs.Prelude.{length, ltb, true, false};
 ghost use Rattle.std.specs.Int.{bit_at};
 ghost use Rattle.sloth_base.specs.declared.app.App.{App as AnyApp};
 ghost use Rattle.sloth_base.specs.declared.config.Config.{Config as AnyConfig};
@@ -11,7 +12,8 @@ ghost use Rattle.osek_scheduler.specs.Steps.{OsekStep};
 ghost use Rattle.osek_scheduler.specs.Priority.{is_active};
 ghost use Rattle.osek_scheduler.specs.Services.{if_suspended};
 ghost use Rattle.trace_check.specs.Moments.{all_later, noted_moments};
-ghost use Rattle.trace_check.specs.Walk.{IsWalkEnd, IsWalked, IsWalkOrStray, IsWalkStep, event_passes, task_passes, with_moment};
+ghost use Rattle.trace_check.specs.Walk.{IsWalkEnd, IsWalked, IsWalkOrStray, IsWalkStep, event_passes, task_passes};
+ghost use Rattle.trace_check.specs.Walk.{with_moment};
 
 use osek_machine::{NotARun, Osek, is_active, is_suspended};
 use sloth_base::{App, Config, Event, LINE_COUNT, Result, Stamped, TaskId};
@@ -63,7 +65,6 @@ fn all_later(row: u32, moments: &[u32; LINE_COUNT], count: u32) -> bool
     true
 }
 
-// Keeps the moment of a task.
 fn keep(moments: &mut [u32; LINE_COUNT], note: Option<(u32, u32)>)
     ensures { moments.new ≡ with_moment note moments.old }
 {
@@ -142,7 +143,8 @@ impl<'t> Walk<'t> {
     fn note(&self, event: &Stamped) -> Option<(u32, u32)>
         ensures { (next : System)
             → OsekStep self.now.machine.config self.now.machine.app event.now.event self.now.machine.system next
-            → noted_moments event.now.event event.now.stamp.at self.now.machine.system self.now.moments ≡ with_moment result self.now.moments }
+            → noted_moments event.now.event event.now.stamp.at self.now.machine.system self.now.moments
+            ≡ with_moment result self.now.moments }
     {
         match event.event {
             Event::Admit(task) => {

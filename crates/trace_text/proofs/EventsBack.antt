@@ -52,7 +52,7 @@ module _ (tasks functions counters : List (List ℕ)) (named : AreNames tasks) (
 
   event_back : (e : Event) → HasEventNumbers (length tasks) (length functions) (length counters) e
       → event_in tasks functions counters (event_text tasks functions counters e) ≡ Some e
-  unfolding event_in bare_in named_in is_single single_in more_in is_byte_of
+  unfolding event_in bare_in named_in single_in more_in is_byte_of
   event_back event.Boot h = refl
   event_back (event.Due c) h = cut_there tasks functions counters named known (codes "admit") (name_of counters c) refl ∙ due_back c h
   event_back (event.Tick c) h = cut_there tasks functions counters named known (codes "tick") (name_of counters c) refl ∙ tick_back c h

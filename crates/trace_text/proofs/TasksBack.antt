@@ -181,7 +181,7 @@ module _ (tasks functions counters : List (List ℕ)) (named : AreNames tasks) (
 
   pub task_back : (e : Event) → HasEventNumbers (length tasks) (length functions) (length counters) e → is_some (named_task e) ≡ true
       → event_in tasks functions counters (event_text tasks functions counters e) ≡ Some e
-  unfolding event_in bare_in named_in is_single single_in more_in is_byte_of
+  unfolding event_in bare_in named_in single_in more_in is_byte_of
   task_back (event.Admit t) h named_one = cut_there (codes "admit") (name_of tasks t) refl ∙ admit_back t h
   task_back (event.Enter t) h named_one = cut_there (codes "enter") (name_of tasks t) refl ∙ alone (codes "enter") t h refl
   task_back (event.Run t f i r) h named_one =

@@ -70,7 +70,7 @@ more_in kind task functions text =
     else None
 
 -- the words tell of no more than a task
-unfoldable pub is_single : List ℕ → Bool
+abbrev pub is_single : List ℕ → Bool
 is_single kind = bytes_eq kind (codes "enter") || bytes_eq kind (codes "back")
 
 -- an event of a task, by its first word and the others

@@ -4,10 +4,11 @@ ghost use Rattle.sloth_base.specs.ImageRange.{AreNames, AreNamesApart};
 ghost use Rattle.sloth_base.specs.declared.service.Stamped.{Stamped as AnyEvent};
 ghost use Rattle.trace_text.specs.EventNumbers.{HasEventNumbers, IsNameNumber, IsNumberOrNone, Has32Bits};
 ghost use Rattle.trace_text.specs.EventLines.{IsLineOf, counted_line};
-ghost use Rattle.trace_text.specs.EventsRead.{admit_in, event_in, is_single, more_in, named_in, number, of_task, place, place_or_none, run_in, stamped_in};
+ghost use Rattle.trace_text.specs.EventsRead.{event_in, more_in, number, of_task, place, place_or_none};
+ghost use Rattle.trace_text.specs.EventsRead.{stamped_in};
 ghost use Rattle.trace_text.specs.EventWords.{bare_in, single_in};
 
-use crate::arrival_line::position;
+use crate::arrivals::position;
 use crate::{LineText, push_counts, push_event};
 use sloth_base::{Event, Name, Stamp, Stamped, service_named};
 use text_pieces::{before, behind, same, value};
@@ -31,7 +32,6 @@ fn number(word: &[u8]) -> Option<u32>
     Some(n as u32)
 }
 
-// The number of a name.
 #[tactic(auto, unfolding(crate::specs::EventsRead::place))]
 fn place(names: &[Name], word: &[u8]) -> Option<u32>
     ensures place { result ≡ place names.now word.now }
@@ -56,32 +56,24 @@ fn place_or_none(names: &[Name], word: &[u8]) -> Option<u32>
     place(names, word)
 }
 
-// A run of an item by a task.
-#[tactic(auto, unfolding(crate::specs::EventsRead::run_in))]
-fn run_event(task: u32, functions: &[Name], text: &[u8]) -> Option<Event>
-    ensures event { result ≡ run_in task functions.now text.now }
-    ensures numbers { (tasks counters : ℕ) → IsNumberOrNone tasks task → IfSome result (λ event. HasEventNumbers tasks (length functions.now) counters event) }
-{
-    let func = place(functions, before(text, b' '))?;
-    let others = behind(text, b' ');
-    let item = number(before(others, b' '))?;
-    let result = number(behind(others, b' '))?;
-    Some(Event::Run {
-        task,
-        func,
-        item,
-        result,
-    })
-}
-
 // An event of a task and of more, by its first word.
-#[tactic(auto, unfolding(crate::specs::EventsRead::more_in, crate::specs::EventsRead::call_in, crate::specs::EventsRead::left_in))]
+#[tactic(auto, unfolding(crate::specs::EventsRead::more_in, crate::specs::EventsRead::run_in, crate::specs::EventsRead::call_in, crate::specs::EventsRead::left_in))]
 fn further_event(kind: &[u8], task: u32, functions: &[Name], text: &[u8]) -> Option<Event>
     ensures event { result ≡ more_in kind.now task functions.now text.now }
-    ensures numbers { (tasks counters : ℕ) → IsNumberOrNone tasks task → IfSome result (λ event. HasEventNumbers tasks (length functions.now) counters event) }
+    ensures numbers { (tasks counters : ℕ) → IsNumberOrNone tasks task
+        → IfSome result (λ event. HasEventNumbers tasks (length functions.now) counters event) }
 {
     if same(kind, b"run") {
-        return run_event(task, functions, text);
+        let func = place(functions, before(text, b' '))?;
+        let others = behind(text, b' ');
+        let item = number(before(others, b' '))?;
+        let result = number(behind(others, b' '))?;
+        return Some(Event::Run {
+            task,
+            func,
+            item,
+            result,
+        });
     }
     if same(kind, b"call") {
         let service = service_named(before(text, b' '))?;
@@ -99,79 +91,55 @@ fn further_event(kind: &[u8], task: u32, functions: &[Name], text: &[u8]) -> Opt
     None
 }
 
-// Whether an event with this first word tells of no more than a task.
-#[tactic(auto, unfolding(crate::specs::EventsRead::is_single))]
-fn is_single(kind: &[u8]) -> bool
-    ensures { result ≡ is_single kind.now }
-{
-    same(kind, b"enter") || same(kind, b"back")
-}
-
 // An event of a task, by its first word and the others.
-#[tactic(auto, unfolding(crate::specs::EventsRead::of_task))]
+#[tactic(auto, unfolding(crate::specs::EventsRead::of_task, crate::specs::EventWords::single_in))]
 fn task_event(tasks: &[Name], functions: &[Name], kind: &[u8], text: &[u8]) -> Option<Event>
     ensures event { result ≡ of_task tasks.now functions.now kind.now text.now }
-    ensures numbers { (counters : ℕ) → IfSome result (λ event. HasEventNumbers (length tasks.now) (length functions.now) counters event) }
+    ensures numbers { (counters : ℕ)
+        → IfSome result (λ event. HasEventNumbers (length tasks.now) (length functions.now) counters event) }
 {
-    if is_single(kind) {
+    if same(kind, b"enter") {
         let task = place_or_none(tasks, text)?;
-        return single_event(kind, task);
+        return Some(Event::Enter(task));
+    }
+    if same(kind, b"back") {
+        let task = place_or_none(tasks, text)?;
+        return Some(Event::Back(task));
     }
     let task = place_or_none(tasks, before(text, b' '))?;
     further_event(kind, task, functions, behind(text, b' '))
 }
 
-// The admission of the task or the counter of a name.
-#[tactic(auto, unfolding(crate::specs::EventsRead::admit_in))]
-fn admission(tasks: &[Name], counters: &[Name], text: &[u8]) -> Option<Event>
-    ensures event { result ≡ admit_in tasks.now counters.now text.now }
-    ensures numbers { (functions : ℕ) → IfSome result (λ event. HasEventNumbers (length tasks.now) functions (length counters.now) event) }
-{
-    if let Some(task) = place_or_none(tasks, text) {
-        return Some(Event::Admit(task));
-    }
-    let counter = place(counters, text)?;
-    Some(Event::Due(counter))
-}
-
-// An event of a task or a counter, by its first word and the others.
-#[tactic(auto, unfolding(crate::specs::EventsRead::named_in, crate::specs::EventsRead::tick_in))]
-fn named_event(
-    tasks: &[Name],
-    functions: &[Name],
-    counters: &[Name],
-    kind: &[u8],
-    text: &[u8],
-) -> Option<Event>
-    ensures event { result ≡ named_in tasks.now functions.now counters.now kind.now text.now }
-    ensures numbers { IfSome result (λ event. HasEventNumbers (length tasks.now) (length functions.now) (length counters.now) event) }
-{
-    if same(kind, b"admit") {
-        return admission(tasks, counters, text);
-    }
-    if same(kind, b"tick") {
-        let counter = place_or_none(counters, text)?;
-        return Some(Event::Tick(counter));
-    }
-    task_event(tasks, functions, kind, text)
-}
-
 // The one event that these words may show.
-#[tactic(auto, unfolding(crate::specs::EventsRead::event_in))]
+#[tactic(auto, unfolding(crate::specs::EventWords::bare_in, crate::specs::EventsRead::event_in, crate::specs::EventsRead::named_in, crate::specs::EventsRead::admit_in, crate::specs::EventsRead::tick_in))]
 fn any_event(tasks: &[Name], functions: &[Name], counters: &[Name], text: &[u8]) -> Option<Event>
     ensures event { result ≡ event_in tasks.now functions.now counters.now text.now }
-    ensures numbers { IfSome result (λ event. HasEventNumbers (length tasks.now) (length functions.now) (length counters.now) event) }
+    ensures numbers { IfSome result
+        (λ event. HasEventNumbers (length tasks.now) (length functions.now) (length counters.now) event) }
 {
-    if let Some(event) = bare_event(text) {
-        return Some(event);
+    if same(text, b"boot") {
+        return Some(Event::Boot);
     }
-    named_event(
-        tasks,
-        functions,
-        counters,
-        before(text, b' '),
-        behind(text, b' '),
-    )
+    if same(text, b"idle") {
+        return Some(Event::Idle);
+    }
+    if same(text, b"stray") {
+        return Some(Event::Stray);
+    }
+    let kind = before(text, b' ');
+    let others = behind(text, b' ');
+    if same(kind, b"admit") {
+        if let Some(task) = place_or_none(tasks, others) {
+            return Some(Event::Admit(task));
+        }
+        let counter = place(counters, others)?;
+        return Some(Event::Due(counter));
+    }
+    if same(kind, b"tick") {
+        let counter = place_or_none(counters, others)?;
+        return Some(Event::Tick(counter));
+    }
+    task_event(tasks, functions, kind, others)
 }
 
 // The one event that a counted line may show.
@@ -180,7 +148,8 @@ fn stamped(tasks: &[Name], functions: &[Name], counters: &[Name], text: &[u8]) -
     ensures event { result ≡ stamped_in tasks.now functions.now counters.now text.now }
     ensures from { IfSome result (λ e. Has32Bits e.stamp.from) }
     ensures at { IfSome result (λ e. Has32Bits e.stamp.at) }
-    ensures numbers { IfSome result (λ e. HasEventNumbers (length tasks.now) (length functions.now) (length counters.now) e.event) }
+    ensures numbers { IfSome result
+        (λ e. HasEventNumbers (length tasks.now) (length functions.now) (length counters.now) e.event) }
 {
     let from = number(before(text, b' '))?;
     let others = behind(text, b' ');
@@ -192,7 +161,6 @@ fn stamped(tasks: &[Name], functions: &[Name], counters: &[Name], text: &[u8]) -
     })
 }
 
-// The counted line of an event.
 fn counted_line(tasks: &[Name], functions: &[Name], counters: &[Name], event: &Stamped) -> LineText
     requires tasks { AreNames tasks.now }
     requires functions { AreNames functions.now }
@@ -222,37 +190,4 @@ pub fn read_line(text: &[u8], tasks: &[Name], funcs: &[Name], counters: &[Name])
         return None;
     }
     Some(event)
-}
-
-/// An event that is one word.
-#[tactic(auto, unfolding(crate::specs::EventWords::bare_in))]
-pub fn bare_event(text: &[u8]) -> Option<Event>
-    ensures event { result ≡ bare_in text.now }
-    ensures numbers { (tasks functions counters : ℕ) → IfSome result (λ event. HasEventNumbers tasks functions counters event) }
-{
-    if same(text, b"boot") {
-        return Some(Event::Boot);
-    }
-    if same(text, b"idle") {
-        return Some(Event::Idle);
-    }
-    if same(text, b"stray") {
-        return Some(Event::Stray);
-    }
-    None
-}
-
-/// An event of a task alone, by its first word.
-#[tactic(auto, unfolding(crate::specs::EventWords::single_in))]
-pub fn single_event(kind: &[u8], task: u32) -> Option<Event>
-    ensures event { result ≡ single_in kind.now task }
-    ensures numbers { (tasks functions counters : ℕ) → IsNumberOrNone tasks task → IfSome result (λ event. HasEventNumbers tasks functions counters event) }
-{
-    if same(kind, b"enter") {
-        return Some(Event::Enter(task));
-    }
-    if same(kind, b"back") {
-        return Some(Event::Back(task));
-    }
-    None
 }

@@ -1,11 +1,16 @@
-//! Lines of listings.
-ghost use Rattle.std.specs.Prelude.{◌≡◌, ◌+◌, ◌≤◌, ◌/◌, ◌++◌, length, decimal};
+//! Lines of listings. The words of marks.
+ghost use Rattle.std.specs.Prelude.{◌≡◌, ◌+◌, ◌≤◌, ◌/◌, ◌++◌, length, decimal, ℕ, codes};
 ghost use Rattle.hex.specs.Hex.{encode_lower};
 ghost use Rattle.sloth_base.specs.ImageRange.{InFormat, AreAscending};
 ghost use Rattle.trace_text.specs.Listing.{line_at, mark_on, sizes_line, word_bytes, word_line};
+ghost use Rattle.sloth_base.specs.ServiceCodes.{service_of};
+ghost use Rattle.sloth_base.specs.Limits.{name_limit};
+ghost use Rattle.trace_text.specs.EventWords.{name_of};
+ghost use Rattle.trace_text.specs.MarkWords.{called_text, mark_text};
 
-use crate::{LineText, push_mark};
-use sloth_base::{Image, MEMORY_BASE, Mark};
+use crate::LineText;
+use crate::events::{push_counted, push_name};
+use sloth_base::{Image, MEMORY_BASE, Mark, MarkKind, Name, Service};
 
 /// Line k of an image's listing, from 0, without its LF: how many tasks, functions, bytes and marks there are; then
 /// each word of memory with its address, and what its mark says. k is at most the number of words.
@@ -24,17 +29,6 @@ pub fn listing_line(image: &Image, k: u32) -> LineText
     line
 }
 
-// Appends a word and a number.
-fn push_counted(line: &mut LineText, word: &[u8], number: u32)
-    requires { length line.old + length word.now + 10 ≤ 256 }
-    ensures counted { line.new ≡ line.old ++ (word.now ++ decimal number) }
-    ensures short { length line.new ≤ length line.old + length word.now + 10 }
-{
-    line.push(word);
-    line.push_number(number);
-}
-
-// Appends the numbers of the image.
 fn push_sizes(line: &mut LineText, image: &Image)
     requires format { InFormat image.now }
     requires room { length line.old ≤ 128 }
@@ -74,7 +68,6 @@ fn push_bytes(line: &mut LineText, memory: &[u8], at: usize)
     line.push_hex([memory[at + 3], memory[at + 2], memory[at + 1], memory[at]]);
 }
 
-// The mark on the word of an address.
 fn word_mark(marks: &[Mark], address: u32) -> Option<Mark>
     requires { AreAscending marks.now }
     ensures { result ≡ mark_on marks.now address }
@@ -82,5 +75,49 @@ fn word_mark(marks: &[Mark], address: u32) -> Option<Mark>
     match marks.binary_search_by_key(&address, |mark| mark.address) {
         Ok(place) => Some(marks[place]),
         Err(_) => None,
+    }
+}
+
+/// Appends what a mark says.
+pub fn push_mark(line: &mut LineText, functions: &[Name], mark: &Mark)
+    requires names { (k : ℕ) → length (name_of functions.now k) ≤ name_limit }
+    requires room { length line.old ≤ 150 }
+    ensures mark { line.new ≡ line.old ++ mark_text functions.now mark.now }
+    ensures short { length line.new ≤ length line.old + 84 }
+{
+    match mark.kind {
+        MarkKind::Item => push_place(line, b" item ", functions, mark),
+        MarkKind::Jump => push_place(line, b" service ", functions, mark),
+        MarkKind::Opening => {
+            line.push(b" opening ");
+            push_service(line, mark.a);
+        }
+        MarkKind::Idle => line.push(b" idle"),
+        MarkKind::Back => line.push(b" back"),
+    }
+}
+
+fn push_place(line: &mut LineText, word: &[u8], functions: &[Name], mark: &Mark)
+    requires names { (k : ℕ) → length (name_of functions.now k) ≤ name_limit }
+    requires word { length word.now ≤ 9 }
+    requires room { length line.old ≤ 150 }
+    ensures place { line.new ≡ line.old
+        ++ (word.now ++ name_of functions.now mark.now.b ++ codes " " ++ decimal mark.now.c) }
+    ensures short { length line.new ≤ length line.old + 84 }
+{
+    line.push(word);
+    push_name(line, functions, u32::from(mark.b));
+    line.push(b" ");
+    line.push_number(mark.c);
+}
+
+fn push_service(line: &mut LineText, code: u8)
+    requires room { length line.old ≤ 200 }
+    ensures service { line.new ≡ line.old ++ called_text (service_of code) }
+    ensures short { length line.new ≤ length line.old + 15 }
+{
+    match Service::from_code(code) {
+        Some(service) => line.push(service.name()),
+        None => line.push(b"-"),
     }
 }

@@ -2,7 +2,7 @@
 ghost use Rattle.std.specs.Prelude.{◌≡◌, ◌<◌, ◌≤◌, length, ◌+◌, ◌++◌};
 ghost use Rattle.trace_text.specs.Summary.{kind_word, kind_line};
 ghost use Rattle.trace_text.specs.MarkWords.{word_text};
-ghost use Rattle.trace_text.specs.StopLine.{cause_text, stopped_line};
+ghost use Rattle.trace_text.specs.StopLine.{stopped_line};
 ghost use Rattle.sloth_base.specs.ImageRange.{InFormat};
 ghost use Rattle.trace_text.specs.Lines.{counts_text, line_of};
 
@@ -14,7 +14,6 @@ use sloth_base::{Image, Stamped};
 /// How many kinds of events there are.
 pub const KINDS: usize = 10;
 
-// The word of a kind.
 #[tactic(auto, unfolding(crate::specs::Summary::kind_word))]
 fn kind_word(kind: usize) -> &'static [u8]
     ensures is { result.now ≡ kind_word kind }
@@ -59,21 +58,6 @@ fn push_numbered(line: &mut LineText, cause: &[u8], number: u32)
     line.push_word(number);
 }
 
-// Appends why the machine stopped.
-fn push_cause(line: &mut LineText, stop: Stop)
-    requires { length line.old ≤ 100 }
-    ensures cause { line.new ≡ line.old ++ cause_text stop }
-    ensures short { length line.new ≤ length line.old + 19 }
-{
-    match stop {
-        Stop::Fetch(_) => line.push(b"fetch"),
-        Stop::Illegal(word) => push_numbered(line, b"illegal ", word),
-        Stop::Environment => line.push(b"environment"),
-        Stop::Misaligned(address) => push_numbered(line, b"misaligned ", address),
-        Stop::Access(address) => push_numbered(line, b"access ", address),
-    }
-}
-
 /// The line of a run that stopped: the address of the instruction that was not executed, and why.
 pub fn stopped_line(pc: u32, stop: Stop) -> LineText
     ensures { result ≡ stopped_line pc stop }
@@ -82,7 +66,13 @@ pub fn stopped_line(pc: u32, stop: Stop) -> LineText
     line.push(b"stopped ");
     line.push_word(pc);
     line.push(b" ");
-    push_cause(&mut line, stop);
+    match stop {
+        Stop::Fetch(_) => line.push(b"fetch"),
+        Stop::Illegal(word) => push_numbered(&mut line, b"illegal ", word),
+        Stop::Environment => line.push(b"environment"),
+        Stop::Misaligned(address) => push_numbered(&mut line, b"misaligned ", address),
+        Stop::Access(address) => push_numbered(&mut line, b"access ", address),
+    }
     line.push(b"\n");
     line
 }
@@ -104,13 +94,10 @@ pub fn print(event: &Stamped, form: Form, image: &Image) -> LineText
     if form == Form::Counted {
         push_counts(&mut line, event);
     }
-    push_event(
-        &mut line,
-        &event.event,
-        image.tasks.items(),
-        image.funcs.items(),
-        image.counters.items(),
-    );
+    let tasks = image.tasks.items();
+    let functions = image.funcs.items();
+    let counters = image.counters.items();
+    push_event(&mut line, &event.event, tasks, functions, counters);
     line
 }
 

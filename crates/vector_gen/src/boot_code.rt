@@ -1,22 +1,25 @@
 //! Boot: the levels and enable bytes of the lines of tasks and counters, and the first activations.
-//! The idle loop: one word that jumps to itself, with interrupts open.
+//! The idle loop: one word that jumps to itself, with interrupts open. The vector words: for each line a jump to its
+//! handler.
 ghost use Rattle.std.specs.Prelude.{ℕ, ◌^◌, slice_index, ◌≡◌, ◌++◌, [], ◌<◌, ◌≤◌, IfOk, OnOk, length, ◌∷◌};
-ghost use Rattle.sloth_base.specs.MemoryMap.{boot_base, line_count};
+ghost use Rattle.sloth_base.specs.MemoryMap.{boot_base, vectors_base, line_count};
 ghost use Rattle.sloth_base.specs.ConfigRange.{InRange};
 ghost use Rattle.code_lengths.specs.CodeLengths.{boot_length};
-ghost use Rattle.vector_gen.specs.Boot.{register_code, line_start_code, lines_code, counters_code, finishing_code, IsBootCode};
+ghost use Rattle.vector_gen.specs.Boot.{register_code, line_start_code, lines_code, counters_code, finishing_code};
+ghost use Rattle.vector_gen.specs.Boot.{IsBootCode};
 ghost use Rattle.sloth_base.specs.Owners.{first_counter_line};
 ghost use Rattle.sloth_base.specs.Limits.{task_limit, counter_limit, level_count};
+ghost use Rattle.vector_gen.specs.Vectors.{AreInReach, AreJumps, StepToHandlers};
 ghost use Rattle.vector_gen.specs.Idle.{idle_mark, IsIdleCode};
 
-use block_parts::{counter_level, raise_autostarted, stay};
+use block_parts::{counter_level, jump, raise_autostarted, stay};
 use masked_code::put;
 use rv32_instr::{
     Block, Instr, MEPC, MPIE, MSTATUS, X1, X2, X3, X4, ZERO, addi, csrrw, hi, lo, lui, mret, sb,
 };
 use sloth_base::{
-    BOOT_BASE, Config, CounterDecl, FIRST_COUNTER_LINE, Levels, List, Mark, MarkKind, NoMemory,
-    Result, TASK_LIMIT, TaskDecl,
+    BOOT_BASE, Config, CounterDecl, FIRST_COUNTER_LINE, LINE_COUNT, Levels, List, Mark, MarkKind,
+    NoMemory, Result, TASK_LIMIT, TaskDecl, VECTORS_BASE,
 };
 use sloth_region::{
     CONTEXT_BYTES, CONTROLLER_HIGH, IDLE_CONTEXT, Map, WORDS_HIGH, enabled_byte, level_byte,
@@ -126,5 +129,26 @@ pub fn idle(alloc: Global, map: &Map) -> Result<Block>
         at: map.idle,
         code: List::from_vec(code),
         marks: List::from_vec(marks),
+    })
+}
+
+/// The 32 vector words.
+pub fn vectors(alloc: Global, map: &Map) -> Result<Block>
+    requires { AreInReach map.now.handlers }
+    ensures at { IfOk result (λ block. block.at ≡ vectors_base) }
+    ensures marks { IfOk result (λ block. block.marks ≡ []) }
+    ensures size { IfOk result (λ block. length block.code ≤ 256) }
+    ensures effect { IfOk result (λ block. AreJumps line_count map.now.handlers block.code) }
+    ensures steps { IfOk result (λ block. StepToHandlers map.now.handlers block.code) }
+{
+    let mut code = Vec::new(alloc);
+    for line in 0..LINE_COUNT as u32 {
+        let from = VECTORS_BASE + 4 * line;
+        put!(&mut code; jump(from, map.handlers[line as usize]))?;
+    }
+    Ok(Block {
+        at: VECTORS_BASE,
+        code: List::from_vec(code),
+        marks: List::from_vec(Vec::new(alloc)),
     })
 }

@@ -10,10 +10,7 @@
 #![tactic(auto)]
 
 mod boot_code;
-mod fresh;
 mod prologue_block;
-mod vector_words;
 
-pub use boot_code::{boot, idle};
+pub use boot_code::{boot, idle, vectors};
 pub use prologue_block::prologue;
-pub use vector_words::vectors;

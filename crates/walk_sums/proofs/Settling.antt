@@ -1,5 +1,5 @@
 -- A table whose entries grow until none is less than what the ways of its node say.
-use Rattle.std.proofs.Common.{◌≡◌, ℕ, ◌+◌, ◌-◌, ◌<◌, ◌≤◌, ◌⊎◌, inl, inr, Bool, true, false, List, [], ◌∷◌, length, get_or, set, min, sym, ◌∙◌, subst, arith}
+use Rattle.std.proofs.Common.{◌≡◌, ℕ, zero, suc, ◌+◌, ◌-◌, ◌<◌, ◌≤◌, ◌⊎◌, inl, inr, Bool, true, false, List, [], ◌∷◌, length, get_or, set, replicate, min, refl, sym, ◌∙◌, subst, arith}
 use Rattle.std.proofs.lemmas.Bool.{cases_eq}
 use Rattle.std.proofs.lemmas.List.{get_or-set_same, get_or-set_other, length-set}
 use Rattle.std.proofs.lemmas.List.Sums.{sum_by-set}
@@ -98,3 +98,9 @@ module _ (ways : List Ways) (steps ends : List ℕ) where
       by : (i : ℕ) → node ≤ i → i < length ways → (i ≡ node) ⊎ (i ≡ node → ⊥) → longest_from ways table steps ends i ≤ get_or table i 0
       by i from lt (inl here) = subst (λ k. longest_from ways table steps ends k ≤ get_or table k 0) (sym here) le
       by i from lt (inr n) = g.1 i (omega (arith, from, e, n)) lt
+
+-- a list of one number has nothing else
+pub all_default : (x n i : ℕ) → get_or (replicate n x) i x ≡ x
+all_default x zero i = refl
+all_default x (suc n) zero = refl
+all_default x (suc n) (suc i) = all_default x n i

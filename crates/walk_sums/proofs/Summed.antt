@@ -1,7 +1,7 @@
 -- The summary of a body is right, where those of the functions that it calls are.
 use Rattle.std.proofs.Common.{◌≡◌, ℕ, zero, suc, ◌+◌, ◌-◌, ◌<◌, ◌≤◌, ◌⊎◌, inl, inr, Bool, true, false, ltb, ◌&&◌, List, length, get_or, cond, min, max, Option, None, refl, ap, sym, ◌∙◌, subst, arith, ⊎_elim}
 use Rattle.std.specs.Prelude.{MatchBool}
-use Rattle.std.proofs.lemmas.Bool.{cases_lt, true≢false, false≢true, and_parts, lt-ltb, ltb-true, cases_Bool}
+use Rattle.std.proofs.lemmas.Bool.{cases_lt, true≢false, false≢true, lt-ltb, ltb-true, cases_Bool}
 use Rattle.sloth_base.specs.declared.config.Config.{Config}
 use Rattle.sloth_base.specs.declared.app.App.{App}
 use Rattle.sloth_base.specs.declared.app.Op.{Op}
@@ -16,9 +16,9 @@ use Rattle.bound_rules.specs.declared.bound.Summary.{Summary}
 use Rattle.bound_rules.specs.Items.{reaches_level}
 use Rattle.bound_rules.specs.declared.weights.BodyWeights.{BodyWeights}
 use Rattle.bound_rules.specs.Weights.{joined}
-use Rattle.bound_rules.specs.Summaries.{summary_of}
+use Rattle.bound_rules.specs.Summaries.{summary_of, unknown}
 use Rattle.walk_sums.specs.Activations.{is_raised, called_level, level_behind, ReachesItem, reaches_first, ReachesCall, IsRaisedCall}
-use Rattle.walk_sums.specs.Computed.{KnownBody, known_body_of, callee, endless_call, calls_endless, begun, called_most, most_at, most_of, joined_both, called_out, out_at, out_of}
+use Rattle.walk_sums.specs.Computed.{KnownBody, known_body_of, callee, called_summary, calls_endless, begun, called_most, most_at, most_of, joined_both, called_out, out_at, out_of}
 use Rattle.walk_sums.specs.KnownBodies.{IsKnownBody}
 use Rattle.walk_sums.proofs.KnownRaised.{known_raised}
 use Rattle.walk_sums.proofs.Counting.{any_is, none_is}
@@ -83,13 +83,17 @@ module _ (config : Config) (app : App) (weights : List BodyWeights) (kind : Kind
 
   -- ---- a call of a function in which parts have no limit
 
-  is_endless_call : (i : ℕ) (o : Op) → endless_call K i o ≡ true → (g : ℕ) × (o ≡ op.Invoke g) × (get_or body.reached i false ≡ true) × ((callee K i g).is_endless ≡ true)
-  is_endless_call i (op.Invoke g) e = let both = and_parts (get_or body.reached i false) (callee K i g).is_endless e in (g, refl, both.0, both.1)
+  both_so : (b : Bool) (s : Summary) → (cond b s unknown).is_endless ≡ true → (b ≡ true) × (s.is_endless ≡ true)
+  both_so true s e = (refl, e)
+  both_so false s e = absurd (false≢true e)
+
+  is_endless_call : (i : ℕ) (o : Op) → (called_summary K i o).is_endless ≡ true → (g : ℕ) × (o ≡ op.Invoke g) × (get_or body.reached i false ≡ true) × ((callee K i g).is_endless ≡ true)
+  is_endless_call i (op.Invoke g) e = let both = both_so (get_or body.reached i false) (callee K i g) e in (g, refl, both.0, both.1)
   is_endless_call i _ e = absurd (false≢true e)
 
   pub endless_callee : IsSummed weights kind level → calls_endless K ≡ true → IsEndless config app weights kind level f
   endless_callee summed e n =
-      let at = any_is (length (function app f).items) (λ i. endless_call K i (operation app f i)) e in
+      let at = any_is (length (function app f).items) (λ i. (called_summary K i (operation app f i)).is_endless) e in
       let c = is_endless_call at.0 (operation app f at.0) at.2 in
       let item : IsItem app f at.0 (op.Invoke c.0) = record { known = there; inside = at.1; is = c.1 } in
       let P : Bool → Type 0 = λ b. MatchBool b (IsEndless config app weights kind (Level at.0) c.0) (IsExact config app weights kind (Level at.0) c.0 (callee K at.0 c.0)) in
@@ -102,14 +106,14 @@ module _ (config : Config) (app : App) (weights : List BodyWeights) (kind : Kind
     -- the summary of a function that is called at a reached item tells the greatest sizes
     pub exact : (i g : ℕ) → ReachesCall app f i g → IsExact config app weights kind (Level i) g (callee K i g)
     exact i g c =
-        let none = none_is (length (function app f).items) (λ i. endless_call K i (operation app f i)) bounded i c.item.inside in
-        let e : endless_call K i (op.Invoke g) ≡ false = sym (ap (endless_call K i) c.item.is) ∙ none in
+        let none = none_is (length (function app f).items) (λ i. (called_summary K i (operation app f i)).is_endless) bounded i c.item.inside in
+        let e : (called_summary K i (op.Invoke g)).is_endless ≡ false = sym (ap (λ (o : Op). (called_summary K i o).is_endless) c.item.is) ∙ none in
         let P : Bool → Type 0 = λ b. MatchBool b (IsEndless config app weights kind (Level i) g) (IsExact config app weights kind (Level i) g (callee K i g)) in
-        subst P (second (get_or body.reached i false) (callee K i g).is_endless ((is_body.reached i).1 c.reached) e) (callee_is i g c.item)
+        subst P (second (get_or body.reached i false) (callee K i g) ((is_body.reached i).1 c.reached) e) (callee_is i g c.item)
       where
-        second : (a b : Bool) → a ≡ true → (a && b) ≡ false → b ≡ false
-        second true b e f = f
-        second false b e f = absurd (false≢true e)
+        second : (b : Bool) (s : Summary) → b ≡ true → (cond b s unknown).is_endless ≡ false → s.is_endless ≡ false
+        second true s e f = f
+        second false s e f = absurd (false≢true e)
 
     -- where the task is raised it is that of the functions that are called so
     entered : (i g : ℕ) → ReachesItem app f i → IsRaisedCall config app level f i g → IsExact config app weights kind None g (summary_of whole g)
@@ -237,13 +241,13 @@ module _ (config : Config) (app : App) (weights : List BodyWeights) (kind : Kind
           → called_most K z.on i (operation app f i) ≡ max (callee K i g).most (joined_both (callee K i g).out (get_or z.on (i + 1) 0))
       called_most_is i g c =
           ap (called_most K z.on i) c.item.is
-          ∙ ap (λ b. cond b (max (callee K i g).most (joined_both (callee K i g).out (get_or z.on (i + 1) 0))) 0) ((is_body.reached i).1 c.reached)
+          ∙ ap (λ b. max (cond b (callee K i g) unknown).most (joined_both (cond b (callee K i g) unknown).out (get_or z.on (i + 1) 0))) ((is_body.reached i).1 c.reached)
 
       called_out_is : (i g : ℕ) → ReachesCall app f i g
           → called_out K z.back i (operation app f i) ≡ joined_both (callee K i g).out (get_or z.back (i + 1) 0)
       called_out_is i g c =
           ap (called_out K z.back i) c.item.is
-          ∙ ap (λ b. cond b (joined_both (callee K i g).out (get_or z.back (i + 1) 0)) 0) ((is_body.reached i).1 c.reached)
+          ∙ ap (λ b. joined_both (cond b (callee K i g) unknown).out (get_or z.back (i + 1) 0)) ((is_body.reached i).1 c.reached)
 
       pub most_is : IsGreatestPart (SumsWithin config app weights kind level f) (most_of K kind z.on)
       most_is = record { none_larger = larger; attained = attains }
@@ -305,12 +309,12 @@ module _ (config : Config) (app : App) (weights : List BodyWeights) (kind : Kind
               by true r = (
                 g,
                 record { reached = (is_body.reached i).0 r; item = record { known = there; inside = lt; is = e } },
-                ap (λ b. cond b (max (callee K i g).most (joined_both (callee K i g).out (get_or z.on (i + 1) 0))) 0) r,
+                ap (λ b. max (cond b (callee K i g) unknown).most (joined_both (cond b (callee K i g) unknown).out (get_or z.on (i + 1) 0))) r,
               )
               by false r =
-                  let none : called_most K z.on i (op.Invoke g) ≡ 0 = ap (λ b. cond b (max (callee K i g).most (joined_both (callee K i g).out (get_or z.on (i + 1) 0))) 0) r in
+                  let none : called_most K z.on i (op.Invoke g) ≡ 0 = ap (λ b. max (cond b (callee K i g) unknown).most (joined_both (cond b (callee K i g) unknown).out (get_or z.on (i + 1) 0))) r in
                   absurd (omega (arith, none, pos))
-          adding i _ lt e pos = absurd (omega (arith, pos))
+          adding i _ lt e pos = let none : 0 < 0 = pos in absurd (omega (arith, none))
 
           from_call : (i g : ℕ) → ReachesCall app f i g → 0 < max (callee K i g).most (joined_both (callee K i g).out (get_or z.on (i + 1) 0))
               → AttainsWithin (max (callee K i g).most (joined_both (callee K i g).out (get_or z.on (i + 1) 0)))
@@ -382,12 +386,12 @@ module _ (config : Config) (app : App) (weights : List BodyWeights) (kind : Kind
               by true r = (
                 g,
                 record { reached = (is_body.reached i).0 r; item = record { known = there; inside = lt; is = e } },
-                ap (λ b. cond b (joined_both (callee K i g).out (get_or z.back (i + 1) 0)) 0) r,
+                ap (λ b. joined_both (cond b (callee K i g) unknown).out (get_or z.back (i + 1) 0)) r,
               )
               by false r =
-                  let none : called_out K z.back i (op.Invoke g) ≡ 0 = ap (λ b. cond b (joined_both (callee K i g).out (get_or z.back (i + 1) 0)) 0) r in
+                  let none : called_out K z.back i (op.Invoke g) ≡ 0 = ap (λ b. joined_both (cond b (callee K i g) unknown).out (get_or z.back (i + 1) 0)) r in
                   absurd (omega (arith, none, pos))
-          adding i _ lt e pos = absurd (omega (arith, pos))
+          adding i _ lt e pos = let none : 0 < 0 = pos in absurd (omega (arith, none))
 
           from_call : (i g : ℕ) → ReachesCall app f i g → 0 < joined_both (callee K i g).out (get_or z.back (i + 1) 0) → AttainsOut (joined_both (callee K i g).out (get_or z.back (i + 1) 0))
           from_call i g c pos =

@@ -9,7 +9,7 @@ use Rattle.call_graph.specs.Tables.{max_below}
 use Rattle.bound_rules.specs.declared.bound.Body.{Body}
 use Rattle.bound_rules.specs.declared.bound.Summary.{Summary}
 use Rattle.bound_rules.specs.Items.{reaches_level, callee_of}
-use Rattle.bound_rules.specs.Summaries.{summary_of}
+use Rattle.bound_rules.specs.Summaries.{summary_of, unknown}
 use Rattle.bound_rules.specs.Weights.{joined}
 use Rattle.walk_sums.specs.declared.kinds.Kind.{Kind}
 use Rattle.walk_sums.specs.Kinds.{may_begin}
@@ -37,14 +37,14 @@ is_alive body level i = get_or body.reached i false && reaches_level level (get_
 abbrev pub callee : KnownBody → (i g : ℕ) → Summary
 callee k i g = callee_of k.body k.level k.whole k.own i g
 
--- the call of function g that is item i, if it is reached: whether it is one of a function in which parts have no limit
-abbrev pub endless_call : KnownBody → ℕ → Op → Bool
-endless_call k i (op.Invoke g) = get_or k.body.reached i false && (callee k i g).is_endless
-endless_call k i o = false
+-- that of what item i calls, if it is reached; of which nothing is known, where it calls nothing
+abbrev pub called_summary : KnownBody → ℕ → Op → Summary
+called_summary k i (op.Invoke g) = cond (get_or k.body.reached i false) (callee k i g) unknown
+called_summary k i o = unknown
 
--- some reached call is
+-- some reached call is of a function in which parts have no limit
 abbrev pub calls_endless : KnownBody → Bool
-calls_endless k = any_below (length k.func.items) (λ i. endless_call k i (item_of k.func i).op)
+calls_endless k = any_below (length k.func.items) (λ i. (called_summary k i (item_of k.func i).op).is_endless)
 
 -- ---- sizes
 
@@ -73,9 +73,7 @@ joined_both one other = cond (ltb 0 one && ltb 0 other) (joined one (other - 1))
 
 -- the greatest size of a part that begins in the function that item i calls, where it is reached; by the sizes of parts from each item on
 abbrev pub called_most : KnownBody → List ℕ → ℕ → Op → ℕ
-called_most k on i (op.Invoke g) =
-    cond (get_or k.body.reached i false) (max (callee k i g).most (joined_both (callee k i g).out (get_or on (i + 1) 0))) 0
-called_most k on i o = 0
+called_most k on i o = max (called_summary k i o).most (joined_both (called_summary k i o).out (get_or on (i + 1) 0))
 
 -- the size of a part from item i, where one may begin
 abbrev pub begun : KnownBody → Kind → List ℕ → ℕ → ℕ
@@ -91,8 +89,7 @@ most_of k kind on = max_below (length k.func.items) (most_at k kind on)
 
 -- the same of a part that ends with the body's `ret`
 abbrev pub called_out : KnownBody → List ℕ → ℕ → Op → ℕ
-called_out k back i (op.Invoke g) = cond (get_or k.body.reached i false) (joined_both (callee k i g).out (get_or back (i + 1) 0)) 0
-called_out k back i o = 0
+called_out k back i o = joined_both (called_summary k i o).out (get_or back (i + 1) 0)
 
 abbrev pub out_at : KnownBody → Kind → List ℕ → ℕ → ℕ
 out_at k kind back i = max (begun k kind back i) (called_out k back i (item_of k.func i).op)

@@ -1,6 +1,6 @@
 //! What is known of each body before any level: which items walks reach, and the ceilings before them.
 //! Which tasks are not preemptable and reach no Schedule (OSEK OS 2.2.3, section 13.2.3.4).
-ghost use Rattle.std.specs.Prelude.{◌≡◌, ◌<◌, ◌↔◌, ℕ, false, length, get_or, Decides, IfOk, not, None};
+ghost use Rattle.std.specs.Prelude.{◌≡◌, ◌<◌, ◌↔◌, ℕ, false, length, get_or, Decides, IfOk, not};
 ghost use Rattle.sloth_base.specs.Named.{item_of, function};
 ghost use Rattle.code_rules.specs.WellFormed.{WellFormed};
 ghost use Rattle.osek_blocking.specs.Walks.{chains_itself};
@@ -9,19 +9,14 @@ ghost use Rattle.walk_sums.specs.Activations.{ReachesItem, CanReturn};
 ghost use Rattle.walk_sums.specs.CallOrder.{IsCallOrder};
 ghost use Rattle.walk_sums.specs.KnownBodies.{returns_of, is_return, IsKnownBody, AreKnownBodies, KnowsReturns};
 ghost use Rattle.walk_sums.specs.Ceilings.{AreResourceCeilings};
-ghost use Rattle.call_graph.specs.Tables.{HasTaskBody};
-ghost use Rattle.walk_sums.specs.declared.kinds.Kind.TheVariants as kinds;
-ghost use Rattle.walk_sums.specs.Counted.{counted_weights};
-ghost use Rattle.walk_sums.specs.Known.{AreSums};
 ghost use Rattle.walk_sums.specs.Rounds.{IsSteady};
-ghost use Rattle.walk_sums.specs.Clears.{is_steady, AreSteadyMarks};
 
 use crate::ceilings::{ceilings, ceilings_before};
+use crate::graph::no_marks;
 use crate::links::body_ways;
 use crate::search::reachable;
-use crate::tasks::body_summary;
 use crate::{Counted, Kind, Walks, counted_weights};
-use bound_rules::{Body, Summary, is_marked};
+use bound_rules::{Body, is_marked};
 use osek_blocking::chains_itself;
 use sloth_base::{App, Config, Func, List, Op, Result};
 use std::alloc::Global;
@@ -35,26 +30,6 @@ pub fn numbered_function(app: &App, number: usize) -> &Func
     &app.funcs.items()[number]
 }
 
-/// All items.
-fn all_items(alloc: Global, func: &Func) -> Result<Vec<bool>>
-    ensures count { IfOk result (λ marks. length marks.items ≡ length func.now.items) }
-    ensures set { IfOk result (λ marks. (i : ℕ) → i < length func.now.items → HasMark marks.items i) }
-{
-    let mut marks = Vec::new(alloc);
-    for _number in 0..func.items.items().len() {
-        push(&mut marks, true)?;
-    }
-    Ok(marks)
-}
-
-/// Whether walks may go on behind the item.
-fn is_onward(func: &Func, number: usize) -> bool
-    requires { number < length func.now.items }
-    ensures { result ≡ not (chains_itself func.now (item_of func.now number).op) }
-{
-    !chains_itself(func, func.items.items()[number].op)
-}
-
 /// The items behind which walks may go on.
 fn onward_items(alloc: Global, func: &Func) -> Result<Vec<bool>>
     ensures count { IfOk result (λ marks. length marks.items ≡ length func.now.items) }
@@ -63,7 +38,7 @@ fn onward_items(alloc: Global, func: &Func) -> Result<Vec<bool>>
 {
     let mut marks = Vec::new(alloc);
     for number in 0..func.items.items().len() {
-        push(&mut marks, is_onward(func, number))?;
+        push(&mut marks, !chains_itself(func, func.op(number)))?;
     }
     Ok(marks)
 }
@@ -85,7 +60,7 @@ fn reached_items(
     ensures exact { IfOk result (λ marks. (i : ℕ) → HasMark marks.items i ↔ ReachesItem app.now number i) }
 {
     let onward = onward_items(alloc, func)?;
-    let all = all_items(alloc, func)?;
+    let all = vec![in alloc; true; func.items.items().len()]?;
     let ways = body_ways(alloc, func, returns, &onward, &all)?;
     let marks = reachable(alloc, &ways, 0)?;
     Ok(marks)
@@ -115,7 +90,7 @@ fn returning(alloc: Global, config: &Config, app: &App, order: &[usize]) -> Resu
     ensures { IfOk result (λ returns. (g : ℕ) → g < length app.now.funcs
         → Decides (get_or returns.items g false) (CanReturn app.now g)) }
 {
-    let mut returns = crate::graph::no_marks(alloc, app.funcs.items().len())?;
+    let mut returns = no_marks(alloc, app.funcs.items().len())?;
     for number in order {
         let func = numbered_function(app, *number);
         let reached = reached_items(alloc, config, app, &returns, *number, func)?;
@@ -164,44 +139,19 @@ pub fn bodies(alloc: Global, config: &Config, app: &App, order: &[usize]) -> Res
     Ok(bodies)
 }
 
-fn is_steady(config: &Config, app: &App, table: &[Summary], task: usize) -> bool
-    requires inside { task < length config.now.tasks }
-    requires body { HasTaskBody app.now.funcs task }
-    requires count { length table.now ≡ length app.now.funcs }
-    ensures { result ≡ is_steady config.now.tasks app.now.funcs table.now task }
-{
-    config.tasks.items()[task].non && body_summary(app, table, task).on <= 1
-}
-
-fn marks(alloc: Global, config: &Config, app: &App, table: &[Summary]) -> Result<Vec<bool>>
-    requires bodies { (t : ℕ) → t < length config.now.tasks → HasTaskBody app.now.funcs t }
-    requires count { length table.now ≡ length app.now.funcs }
-    ensures { IfOk result (λ steady.
-        AreSteadyMarks config.now.tasks app.now.funcs (length config.now.tasks) table.now steady.items) }
-{
-    let mut steady = Vec::new(alloc);
-    for task in 0..config.tasks.items().len() {
-        push(&mut steady, is_steady(config, app, table, task))?;
-    }
-    Ok(steady)
-}
-
 impl Walks<'_> {
-    /// The sums of turns, by what counts where a turn ends with it.
-    fn counted_turns(&self, counted: Counted) -> Result<Vec<Summary>>
-        ensures { IfOk result (λ table.
-            AreSums self.now.config self.now.app (counted_weights counted self.now.app) kinds.Turns None table.items) }
-    {
-        let weights = counted_weights(self.alloc(), self.app(), counted)?;
-        self.whole_sums(&weights, Kind::Turns)
-    }
-
     /// Of each task whether it is not preemptable and no walk of it reaches a Schedule.
     pub fn steady_tasks(&self) -> Result<Vec<bool>>
         ensures { IfOk result (λ steady. (t : ℕ) → t < length self.now.config.tasks
             → Decides (get_or steady.items t false) (IsSteady self.now.config self.now.app t)) }
     {
-        let table = self.counted_turns(Counted::Schedules)?;
-        marks(self.alloc(), self.config(), self.app(), &table)
+        let weights = counted_weights(self.alloc(), self.app(), Counted::Schedules)?;
+        let table = self.whole_sums(&weights, Kind::Turns)?;
+        let mut steady = Vec::new(self.alloc());
+        for task in 0..self.tasks() {
+            let summary = self.body_summary(&table, task);
+            push(&mut steady, self.task(task).non && summary.on <= 1)?;
+        }
+        Ok(steady)
     }
 }

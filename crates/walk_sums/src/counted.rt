@@ -1,12 +1,16 @@
 //! Weights by which walks are counted for what they do: each item that does it weighs 1, all others 0.
-ghost use Rattle.std.specs.Prelude.{◌≡◌, ◌||◌, map, IfOk};
-ghost use Rattle.walk_sums.specs.Weights.{AreWeights};
-ghost use Rattle.walk_sums.specs.Counted.{one_if, calls, calls_for, awaits, is_going_counted, is_ending_counted};
-ghost use Rattle.walk_sums.specs.Counted.{body_counts, counted_weights};
+//! Which tasks clear what they wait for (OSEK OS 2.2.3, sections 13.5.3.2 and 13.5.3.4). The weights that count items.
+ghost use Rattle.std.specs.Prelude.{◌≡◌, ◌||◌, IfOk, ◌<◌, ◌+◌, ◌^◌, ℕ, false, get_or, length, Decides, cond};
+ghost use Rattle.walk_sums.specs.Weights.{AreWeights, body_weights, item_weights};
+ghost use Rattle.walk_sums.specs.Counted.{calls, calls_for, awaits, is_going_counted, is_ending_counted, body_counts, counted_weights};
 ghost use Rattle.sloth_base.specs.declared.service.Service.TheVariants as service;
+ghost use Rattle.walk_sums.specs.Rounds.{IsClean};
+ghost use Rattle.walk_sums.specs.Clears.{AreClearing};
+ghost use Rattle.osek_blocking.specs.Sections.{is_counted};
 
-use bound_rules::{BodyWeights, is_schedule};
-use sloth_base::{App, Func, Item, List, Op, Result, Service};
+use crate::{Kind, Walks};
+use bound_rules::{BodyWeights, is_marked, is_schedule};
+use sloth_base::{App, Func, List, Op, Result, Service};
 use std::alloc::Global;
 use text_pieces::push;
 
@@ -81,11 +85,7 @@ fn is_going_counted(counted: Counted, op: Op) -> bool
     match counted {
         Counted::Activations(task) => calls_object(task, Service::ActivateTask, op),
         Counted::Settings(task) => calls_object(task, Service::SetEvent, op),
-        Counted::Chains(_)
-        | Counted::Waits(_)
-        | Counted::Schedules
-        | Counted::Calls(_)
-        | Counted::CallsFor(_, _) => false,
+        _ => false,
     }
 }
 
@@ -104,60 +104,20 @@ pub fn is_ending_counted(counted: Counted, op: Op) -> bool
     }
 }
 
-fn counted_weight(is: bool) -> u32
-    ensures { result ≡ one_if is }
-{
-    u32::from(is)
-}
-
-fn going(alloc: Global, counted: Counted, items: &[Item]) -> Result<Vec<u32>>
-    ensures { IfOk result (λ counts. counts.items ≡ map (λ item. one_if (is_going_counted counted item.op)) items.now) }
-{
-    let mut counts = Vec::new(alloc);
-    for item in items {
-        push(
-            &mut counts,
-            counted_weight(is_going_counted(counted, item.op)),
-        )?;
-    }
-    Ok(counts)
-}
-
-fn ending(alloc: Global, counted: Counted, items: &[Item]) -> Result<Vec<u32>>
-    ensures { IfOk result (λ counts.
-        counts.items ≡ map (λ item. one_if (is_ending_counted counted item.op)) items.now) }
-{
-    let mut counts = Vec::new(alloc);
-    for item in items {
-        push(
-            &mut counts,
-            counted_weight(is_ending_counted(counted, item.op)),
-        )?;
-    }
-    Ok(counts)
-}
-
 /// Those of the items of a body.
 fn body_counts(alloc: Global, counted: Counted, func: &Func) -> Result<BodyWeights>
     ensures { IfOk result (λ weights. weights ≡ body_counts counted func.now) }
 {
-    let going = going(alloc, counted, func.items.items())?;
-    let ending = ending(alloc, counted, func.items.items())?;
+    let mut going = Vec::new(alloc);
+    let mut ending = Vec::new(alloc);
+    for item in func.items.items() {
+        push(&mut going, u32::from(is_going_counted(counted, item.op)))?;
+        push(&mut ending, u32::from(is_ending_counted(counted, item.op)))?;
+    }
     Ok(BodyWeights {
         going: List::from_vec(going),
         ending: List::from_vec(ending),
     })
-}
-
-fn all_counts(alloc: Global, counted: Counted, funcs: &[Func]) -> Result<Vec<BodyWeights>>
-    ensures { IfOk result (λ weights. weights.items ≡ map (body_counts counted) funcs.now) }
-{
-    let mut weights = Vec::new(alloc);
-    for func in funcs {
-        let own = body_counts(alloc, counted, func)?;
-        push(&mut weights, own)?;
-    }
-    Ok(weights)
 }
 
 /// The weights of all items.
@@ -165,5 +125,88 @@ pub fn counted_weights(alloc: Global, app: &App, counted: Counted) -> Result<Vec
     ensures is { IfOk result (λ weights. weights.items ≡ counted_weights counted app.now) }
     ensures fit { IfOk result (λ weights. AreWeights app.now weights.items) }
 {
-    all_counts(alloc, counted, app.funcs.items())
+    let mut weights = Vec::new(alloc);
+    for func in app.funcs.items() {
+        let own = body_counts(alloc, counted, func)?;
+        push(&mut weights, own)?;
+    }
+    Ok(weights)
+}
+
+fn bit_mask(bit: u32) -> u32
+    requires { bit < 32 }
+    ensures { result ≡ 2 ^ bit }
+{
+    1 << bit
+}
+
+impl Walks<'_> {
+    /// Of each task whether it clears one bit more: no walk of it from one WaitEvent to the next, on which nothing
+    /// clears the event, waits for it again.
+    fn next_bit(&self, bit: u32, marks: &[bool]) -> Result<Vec<bool>>
+        requires bit { bit < 32 }
+        requires marks { AreClearing self.now.app (length self.now.config.tasks) bit marks.now }
+        ensures { IfOk result (λ both. AreClearing self.now.app (length self.now.config.tasks) (bit + 1) both.items) }
+    {
+        let events = bit_mask(bit);
+        let weights = counted_weights(self.alloc(), self.app(), Counted::Waits(events))?;
+        let table = self.whole_sums(&weights, Kind::Uncleared(events))?;
+        let mut both = Vec::new(self.alloc());
+        for task in 0..self.tasks() {
+            let summary = self.body_summary(&table, task);
+            push(&mut both, is_marked(marks, task) && summary.most <= 1)?;
+        }
+        Ok(both)
+    }
+
+    /// Of each task whether it clears, on each walk from a WaitEvent to the next, all events that the next waits for.
+    pub fn clean_tasks(&self) -> Result<Vec<bool>>
+        ensures count { IfOk result (λ clean. length clean.items ≡ length self.now.config.tasks) }
+        ensures exact { IfOk result (λ clean. (t : ℕ) → t < length self.now.config.tasks
+            → Decides (get_or clean.items t false) (IsClean self.now.app t)) }
+    {
+        let mut clean = vec![in self.alloc(); true; self.tasks()]?;
+        for bit in 0..32 {
+            clean = self.next_bit(bit, &clean)?;
+        }
+        Ok(clean)
+    }
+}
+
+fn count(op: Op) -> u32
+    ensures { result ≡ cond (is_counted op) 1 0 }
+{
+    match op {
+        Op::Serve(call) if matches!(call.service, Service::TerminateTask) => 0,
+        _ => 1,
+    }
+}
+
+/// Those of the items of a body.
+fn body_weights(alloc: Global, func: &Func) -> Result<BodyWeights>
+    ensures { IfOk result (λ weights. weights ≡ body_weights func.now) }
+{
+    let mut going = Vec::new(alloc);
+    let mut ending = Vec::new(alloc);
+    for item in func.items.items() {
+        push(&mut going, count(item.op))?;
+        push(&mut ending, count(item.op))?;
+    }
+    Ok(BodyWeights {
+        going: List::from_vec(going),
+        ending: List::from_vec(ending),
+    })
+}
+
+/// The weights that count items: each counts 1 but TerminateTask, which is no event of its task's work.
+pub fn item_weights(alloc: Global, app: &App) -> Result<Vec<BodyWeights>>
+    ensures is { IfOk result (λ weights. weights.items ≡ item_weights app.now) }
+    ensures fit { IfOk result (λ weights. AreWeights app.now weights.items) }
+{
+    let mut weights = Vec::new(alloc);
+    for func in app.funcs.items() {
+        let own = body_weights(alloc, func)?;
+        push(&mut weights, own)?;
+    }
+    Ok(weights)
 }

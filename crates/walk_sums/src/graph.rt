@@ -1,9 +1,17 @@
 //! Nodes with two ways on at most: an order in which every node stands behind those that it leads to, or a loop.
-ghost use Rattle.std.specs.Prelude.{◌≡◌, ℕ, ◌<◌, [], ◌∷◌, ◌++◌, length, get_or, set, true, false, IfOk, OnOk};
-ghost use Rattle.walk_sums.specs.Graph.{unseen_way, unseen_of, is_open, leads_to_open, AreInside, IsSearching};
-ghost use Rattle.walk_sums.specs.Graph.{IsSearchEnd, IsSearched, IsFound};
+//! The functions in an order in which each stands behind those that it calls.
+//! The longest trails through nodes that stand in an order.
+ghost use Rattle.std.specs.Prelude.{◌≡◌, ℕ, ◌<◌, [], ◌∷◌, ◌++◌, length, get_or, set, true, false, IfOk, OnOk, ◌≤◌, Some};
+ghost use Rattle.walk_sums.specs.Graph.{unseen_way, unseen_of, is_open, leads_to_open, AreInside, IsSearching, IsSearchEnd, IsSearched, IsFound, HasWay, IsOrder};
+ghost use Rattle.code_rules.specs.Code.{HasCall};
+ghost use Rattle.call_graph.specs.Ranks.{RanksOf};
+ghost use Rattle.walk_sums.specs.CallOrder.{IsCallOrder, IsLeastRank, lesser};
+ghost use Rattle.sloth_base.specs.Limits.{size_limit};
+ghost use Rattle.walk_sums.specs.Trails.{along, longest_from, AreSizes, AreSizesInLimit, IsLongest};
 
-use sloth_base::{List, Result};
+use bound_rules::{is_marked, joined, number_at};
+use call_graph::Ranks;
+use sloth_base::{App, List, Result};
 use std::alloc::Global;
 use text_pieces::push;
 
@@ -113,10 +121,7 @@ pub fn no_marks(alloc: Global, count: usize) -> Result<Vec<bool>>
     ensures count { IfOk result (λ marks. length marks.items ≡ count) }
     ensures clear { IfOk result (λ marks. (i : ℕ) → i < count → get_or marks.items i false ≡ false) }
 {
-    let mut marks = Vec::new(alloc);
-    for node in 0..count {
-        push(&mut marks, false)?;
-    }
+    let marks = vec![in alloc; false; count]?;
     Ok(marks)
 }
 
@@ -158,4 +163,98 @@ pub fn finish_order(alloc: Global, ways: &[Ways]) -> Result<Found>
     } else {
         Ok(Found::Order(List::from_vec(order)))
     }
+}
+
+/// The one of lesser rank, where the function is not done.
+fn lesser(ranks: &[u32], done: &[bool], best: Option<usize>, func: usize) -> Option<usize>
+    ensures { result ≡ lesser ranks.now done.now best func }
+{
+    if is_marked(done, func) {
+        return best;
+    }
+    match best {
+        Some(other) if number_at(ranks, other) <= number_at(ranks, func) => Some(other),
+        _ => Some(func),
+    }
+}
+
+/// A function of least rank among those that are not done.
+fn least(ranks: &[u32], done: &[bool]) -> Option<usize>
+    ensures { IsLeastRank ranks.now done.now (length ranks.now) result }
+{
+    let mut best = None;
+    for func in 0..ranks.len() {
+        best = lesser(ranks, done, best, func);
+    }
+    best
+}
+
+/// All functions, each behind those that it calls.
+pub fn callees_first(alloc: Global, app: &App, ranks: &Ranks) -> Result<Vec<usize>>
+    requires belong { RanksOf app.now ranks.now }
+    requires known { (f g : ℕ) → HasCall app.now f g → g < length app.now.funcs }
+    ensures { IfOk result (λ order. IsCallOrder app.now order.items) }
+{
+    let mut done = no_marks(alloc, ranks.rank.items().len())?;
+    let mut order = Vec::new(alloc);
+    loop {
+        match least(ranks.rank.items(), &done) {
+            Some(func) => keep(&mut done, &mut order, func)?,
+            None => return Ok(order),
+        }
+    }
+}
+
+/// The longest trail that goes on along this way, 0 where there is none.
+fn along(table: &[u32], step: u32, way: Option<usize>) -> u32
+    requires inside { (j : ℕ) → way ≡ Some j → j < length table.now }
+    requires small { AreSizesInLimit table.now }
+    requires step_small { step ≤ size_limit }
+    ensures { result ≡ along table.now step way }
+{
+    match way {
+        Some(node) if table[node] != 0 => joined(step, table[node]),
+        _ => 0,
+    }
+}
+
+pub fn longest_size(ways: &[Ways], table: &[u32], steps: &[u32], ends: &[u32], node: usize) -> u32
+    requires inside { (j : ℕ) → HasWay ways.now node j → j < length table.now }
+    requires small { AreSizesInLimit table.now }
+    requires sizes { AreSizes ways.now steps.now ends.now }
+    requires known { node < length ways.now }
+    ensures { result ≡ longest_from ways.now table.now steps.now ends.now node }
+{
+    let next = along(table, steps[node], ways[node].next);
+    let jump = along(table, steps[node], ways[node].jump);
+    ends[node].max(next.max(jump))
+}
+
+pub fn zeros(alloc: Global, count: usize) -> Result<Vec<u32>>
+    ensures count { IfOk result (λ table. length table.items ≡ count) }
+    ensures none { IfOk result (λ table. (i : ℕ) → get_or table.items i 0 ≡ 0) }
+{
+    let table = vec![in alloc; 0; count]?;
+    Ok(table)
+}
+
+/// For each node the size of the longest trail from it.
+pub fn longest(
+    alloc: Global,
+    ways: &[Ways],
+    order: &[usize],
+    steps: &[u32],
+    ends: &[u32],
+) -> Result<Vec<u32>>
+    requires order { IsOrder ways.now order.now }
+    requires sizes { AreSizes ways.now steps.now ends.now }
+    ensures count { IfOk result (λ table. length table.items ≡ length ways.now) }
+    ensures longest { IfOk result (λ table. (i : ℕ) → i < length ways.now
+        → IsLongest ways.now steps.now ends.now i (get_or table.items i 0)) }
+{
+    let mut table = zeros(alloc, ways.len())?;
+    for node in order {
+        table[*node] = longest_size(ways, &table, steps, ends, *node);
+    }
+    Ok(table)
 }

@@ -14,13 +14,6 @@ use sloth_base::{Func, Op, Result};
 use std::alloc::Global;
 use text_pieces::push;
 
-fn is_alive(body: &Body, level: Option<u32>, number: usize) -> bool
-    ensures { result ≡ is_alive body.now level number }
-{
-    is_marked(body.reached.items(), number)
-        && reaches_level(level, number_at(body.ceilings.items(), number))
-}
-
 /// The items that walks reach and before which the task is raised.
 pub fn alive_items(alloc: Global, func: &Func, body: &Body, level: Option<u32>) -> Result<Vec<bool>>
     ensures count { IfOk result (λ alive. length alive.items ≡ length func.now.items) }
@@ -29,7 +22,11 @@ pub fn alive_items(alloc: Global, func: &Func, body: &Body, level: Option<u32>) 
 {
     let mut alive = Vec::new(alloc);
     for number in 0..func.items.items().len() {
-        push(&mut alive, is_alive(body, level, number))?;
+        let is_raised = reaches_level(level, number_at(body.ceilings.items(), number));
+        push(
+            &mut alive,
+            is_marked(body.reached.items(), number) && is_raised,
+        )?;
     }
     Ok(alive)
 }
@@ -58,13 +55,6 @@ pub fn passed_functions(alloc: Global, whole: &[Summary]) -> Result<Vec<bool>>
     Ok(passed)
 }
 
-/// One less, where it is not 0.
-pub fn less_one(size: u32) -> u32
-    ensures { result ≡ size - 1 }
-{
-    if 0 < size { size - 1 } else { 0 }
-}
-
 /// What an item of this weight adds to a part that goes on behind it, with the function that it calls.
 fn going_size(whole: &[Summary], weight: u32, op: Op) -> u32
     requires whole_small { AreCountedUp whole.now }
@@ -72,7 +62,7 @@ fn going_size(whole: &[Summary], weight: u32, op: Op) -> u32
     ensures { result ≡ going_size whole.now weight op }
 {
     match op {
-        Op::Invoke { func } => joined(weight, less_one(summary_of(whole, func).back)),
+        Op::Invoke { func } => joined(weight, summary_of(whole, func).back.saturating_sub(1)),
         _ => weight,
     }
 }
@@ -107,13 +97,6 @@ fn if_alive(alive: bool, size: u32) -> u32
     if alive { size } else { 0 }
 }
 
-fn numbered_op(func: &Func, number: usize) -> Op
-    requires { number < length func.now.items }
-    ensures { result ≡ (item_of func.now number).op }
-{
-    func.items.items()[number].op
-}
-
 /// What each item adds to a part that goes on behind it.
 pub fn going_sizes(
     alloc: Global,
@@ -130,8 +113,7 @@ pub fn going_sizes(
     let mut sizes = Vec::new(alloc);
     for number in 0..func.items.items().len() {
         let weight = number_at(weights, number);
-        let size = going_size(whole, weight, numbered_op(func, number));
-        push(&mut sizes, size)?;
+        push(&mut sizes, going_size(whole, weight, func.op(number)))?;
     }
     Ok(sizes)
 }
@@ -154,7 +136,7 @@ pub fn ending_sizes(
     let mut sizes = Vec::new(alloc);
     for number in 0..func.items.items().len() {
         let weight = number_at(weights, number);
-        let size = ending_size(whole, weight, numbered_op(func, number));
+        let size = ending_size(whole, weight, func.op(number));
         push(&mut sizes, if_alive(is_marked(alive, number), size))?;
     }
     Ok(sizes)
@@ -176,7 +158,7 @@ pub fn leaving_sizes(
     let mut sizes = Vec::new(alloc);
     for number in 0..func.items.items().len() {
         let weight = number_at(weights, number);
-        let size = leaving_size(weight, numbered_op(func, number));
+        let size = leaving_size(weight, func.op(number));
         push(&mut sizes, if_alive(is_marked(alive, number), size))?;
     }
     Ok(sizes)

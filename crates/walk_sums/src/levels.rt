@@ -1,15 +1,15 @@
-//! The summaries of all functions at a level, by weights that may be 0.
+//! The summaries of all functions at a level, by weights that may be 0. A function before its summary.
 ghost use Rattle.std.specs.Prelude.{◌≡◌, ℕ, ◌<◌, None, Some, length, get_or, IfOk};
 ghost use Rattle.bound_rules.specs.Summaries.{IsCountedUp, summary_of, unknown};
 ghost use Rattle.walk_sums.specs.KnownBodies.{no_body};
 ghost use Rattle.walk_sums.specs.Weights.{AreWeights};
 ghost use Rattle.walk_sums.specs.Known.{AreSums, IsSummed, IsBefore, IsSummaryFor, caller_code};
 
-use crate::caller::Caller;
 use crate::{Kind, Walks, numbered_function};
 use bound_rules::{Body, BodyWeights, Summary, UNKNOWN};
-use sloth_base::Result;
+use sloth_base::{App, Config, Func, Result};
 use std::alloc::Global;
+use std::marker::Model;
 use text_pieces::push;
 
 fn unknown(alloc: Global, count: usize) -> Result<Vec<Summary>>
@@ -105,4 +105,46 @@ impl Walks<'_> {
         }
         Ok(own)
     }
+}
+
+/// A function, the weights and the kind of the parts that are summed, its body at a level, and the summaries of the
+/// functions that it calls: where the task is raised as they are called, and where not.
+#[derive(Drop)]
+pub struct Caller<'a> {
+    pub alloc: Global,
+    pub config: &'a Config,
+    pub app: &'a App,
+    pub weights: &'a [BodyWeights],
+    pub kind: Kind,
+    pub number: usize,
+    pub func: &'a Func,
+    pub body: &'a Body,
+    pub level: Option<u32>,
+    pub whole: &'a [Summary],
+    pub own: &'a [Summary],
+}
+
+impl<'a> Model for Caller<'a> {
+    ghost use Rattle.walk_sums.specs.Computed.{known_body_of};
+    ghost use Rattle.walk_sums.specs.Known.{CallerCode, IsBefore};
+
+    ghost Value = { CallerCode };
+
+    ghost view = { λ c. record {
+      config = c.config.now;
+      app = c.app.now;
+      weights = c.weights.now;
+      kind = c.kind;
+      number = c.number;
+      known = known_body_of c.func.now c.body.now c.level c.whole.now c.own.now;
+    } };
+
+    ghost invariant = { λ c. IsBefore (record {
+      config = c.config.now;
+      app = c.app.now;
+      weights = c.weights.now;
+      kind = c.kind;
+      number = c.number;
+      known = known_body_of c.func.now c.body.now c.level c.whole.now c.own.now;
+    }) };
 }

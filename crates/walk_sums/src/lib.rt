@@ -14,39 +14,31 @@
 #![tactic(auto)]
 
 pub mod bodies;
-mod caller;
 pub mod ceilings;
-pub mod clean;
 pub mod counted;
 pub mod graph;
 pub mod items;
 pub mod kinds;
 pub mod levels;
 pub mod links;
-mod longest;
 mod loops;
-pub mod order;
 mod paths;
-mod ranks;
 pub mod search;
 pub mod sections;
-mod settle;
 mod shape;
 pub mod standing;
 mod summary;
 pub mod tasks;
 pub mod walks;
-pub mod weights;
 
 pub use bodies::numbered_function;
 pub use ceilings::greatest_ceiling;
-pub use counted::{Counted, calls_object, counted_weights, is_ending_counted};
+pub use counted::{Counted, calls_object, counted_weights, is_ending_counted, item_weights};
+pub use graph::callees_first;
 pub use kinds::Kind;
 pub use levels::numbered_body;
 pub use links::is_next_item;
-pub use order::callees_first;
 pub use sections::{Sum, greatest_sum};
 pub use standing::{Point, Standing, is_same, is_standing};
 pub use tasks::RoundSums;
 pub use walks::{Walks, known_code};
-pub use weights::item_weights;

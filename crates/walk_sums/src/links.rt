@@ -25,11 +25,7 @@ pub fn is_next_item(op: Op, from: usize, to: usize) -> bool
 fn open_way(open_items: &[bool], place: usize) -> Option<usize>
     ensures { result ≡ open_way open_items.now place }
 {
-    if is_marked(open_items, place) {
-        Some(place)
-    } else {
-        None
-    }
+    is_marked(open_items, place).then_some(place)
 }
 
 /// Whether what is behind an item is reached from it.
@@ -58,10 +54,10 @@ fn label_way(func: &Func, open_items: &[bool], way: Option<u32>) -> Option<usize
     ensures { result ≡ label_way func.now open_items.now way }
 {
     match way {
-        Some(label) => open_way(
-            open_items,
-            func.labels.items()[label as usize].item as usize,
-        ),
+        Some(label) => {
+            let place = func.labels.items()[label as usize].item;
+            open_way(open_items, place as usize)
+        }
         None => None,
     }
 }
@@ -75,7 +71,7 @@ fn item_ways(func: &Func, passed: &[bool], going: &[bool], open_items: &[bool], 
     if is_marked(going, from) {
         Ways {
             next: next_way(func, passed, open_items, from),
-            jump: label_way(func, open_items, way(func.items.items()[from].op)),
+            jump: label_way(func, open_items, way(func.op(from))),
         }
     } else {
         Ways {

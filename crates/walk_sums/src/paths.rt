@@ -3,14 +3,14 @@ ghost use Rattle.std.specs.Prelude.{◌≡◌, ◌<◌, ℕ, false, length, get_
 ghost use Rattle.walk_sums.specs.Shapes.{HasOrder};
 ghost use Rattle.walk_sums.specs.Trails.{AreSizesInLimit};
 ghost use Rattle.walk_sums.specs.Computed.{is_alive};
-ghost use Rattle.walk_sums.specs.Lists.{weights_of, AreBodyWays, AreSteps, ArePaths, AreEndingTrails, AreLeavingTrails};
+ghost use Rattle.walk_sums.specs.Lists.{weights_of, AreBodyWays, ArePaths, AreEndingTrails, AreLeavingTrails};
 ghost use Rattle.walk_sums.specs.Lists.{AreTrailSizes};
 
-use crate::caller::Caller;
 use crate::graph::Ways;
 use crate::items::{
     alive_items, ending_sizes, going_items, going_sizes, leaving_sizes, passed_functions,
 };
+use crate::levels::Caller;
 use crate::links::body_ways;
 use crate::shape::{Shape, longest_sizes, trail_shape};
 use bound_rules::{BodyWeights, weights_at};
@@ -58,23 +58,14 @@ impl Caller<'_> {
         Ok(ways)
     }
 
-    /// What each item adds to a part that goes on behind it.
-    fn steps(&self) -> Result<Vec<u32>>
-        ensures { IfOk result (λ steps.
-            AreSteps self.now.known.func (weights_of self.now) self.now.known.whole steps.items) }
-    {
-        let weights = self.own_weights();
-        let steps = going_sizes(self.alloc, self.func, weights.going.items(), self.whole)?;
-        Ok(steps)
-    }
-
     /// The paths of the body.
     pub fn paths(&self) -> Result<Paths>
         ensures { IfOk result (ArePaths self.now) }
     {
         let alive = alive_items(self.alloc, self.func, self.body, self.level)?;
         let ways = self.ways(&alive)?;
-        let steps = self.steps()?;
+        let weights = self.own_weights().going.items();
+        let steps = going_sizes(self.alloc, self.func, weights, self.whole)?;
         let shape = trail_shape(self.alloc, &ways, &steps)?;
         Ok(Paths {
             alive: List::from_vec(alive),

@@ -6,7 +6,6 @@ ghost use Rattle.walk_sums.specs.Known.{AreSums};
 ghost use Rattle.walk_sums.specs.Weights.{AreWeights};
 ghost use Rattle.walk_sums.specs.Sections.{IsSumFor, AreToldSums, AreAllSums, greater, greatest_of};
 
-use crate::tasks::section_sum;
 use crate::{Kind, Walks};
 use bound_rules::{BodyWeights, Summary};
 use sloth_base::{List, Result};
@@ -31,7 +30,7 @@ impl Walks<'_> {
         ensures { IsSumFor self.now.config self.now.app weights.now above task result }
     {
         if self.priority(task) < self.priority(above) {
-            section_sum(self.config(), self.app(), weights, whole, own, above, task)
+            self.told_section(whole, own, task)
         } else {
             Sum::Counts(0)
         }
@@ -47,10 +46,8 @@ impl Walks<'_> {
         let own = self.own_sums(weights, Kind::Sections, self.priority(above), &whole)?;
         let mut sums = Vec::new(self.alloc());
         for task in 0..self.tasks() {
-            push(
-                &mut sums,
-                self.sum_for_task(weights, &whole, &own, above, task),
-            )?;
+            let sum = self.sum_for_task(weights, &whole, &own, above, task);
+            push(&mut sums, sum)?;
         }
         Ok(sums)
     }
@@ -73,17 +70,10 @@ impl Walks<'_> {
 fn greater(one: Sum, other: Sum) -> Sum
     ensures { result ≡ greater one other }
 {
-    match one {
-        Sum::Endless => Sum::Endless,
-        Sum::Huge => match other {
-            Sum::Endless => Sum::Endless,
-            Sum::Huge | Sum::Counts(_) => Sum::Huge,
-        },
-        Sum::Counts(counts) => match other {
-            Sum::Endless => Sum::Endless,
-            Sum::Huge => Sum::Huge,
-            Sum::Counts(more) => Sum::Counts(more.max(counts)),
-        },
+    match (one, other) {
+        (Sum::Counts(counts), Sum::Counts(more)) => Sum::Counts(more.max(counts)),
+        (Sum::Endless, _) | (_, Sum::Endless) => Sum::Endless,
+        _ => Sum::Huge,
     }
 }
 

@@ -4,16 +4,15 @@ ghost use Rattle.sloth_base.specs.Named.{item_of};
 ghost use Rattle.sloth_base.specs.Limits.{size_limit};
 ghost use Rattle.bound_rules.specs.Summaries.{IsCountedUp};
 ghost use Rattle.walk_sums.specs.Trails.{AreSizesInLimit};
-ghost use Rattle.walk_sums.specs.Computed.{endless_call, calls_endless, joined_both, called_most, begun, most_of};
-ghost use Rattle.walk_sums.specs.Computed.{called_out, out_of, summary_by};
+ghost use Rattle.walk_sums.specs.Computed.{called_summary, calls_endless, joined_both, begun, most_of, out_of, summary_by};
 ghost use Rattle.walk_sums.specs.Known.{IsBefore, IsSummaryFor};
 ghost use Rattle.walk_sums.specs.Lists.{ArePaths};
 
-use crate::caller::Caller;
 use crate::kinds::may_begin;
+use crate::levels::Caller;
 use crate::paths::{Paths, TrailSizes};
 use crate::shape::is_endless;
-use bound_rules::{ENDLESS, Summary, callee, is_marked, joined, number_at, size_behind};
+use bound_rules::{ENDLESS, Summary, UNKNOWN, callee, is_marked, joined, number_at, size_behind};
 use sloth_base::{Op, Result};
 
 /// One part behind another, where there are both.
@@ -30,56 +29,30 @@ fn joined_both(one: u32, other: u32) -> u32
 }
 
 impl Caller<'_> {
-    /// Whether the item is a call, which walks reach, of a function in which parts have no limit.
-    fn endless_call(&self, number: usize) -> bool
+    /// The summary of what an item that walks reach calls; of which nothing is known, where it calls nothing.
+    fn called(&self, number: usize) -> Summary
         requires { number < length self.now.known.func.items }
-        ensures { result ≡ endless_call self.now.known number (item_of self.now.known.func number).op }
+        ensures is { result ≡ called_summary self.now.known number (item_of self.now.known.func number).op }
+        ensures small { IsCountedUp result }
     {
-        match self.func.items.items()[number].op {
-            Op::Invoke { func: called } => {
-                is_marked(self.body.reached.items(), number)
-                    && callee(
-                        self.body, self.level, self.whole, self.own, number, called,
-                    ).is_endless
+        match self.func.op(number) {
+            Op::Invoke { func } if is_marked(self.body.reached.items(), number) => {
+                callee(self.body, self.level, self.whole, self.own, number, func)
             }
-            _ => false,
+            _ => UNKNOWN,
         }
     }
 
-    /// Whether some item is.
+    /// Whether an item that walks reach calls a function in which parts have no limit.
     fn calls_endless(&self) -> bool
         ensures is { result ≡ calls_endless self.now.known }
         ensures before { IsBefore self.now }
     {
         let mut endless = false;
         for number in 0..self.func.items.items().len() {
-            endless = endless || self.endless_call(number);
+            endless = endless || self.called(number).is_endless;
         }
         endless
-    }
-
-    /// The greatest size of a part that begins in what the item calls.
-    fn called_most(&self, on: &[u32], number: usize) -> u32
-        requires inside { number < length self.now.known.func.items }
-        requires on_small { AreSizesInLimit on.now }
-        ensures { result ≡ called_most self.now.known on.now number (item_of self.now.known.func number).op }
-    {
-        match self.func.items.items()[number].op {
-            Op::Invoke { func: called } => {
-                if is_marked(self.body.reached.items(), number) {
-                    let callee = callee(
-                        self.body, self.level, self.whole, self.own, number, called,
-                    );
-                    callee.most.max(joined_both(
-                        callee.out,
-                        size_behind(self.func.items.items(), on, number),
-                    ))
-                } else {
-                    0
-                }
-            }
-            _ => 0,
-        }
     }
 
     /// The size of a part from an item, where one may begin.
@@ -99,36 +72,17 @@ impl Caller<'_> {
         requires { AreSizesInLimit on.now }
         ensures { result ≡ most_of self.now.known self.now.kind on.now }
     {
+        let items = self.func.items.items();
         let mut most = 0;
-        for number in 0..self.func.items.items().len() {
-            let called = self.called_most(on, number);
-            most = self.begun(on, number).max(called).max(most);
+        for number in 0..items.len() {
+            let called = self.called(number);
+            let behind = joined_both(called.out, size_behind(items, on, number));
+            most = self
+                .begun(on, number)
+                .max(called.most.max(behind))
+                .max(most);
         }
         most
-    }
-
-    /// The greatest size of a part that begins in what the item calls and ends with the body's `ret`.
-    fn called_out(&self, back: &[u32], number: usize) -> u32
-        requires inside { number < length self.now.known.func.items }
-        requires back_small { AreSizesInLimit back.now }
-        ensures { result ≡ called_out self.now.known back.now number (item_of self.now.known.func number).op }
-    {
-        match self.func.items.items()[number].op {
-            Op::Invoke { func: called } => {
-                if is_marked(self.body.reached.items(), number) {
-                    let callee = callee(
-                        self.body, self.level, self.whole, self.own, number, called,
-                    );
-                    joined_both(
-                        callee.out,
-                        size_behind(self.func.items.items(), back, number),
-                    )
-                } else {
-                    0
-                }
-            }
-            _ => 0,
-        }
     }
 
     /// The greatest size of a part that begins in the body or in what it calls and ends with the body's `ret`.
@@ -136,10 +90,11 @@ impl Caller<'_> {
         requires { AreSizesInLimit back.now }
         ensures { result ≡ out_of self.now.known self.now.kind back.now }
     {
+        let items = self.func.items.items();
         let mut out = 0;
-        for number in 0..self.func.items.items().len() {
-            let called = self.called_out(back, number);
-            out = self.begun(back, number).max(called).max(out);
+        for number in 0..items.len() {
+            let behind = joined_both(self.called(number).out, size_behind(items, back, number));
+            out = self.begun(back, number).max(behind).max(out);
         }
         out
     }

@@ -4,15 +4,12 @@ ghost use Rattle.sloth_base.specs.Named.{body_of, declaration};
 ghost use Rattle.code_rules.specs.WellFormed.{WellFormed};
 ghost use Rattle.call_graph.specs.Ranks.{RanksOf};
 ghost use Rattle.osek_scheduler.specs.Apart.{static_priority};
-ghost use Rattle.walk_sums.specs.CallOrder.{IsCallOrder};
-ghost use Rattle.walk_sums.specs.KnownBodies.{AreKnownBodies};
 ghost use Rattle.walk_sums.specs.WalkedCode.{IsWalked, IsKnownCode, walked_code};
 ghost use Rattle.osek_blocking.specs.Sections.{IsLower};
 ghost use Rattle.walk_sums.specs.Weights.{AreWeights};
 ghost use Rattle.walk_sums.specs.Early.{IsToldEarly};
 
 use crate::bodies::bodies;
-use crate::tasks::told_section;
 use crate::{Kind, Sum, callees_first};
 use bound_rules::{Body, BodyWeights};
 use call_graph::Ranks;
@@ -77,28 +74,6 @@ impl<'a> Model for Walks<'a> {
 }
 
 impl<'a> Walks<'a> {
-    /// These parts.
-    pub fn new(
-        alloc: Global,
-        config: &'a Config,
-        app: &'a App,
-        order: &'a [usize],
-        bodies: &'a [Body],
-    ) -> Walks<'a>
-        requires well_formed { WellFormed config.now app.now }
-        requires order { IsCallOrder app.now order.now }
-        requires bodies { AreKnownBodies config.now app.now bodies.now }
-        ensures { result ≡ record { config = config.now; app = app.now; order = order.now; bodies = bodies.now } }
-    {
-        Walks {
-            alloc,
-            config,
-            app,
-            order,
-            bodies,
-        }
-    }
-
     /// Of what is known of task code.
     pub fn of(alloc: Global, config: &'a Config, app: &'a App, known: &'a KnownCode) -> Walks<'a>
         requires { IsKnownCode config.now app.now known.now }
@@ -180,6 +155,7 @@ impl<'a> Walks<'a> {
         requires { task < length self.now.config.tasks }
         ensures is { result ≡ body_of self.now.app.funcs task }
         ensures known { result < length self.now.app.funcs }
+        ensures well_formed { WellFormed self.now.config self.now.app }
     {
         body_of(self.app().funcs.items(), task)
     }
@@ -203,6 +179,6 @@ impl Walks<'_> {
         let kind = Kind::EarlySections(line);
         let whole = self.whole_sums(weights, kind)?;
         let own = self.own_sums(weights, kind, self.priority(above), &whole)?;
-        Ok(told_section(self.config(), self.app(), &whole, &own, task))
+        Ok(self.told_section(&whole, &own, task))
     }
 }

@@ -1,5 +1,5 @@
 //! The changes of signals, written as they come.
-ghost use Rattle.std.specs.Prelude.{◌≡◌, ◌≤◌, ◌++◌, ◌+◌, true, false, Some, None, OnOk};
+ghost use Rattle.std.specs.Prelude.{◌≡◌, ◌≤◌, ◌++◌, ◌+◌, true, false, OnOk};
 ghost use Rattle.sloth_base.specs.Limits.{task_limit, counter_limit, alarm_limit};
 ghost use Rattle.wave_text.specs.Changes.{DumpEntry, same_value, change_entries, kernel_changes, changes};
 ghost use Rattle.wave_text.specs.Changes.{scope_changes, moment_entries, with_moment};
@@ -20,7 +20,6 @@ use sloth_base::numbers::Owners;
 use text_pieces::line;
 use text_pieces::pieces::Piece::{Number, Word};
 
-// Whether two values are the same.
 fn same_value(one: Option<u32>, other: Option<u32>) -> bool
     ensures { result ≡ same_value one other }
 {
@@ -33,14 +32,12 @@ fn same_value(one: Option<u32>, other: Option<u32>) -> bool
     }
 }
 
-// The digit of a number's last binary place.
 fn digit(number: u32) -> u8
     ensures { result ≡ digit number }
 {
     b'0' + (number % 2) as u8
 }
 
-// Appends the eight last digits of a number.
 fn push_byte(text: &mut Vec<u8>, n: u32) -> Result<()>
     ensures { OnOk result (text.new.items ≡ text.old.items ++ byte_digits n) }
 {
@@ -57,7 +54,6 @@ fn push_byte(text: &mut Vec<u8>, n: u32) -> Result<()>
     Ok(())
 }
 
-// Appends all digits of a word.
 #[tactic(auto, unfolding(crate::specs::Text::word_digits))]
 fn push_word(text: &mut Vec<u8>, n: u32) -> Result<()>
     ensures { OnOk result (text.new.items ≡ text.old.items ++ word_digits n) }
@@ -68,26 +64,25 @@ fn push_word(text: &mut Vec<u8>, n: u32) -> Result<()>
     push_byte(text, n)
 }
 
-// Appends a value.
+// Appends a value, or that it is unknown.
 #[tactic(auto, unfolding(crate::specs::Text::value_text))]
-fn push_number(text: &mut Vec<u8>, width: Width, n: u32) -> Result<()>
-    ensures { OnOk result (text.new.items ≡ text.old.items ++ value_text width (Some n)) }
+fn push_value(text: &mut Vec<u8>, width: Width, value: Option<u32>) -> Result<()>
+    ensures { OnOk result (text.new.items ≡ text.old.items ++ value_text width value) }
 {
+    let Some(n) = value else {
+        return match width {
+            Width::One => line!(text; Word(b"x")),
+            Width::Two | Width::Eight | Width::ThirtyTwo => line!(text; Word(b"bx ")),
+        };
+    };
     match width {
         Width::One => text.extend_from_slice(&[digit(n)])?,
         Width::Two => text.extend_from_slice(&[b'b', digit(n / 2), digit(n), b' '])?,
-        Width::Eight => text.extend_from_slice(&[
-            b'b',
-            digit(n / 128),
-            digit(n / 64),
-            digit(n / 32),
-            digit(n / 16),
-            digit(n / 8),
-            digit(n / 4),
-            digit(n / 2),
-            digit(n),
-            b' ',
-        ])?,
+        Width::Eight => {
+            text.extend_from_slice(b"b")?;
+            push_byte(text, n)?;
+            text.extend_from_slice(b" ")?;
+        }
         Width::ThirtyTwo => {
             text.extend_from_slice(b"b")?;
             push_word(text, n)?;
@@ -97,55 +92,17 @@ fn push_number(text: &mut Vec<u8>, width: Width, n: u32) -> Result<()>
     Ok(())
 }
 
-// Appends the value that is unknown.
-#[tactic(auto, unfolding(crate::specs::Text::value_text))]
-fn push_unknown(text: &mut Vec<u8>, width: Width) -> Result<()>
-    ensures { OnOk result (text.new.items ≡ text.old.items ++ value_text width None) }
+#[tactic(auto, unfolding(crate::specs::Text::entry_line, crate::specs::Text::signal_end, crate::specs::Signals::code_text))]
+fn push_change(text: &mut Vec<u8>, code: u8, width: Width, value: Option<u32>) -> Result<()>
+    ensures { OnOk result (text.new.items ≡ text.old.items ++ entry_line (DumpEntry.change code width value)) }
 {
-    match width {
-        Width::One => line!(text; Word(b"x")),
-        Width::Two | Width::Eight | Width::ThirtyTwo => line!(text; Word(b"bx ")),
-    }
-}
-
-// Appends a value, or the one that is unknown.
-fn push_value(text: &mut Vec<u8>, width: Width, value: Option<u32>) -> Result<()>
-    ensures { OnOk result (text.new.items ≡ text.old.items ++ value_text width value) }
-{
-    match value {
-        Some(n) => push_number(text, width, n),
-        None => push_unknown(text, width),
-    }
-}
-
-// Appends the end of a signal's line.
-#[tactic(auto, unfolding(crate::specs::Text::signal_end, crate::specs::Signals::code_text))]
-fn push_end(text: &mut Vec<u8>, code: u8) -> Result<()>
-    ensures { OnOk result (text.new.items ≡ text.old.items ++ signal_end code) }
-{
+    push_value(text, width, value)?;
     if code < 127 {
         text.extend_from_slice(&[code, b'\n'])?;
     } else {
         text.extend_from_slice(&[b'!', code - 94, b'\n'])?;
     }
     Ok(())
-}
-
-// Appends the line of a signal that changes.
-#[tactic(auto, unfolding(crate::specs::Text::entry_line))]
-fn push_change(text: &mut Vec<u8>, code: u8, width: Width, value: Option<u32>) -> Result<()>
-    ensures { OnOk result (text.new.items ≡ text.old.items ++ entry_line (DumpEntry.change code width value)) }
-{
-    push_value(text, width, value)?;
-    push_end(text, code)
-}
-
-// Appends the line of a moment.
-#[tactic(auto, unfolding(crate::specs::Text::entry_line))]
-fn push_moment(text: &mut Vec<u8>, count: u32) -> Result<()>
-    ensures { OnOk result (text.new.items ≡ text.old.items ++ entry_line (DumpEntry.moment count)) }
-{
-    line!(text; Word(b"#"), Number(count), Word(b"\n"))
 }
 
 /// The text of waves so far, and whether the moment that is written has its line.
@@ -157,14 +114,14 @@ pub struct Dump {
 }
 
 impl Dump {
-    // Appends the line of the moment.
+    #[tactic(auto, unfolding(crate::specs::Text::entry_line))]
     fn stamp(&mut self) -> Result<()>
         ensures text { OnOk result (self.new.text.items
             ≡ self.old.text.items ++ entry_line (DumpEntry.moment self.old.count)) }
         ensures count { OnOk result (self.new.count ≡ self.old.count) }
         ensures stamped { OnOk result (self.new.stamped ≡ true) }
     {
-        push_moment(&mut self.text, self.count)?;
+        line!(&mut self.text; Word(b"#"), Number(self.count), Word(b"\n"))?;
         self.stamped = true;
         Ok(())
     }
@@ -199,7 +156,6 @@ impl Dump {
         push_change(&mut self.text, code, width, after)
     }
 
-    // Appends the changes of a scope's first signals.
     fn scope(
         &mut self,
         scope: Scope,
@@ -225,7 +181,6 @@ impl Dump {
         Ok(())
     }
 
-    // Appends the changes of the signals of tasks, lines and the kernel.
     fn kernel(
         &mut self,
         owners: &Owners,
@@ -250,7 +205,6 @@ impl Dump {
         Ok(())
     }
 
-    // Appends those of the signals of counters and alarms.
     fn clock(
         &mut self,
         counters: usize,

@@ -12,32 +12,35 @@ use sloth_base::{ALARM_LIMIT, Image, Name, Result};
 use std::alloc::Global;
 use trace_text::LineText;
 
-fn scope_name(scope: Scope) -> &'static [u8]
-    ensures is { result.now ≡ scope_name scope }
-    ensures short { length result.now ≤ 8 }
-{
-    match scope {
-        Scope::State => b"state",
-        Scope::Runs => b"runs",
-        Scope::Pending | Scope::Counters => b"pending",
-        Scope::Values => b"counters",
-        Scope::Alarms => b"alarms",
+impl Scope {
+    fn name(self) -> &'static [u8]
+        ensures is { result.now ≡ scope_name self }
+        ensures short { length result.now ≤ 8 }
+    {
+        match self {
+            Scope::State => b"state",
+            Scope::Runs => b"runs",
+            Scope::Pending | Scope::Counters => b"pending",
+            Scope::Values => b"counters",
+            Scope::Alarms => b"alarms",
+        }
     }
 }
 
-fn width_digit(width: Width) -> &'static [u8]
-    ensures is { result.now ≡ width_digit width }
-    ensures short { length result.now ≤ 2 }
-{
-    match width {
-        Width::One => b"1",
-        Width::Two => b"2",
-        Width::Eight => b"8",
-        Width::ThirtyTwo => b"32",
+impl Width {
+    fn digits(self) -> &'static [u8]
+        ensures is { result.now ≡ width_digit self }
+        ensures short { length result.now ≤ 2 }
+    {
+        match self {
+            Width::One => b"1",
+            Width::Two => b"2",
+            Width::Eight => b"8",
+            Width::ThirtyTwo => b"32",
+        }
     }
 }
 
-// Appends a code's text.
 #[tactic(auto, unfolding(crate::specs::Signals::code_text))]
 fn push_code(line: &mut LineText, code: u8)
     requires { length line.old ≤ 20 }
@@ -51,7 +54,6 @@ fn push_code(line: &mut LineText, code: u8)
     }
 }
 
-// The line that declares a signal.
 #[tactic(auto, unfolding(crate::specs::Header::variable_line))]
 fn variable_line(width: Width, code: u8, name: &[u8]) -> LineText
     requires { length name.now ≤ name_limit }
@@ -59,7 +61,7 @@ fn variable_line(width: Width, code: u8, name: &[u8]) -> LineText
 {
     let mut line = LineText::new();
     line.push(b"$var wire ");
-    line.push(width_digit(width));
+    line.push(width.digits());
     line.push(b" ");
     push_code(&mut line, code);
     line.push(b" ");
@@ -68,19 +70,17 @@ fn variable_line(width: Width, code: u8, name: &[u8]) -> LineText
     line
 }
 
-// The line that opens a scope.
 #[tactic(auto, unfolding(crate::specs::Header::scope_line))]
 fn scope_line(scope: Scope) -> LineText
     ensures { result ≡ scope_line scope }
 {
     let mut line = LineText::new();
     line.push(b"$scope module ");
-    line.push(scope_name(scope));
+    line.push(scope.name());
     line.push(b" $end\n");
     line
 }
 
-// Appends the declarations of signals, one for each name.
 fn push_variables(text: &mut Vec<u8>, scope: Scope, names: &[Name]) -> Result<()>
     requires few { length names.now ≤ task_limit }
     requires short { All IsName names.now }
@@ -97,25 +97,16 @@ fn push_variables(text: &mut Vec<u8>, scope: Scope, names: &[Name]) -> Result<()
     Ok(())
 }
 
-// The name of an alarm's signal.
-#[tactic(auto, unfolding(crate::specs::Header::alarm_name))]
-fn alarm_name(alarm: u32) -> LineText
-    ensures is { result ≡ alarm_name alarm }
-    ensures short { length result ≤ 15 }
-{
-    let mut name = LineText::new();
-    name.push(b"alarm");
-    name.push_number(alarm);
-    name
-}
-
 // Appends the declaration of an alarm's signal.
+#[tactic(auto, unfolding(crate::specs::Header::alarm_name))]
 fn push_alarm(text: &mut Vec<u8>, alarm: usize) -> Result<()>
     requires { alarm < alarm_limit }
     ensures { OnOk result (text.new.items ≡ text.old.items
         ++ variable_line (signal_width Alarms) (first_code Alarms + alarm) (alarm_name alarm)) }
 {
-    let name = alarm_name(alarm as u32);
+    let mut name = LineText::new();
+    name.push(b"alarm");
+    name.push_number(alarm as u32);
     let line = variable_line(
         signal_width(Scope::Alarms),
         first_code(Scope::Alarms) + alarm as u8,
@@ -125,7 +116,6 @@ fn push_alarm(text: &mut Vec<u8>, alarm: usize) -> Result<()>
     Ok(())
 }
 
-// Appends those of all alarms.
 fn push_alarms(text: &mut Vec<u8>) -> Result<()>
     ensures { OnOk result (text.new.items ≡ text.old.items ++ alarm_lines alarm_limit) }
 {

@@ -13,7 +13,6 @@ use sloth_base::TASK_LIMIT;
 use sloth_inspect::state_number;
 use sloth_runner::task_states::Seen;
 
-// Whether the states of the tasks have the same numbers.
 fn same_states(tasks: usize, one: &[TaskState; TASK_LIMIT], other: &[TaskState; TASK_LIMIT]) -> bool
     requires { tasks ≤ task_limit }
     ensures { IsTrue result → (t : ℕ) → t < tasks → state_number (get_or one.now t mode.Suspended)
@@ -27,7 +26,6 @@ fn same_states(tasks: usize, one: &[TaskState; TASK_LIMIT], other: &[TaskState; 
     true
 }
 
-// Whether the first lines of two lists are the same, pending or not.
 fn same_flags(count: usize, one: &[bool], other: &[bool]) -> bool
     requires { (count ≤ length one.now) × (count ≤ length other.now) }
     ensures { IsTrue result → (t : ℕ) → t < count → get_or one.now t false ≡ get_or other.now t false }
@@ -40,7 +38,6 @@ fn same_flags(count: usize, one: &[bool], other: &[bool]) -> bool
     true
 }
 
-// Whether the first numbers of two lists are the same.
 fn same_numbers(count: usize, one: &[u32], other: &[u32]) -> bool
     requires { (count ≤ length one.now) × (count ≤ length other.now) }
     ensures { IsTrue result → (t : ℕ) → t < count → get_or one.now t 0 ≡ get_or other.now t 0 }
@@ -65,29 +62,22 @@ fn keeps_states(tasks: usize, before: &Option<Seen>, after: &Option<Seen>) -> bo
     requires { tasks ≤ task_limit }
     ensures { IsTrue result → (t : ℕ) → t < tasks → state_value before.now t ≡ state_value after.now t }
 {
-    match before {
-        Some(before) => match after {
-            Some(after) => same_states(tasks, &before.tasks, &after.tasks),
-            None => false,
-        },
-        None => false,
-    }
+    let (Some(before), Some(after)) = (before, after) else {
+        return false;
+    };
+    same_states(tasks, &before.tasks, &after.tasks)
 }
 
 // Whether the tasks were seen before and the same one is seen to run.
 fn keeps_running(before: &Option<Seen>, after: &Option<Seen>) -> bool
     ensures { IsTrue result → (t : ℕ) → running_value before.now t ≡ running_value after.now t }
 {
-    match before {
-        Some(before) => match after {
-            Some(after) => before.running == after.running,
-            None => false,
-        },
-        None => false,
-    }
+    let (Some(before), Some(after)) = (before, after) else {
+        return false;
+    };
+    before.running == after.running
 }
 
-// The same of two moments, for the first signals.
 fn keeps_values(scope: Scope, count: usize, before: &Moment, after: &Moment) -> bool
     requires { count ≤ most_signals scope }
     ensures { IsTrue result → (t : ℕ) → t < count → moment_value scope before.now t ≡ moment_value scope after.now t }
@@ -117,11 +107,8 @@ pub fn keeps(scope: Scope, count: usize, before: &Option<Moment>, after: &Option
     requires { count ≤ most_signals scope }
     ensures { IsTrue result → KeepValues scope count before.now after.now }
 {
-    match before {
-        Some(before) => match after {
-            Some(after) => keeps_values(scope, count, before, after),
-            None => false,
-        },
-        None => false,
-    }
+    let (Some(before), Some(after)) = (before, after) else {
+        return false;
+    };
+    keeps_values(scope, count, before, after)
 }

@@ -6,7 +6,7 @@ ghost use Rattle.sloth_base.specs.Arrivals.{AreArrivals};
 ghost use Rattle.sloth_base.specs.Owners.{owners_named};
 ghost use Rattle.sloth_base.specs.Limits.{count_limit};
 ghost use Rattle.wave_text.specs.Waves.{AreWaves};
-ghost use Rattle.wave_text.specs.Moments.{no_words, is_open, words_behind_look};
+ghost use Rattle.wave_text.specs.Moments.{no_words, words_behind_look};
 
 use crate::dump::Dump;
 use crate::header::header;
@@ -14,7 +14,6 @@ use run_samples::{Sample, Sampler, ServiceWords};
 use sloth_base::numbers::Owners;
 use sloth_base::{ALARM_LIMIT, Arrival, COUNTER_LIMIT, Image, NoMemory, TASK_LIMIT};
 use sloth_runner::Halt;
-use sloth_runner::task_states::Seen;
 use std::alloc::Global;
 
 /// The waves of a run, or where and why it stops.
@@ -83,16 +82,6 @@ pub fn no_words() -> ServiceWords
     }
 }
 
-// Whether the tasks were seen at this count.
-fn is_open(seen: &Option<Seen>, count: u32) -> bool
-    ensures { result ≡ is_open seen.now count }
-{
-    match seen {
-        Some(seen) => seen.count == count,
-        None => false,
-    }
-}
-
 /// The words of a count of which this is the sample: those that it shows, where the tasks are seen there, and else
 /// those of the count before.
 pub fn words_behind_look(
@@ -103,9 +92,9 @@ pub fn words_behind_look(
 ) -> ServiceWords
     ensures { result ≡ words_behind_look sample.now count before.now now.now }
 {
-    if is_open(&sample.seen, count) {
-        *now
-    } else {
-        *before
+    match &sample.seen {
+        Some(seen) if seen.count == count => *now,
+        Some(_) => *before,
+        None => *before,
     }
 }

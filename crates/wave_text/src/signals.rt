@@ -73,7 +73,6 @@ pub fn alarm_count(counters: usize) -> usize
     if counters == 0 { 0 } else { ALARM_LIMIT }
 }
 
-// This number, where the tasks were seen.
 fn number_seen(seen: &Option<Seen>, number: u32) -> Option<u32>
     ensures { result ≡ number_seen seen.now number }
 {
@@ -83,7 +82,6 @@ fn number_seen(seen: &Option<Seen>, number: u32) -> Option<u32>
     }
 }
 
-// The value of a signal at a moment, by its place in the scope.
 fn moment_value(scope: Scope, moment: &Moment, place: usize) -> Option<u32>
     requires { place < most_signals scope }
     ensures { result ≡ moment_value scope moment.now place }

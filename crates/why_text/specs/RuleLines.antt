@@ -11,7 +11,7 @@ use Rattle.sloth_base.specs.declared.refusal.Code.TheVariants as code
 use Rattle.sloth_base.specs.declared.refusal.Refusal.{Refusal}
 use Rattle.sloth_base.specs.declared.service.Service.{Service}
 use Rattle.sloth_base.specs.declared.service.Service.TheVariants as service
-use Rattle.sloth_base.specs.ConfigRange.{scheduler_number, no_event}
+use Rattle.sloth_base.specs.ConfigRange.{no_event, resource_name}
 use Rattle.sloth_base.specs.Named.{declaration, function, item_of, label_of, no_symbol, symbol_size}
 use Rattle.sloth_base.specs.ServiceCodes.{service_name}
 use Rattle.code_rules.specs.Code.{held_list_at, held_list_entering, is_followed, way}
@@ -38,10 +38,6 @@ name_line name = word_line (codes "name") name
 
 abbrev pub number_line : List ℕ → ℕ → List ℕ
 number_line word n = word_line word (decimal n)
-
--- the name of a resource
-abbrev pub resource_name : Config → ℕ → List ℕ
-resource_name config r = cond (r == scheduler_number) (codes "RES_SCHEDULER") (get_or config.resources r [])
 
 -- ---- ways, and what is held
 

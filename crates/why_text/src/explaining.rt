@@ -1,4 +1,4 @@
-//! The lines behind a refusal. What the command `why` answers.
+//! The lines behind a refusal. What the command `why` answers. The events that a statement names.
 ghost use Rattle.std.specs.Prelude.{◌≡◌, ◌<◌, ◌≤◌, ◌⊎◌, length, [], Some, IfOk, IfSome, IfNone};
 ghost use Rattle.sloth_base.specs.declared.config.Config.{Config};
 ghost use Rattle.sloth_base.specs.Named.{function};
@@ -8,19 +8,24 @@ ghost use Rattle.call_graph.specs.Ranks.{RanksOf};
 ghost use Rattle.sloth_source.specs.OilText.{OilText};
 ghost use Rattle.sloth_source.specs.SourceText.{HasApp};
 ghost use Rattle.sloth_source.specs.RankedTexts.{HasRanks};
-ghost use Rattle.why_text.specs.WhyLines.{TellsFault, TellsNames, TellsCycle, IsCycleOn, HasCycleIn, HasWitnessLines, code_cause, lines_limit, AreLinesBy, AreWhyLines, IsWhy};
+ghost use Rattle.why_text.specs.WhyLines.{TellsFault, TellsNames, TellsCycle, IsCycleOn, HasCycleIn, HasWitnessLines};
+ghost use Rattle.why_text.specs.WhyLines.{code_cause, lines_limit, AreWhyLines, IsWhy};
 
-use crate::meaning::oil_text;
-use crate::named_events::named_events;
-use crate::naming::{forms_text, names_text};
-use crate::rule_lines::{cycle_line, witness_lines};
+use crate::naming::{forms_text, names_text, oil_text};
+use crate::rule_lines::push_place;
+use crate::way_lines::push_calls;
 use asm_lines::{SourceLine, read_lines};
 use asm_parse::parse_app;
+use asm_scopes::{Kind, kind_of, written};
 use call_graph::Ranks;
 use fault_witnesses::{cycle_calls, fault_witness};
 use sloth_base::{App, BuildError, Code, Config, List, NoMemory, Refusal, Result};
 use sloth_source::{Ranked, read, read_config, read_ranked};
 use std::alloc::Global;
+use text_pieces::{push, same};
+
+// The lines that were found, if some were.
+type Found = Result<Option<List<u8>>>;
 
 fn no_lines(alloc: Global) -> List<u8>
     ensures { result ≡ [] }
@@ -30,7 +35,6 @@ fn no_lines(alloc: Global) -> List<u8>
 
 // ---- names
 
-// The configuration of a text, if it has one.
 fn text_config(alloc: Global, oil: &[u8]) -> Result<Option<Config>>
     requires { length oil.now < 4294967295 }
     ensures means { IfOk result (λ found. IfSome found (OilText oil.now)) }
@@ -44,7 +48,6 @@ fn text_config(alloc: Global, oil: &[u8]) -> Result<Option<Config>>
     }
 }
 
-// The lines behind A5 to A7.
 fn name_lines(alloc: Global, oil: &[u8], src: &[u8], refusal: Refusal) -> Result<List<u8>>
     requires oil { length oil.now < 4294967295 }
     requires src { length src.now < 4294967295 }
@@ -72,7 +75,7 @@ fn body_on_line(app: &App, line: u32) -> Option<usize>
 }
 
 // The line of a cycle of calls of the body with this header, if there is one.
-fn cycle_on_line(alloc: Global, app: &App, line: u32) -> Result<Option<List<u8>>>
+fn cycle_on_line(alloc: Global, app: &App, line: u32) -> Found
     ensures { IfOk result (λ found. IfSome found (λ lines. IsCycleOn app.now line lines)) }
 {
     let Some(body) = body_on_line(app, line) else {
@@ -80,14 +83,16 @@ fn cycle_on_line(alloc: Global, app: &App, line: u32) -> Result<Option<List<u8>>
     };
     match cycle_calls(alloc, app, body)? {
         Some(links) => {
-            let text = cycle_line(alloc, app, body, links.items())?;
+            let mut text = Vec::new(alloc);
+            let name = app.function_name(body);
+            let header = app.function_line(body);
+            push_calls(&mut text, app, name, header, links.items(), None)?;
             Ok(Some(List::from_vec(text)))
         },
         None => Ok(None),
     }
 }
 
-// The task code of a text, if it has any.
 fn text_app(alloc: Global, config: &Config, src: &[u8]) -> Result<Option<App>>
     requires src { length src.now < 4294967295 }
     requires config { InRange config.now }
@@ -100,7 +105,7 @@ fn text_app(alloc: Global, config: &Config, src: &[u8]) -> Result<Option<App>>
     }
 }
 
-fn source_cycle(alloc: Global, src: &[u8], config: &Config, line: u32) -> Result<Option<List<u8>>>
+fn source_cycle(alloc: Global, src: &[u8], config: &Config, line: u32) -> Found
     requires src { length src.now < 4294967295 }
     requires config { InRange config.now }
     ensures { IfOk result (λ found. IfSome found (λ lines. HasCycleIn src.now config.now line lines)) }
@@ -111,12 +116,7 @@ fn source_cycle(alloc: Global, src: &[u8], config: &Config, line: u32) -> Result
     }
 }
 
-fn refusal_cycle(
-    alloc: Global,
-    oil: &[u8],
-    src: &[u8],
-    refusal: Refusal,
-) -> Result<Option<List<u8>>>
+fn refusal_cycle(alloc: Global, oil: &[u8], src: &[u8], refusal: Refusal) -> Found
     requires oil { length oil.now < 4294967295 }
     requires src { length src.now < 4294967295 }
     ensures { IfOk result (λ found. IfSome found (TellsCycle oil.now src.now refusal)) }
@@ -129,29 +129,6 @@ fn refusal_cycle(
 
 // ---- rules of task code
 
-// What is shown of a fault, in these lines.
-fn shown_fault(
-    alloc: Global,
-    config: &Config,
-    app: &App,
-    ranks: &Ranks,
-    lines: &[SourceLine],
-    refusal: Refusal,
-) -> Result<Option<List<u8>>>
-    requires in_range { AppInRange config.now app.now }
-    requires belong { RanksOf app.now ranks.now }
-    ensures { IfOk result (λ found. IfSome found (λ text. HasWitnessLines config.now app.now refusal text)) }
-{
-    let events = named_events(alloc, config, lines, refusal.line)?;
-    match fault_witness(alloc, config, app, ranks, refusal, &events)? {
-        Some(witness) => {
-            let text = witness_lines(alloc, config, app, refusal, &witness)?;
-            Ok(Some(List::from_vec(text)))
-        },
-        None => Ok(None),
-    }
-}
-
 /// The lines that tell a fault of this task code of V2 to V12, of at most 4,294,967,294 bytes of source.
 pub fn told_fault(
     alloc: Global,
@@ -160,21 +137,29 @@ pub fn told_fault(
     app: &App,
     ranks: &Ranks,
     refusal: Refusal,
-) -> Result<Option<List<u8>>>
+) -> Found
     requires src { length src.now < 4294967295 }
     requires in_range { AppInRange config.now app.now }
     requires belong { RanksOf app.now ranks.now }
     ensures { IfOk result (λ found. IfSome found (λ text. HasWitnessLines config.now app.now refusal text)) }
 {
-    let lines = read_lines(alloc, src)?;
-    shown_fault(alloc, config, app, ranks, lines.items(), refusal)
+    let events = named_events(alloc, config, src, refusal.line)?;
+    match fault_witness(alloc, config, app, ranks, refusal, &events)? {
+        Some(witness) => {
+            let mut text = Vec::new(alloc);
+            push_place(alloc, &mut text, config, app, refusal.code, &witness)?;
+            Ok(Some(List::from_vec(text)))
+        },
+        None => Ok(None),
+    }
 }
 
 /// What both texts mean, of at most 4,294,967,294 bytes each, if no rule up to V1 is broken.
 pub fn ranked_texts(alloc: Global, oil: &[u8], src: &[u8]) -> Result<Option<Ranked>>
     requires oil { length oil.now < 4294967295 }
     requires src { length src.now < 4294967295 }
-    ensures has_ranks { IfOk result (λ found. IfSome found (λ ranked. HasRanks oil.now src.now ranked.config ranked.app)) }
+    ensures has_ranks { IfOk result
+        (λ found. IfSome found (λ ranked. HasRanks oil.now src.now ranked.config ranked.app)) }
     ensures in_range { IfOk result (λ found. IfSome found (λ ranked. AppInRange ranked.config ranked.app)) }
     ensures belong { IfOk result (λ found. IfSome found (λ ranked. RanksOf ranked.app ranked.ranks)) }
 {
@@ -185,12 +170,7 @@ pub fn ranked_texts(alloc: Global, oil: &[u8], src: &[u8]) -> Result<Option<Rank
     }
 }
 
-fn refusal_fault(
-    alloc: Global,
-    oil: &[u8],
-    src: &[u8],
-    refusal: Refusal,
-) -> Result<Option<List<u8>>>
+fn refusal_fault(alloc: Global, oil: &[u8], src: &[u8], refusal: Refusal) -> Found
     requires oil { length oil.now < 4294967295 }
     requires src { length src.now < 4294967295 }
     ensures { IfOk result (λ found. IfSome found (TellsFault oil.now src.now refusal)) }
@@ -249,19 +229,13 @@ fn few_lines(alloc: Global, found: Option<List<u8>>) -> List<u8>
     }
 }
 
-// The lines behind a refusal that is explained so.
-fn cause_lines(
-    alloc: Global,
-    cause: Cause,
-    oil: &[u8],
-    src: &[u8],
-    refusal: Refusal,
-) -> Result<List<u8>>
+/// The lines behind the first refusal of texts of at most 4,294,967,294 bytes.
+pub fn lines_behind(alloc: Global, oil: &[u8], src: &[u8], refusal: Refusal) -> Result<List<u8>>
     requires oil { length oil.now < 4294967295 }
     requires src { length src.now < 4294967295 }
-    ensures { IfOk result (AreLinesBy cause oil.now src.now refusal) }
+    ensures { IfOk result (AreWhyLines oil.now src.now refusal) }
 {
-    match cause {
+    match code_cause(refusal.code) {
         Cause::OilName => oil_text(alloc, oil, refusal),
         Cause::SourceForm => forms_text(alloc, src, refusal),
         Cause::SourceName => name_lines(alloc, oil, src, refusal),
@@ -269,15 +243,6 @@ fn cause_lines(
         Cause::Rule => Ok(few_lines(alloc, refusal_fault(alloc, oil, src, refusal)?)),
         Cause::Nothing => Ok(no_lines(alloc)),
     }
-}
-
-/// The lines behind the first refusal of texts of at most 4,294,967,294 bytes.
-pub fn lines_behind(alloc: Global, oil: &[u8], src: &[u8], refusal: Refusal) -> Result<List<u8>>
-    requires oil { length oil.now < 4294967295 }
-    requires src { length src.now < 4294967295 }
-    ensures { IfOk result (AreWhyLines oil.now src.now refusal) }
-{
-    cause_lines(alloc, code_cause(refusal.code), oil, src, refusal)
 }
 
 /// What is said of a configuration and its task code.
@@ -302,4 +267,28 @@ pub fn explain(alloc: Global, oil: &[u8], src: &[u8]) -> Result<Why>
         },
         Err(BuildError::Memory) => Err(NoMemory),
     }
+}
+
+/// The numbers of the events that the statement on a line names, in its order; lines are counted from 1.
+pub fn named_events(alloc: Global, config: &Config, src: &[u8], line: u32) -> Result<Vec<usize>>
+    requires { length src.now < 4294967295 }
+{
+    let read = read_lines(alloc, src)?;
+    let lines = read.items();
+    let mut events = Vec::new(alloc);
+    let number = line as usize;
+    if number == 0 || number > lines.len() {
+        return Ok(events);
+    }
+    if let SourceLine::Statement { mnemonic, operands } = &lines[number - 1] {
+        let declared = config.events.items();
+        for (place, operand) in operands.items().iter().enumerate() {
+            if let (Kind::Event, Some(name)) = (kind_of(*mnemonic, place), written(operand)) {
+                if let Some(event) = declared.iter().position(|it| same(it.name.bytes(), name)) {
+                    push(&mut events, event)?;
+                }
+            }
+        }
+    }
+    Ok(events)
 }

@@ -1,12 +1,12 @@
 //! The lines of an item that breaks a rule. Lines of a word and a name or a number.
 ghost use Rattle.std.specs.Prelude.{◌≡◌, ◌++◌, ◌<◌, length, Some, OnOk};
-ghost use Rattle.why_text.specs.RuleLines.{symbol_lines, size_lines, falls_out, run_out_lines, target_lines, op_object, last_lines, release_lines, op_callee, culprit_item, called_lines, taken_lines, left_lines, is_of_resource, lacked_lines, user_calls, user_lines, word_line, name_line, number_line};
+ghost use Rattle.why_text.specs.RuleLines.{size_lines, run_out_lines, target_lines, op_object, release_lines};
+ghost use Rattle.why_text.specs.RuleLines.{op_callee, culprit_item, called_lines, taken_lines, left_lines};
+ghost use Rattle.why_text.specs.RuleLines.{is_of_resource, user_lines, word_line, name_line};
+ghost use Rattle.why_text.specs.RuleLines.{last_lines, number_line};
 
-use crate::call_lines::push_calls;
-use crate::numbered::{
-    event_name, func_line, func_name, item_line, item_op, label_holds, resource_name, symbol_name,
-    symbol_size,
-};
+use crate::numbered::{item, label_holds, symbol_size};
+use crate::way_lines::push_calls;
 use crate::{label_name, push_list_line};
 use fault_witnesses::{Calls, Link, User, chain_end};
 use sloth_base::{App, Config, Func, Item, Op, Result, Service};
@@ -15,22 +15,18 @@ use task_verify::{falls, held_by, way};
 use text_pieces::line;
 use text_pieces::pieces::Piece::{Count, Number, Word};
 
-fn push_symbol(text: &mut Vec<u8>, app: &App, symbol: u32) -> Result<()>
-    ensures { OnOk result (text.new.items ≡ text.old.items ++ symbol_lines app.now symbol) }
-{
-    push_name(text, symbol_name(app, symbol))?;
-    push_count_line(text, b"bytes", symbol_size(app, symbol))
-}
-
 /// V2 to V4: what is accessed, and its size.
 pub fn push_size(text: &mut Vec<u8>, app: &App, func: &Func, op: Op) -> Result<()>
     ensures { OnOk result (text.new.items ≡ text.old.items ++ size_lines app.now func.now op) }
 {
     match op {
-        Op::Load { symbol, .. } => push_symbol(text, app, symbol.0),
-        Op::Store { symbol, .. } => push_symbol(text, app, symbol.0),
-        Op::LoadAt { symbol, .. } => push_symbol(text, app, symbol.0),
-        Op::StoreAt { symbol, .. } => push_symbol(text, app, symbol.0),
+        Op::Load { symbol, .. }
+        | Op::Store { symbol, .. }
+        | Op::LoadAt { symbol, .. }
+        | Op::StoreAt { symbol, .. } => {
+            push_name(text, app.symbol_name(symbol.0 as usize))?;
+            push_count_line(text, b"bytes", symbol_size(app, symbol.0 as usize))
+        }
         _ => {
             push_name(text, b"frame")?;
             push_number_line(text, b"words", func.frame_words)
@@ -38,19 +34,12 @@ pub fn push_size(text: &mut Vec<u8>, app: &App, func: &Func, op: Op) -> Result<(
     }
 }
 
-fn falls_out(func: &Func, item: usize) -> bool
-    requires { item < length func.now.items }
-    ensures { result ≡ falls_out func.now item }
-{
-    falls(func.op(item)) && func.items.items().len() <= item + 1
-}
-
 /// V5: the label behind the last item.
 pub fn push_run_out(text: &mut Vec<u8>, func: &Func, item: usize) -> Result<()>
     requires { item < length func.now.items }
     ensures { OnOk result (text.new.items ≡ text.old.items ++ run_out_lines func.now item) }
 {
-    if falls_out(func, item) {
+    if falls(func.op(item)) && func.items.items().len() <= item + 1 {
         return Ok(());
     }
     match way(func.op(item)) {
@@ -65,18 +54,13 @@ pub fn push_target(
     text: &mut Vec<u8>,
     config: &Config,
     func: &Func,
-    label: Option<usize>,
+    label: usize,
 ) -> Result<()>
-    ensures { OnOk result (text.new.items ≡ text.old.items ++ target_lines config.now func.now label) }
+    ensures { OnOk result (text.new.items ≡ text.old.items ++ target_lines config.now func.now (Some label)) }
 {
-    match label {
-        Some(label) => {
-            push_name(text, label_name(func, label))?;
-            let holds = held_by(alloc, label_holds(func, label))?;
-            push_list_line(text, config, b"lists", &holds)
-        },
-        None => Ok(()),
-    }
+    push_name(text, label_name(func, label))?;
+    let holds = held_by(alloc, label_holds(func, label))?;
+    push_list_line(text, config, b"lists", &holds)
 }
 
 fn op_object(op: Op) -> u32
@@ -94,14 +78,15 @@ fn push_last(text: &mut Vec<u8>, config: &Config, held: &[u32]) -> Result<()>
     if held.is_empty() {
         return Ok(());
     }
-    push_line(text, b"wants", resource_name(config, held[held.len() - 1]))
+    let last = held[held.len() - 1] as usize;
+    push_line(text, b"wants", config.resource_name(last))
 }
 
 /// V8: the resource that is released, and the last one taken.
 pub fn push_release(text: &mut Vec<u8>, config: &Config, held: &[u32], op: Op) -> Result<()>
     ensures { OnOk result (text.new.items ≡ text.old.items ++ release_lines config.now held.now op) }
 {
-    push_name(text, resource_name(config, op_object(op)))?;
+    push_name(text, config.resource_name(op_object(op) as usize))?;
     push_last(text, config, held)
 }
 
@@ -119,10 +104,7 @@ fn culprit_item(app: &App, op: Op, calls: &Calls) -> Item
 {
     let end = chain_end(op_callee(op), calls.links.items());
     match app.funcs.items().get(end) {
-        Some(func) => Item {
-            line: item_line(func, calls.item),
-            op: item_op(func, calls.item),
-        },
+        Some(func) => item(func, calls.item),
         None => Item {
             line: 0,
             op: Op::Return,
@@ -133,7 +115,7 @@ fn culprit_item(app: &App, op: Op, calls: &Calls) -> Item
 fn push_called(text: &mut Vec<u8>, app: &App, item: &Item, calls: &Calls) -> Result<()>
     ensures { OnOk result (text.new.items ≡ text.old.items ++ called_lines app.now item.now calls.now) }
 {
-    let name = func_name(app, op_callee(item.op));
+    let name = app.function_name(op_callee(item.op));
     let culprit = culprit_item(app, item.op, calls);
     let links = calls.links.items();
     push_calls(text, app, name, item.line, links, Some(culprit))
@@ -152,10 +134,10 @@ pub fn push_taken(
     match calls {
         Some(calls) => {
             let culprit = culprit_item(app, item.op, calls);
-            push_name(text, resource_name(config, op_object(culprit.op)))?;
+            push_name(text, config.resource_name(op_object(culprit.op) as usize))?;
             push_called(text, app, item, calls)
         },
-        None => push_name(text, resource_name(config, op_object(item.op))),
+        None => push_name(text, config.resource_name(op_object(item.op) as usize)),
     }
 }
 
@@ -181,28 +163,6 @@ fn is_of_resource(op: Op) -> bool
     }
 }
 
-fn push_lacked(text: &mut Vec<u8>, config: &Config, op: &Op, event: Option<usize>) -> Result<()>
-    ensures { OnOk result (text.new.items ≡ text.old.items ++ lacked_lines config.now op.now event) }
-{
-    if is_of_resource(*op) {
-        return push_name(text, resource_name(config, op_object(*op)));
-    }
-    match event {
-        Some(event) => push_name(text, event_name(config, event)),
-        None => Ok(()),
-    }
-}
-
-fn push_user_calls(text: &mut Vec<u8>, app: &App, body: usize, links: &[Link]) -> Result<()>
-    ensures { OnOk result (text.new.items ≡ text.old.items ++ user_calls app.now body links.now) }
-{
-    if links.is_empty() {
-        return Ok(());
-    }
-    let line = func_line(app, body);
-    push_calls(text, app, func_name(app, body), line, links, None)
-}
-
 /// V12: the task, what it lacks, and the calls from its body.
 pub fn push_user(
     text: &mut Vec<u8>,
@@ -213,14 +173,21 @@ pub fn push_user(
 ) -> Result<()>
     ensures { OnOk result (text.new.items ≡ text.old.items ++ user_lines config.now app.now op.now user.now) }
 {
-    match user {
-        Some(user) => {
-            push_line(text, b"task", config.task_name(user.task))?;
-            push_lacked(text, config, op, user.event)?;
-            push_user_calls(text, app, user.body, user.links.items())
-        },
-        None => Ok(()),
+    let Some(user) = user else {
+        return Ok(());
+    };
+    push_line(text, b"task", config.task_name(user.task))?;
+    if is_of_resource(*op) {
+        push_name(text, config.resource_name(op_object(*op) as usize))?;
+    } else if let Some(event) = user.event {
+        push_name(text, config.event_name(event))?;
     }
+    let links = user.links.items();
+    if links.is_empty() {
+        return Ok(());
+    }
+    let line = app.function_line(user.body);
+    push_calls(text, app, app.function_name(user.body), line, links, None)
 }
 
 /// A line of a word and a name.

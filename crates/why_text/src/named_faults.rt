@@ -3,7 +3,8 @@ ghost use Rattle.std.specs.Prelude.{◌≡◌, ◌==◌, ◌&&◌, ◌||◌, ℕ
 ghost use Rattle.std.specs.List.{list_any};
 ghost use Rattle.std.specs.List.Sorted.{IsNonDecreasingBy};
 ghost use Rattle.stage_faults.specs.Told.{note_order, AreInOrder};
-ghost use Rattle.why_text.specs.NamedFaults.{is_same_place, is_key, apart_with, first_of_each, AddsGroup, NamesAll, AreKeys, StandApart};
+ghost use Rattle.why_text.specs.NamedFaults.{is_same_place, is_key, apart_with, first_of_each, AddsGroup, NamesAll};
+ghost use Rattle.why_text.specs.NamedFaults.{AreKeys, StandApart};
 
 use indexmap::IndexSet;
 use oil_table::insert;

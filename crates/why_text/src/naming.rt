@@ -1,21 +1,34 @@
-//! The lines behind a refusal of names and forms: the name that it concerns, and each fault of its stage.
-ghost use Rattle.std.specs.Prelude.{◌≡◌, ◌<◌, ◌^◌, ◌++◌, length, IsTrue, IfOk, IfErr, IfSome, OnOk};
-ghost use Rattle.sloth_base.specs.declared.refusal.Part.TheVariants.{Src};
+//! The lines behind a refusal of names, forms or meaning: the name that it concerns, and each fault of its stage.
+ghost use Rattle.std.specs.Prelude.{IfSome, ◌≡◌, ◌<◌, ◌^◌, ◌++◌, length, IsTrue, IfOk, IfErr, OnOk, nat_lt, take};
+ghost use Rattle.sloth_base.specs.declared.refusal.Part.TheVariants.{Src, Oil};
 ghost use Rattle.sloth_base.specs.Order.{ErrorIs};
 ghost use Rattle.asm_lines.specs.Faults.{source_lines, SourceLinesFault};
 ghost use Rattle.stage_faults.specs.ToldNames.{ToldName};
-ghost use Rattle.why_text.specs.NameLines.{first_lines, is_word, HasName, IsNamed, TellsNotes, AreFaultLines};
-ghost use Rattle.why_text.specs.WhyLines.{TellsForms, TellsNamesFor};
+ghost use Rattle.why_text.specs.NameLines.{first_lines, more_lines, is_word, HasName, IsNamed, TellsNotes};
+ghost use Rattle.why_text.specs.NameLines.{AreFaultLines};
+ghost use Rattle.why_text.specs.NameLines.{among_lines, told_lines, TellsNamed, AreNamedLines};
+ghost use Rattle.why_text.specs.WhyLines.{TellsForms, TellsNamesFor, LacksTree, TellsMeaning};
+ghost use Rattle.std.specs.List.{list_all};
+ghost use Rattle.oil_parse.specs.Text.{HasTree};
+ghost use Rattle.stage_faults.specs.Told.{AreInOrder};
+ghost use Rattle.stage_faults.specs.ToldModel.{ToldModel};
 
-use crate::among_lines::{is_word, push_told};
 use crate::item_lines::{push_name, push_number_line};
-use crate::oil_names::is_refusal_fault;
+use crate::named_faults::with_names;
+use crate::oil_names::{is_refusal_fault, oil_names};
 use asm_lines::{SourceLine, read};
 use asm_scopes::bodies_of;
+use command_line::code_text;
+use oil_parse::{OilTree, parse, tokens};
 use sloth_base::{BuildError, Config, List, NoMemory, Refusal, Result};
 use stage_faults::told_list::told_list;
-use stage_faults::{Note, line_notes, name_notes};
+use stage_faults::{Note, line_notes, model_notes, name_notes, put_in_order};
 use std::alloc::Global;
+use text_pieces::line;
+use text_pieces::pieces::Piece::{Number, Word};
+
+// The lines behind a refusal.
+type Text = Result<List<u8>>;
 
 // ---- the lines
 
@@ -52,7 +65,7 @@ pub fn refusal_name(alloc: Global, notes: &[Note], refusal: Refusal) -> Result<V
 
 // ---- task source
 
-fn source_text(alloc: Global, notes: &mut Vec<Note>, refusal: Refusal) -> Result<List<u8>>
+fn source_text(alloc: Global, notes: &mut Vec<Note>, refusal: Refusal) -> Text
     ensures { IfOk result (TellsNotes notes.old.items) }
 {
     let told = told_list(alloc, notes)?;
@@ -62,7 +75,7 @@ fn source_text(alloc: Global, notes: &mut Vec<Note>, refusal: Refusal) -> Result
 }
 
 /// The lines behind a refusal of A1 to A4.
-pub fn forms_text(alloc: Global, src: &[u8], refusal: Refusal) -> Result<List<u8>>
+pub fn forms_text(alloc: Global, src: &[u8], refusal: Refusal) -> Text
     requires { length src.now < 4294967295 }
     ensures { IfOk result (TellsForms src.now) }
 {
@@ -70,12 +83,7 @@ pub fn forms_text(alloc: Global, src: &[u8], refusal: Refusal) -> Result<List<u8
     source_text(alloc, &mut notes, refusal)
 }
 
-fn names_lines(
-    alloc: Global,
-    config: &Config,
-    lines: &[SourceLine],
-    refusal: Refusal,
-) -> Result<List<u8>>
+fn names_lines(alloc: Global, config: &Config, lines: &[SourceLine], refusal: Refusal) -> Text
     requires { length lines.now < 2 ^ 32 }
     ensures { IfOk result (AreFaultLines Src (ToldName config.now lines.now)) }
 {
@@ -101,12 +109,113 @@ fn names_read(
 }
 
 /// The lines behind a refusal of A5 to A7.
-pub fn names_text(alloc: Global, config: &Config, src: &[u8], refusal: Refusal) -> Result<List<u8>>
+pub fn names_text(alloc: Global, config: &Config, src: &[u8], refusal: Refusal) -> Text
     requires { length src.now < 4294967295 }
     ensures { IfOk result (TellsNamesFor config.now src.now) }
 {
     match names_read(alloc, config, src, refusal) {
         Ok(text) => Ok(text),
+        Err(BuildError::Refused(_)) => Ok(List::from_vec(Vec::new(alloc))),
+        Err(BuildError::Memory) => Err(NoMemory),
+    }
+}
+
+// How many faults are told.
+const AMONG_LIMIT: usize = 1_000;
+
+// The greatest number of bytes of a name, as of a text.
+const LONGEST: usize = 4_194_304;
+
+fn are_shown(name: &[u8]) -> bool
+    ensures { result ≡ list_all (nat_lt 32) name.now }
+{
+    name.iter().all(|byte| *byte > 32)
+}
+
+/// Whether a name is a word: it has bytes, no blank and no end of a line, and is no longer than a text may be.
+pub fn is_word(name: &[u8]) -> bool
+    ensures { result ≡ is_word name.now }
+{
+    !name.is_empty() && name.len() <= LONGEST && are_shown(name)
+}
+
+fn push_notes(text: &mut Vec<u8>, notes: &[Note]) -> Result<()>
+    ensures { OnOk result (text.new.items ≡ text.old.items ++ among_lines notes.now) }
+{
+    for note in notes {
+        line!(text; Word(b"among "), Number(note.line), Word(b" "), Word(code_text(note.code)))?;
+        if is_word(note.name) {
+            line!(text; Word(b" "), Word(note.name))?;
+        }
+        line!(text; Word(b"\n"))?;
+    }
+    Ok(())
+}
+
+// The first of these faults, as many as there are.
+fn first_notes<'n, 't>(notes: &'n [Note<'t>], count: usize) -> &'n [Note<'t>]
+    ensures { result.now ≡ take count notes.now }
+{
+    if count < notes.len() {
+        return &notes[..count];
+    }
+    notes
+}
+
+fn push_more(text: &mut Vec<u8>, more: bool) -> Result<()>
+    ensures { OnOk result (text.new.items ≡ text.old.items ++ more_lines more) }
+{
+    if more {
+        return line!(text; Word(b"among more\n"));
+    }
+    Ok(())
+}
+
+/// The lines of these faults, of no more than 1,000.
+pub fn push_told(text: &mut Vec<u8>, notes: &[Note]) -> Result<()>
+    ensures { OnOk result (text.new.items ≡ text.old.items ++ told_lines notes.now) }
+{
+    push_notes(text, first_notes(notes, AMONG_LIMIT))?;
+    push_more(text, notes.len() > AMONG_LIMIT)
+}
+
+fn parsed(alloc: Global, oil: &[u8]) -> Result<OilTree, BuildError>
+    requires { length oil.now < 4294967295 }
+    ensures tree { IfOk result (HasTree oil.now) }
+    ensures refused { IfErr result (LacksTree oil.now) }
+{
+    let tokens = tokens(alloc, oil)?;
+    parse(alloc, tokens.as_slice())
+}
+
+// The lines of these faults in order, under the names that are known.
+fn named_text(alloc: Global, faults: &[Note], notes: &mut Vec<Note>, refusal: Refusal) -> Text
+    requires { AreInOrder faults.now }
+    ensures { IfOk result (TellsNamed faults.now) }
+{
+    put_in_order(notes)?;
+    let mut text = refusal_name(alloc, notes.as_slice(), refusal)?;
+    let named = with_names(alloc, faults, notes.as_slice())?;
+    push_told(&mut text, &named)?;
+    Ok(List::from_vec(text))
+}
+
+fn tree_text(alloc: Global, tree: &OilTree, refusal: Refusal) -> Text
+    ensures { IfOk result (AreNamedLines Oil (ToldModel tree.now)) }
+{
+    let mut notes = model_notes(alloc, tree)?;
+    let faults = told_list(alloc, &mut notes)?;
+    let mut named = oil_names(alloc, tree, &notes, refusal)?;
+    named_text(alloc, faults.as_slice(), &mut named, refusal)
+}
+
+/// The lines behind a refusal of O7 to O15.
+pub fn oil_text(alloc: Global, oil: &[u8], refusal: Refusal) -> Text
+    requires { length oil.now < 4294967295 }
+    ensures { IfOk result (TellsMeaning oil.now) }
+{
+    match parsed(alloc, oil) {
+        Ok(tree) => tree_text(alloc, &tree, refusal),
         Err(BuildError::Refused(_)) => Ok(List::from_vec(Vec::new(alloc))),
         Err(BuildError::Memory) => Err(NoMemory),
     }

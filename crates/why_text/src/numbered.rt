@@ -1,27 +1,19 @@
-//! Things of task code by their numbers.
-ghost use Rattle.std.specs.Prelude.{◌≡◌, ◌==◌, [], get_or};
-ghost use Rattle.sloth_base.specs.ConfigRange.{no_event};
-ghost use Rattle.sloth_base.specs.Named.{function, item_of, label_of, no_symbol, symbol_size};
-ghost use Rattle.why_text.specs.RuleLines.{resource_name};
+//! Items and labels by their numbers. Where there is none of a number: a `Return` of line 0, no name, no list.
+ghost use Rattle.std.specs.Prelude.{◌≡◌};
+ghost use Rattle.sloth_base.specs.Named.{item_of, label_of, symbol_size};
 
-use sloth_base::{App, Config, Func, Op, RES_SCHEDULER, ResId};
+use sloth_base::{App, Func, Item, Op, ResId};
 
-/// The name of a function, and the line of its header.
-pub fn func_name(app: &App, number: usize) -> &[u8]
-    ensures { result.now ≡ (function app.now number).name }
+/// An item.
+pub fn item(func: &Func, number: usize) -> Item
+    ensures { result ≡ item_of func.now number }
 {
-    match app.funcs.items().get(number) {
-        Some(func) => func.name.bytes(),
-        None => b"",
-    }
-}
-
-pub fn func_line(app: &App, number: usize) -> u32
-    ensures { result ≡ (function app.now number).line }
-{
-    match app.funcs.items().get(number) {
-        Some(func) => func.line,
-        None => 0,
+    match func.items.items().get(number) {
+        Some(item) => *item,
+        None => Item {
+            line: 0,
+            op: Op::Return,
+        },
     }
 }
 
@@ -29,20 +21,7 @@ pub fn func_line(app: &App, number: usize) -> u32
 pub fn item_line(func: &Func, number: usize) -> u32
     ensures { result ≡ (item_of func.now number).line }
 {
-    match func.items.items().get(number) {
-        Some(item) => item.line,
-        None => 0,
-    }
-}
-
-/// What an item does.
-pub fn item_op(func: &Func, number: usize) -> Op
-    ensures { result ≡ (item_of func.now number).op }
-{
-    match func.items.items().get(number) {
-        Some(item) => item.op,
-        None => Op::Return,
-    }
+    item(func, number).line
 }
 
 /// The name of a label.
@@ -75,44 +54,11 @@ pub fn label_holds(func: &Func, number: usize) -> &[ResId]
     }
 }
 
-/// The name of an event.
-pub fn event_name(config: &Config, number: usize) -> &[u8]
-    ensures { result.now ≡ (get_or config.now.events number no_event).name }
-{
-    match config.events.items().get(number) {
-        Some(event) => event.name.bytes(),
-        None => b"",
-    }
-}
-
-/// The name of a resource.
-pub fn resource_name(config: &Config, resource: u32) -> &[u8]
-    ensures { result.now ≡ resource_name config.now resource }
-{
-    if resource == RES_SCHEDULER {
-        return b"RES_SCHEDULER";
-    }
-    match config.resources.items().get(resource as usize) {
-        Some(name) => name.bytes(),
-        None => b"",
-    }
-}
-
-/// The name of a symbol.
-pub fn symbol_name(app: &App, number: u32) -> &[u8]
-    ensures { result.now ≡ (get_or app.now.symbols number no_symbol).name }
-{
-    match app.symbols.items().get(number as usize) {
-        Some(symbol) => symbol.name.bytes(),
-        None => b"",
-    }
-}
-
 /// The bytes of a symbol.
-pub fn symbol_size(app: &App, number: u32) -> usize
+pub fn symbol_size(app: &App, number: usize) -> usize
     ensures { result ≡ symbol_size app.now number }
 {
-    match app.symbols.items().get(number as usize) {
+    match app.symbols.items().get(number) {
         Some(symbol) => symbol.bytes.items().len(),
         None => 0,
     }

@@ -1,14 +1,13 @@
-//! The names of the faults of an OIL tree's meaning (O7 to O15). The tasks that gave a priority first (O13).
+//! The names of the faults of an OIL tree's meaning (O7 to O15).
 
-use crate::earlier::earlier_line;
-use crate::lacking::add_lacking;
 use indexmap::IndexSet;
-use oil_parse::{OilObject, OilTree};
-use oil_table::{first_use, insert, is_of_kind, number_of};
+use oil_parse::{OilAttr, OilObject, OilTree};
+use oil_rules::{first_block, is_used_in};
+use oil_table::{Place, block_place, declares, first_use, insert, is_of_kind, is_used, number_of};
 use sloth_base::{Code, Refusal, Result};
 use stage_faults::{Note, Position};
 use std::alloc::Global;
-use text_pieces::push;
+use text_pieces::{push, same};
 
 /// Whether the fault is that of the refusal.
 pub fn is_refusal_fault(note: &Note, refusal: Refusal) -> bool {
@@ -82,18 +81,14 @@ fn add_priority<'t>(
     if let Some(place) = (&*numbers).get_index_of(&number) {
         if place < firsts.len() {
             let first = firsts[place];
-            push(
-                named,
-                named_note(attr.line, Code::O13, first.name, Some(first.line)),
-            )?;
+            let note = named_note(attr.line, Code::O13, first.name, Some(first.line));
+            push(named, note)?;
         }
         return Ok(());
     }
     insert(numbers, number)?;
-    push(
-        firsts,
-        named_note(attr.line, Code::O13, task.name.bytes(), None),
-    )
+    let note = named_note(attr.line, Code::O13, task.name.bytes(), None);
+    push(firsts, note)
 }
 
 /// Each priority that an earlier task has, with that task.
@@ -110,4 +105,127 @@ pub fn add_priorities<'t>(
         }
     }
     Ok(())
+}
+
+// O11 for each of these words that attributes lack: those of an object, or those in a block.
+fn add_missing<'t>(
+    named: &mut Vec<Note<'t>>,
+    line: u32,
+    attrs: &[OilAttr],
+    in_block: bool,
+    words: &[&'static [u8]],
+) -> Result<()> {
+    for word in words {
+        let is_there = if in_block {
+            is_used_in(attrs, *word)
+        } else {
+            is_used(attrs, *word)
+        };
+        if !is_there {
+            push(named, named_note(line, Code::O11, *word, None))?;
+        }
+    }
+    Ok(())
+}
+
+// What the block of an attribute of an alarm lacks.
+fn lacking_behind<'t>(named: &mut Vec<Note<'t>>, object: &OilObject, name: &[u8]) -> Result<()> {
+    let attrs = object.attrs.items();
+    let Some(head) = first_use(attrs, name) else {
+        return Ok(());
+    };
+    let inner = first_block(attrs, name);
+    let line = object.line;
+    match block_place(Place::Alarm, head) {
+        Place::Activating => add_missing(named, line, inner, true, &[b"TASK"]),
+        Place::Setting => add_missing(named, line, inner, true, &[b"TASK", b"EVENT"]),
+        Place::Wakeup => add_missing(named, line, inner, true, &[b"ALARMTIME", b"CYCLETIME"]),
+        _ => Ok(()),
+    }
+}
+
+/// Each attribute that these objects lack.
+pub fn add_lacking<'t>(named: &mut Vec<Note<'t>>, objects: &[OilObject]) -> Result<()> {
+    for object in objects {
+        let line = object.line;
+        let attrs = object.attrs.items();
+        if is_of_kind(object, b"TASK") {
+            add_missing(named, line, attrs, false, &[b"PRIORITY", b"SCHEDULE"])?;
+            add_missing(named, line, attrs, false, &[b"ACTIVATION", b"AUTOSTART"])?;
+        } else if is_of_kind(object, b"COUNTER") {
+            add_missing(named, line, attrs, false, &[b"MAXALLOWEDVALUE"])?;
+        } else if is_of_kind(object, b"ALARM") {
+            add_missing(named, line, attrs, false, &[b"COUNTER", b"ACTION"])?;
+            lacking_behind(named, object, b"AUTOSTART")?;
+            lacking_behind(named, object, b"ACTION")?;
+        }
+    }
+    Ok(())
+}
+
+// The line of the first object of this kind and name.
+fn declaration_line(objects: &[OilObject], kind: &[u8], name: &[u8]) -> Option<u32> {
+    for object in objects {
+        if declares(object, kind, name) {
+            return Some(object.line);
+        }
+    }
+    None
+}
+
+// The line of the first of these objects that an object doubles: a task and a counter may not share a name either.
+fn doubled_line(front: &[OilObject], object: &OilObject) -> Option<u32> {
+    if is_of_kind(object, b"OS") {
+        for earlier in front {
+            if is_of_kind(earlier, b"OS") {
+                return Some(earlier.line);
+            }
+        }
+        return None;
+    }
+    let name = object.name.bytes();
+    let first = declaration_line(front, object.kind.bytes(), name);
+    if first.is_some() {
+        return first;
+    }
+    if is_of_kind(object, b"TASK") {
+        return declaration_line(front, b"COUNTER", name);
+    }
+    if is_of_kind(object, b"COUNTER") {
+        return declaration_line(front, b"TASK", name);
+    }
+    None
+}
+
+// The line of the first use of an attribute's name in its block.
+fn used_line(attrs: &[OilAttr], number: usize) -> Option<u32> {
+    if number >= attrs.len() {
+        return None;
+    }
+    let attr = &attrs[number];
+    let name = attr.name.bytes();
+    let mut first = None;
+    for earlier in &attrs[..number] {
+        if earlier.depth < attr.depth {
+            first = None;
+        } else if first.is_none()
+            && earlier.depth == attr.depth
+            && same(earlier.name.bytes(), name)
+        {
+            first = Some(earlier.line);
+        }
+    }
+    first
+}
+
+/// The line of what O9 at this position collides with; none of a resource that needs no declaration.
+pub fn earlier_line(objects: &[OilObject], position: Position) -> Option<u32> {
+    if position.object >= objects.len() {
+        return None;
+    }
+    let object = &objects[position.object];
+    if position.attribute == 0 {
+        return doubled_line(&objects[..position.object], object);
+    }
+    used_line(object.attrs.items(), position.attribute - 1)
 }

@@ -1,21 +1,22 @@
 //! The lines behind a refusal of task code.
-ghost use Rattle.std.specs.Prelude.{◌≡◌, ◌++◌, ◌<◌, ◌&&◌, length, Some, OnOk, IfOk};
+ghost use Rattle.std.specs.Prelude.{◌≡◌, ◌++◌, ◌<◌, ◌&&◌, length, Some, OnOk};
 ghost use Rattle.sloth_base.specs.Named.{function};
 ghost use Rattle.code_rules.specs.AppRange.{AppInRange};
 ghost use Rattle.code_rules.specs.Code.{held_list_at};
 ghost use Rattle.task_verify.specs.Labels.{ArePlaced};
 ghost use Rattle.fault_witnesses.specs.Places.{IsPlace};
-ghost use Rattle.why_text.specs.RuleLines.{own_lines, held_lines, item_lines, lists_at_begin, entry_lines, entered_lines, place_lines, witness_lines, cycle_line};
+ghost use Rattle.why_text.specs.RuleLines.{lists_at_begin, entry_lines, own_lines, item_lines, entered_lines};
+ghost use Rattle.why_text.specs.RuleLines.{place_lines};
 
-use crate::call_lines::push_calls;
 use crate::item_lines::{
-    push_left, push_name, push_release, push_run_out, push_size, push_taken, push_target, push_user,
+    push_left, push_name, push_number_line, push_release, push_run_out, push_size, push_taken,
+    push_target, push_user,
 };
-use crate::numbered::{func_line, func_name};
+use crate::numbered::item_line;
 use crate::push_list_line;
-use crate::way_lines::{push_front, push_shown_way, push_start, push_way};
-use fault_witnesses::{Link, Place, Way, Witness, held_entering, held_list, label_before};
-use sloth_base::{App, Code, Config, Func, Refusal, Result};
+use crate::way_lines::{push_start, push_way};
+use fault_witnesses::{Place, Way, Witness, held_entering, held_list, label_before};
+use sloth_base::{App, Code, Config, Func, Result};
 use std::alloc::Global;
 use task_verify::way;
 use text_pieces::line;
@@ -27,15 +28,6 @@ struct Shown<'t> {
     config: &'t Config,
     app: &'t App,
     witness: &'t Witness,
-}
-
-fn label_number(label: Option<u32>) -> Option<usize>
-    ensures { result ≡ label }
-{
-    match label {
-        Some(label) => Some(label as usize),
-        None => None,
-    }
 }
 
 // What stands behind the way and what is held.
@@ -57,29 +49,15 @@ fn push_own(
     match code {
         Code::V2 | Code::V3 | Code::V4 => push_size(text, shown.app, func, item.op),
         Code::V5 => push_run_out(text, func, number),
-        Code::V7 => push_target(alloc, text, shown.config, func, label_number(way(item.op))),
+        Code::V7 => match way(item.op) {
+            Some(label) => push_target(alloc, text, shown.config, func, label as usize),
+            None => Ok(()),
+        },
         Code::V8 => push_release(text, shown.config, held, item.op),
         Code::V9 => push_taken(text, shown.config, shown.app, item, &shown.witness.calls),
         Code::V10 => push_left(text, shown.app, item, &shown.witness.calls),
         Code::V11 => push_name(text, func.name.bytes()),
         Code::V12 => push_user(text, shown.config, shown.app, &item.op, &shown.witness.user),
-        _ => Ok(()),
-    }
-}
-
-fn push_held(
-    text: &mut Vec<u8>,
-    config: &Config,
-    func: &Func,
-    number: usize,
-    held: &[u32],
-    code: Code,
-) -> Result<()>
-    requires held { held.now ≡ held_list_at func.now number }
-    ensures { OnOk result (text.new.items ≡ text.old.items ++ held_lines config.now func.now number code) }
-{
-    match code {
-        Code::V7 | Code::V8 | Code::V9 | Code::V10 => push_list_line(text, config, b"holds", held),
         _ => Ok(()),
     }
 }
@@ -97,10 +75,16 @@ fn push_item(
     ensures { OnOk result (text.new.items ≡ text.old.items
         ++ item_lines shown.now.config.now shown.now.app.now func.now number code shown.now.witness.now) }
 {
-    push_shown_way(text, func, &shown.witness.way)?;
-    push_front(text, func, shown.witness.behind)?;
+    if let Some(way) = &shown.witness.way {
+        push_way(text, func, way)?;
+    }
+    if let Some(item) = shown.witness.behind {
+        push_number_line(text, b"behind", item_line(func, item))?;
+    }
     let held = held_list(alloc, func, number)?;
-    push_held(text, shown.config, func, number, &held, code)?;
+    if let Code::V7 | Code::V8 | Code::V9 | Code::V10 = code {
+        push_list_line(text, shown.config, b"holds", &held)?;
+    }
     push_own(alloc, text, shown, func, number, &held, code)
 }
 
@@ -145,7 +129,8 @@ fn push_entered(
     push_list_line(text, config, b"holds", &held)
 }
 
-fn push_place<'t>(
+/// The lines behind a refusal of V2 to V12.
+pub fn push_place<'t>(
     alloc: Global,
     text: &mut Vec<u8>,
     config: &'t Config,
@@ -159,11 +144,11 @@ fn push_place<'t>(
         ++ place_lines config.now app.now code witness.now witness.now.place) }
 {
     match witness.place {
-        Place::Header(body) => push_name(text, func_name(app, body)),
+        Place::Header(body) => push_name(text, app.function_name(body)),
         Place::Label { body, label } => {
             let func = app.function(body);
             push_entered(alloc, text, config, func, label, &witness.way)?;
-            push_target(alloc, text, config, func, Some(label))
+            push_target(alloc, text, config, func, label)
         },
         Place::Item { body, item } => {
             let func = app.function(body);
@@ -175,31 +160,4 @@ fn push_place<'t>(
             push_item(alloc, text, &shown, func, item, code)
         },
     }
-}
-
-/// The lines behind a refusal of V2 to V12.
-pub fn witness_lines(
-    alloc: Global,
-    config: &Config,
-    app: &App,
-    refusal: Refusal,
-    witness: &Witness,
-) -> Result<Vec<u8>>
-    requires in_range { AppInRange config.now app.now }
-    requires is_place { IsPlace app.now witness.now.place }
-    ensures { IfOk result (λ text. text.items ≡ witness_lines config.now app.now refusal witness.now) }
-{
-    let mut text = Vec::new(alloc);
-    push_place(alloc, &mut text, config, app, refusal.code, witness)?;
-    Ok(text)
-}
-
-/// The line behind V1.
-pub fn cycle_line(alloc: Global, app: &App, body: usize, links: &[Link]) -> Result<Vec<u8>>
-    ensures { IfOk result (λ text. text.items ≡ cycle_line app.now body links.now) }
-{
-    let mut text = Vec::new(alloc);
-    let line = func_line(app, body);
-    push_calls(&mut text, app, func_name(app, body), line, links, None)?;
-    Ok(text)
 }

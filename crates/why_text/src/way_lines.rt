@@ -1,12 +1,13 @@
-//! The lines of ways and of what is held.
+//! The lines of ways and of what is held. The lines of calls.
 ghost use Rattle.std.specs.Prelude.{◌≡◌, ◌++◌, OnOk};
-ghost use Rattle.why_text.specs.RuleLines.{item_words, start_lines, way_line, way_lines, shown_way_lines, resource_words, list_words, list_line, behind_lines};
+ghost use Rattle.why_text.specs.RuleLines.{item_words, start_lines, way_line, way_lines};
+ghost use Rattle.why_text.specs.RuleLines.{resource_words, list_line, pair_words, link_words};
+ghost use Rattle.why_text.specs.RuleLines.{calls_line};
 
-use crate::item_lines::push_number_line;
-use crate::numbered::{item_line, resource_name};
+use crate::numbered::item_line;
 use crate::{label_line, label_name};
-use fault_witnesses::Way;
-use sloth_base::{Config, Func, Result};
+use fault_witnesses::{Link, Way};
+use sloth_base::{App, Config, Func, Item, Op, Result};
 use text_pieces::line;
 use text_pieces::pieces::Piece::{Number, Word};
 
@@ -48,42 +49,13 @@ pub fn push_way(text: &mut Vec<u8>, func: &Func, way: &Way) -> Result<()>
     push_way_line(text, func, way.items.items())
 }
 
-/// The way, if there is one.
-pub fn push_shown_way(text: &mut Vec<u8>, func: &Func, way: &Option<Way>) -> Result<()>
-    ensures { OnOk result (text.new.items ≡ text.old.items ++ shown_way_lines func.now way.now) }
-{
-    match way {
-        Some(way) => push_way(text, func, way),
-        None => Ok(()),
-    }
-}
-
-/// The item in front, if there is one.
-pub fn push_front(text: &mut Vec<u8>, func: &Func, item: Option<usize>) -> Result<()>
-    ensures { OnOk result (text.new.items ≡ text.old.items ++ behind_lines func.now item) }
-{
-    match item {
-        Some(item) => push_number_line(text, b"behind", item_line(func, item)),
-        None => Ok(()),
-    }
-}
-
 fn push_resources(text: &mut Vec<u8>, config: &Config, list: &[u32]) -> Result<()>
     ensures { OnOk result (text.new.items ≡ text.old.items ++ resource_words config.now list.now) }
 {
     for resource in list {
-        line!(text; Word(b" "), Word(resource_name(config, *resource)))?;
+        line!(text; Word(b" "), Word(config.resource_name(*resource as usize)))?;
     }
     Ok(())
-}
-
-fn push_list(text: &mut Vec<u8>, config: &Config, list: &[u32]) -> Result<()>
-    ensures { OnOk result (text.new.items ≡ text.old.items ++ list_words config.now list.now) }
-{
-    if list.is_empty() {
-        return line!(text; Word(b" -"));
-    }
-    push_resources(text, config, list)
 }
 
 /// A line of resources, `-` for none.
@@ -91,6 +63,49 @@ pub fn push_list_line(text: &mut Vec<u8>, config: &Config, word: &[u8], list: &[
     ensures { OnOk result (text.new.items ≡ text.old.items ++ list_line config.now word.now list.now) }
 {
     line!(text; Word(word))?;
-    push_list(text, config, list)?;
+    if list.is_empty() {
+        line!(text; Word(b" -"))?;
+    } else {
+        push_resources(text, config, list)?;
+    }
+    line!(text; Word(b"\n"))
+}
+
+// A space, a name, and a line.
+fn push_pair(text: &mut Vec<u8>, name: &[u8], line: u32) -> Result<()>
+    ensures { OnOk result (text.new.items ≡ text.old.items ++ pair_words name.now line) }
+{
+    line!(text; Word(b" "), Word(name), Word(b" "), Number(line))
+}
+
+fn push_links(text: &mut Vec<u8>, app: &App, links: &[Link]) -> Result<()>
+    ensures { OnOk result (text.new.items ≡ text.old.items ++ link_words app.now links.now) }
+{
+    for link in links {
+        line!(text; Word(b","))?;
+        push_pair(text, app.function_name(link.func), link.line)?;
+    }
+    Ok(())
+}
+
+/// The line `calls`, with the service that they lead to, if there is one.
+pub fn push_calls(
+    text: &mut Vec<u8>,
+    app: &App,
+    name: &[u8],
+    line: u32,
+    links: &[Link],
+    ending: Option<Item>,
+) -> Result<()>
+    ensures { OnOk result (text.new.items ≡ text.old.items ++ calls_line app.now name.now line links.now ending) }
+{
+    line!(text; Word(b"calls "), Word(name), Word(b" "), Number(line))?;
+    push_links(text, app, links)?;
+    if let Some(item) = ending {
+        line!(text; Word(b","))?;
+        if let Op::Serve(call) = item.op {
+            push_pair(text, call.service.name(), item.line)?;
+        }
+    }
     line!(text; Word(b"\n"))
 }

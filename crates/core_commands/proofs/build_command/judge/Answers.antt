@@ -1,5 +1,7 @@
-use Rattle.std.proofs.Common.{◌∙◌}
+use Rattle.std.proofs.Common.{◌∙◌, sym, subst}
 use Rattle.std.proofs.lemmas.Result.{err_from_is_err_and}
+use Rattle.sloth_base.specs.Arrivals.{AreArrivals}
+use Rattle.sloth_base.specs.Owners.{owners_in}
 use Rattle.core_commands.proofs.Judged.{arrivals_owned, arrivals_refused, texts_refused}
 use Rattle.core_commands.proofs.build_command.judge.Goals as goal
 
@@ -23,5 +25,6 @@ returns-in_err-arrivals-clause-err c =
 pub returns-clause-in_range : goal.returns-clause-in_range
 returns-clause-in_range c =
     let built = c.in_ok-built.built in
-    arrivals_owned built.config c.items.result.now c.items-2.result.now (c.items.ensures ∙ c.in_ok-built.ensures.names) (c.items-2.ensures ∙ c.in_ok-built.ensures.counters)
-    c.in_ok-arrivals.arrivals.items c.in_ok-arrivals.ensures.in_range
+    subst (AreArrivals (owners_in built.config)) (sym c.from_vec.ensures)
+    (arrivals_owned built.config c.items.result.now c.items-2.result.now (c.items.ensures ∙ c.in_ok-built.ensures.names) (c.items-2.ensures ∙ c.in_ok-built.ensures.counters)
+    c.in_ok-arrivals.arrivals.items c.in_ok-arrivals.ensures.in_range)

@@ -29,7 +29,7 @@ returns-clause-err g c =
     let built =
     built-of _ _ (building_of c.args.c.now) _ _ c.in_ok-judged.judged.built.image _ _ _ _ c.in_ok-inputs.ensures.ok c.in_ok-inputs.ensures.delivered of.accepted of.read of.in_range of.image c.read_inputs.ensures.keeps in
     IfErr-weaker c.perform.result _ _ (λ failure h. perform-ends failure _ _ _ _ (building_of c.args.c.now) c.in_ok-judged.judged.built.image _ built c.perform.ensures.reads h)
-    (rw c.as_slice.ensures.value at c.perform.ensures.err)
+    (rw c.items.ensures at c.perform.ensures.err)
 
 pub returns-clause-done : goal.returns-clause-done
 returns-clause-done g c =
@@ -37,7 +37,7 @@ returns-clause-done g c =
     let built =
     built-of _ _ (building_of c.args.c.now) _ _ c.in_ok-judged.judged.built.image _ _ _ _ c.in_ok-inputs.ensures.ok c.in_ok-inputs.ensures.delivered of.accepted of.read of.in_range of.image c.read_inputs.ensures.keeps in
     both-ok c.perform.result _ _ _ (λ written text. (_, done _ _ _ (building_of c.args.c.now) c.in_ok-judged.judged.built.image _ built c.perform.ensures.reads written, text))
-    c.perform.ensures.written (rw c.as_slice.ensures.value at c.perform.ensures.text)
+    c.perform.ensures.written (rw c.items.ensures at c.perform.ensures.text)
 
 pub returns-in_err-inputs-clause-reads : goal.returns-in_err-inputs-clause-reads
 returns-in_err-inputs-clause-reads g c = c.in_err-inputs.ensures.front
@@ -59,4 +59,4 @@ perform-requires-clause-format g c = c.in_ok-judged.ensures.image.format
 pub perform-requires-clause-arrivals : goal.perform-requires-clause-arrivals
 perform-requires-clause-arrivals g c =
     let built = c.in_ok-judged.judged.built in
-    rw c.as_slice.ensures.value (built-owned built.config built.app built.image _ c.in_ok-judged.ensures.image c.in_ok-judged.ensures.in_range)
+    rw c.items.ensures (built-owned built.config built.app built.image _ c.in_ok-judged.ensures.image c.in_ok-judged.ensures.in_range)

@@ -11,6 +11,6 @@ returns-in-Ok-clause-answer g c =
     let before = g.S.Sink.seen c.args.out.now in
     let now = g.S.Sink.seen c.judge.new.out in
     let passed = g.S.Sink.passed_on c.judge.new.out in
-    let A : List ℕ → Type 0 = λ text. IsTextsAnswer c.as_slice.result.now text bytes before now passed c.judge.result in
+    let A : List ℕ → Type 0 = λ text. IsTextsAnswer c.as_slice-img.result.now text bytes before now passed c.judge.result in
     let I : List ℕ → Type 0 = λ text. IsTextsAnswer text arr bytes before now passed c.judge.result in
-    inr (img, arr, c.in-Ok.ensures.ok, subst I c.as_slice.ensures.value (subst A c.as_slice-in-Ok.ensures.value c.judge.ensures))
+    inr (img, arr, c.in-Ok.ensures.ok, subst I c.as_slice-img.ensures.value (subst A c.as_slice-arr.ensures.value c.judge.ensures))

@@ -37,8 +37,8 @@ returns-in-Err-clause-ended g c =
       transcribed = transcribed_end _ _ _ _ _ _ _ _ _ _ c.loop-count.invariant.answered _ _ k.kept_given k.noted_fault;
     }
 
-pub returns-in-Err-due_text-clause-ended : goal.returns-in-Err-due_text-clause-ended
-returns-in-Err-due_text-clause-ended g c =
+pub returns-in-Err-answer-clause-ended : goal.returns-in-Err-answer-clause-ended
+returns-in-Err-answer-clause-ended g c =
     let run : Run = cursor_run g.M.Machine.run c.args.cursor.now in
     let inv = c.loop-count.invariant in
     let session : Session = c.loop-count.session in
@@ -81,6 +81,8 @@ returns-in-Err-deliver-clause-ended g c =
     } in
     let text : c.as_slice.result.now ≡ event_answer run c.args.names.now session c.take-event.result c.take-event.new.self.content =
     c.as_slice.ensures.value ∙ c.in-Ok.ensures.text
+    ∙ ap (λ (first : List ℕ). first ++ event_answer (cursor_run g.M.Machine.run c.loop-count.cursor) c.args.names.now session c.take-event.result c.content.result.now)
+    c.new-due.ensures.items
     ∙ ap (λ r. event_answer r c.args.names.now session c.take-event.result c.content.result.now) inv.run
     ∙ ap (λ content. event_answer run c.args.names.now session c.take-event.result content) c.content.ensures in
     let P : List ℕ → Type 0 = λ due. GainsPart (g.S.Sink.seen c.loop-count.out) (g.S.Sink.seen c.deliver.new.out) due in
@@ -122,7 +124,7 @@ loop-count-preserved g c =
     let asked = rw c.in-Ok-Some.field-0-is at c.in-Ok-Some.ensures.noted in
     let k = c.in-Ok.ensures in
     let h = c.in-Ok-deliver.ensures in
-    let is : IsByte run c.args.names.now (g.I.Input.coming c.loop-count.input) (g.I.Input.coming c.next.new.input) session c.due_text.new.session
+    let is : IsByte run c.args.names.now (g.I.Input.coming c.loop-count.input) (g.I.Input.coming c.next.new.input) session c.answer.new.self
     c.loop-count.reader c.take-event.new.self c.take-event.result c.in-Ok-Some.byte
     = record {
       on = sym c.is_over.ensures ∙ c.if-is_over.false;
@@ -134,11 +136,13 @@ loop-count-preserved g c =
     } in
     let text : c.as_slice.result.now ≡ event_answer run c.args.names.now session c.take-event.result c.take-event.new.self.content =
     c.as_slice.ensures.value ∙ k.text
+    ∙ ap (λ (first : List ℕ). first ++ event_answer (cursor_run g.M.Machine.run c.loop-count.cursor) c.args.names.now session c.take-event.result c.content.result.now)
+    c.new-due.ensures.items
     ∙ ap (λ r. event_answer r c.args.names.now session c.take-event.result c.content.result.now) inv.run
     ∙ ap (λ content. event_answer run c.args.names.now session c.take-event.result content) c.content.ensures in
     let put = h.whole ∙ ap (λ due. output_with (g.S.Sink.seen c.loop-count.out) due) text in
     let noted = h.noted ∙ ap (λ due. c.next.new.self.notes.items ++ Write due ∷ []) text in
-    let W : Run → Type 0 = λ r. c.due_text.new.session.standing.count ≤ r.end in
+    let W : Run → Type 0 = λ r. c.answer.new.self.standing.count ≤ r.end in
     record {
       owed = owed_more run _ _ _ _ _ _ _ _ _ _ _ _ _ _ inv.owed is put;
       answered = answered_more run _ _ _ _ _ _ _ _ _ inv.answered _ _ _ _ _ c.in-Ok-Some.byte _ _ is given asked _ _ noted put;

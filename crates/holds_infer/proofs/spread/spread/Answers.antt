@@ -62,9 +62,9 @@ loop-from-preserved c =
       taken_from = c.in-Some.ensures.items;
       behind_is = behind_is ∙ ap (λ o. list_after o (list_at lists x)) c.op.ensures;
       next = subst (λ (y : ℕ). IsListVisit lists mid rest more y behind) c.next_of.ensures
-          (subst (λ (held : List ℕ). IsListVisit lists mid rest more c.next_of.result held) c.as_slice.ensures.value c.in_ok-visit-in-Some.ensures);
+          (subst (λ (held : List ℕ). IsListVisit lists mid rest more c.next_of.result held) c.as_slice-held.ensures.value c.in_ok-visit-in-Some.ensures);
       jump = subst (λ (y : ℕ). IsListVisit mid new more kept y behind) c.jump_of.ensures
-          (subst (λ (held : List ℕ). IsListVisit mid new more kept c.jump_of.result held) c.as_slice-in-Some.ensures.value c.in_ok-visit-in-Some-2.ensures);
+          (subst (λ (held : List ℕ). IsListVisit mid new more kept c.jump_of.result held) c.as_slice-held.ensures.value c.in_ok-visit-in-Some-2.ensures);
     })
 
 pub loop-from-smaller : goal.loop-from-smaller
@@ -86,8 +86,8 @@ loop-from-smaller c =
     let m = c.visit.auto.lists in
     let p = length-map lists is_some in
     let q = length-map mid is_some in
-    let one = visit_costs (marks lists) (marks mid) rest more c.next_of.result (omega (arith, l, e, n, p)) (visits lists mid rest more c.next_of.result c.as_slice.result.now c.in_ok-visit-in-Some.ensures) in
-    let two = visit_costs (marks mid) (marks new) more kept c.jump_of.result (omega (arith, k, g, n, m, q)) (visits mid new more kept c.jump_of.result c.as_slice-in-Some.result.now c.in_ok-visit-in-Some-2.ensures) in
+    let one = visit_costs (marks lists) (marks mid) rest more c.next_of.result (omega (arith, l, e, n, p)) (visits lists mid rest more c.next_of.result c.as_slice-held.result.now c.in_ok-visit-in-Some.ensures) in
+    let two = visit_costs (marks mid) (marks new) more kept c.jump_of.result (omega (arith, k, g, n, m, q)) (visits mid new more kept c.jump_of.result c.as_slice-held.result.now c.in_ok-visit-in-Some-2.ensures) in
     let popped = ap (λ (xs : List ℕ). length xs) c.in-Some.ensures.items in
     let last = length_push rest x in
     omega (arith, one, two, popped, last)

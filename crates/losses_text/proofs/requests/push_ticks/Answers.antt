@@ -3,7 +3,7 @@ use Rattle.osek_machine.proofs.Rooms.{clocked}
 use Rattle.sloth_base.specs.declared.config.Config.{Config}
 use Rattle.osek_scheduler.specs.State.{System}
 use Rattle.losses_text.specs.Expiries.{expiries}
-use Rattle.losses_text.specs.declared.request.Request.{Request}
+use Rattle.losses_text.specs.declared.requests.Request.{Request}
 use Rattle.losses_text.proofs.Expiries.{tick_told}
 use Rattle.losses_text.proofs.requests.push_ticks.Goals as goal
 

@@ -3,17 +3,17 @@ use Rattle.std.proofs.lemmas.Result.{on_ok_weaker, on_err_weaker}
 use Rattle.osek_machine.proofs.Rooms.{clocked, reads, admit-room, by_name, enters, runs, serves, leaves, comes_back}
 use Rattle.osek_machine.proofs.osek.step.Goals as goal
 
-pub entry_plan-plan-requires : goal.entry_plan-plan-requires
-entry_plan-plan-requires c = reads c.requires
+pub entry_plan-requires : goal.entry_plan-requires
+entry_plan-requires c = reads c.requires
 
 pub act-requires : goal.act-requires
-act-requires c = (enters c.requires c.in-Enter.is c.entry_plan-plan.ensures).room
+act-requires c = (enters c.requires c.in-Enter.is c.entry_plan.ensures).room
 
 pub returns-in-Enter-clause-next : goal.returns-in-Enter-clause-next
-returns-in-Enter-clause-next c = on_ok_weaker c.act.result (λ h. (enters c.requires c.in-Enter.is c.entry_plan-plan.ensures).leads ∙ h) c.act.ensures.next
+returns-in-Enter-clause-next c = on_ok_weaker c.act.result (λ h. (enters c.requires c.in-Enter.is c.entry_plan.ensures).leads ∙ h) c.act.ensures.next
 
 pub returns-in-Enter-clause-none : goal.returns-in-Enter-clause-none
-returns-in-Enter-clause-none c = on_err_weaker c.act.result (λ h. (enters c.requires c.in-Enter.is c.entry_plan-plan.ensures).leads ∙ h) c.act.ensures.none
+returns-in-Enter-clause-none c = on_err_weaker c.act.result (λ h. (enters c.requires c.in-Enter.is c.entry_plan.ensures).leads ∙ h) c.act.ensures.none
 
 pub running_plan-plan-requires : goal.running_plan-plan-requires
 running_plan-plan-requires c = reads c.requires
@@ -58,15 +58,15 @@ returns-in-Left-clause-none c =
     on_err_weaker c.act-in-Left.result (λ h. (leaves c.requires c.in-Left.is c.leave_plan-plan.ensures).leads ∙ h) c.act-in-Left.ensures.none
 
 pub act-requires-in-Back : goal.act-requires-in-Back
-act-requires-in-Back c = (comes_back c.requires c.in-Back.is c.back_plan-plan.ensures).room
+act-requires-in-Back c = (comes_back c.requires c.in-Back.is c.back_plan.ensures).room
 
 pub returns-in-Back-clause-next : goal.returns-in-Back-clause-next
 returns-in-Back-clause-next c =
-    on_ok_weaker c.act-in-Back.result (λ h. (comes_back c.requires c.in-Back.is c.back_plan-plan.ensures).leads ∙ h) c.act-in-Back.ensures.next
+    on_ok_weaker c.act-in-Back.result (λ h. (comes_back c.requires c.in-Back.is c.back_plan.ensures).leads ∙ h) c.act-in-Back.ensures.next
 
 pub returns-in-Back-clause-none : goal.returns-in-Back-clause-none
 returns-in-Back-clause-none c =
-    on_err_weaker c.act-in-Back.result (λ h. (comes_back c.requires c.in-Back.is c.back_plan-plan.ensures).leads ∙ h) c.act-in-Back.ensures.none
+    on_err_weaker c.act-in-Back.result (λ h. (comes_back c.requires c.in-Back.is c.back_plan.ensures).leads ∙ h) c.act-in-Back.ensures.none
 
 pub admit-requires-clause-room : goal.admit-requires-clause-room
 admit-requires-clause-room c = admit-room c.requires c.in-Admit.task

@@ -25,8 +25,8 @@ returns c =
     let counted = c.args.counted in
     let tops = c.args.tops.now in
     let is = c.deref.ensures.value ∙ c.in_ok-weights.ensures.is ∙ ap (counted_weights counted) c.app-app.ensures.is in
-    let made : (sums : List Sum) → AreToldSums w.config w.app c.deref.result.now c.args.above sums → AreSummed w.config w.app counted c.args.above c.args.named tops sums =
+    let made : (sums : List Sum) → AreToldSums w.config w.app c.deref.result.now c.args.h sums → AreSummed w.config w.app counted c.args.h c.args.j tops sums =
     λ sums are k lt e.
-    let told = subst (λ (l : List BodyWeights). AreToldSums w.config w.app l c.args.above sums) is are in
-    (told.each k lt).lower (asked_lower w.config w.app c.args.above c.args.named k (get_or tops k 0) lt e) in
+    let told = subst (λ (l : List BodyWeights). AreToldSums w.config w.app l c.args.h sums) is are in
+    (told.each k lt).lower (asked_lower w.config w.app c.args.h c.args.j k (get_or tops k 0) lt e) in
     IfOk-weaker _ _ _ (λ v are. made _ are) c.sums_above.ensures

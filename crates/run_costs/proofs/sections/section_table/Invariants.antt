@@ -4,5 +4,5 @@ use Rattle.run_costs.specs.RunCosts.{IsRunSectionMaking}
 use Rattle.run_costs.specs.CostsOf.{AreEach}
 use Rattle.run_costs.proofs.sections.section_table.Given as goal
 
-abbrev pub invariant-loop-named : goal.invariant-loop-named
-invariant-loop-named l = AreEach l.named ([]) (λ j. AreEach (length l.walks.config.tasks) no_section_makings (IsRunSectionMaking l.walks.config l.walks.app l.above j)) l.table.items
+abbrev pub invariant-loop-j : goal.invariant-loop-j
+invariant-loop-j l = AreEach l.j ([]) (λ j. AreEach (length l.walks.config.tasks) no_section_makings (IsRunSectionMaking l.walks.config l.walks.app l.h j)) l.table.items

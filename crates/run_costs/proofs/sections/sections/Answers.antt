@@ -12,7 +12,7 @@ pub loop-task-preserved : goal.loop-task-preserved
 loop-task-preserved c =
     let w = c.args.walks.now in
     let weights = c.args.weights.now in
-    let above = c.args.above in
+    let above = c.args.h in
     let task = c.loop-task.task in
     let sums = c.in_ok-sums.sums.items in
     let inside = subst (λ (n : ℕ). task < n) c.tasks-task-end.ensures.is c.loop-task-test.true in
@@ -27,5 +27,5 @@ pub returns : goal.returns
 returns c =
     let over = subst (λ (n : ℕ). n ≤ c.loop-task.task) c.tasks-task-end.ensures.is c.loop-task-test.false in
     let most = subst (λ (n : ℕ). c.loop-task.task ≤ n) c.tasks-task-end.ensures.is c.loop-task.auto.task-end in
-    each_of SectionCosts (IsTaskSection c.args.walks.now.config c.args.walks.now.app c.args.weights.now c.args.above) c.loop-task.list.items no_section c.loop-task.task
+    each_of SectionCosts (IsTaskSection c.args.walks.now.config c.args.walks.now.app c.args.weights.now c.args.h) c.loop-task.list.items no_section c.loop-task.task
     (length c.args.walks.now.config.tasks) (omega (arith, over, most)) c.loop-task.invariant

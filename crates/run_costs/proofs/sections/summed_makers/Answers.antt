@@ -20,8 +20,8 @@ pub loop-task-preserved : goal.loop-task-preserved
 loop-task-preserved c =
     let config = c.args.walks.now.config in
     let app = c.args.walks.now.app in
-    let h = c.args.above in
-    let j = c.args.named in
+    let h = c.args.h in
+    let j = c.args.j in
     let k = c.loop-task.task in
     let tops = c.args.tops.now in
     let well = facts_of config app c.tasks-task-end.ensures.well_formed in
@@ -46,4 +46,4 @@ pub returns : goal.returns
 returns c =
     let over = subst (λ (n : ℕ). n ≤ c.loop-task.task) c.tasks-task-end.ensures.is c.loop-task-test.false in
     let most = subst (λ (n : ℕ). c.loop-task.task ≤ n) c.tasks-task-end.ensures.is c.loop-task.auto.task-end in
-    each_of (SectionMakings) (IsRunSectionMaking c.args.walks.now.config c.args.walks.now.app c.args.above c.args.named) c.loop-task.row.items (no_section_makings) c.loop-task.task (length c.args.walks.now.config.tasks) (omega (arith, over, most)) c.loop-task.invariant
+    each_of (SectionMakings) (IsRunSectionMaking c.args.walks.now.config c.args.walks.now.app c.args.h c.args.j) c.loop-task.row.items (no_section_makings) c.loop-task.task (length c.args.walks.now.config.tasks) (omega (arith, over, most)) c.loop-task.invariant

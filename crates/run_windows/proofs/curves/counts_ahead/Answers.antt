@@ -7,5 +7,5 @@ returns c m more s =
     let le = c.requires.below.counts_below m more s in
     let rounds = c.with_rounds-rounds.ensures more c.args.window.now.front m (front_curve c.args.window.now.front more) below (c.requires.rates m more s) in
     c.least_counts.ensures more
-    (asked_solution c.args.costs.now c.args.window.now m more c.with_ticks.result c.items.result.now c.items-2.result.now c.items.ensures c.items-2.ensures
+    (asked_solution c.args.costs.now c.args.window.now m more c.with_ticks.result
     (no_span c.args.window.now.span c.is_some.result c.is_some.ensures c.if-is_some.false) s (c.with_ticks.ensures more _ rounds le))

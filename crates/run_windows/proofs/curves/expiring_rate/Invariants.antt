@@ -6,4 +6,4 @@ use Rattle.run_windows.proofs.curves.expiring_rate.Given as goal
 abbrev pub invariant-loop-alarm : goal.invariant-loop-alarm
 invariant-loop-alarm l =
     (counts x : ℕ) → IsRate l.ticks counts x → (y : ℕ) × IsRate l.total counts y
-    × (y + expiring l.boot l.sets l.counter l.task x (drop l.alarm-index l.alarms) ≡ expiring l.boot l.sets l.counter l.task x l.alarms)
+    × (y + expiring l.boot l.sets l.c l.j x (drop l.alarm-index l.costs.alarms) ≡ expiring l.boot l.sets l.c l.j x l.costs.alarms)

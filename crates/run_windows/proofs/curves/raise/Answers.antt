@@ -18,6 +18,5 @@ returns c =
     let sums = by_makers true (numbers_of c.args.rates.now) c.round_makings.result c.makers-2.result.now own c.makers-2.ensures (omega (arith, q)) in
     raised_so c.args.costs.now c.args.window.now c.args.rates.now c.args.j c.arrival_rate-arrived.result c.ticking_rate-ticked.result c.ticking_rate-signalled.result
     c.plus-activated.result c.plus-set.result c.rule_of-rule.result c.counted-rate.result c.requires.whole c.requires.rates c.requires.inside c.rule_of-rule.ensures
-    (c.is_open.ensures c.if-not-is_open.false) c.is_boot-boot.result c.items-alarms.result.now c.items-counters.result.now _ c.is_boot-boot.ensures c.items-alarms.ensures
-    c.items-counters.ensures (ap (λ (t : TaskCosts). t.distance) c.task.ensures) (λ k. c.arrival_rate-arrived.ensures k k (whole_rate k)) c.ticking_rate-ticked.ensures c.ticking_rate-signalled.ensures
+    (c.is_open.ensures c.if-not-is_open.false) c.is_boot-boot.result _ c.is_boot-boot.ensures (ap (λ (t : TaskCosts). t.distance) c.task.ensures) (λ k. c.arrival_rate-arrived.ensures k k (whole_rate k)) c.ticking_rate-ticked.ensures c.ticking_rate-signalled.ensures
     (omega (arith, p, a, acts)) (omega (arith, s, sums)) c.counted-rate.ensures

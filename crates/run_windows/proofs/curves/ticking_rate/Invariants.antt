@@ -6,4 +6,4 @@ use Rattle.run_windows.proofs.curves.ticking_rate.Given as goal
 abbrev pub invariant-loop-c : goal.invariant-loop-c
 invariant-loop-c l =
     (counts : ℕ) → (y : ℕ) × IsRate l.total counts y
-    × (y + ticking l.boot l.sets l.task counts l.alarms l.c (drop l.c l.counters) ≡ ticking l.boot l.sets l.task counts l.alarms 0 l.counters)
+    × (y + ticking l.boot l.sets l.j counts l.costs.alarms l.c (drop l.c l.costs.counters) ≡ ticking l.boot l.sets l.j counts l.costs.alarms 0 l.costs.counters)

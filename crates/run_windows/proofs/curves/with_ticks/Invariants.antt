@@ -6,4 +6,4 @@ use Rattle.run_windows.proofs.curves.with_ticks.Given as goal
 abbrev pub invariant-loop-counter : goal.invariant-loop-counter
 invariant-loop-counter l =
     (more y : ℕ) → IsCurve l.fn.curve more y → l.counts ≤ more
-    → (z : ℕ) × IsCurve l.sum more z × (z + tick_counts more (drop l.counter-index l.counters) ≡ y + tick_counts more l.counters)
+    → (z : ℕ) × IsCurve l.sum more z × (z + tick_counts more (drop l.counter-index l.costs.counters) ≡ y + tick_counts more l.costs.counters)

@@ -6,5 +6,5 @@ use Rattle.run_windows.proofs.rounds.ticking.Given as goal
 abbrev pub invariant-loop-c : goal.invariant-loop-c
 invariant-loop-c l = record {
   within : l.total ≤ greatest_sum;
-  is : capped (l.total + ticking l.boot l.sets l.task l.counts l.alarms l.c (drop l.c l.counters)) ≡ capped (ticking l.boot l.sets l.task l.counts l.alarms 0 l.counters);
+  is : capped (l.total + ticking l.boot l.sets l.j l.counts l.costs.alarms l.c (drop l.c l.costs.counters)) ≡ capped (ticking l.boot l.sets l.j l.counts l.costs.alarms 0 l.costs.counters);
 }

@@ -1,4 +1,4 @@
-use Rattle.std.proofs.Common.{◌∙◌, List, [], ◌∷◌, ◌++◌, ap, sym, append_assoc, append-nil}
+use Rattle.std.proofs.Common.{rules, ◌≡◌, ◌∙◌, List, [], ◌∷◌, ◌++◌, ap, sym, append_assoc, append-nil}
 use Rattle.std.specs.Prelude.{cond}
 use Rattle.schedule_picture.specs.declared.marks.Actor.TheVariants as actor
 use Rattle.schedule_picture.specs.declared.marks.Mark.{Mark}
@@ -25,5 +25,6 @@ loop-alarm-preserved c =
     let old = c.args.marks.now.items in
     let k = c.loop-alarm.alarm in
     let one : List Mark = cond (is_alarm_over before now k) (record { at = at; actor = actor.Counter counter; sign = sign.Expires k } ∷ []) [] in
-    c.in_ok-push_expiry.ensures ∙ ap (λ t. t ++ one) c.loop-alarm.invariant ∙ append_assoc old (expiries at counter before now k) one
+    let pushed : c.push_marked.new.marks.items ≡ c.loop-alarm.marks.items ++ one = search rules in
+    pushed ∙ ap (λ t. t ++ one) c.loop-alarm.invariant ∙ append_assoc old (expiries at counter before now k) one
     ∙ ap (λ more. old ++ more) (sym (one-expiry-more at counter before now k))

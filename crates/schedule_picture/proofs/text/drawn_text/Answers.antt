@@ -10,7 +10,7 @@ returns c =
     let n = length c.items-tasks.result.now in
     let m = length c.items-counters.result.now in
     let head : List ℕ = head_lines d.scale (n + m + 1) in
-    whole_text d n m c.row_middle-middle.result c.lane_bars.result.now _ _ _ _ _ _ _ _ (ap (λ (l : List (List ℕ)). length l) c.items-tasks.ensures)
-    (ap (λ (l : List (List ℕ)). length l) c.items-counters.ensures) c.row_middle-middle.ensures c.lane_bars.ensures.bars
+    whole_text d n m c.row_middle-middle.result c.lane_bars-bars.result.now _ _ _ _ _ _ _ _ (ap (λ (l : List (List ℕ)). length l) c.items-tasks.ensures)
+    (ap (λ (l : List (List ℕ)). length l) c.items-counters.ensures) c.row_middle-middle.ensures c.lane_bars-bars.ensures.bars
     (c.in_ok-push_head.ensures ∙ ap (λ t. t ++ head) c.new-text.ensures.items) c.in_ok-push_axis.ensures c.in_ok-push_tasks.ensures c.in_ok-push_counters.ensures
     c.in_ok-push_lane.ensures c.in_ok-push_marks.ensures c.in_ok-push_legend.ensures c.in_ok-extend_from_slice.ensures.items

@@ -14,7 +14,7 @@ parts_file-requires-clause-listable c =
 pub parts_file-requires-clause-may : goal.parts_file-requires-clause-may
 parts_file-requires-clause-may c =
     may_show_again c.args.config.now c.args.app.now c.args.bounds.now c.in_ok-image.image c.in_ok-image.ensures.planned c.in_ok-map.map c.in_ok-map.ensures
-    c.args.name.now c.in_ok-origins.origins c.items.result.now c.items.ensures
+    c.args.name.now c.in_ok-origins.origins c.items-memory.result.now c.items-memory.ensures
 
 pub returns : goal.returns
 returns c =
@@ -24,7 +24,7 @@ returns c =
     let origins = source_origins c.args.src.now in
     let image = c.in_ok-image.image in
     let h = c.in_ok-image.ensures in
-    IfOk-weaker c.parts_file.result (λ file. file.items ≡ symbol_file (parts_of name c.in_ok-origins.origins config app c.in_ok-map.map c.items.result.now))
+    IfOk-weaker c.parts_file.result (λ file. file.items ≡ symbol_file (parts_of name c.in_ok-origins.origins config app c.in_ok-map.map c.items-memory.result.now))
     (λ file. (i : Image) × IsFileOfImage config app name origins i file.items)
     (λ file e. (
       image,
@@ -40,8 +40,8 @@ returns c =
           counters = h.counters;
           planned = record { bounds = c.args.bounds.now; are_bounds = c.requires.may.are_bounds; by_map = h.planned };
         };
-        is = own_file config app c.args.bounds.now image h.planned c.in_ok-map.map c.in_ok-map.ensures name origins c.in_ok-origins.origins c.items.result.now
-            file.items c.items.ensures c.in_ok-origins.ensures e;
+        is = own_file config app c.args.bounds.now image h.planned c.in_ok-map.map c.in_ok-map.ensures name origins c.in_ok-origins.origins c.items-memory.result.now
+            file.items c.items-memory.ensures c.in_ok-origins.ensures e;
       },
     ))
     c.parts_file.ensures

@@ -7,7 +7,7 @@ use Rattle.asm_lines.specs.SourceLines.{source_line}
 use Rattle.asm_lines.specs.declared.source_line.SourceLine.{SourceLine}
 use Rattle.text_pieces.specs.Lines.{lines}
 use Rattle.text_pieces.specs.Names.{referent}
-use Rattle.symbol_image.specs.LinePlaces.{line_origins}
+use Rattle.map_text.specs.LinePlaces.{line_origins}
 use Rattle.symbol_build.proofs.building.source_origins.Goals as goal
 
 pub line_origins-requires-clause-few : goal.line_origins-requires-clause-few

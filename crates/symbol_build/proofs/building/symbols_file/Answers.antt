@@ -1,9 +1,5 @@
-use Rattle.std.proofs.Common.{inl}
 use Rattle.sloth_build.proofs.Ready.{may_build}
 use Rattle.symbol_build.proofs.building.symbols_file.Goals as goal
-
-pub planned_file-requires-clause-none : goal.planned_file-requires-clause-none
-planned_file-requires-clause-none c = λ r fault. c.in_ok-config.ensures.accepted.code.has_app.no_fault r (inl fault)
 
 pub planned_file-requires-clause-may : goal.planned_file-requires-clause-may
 planned_file-requires-clause-may c =

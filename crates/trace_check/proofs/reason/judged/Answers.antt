@@ -1,7 +1,6 @@
 use Rattle.std.proofs.Common.{List, subst}
 use Rattle.sloth_base.specs.declared.service.Arrival.{Arrival}
 use Rattle.trace_check.specs.Answer.{IsVerdict}
-use Rattle.trace_check.specs.Reasons.{AreReasons}
 use Rattle.trace_check.specs.declared.verdict.Verdict.{Verdict}
 use Rattle.trace_check.proofs.reason.judged.Goals as goal
 
@@ -15,7 +14,8 @@ pub lines_behind-requires-clause-late : goal.lines_behind-requires-clause-late
 lines_behind-requires-clause-late c is =
     let inputs = c.args.inputs.now in
     let P : List Arrival → Verdict → Type 0 = λ l v. IsVerdict inputs.config inputs.app l c.args.trace.now c.args.n v in
-    subst (λ (v : Verdict). P c.as_slice-arrivals.result.now v) is c.in_ok-verdict.ensures.verdict
+    subst (λ (v : Verdict). P inputs.arrivals.items v) is
+    (subst (λ (l : List Arrival). P l c.in_ok-verdict.verdict) c.as_slice-arrivals.ensures.value c.in_ok-verdict.ensures.verdict)
 
 pub returns-then-is_yes : goal.returns-then-is_yes
 returns-then-is_yes c oil src arr accepted read =
@@ -36,7 +36,6 @@ pub returns : goal.returns
 returns c oil src arr accepted read =
     let inputs = c.args.inputs.now in
     let P : List Arrival → Type 0 = λ l. IsVerdict inputs.config inputs.app l c.args.trace.now c.args.n c.in_ok-verdict.verdict in
-    let Q : List Arrival → Type 0 = λ l. AreReasons inputs.config inputs.app l c.args.trace.now c.args.n c.in_ok-verdict.verdict c.in_ok-lines.lines.items in
     record {
       answer = c.in_ok-verdict.verdict;
       judged = record {
@@ -50,6 +49,6 @@ returns c oil src arr accepted read =
       };
       other = c.is_yes.ensures.other c.if-is_yes.false;
       lines = c.in_ok-lines.lines.items;
-      reasons = subst Q c.as_slice-arrivals.ensures.value c.in_ok-lines.ensures;
+      reasons = c.in_ok-lines.ensures;
       is = c.in_ok-text.ensures;
     }

@@ -1,9 +1,5 @@
 use Rattle.std.proofs.Common.{length}
 use Rattle.trace_text.proofs.event_line.task_event.Goals as goal
 
-pub returns-then-is_single-clause-numbers : goal.returns-then-is_single-clause-numbers
-returns-then-is_single-clause-numbers c =
-    λ counters. c.single_event.ensures.numbers (length c.args.tasks.now) (length c.args.functions.now) counters c.in_ok-task.ensures.names
-
 pub returns-clause-numbers : goal.returns-clause-numbers
-returns-clause-numbers c = λ counters. c.further_event.ensures.numbers (length c.args.tasks.now) counters c.in_ok-task-2.ensures.names
+returns-clause-numbers c = λ counters. c.further_event.ensures.numbers (length c.args.tasks.now) counters c.in_ok-task-3.ensures.names

@@ -1,4 +1,6 @@
-use Rattle.std.proofs.Common.{◌≡◌, ◌∙◌, ℕ, ◌<◌, Bool, List, length, ap, sym, subst, arith}
+use Rattle.std.proofs.Common.{◌≡◌, ◌∙◌, ℕ, ◌<◌, Bool, true, false, List, length, get_or, replicate, ap, sym, subst, arith}
+use Rattle.std.proofs.lemmas.List.{length-replicate, get_or-replicate}
+use Rattle.sloth_base.specs.declared.app.Item.{Item}
 use Rattle.sloth_base.specs.declared.app.Func.{Func}
 use Rattle.walk_sums.specs.declared.graph.Ways.{Ways}
 use Rattle.walk_sums.specs.Graph.{HasMark, ways_of, AreInside}
@@ -20,11 +22,13 @@ reachable-requires-clause-some c =
 
 pub reachable-requires-clause-inside : goal.reachable-requires-clause-inside
 reachable-requires-clause-inside c =
+    let n = length c.args.func.now.items in
+    let made : c.in_ok-all.all.items ≡ replicate n true = c.in_ok-all.ensures.items_if_clones_equal (λ y same. same) ∙ ap (λ (l : List Item). replicate (length l) true) c.items.ensures in
     subst AreInside (sym c.deref-3.ensures.value)
     (links_inside c.args.func.now c.args.returns.now c.in_ok-onward.onward.items c.in_ok-all.all.items c.in_ok-ways.ways.items (record {
       onward_is = c.in_ok-onward.ensures.exact;
-      all_count = c.in_ok-all.ensures.count;
-      all_is = c.in_ok-all.ensures.set;
+      all_count = ap (λ (l : List Bool). length l) made ∙ length-replicate n true;
+      all_is = λ i lt. ap (λ (l : List Bool). get_or l i false) made ∙ get_or-replicate n i true false lt;
       ways_count = c.in_ok-ways.ensures.count;
       ways_are = subst (λ (l : List Bool). (i : ℕ) → i < length c.args.func.now.items → ways_of c.in_ok-ways.ways.items i ≡ item_ways c.args.func.now c.args.returns.now l c.in_ok-all.all.items i)
           c.deref.ensures.value
@@ -38,11 +42,13 @@ returns-clause-count c =
 
 pub returns-clause-exact : goal.returns-clause-exact
 returns-clause-exact c =
+    let n = length c.args.func.now.items in
+    let made : c.in_ok-all.all.items ≡ replicate n true = c.in_ok-all.ensures.items_if_clones_equal (λ y same. same) ∙ ap (λ (l : List Item). replicate (length l) true) c.items.ensures in
     walked_items c.args.config.now c.args.app.now c.requires.well_formed c.args.number c.requires.known c.args.func.now c.requires.func
     c.args.returns.now c.in_ok-onward.onward.items c.in_ok-all.all.items c.in_ok-ways.ways.items c.requires.returns (record {
       onward_is = c.in_ok-onward.ensures.exact;
-      all_count = c.in_ok-all.ensures.count;
-      all_is = c.in_ok-all.ensures.set;
+      all_count = ap (λ (l : List Bool). length l) made ∙ length-replicate n true;
+      all_is = λ i lt. ap (λ (l : List Bool). get_or l i false) made ∙ get_or-replicate n i true false lt;
       ways_count = c.in_ok-ways.ensures.count;
       ways_are = subst (λ (l : List Bool). (i : ℕ) → i < length c.args.func.now.items → ways_of c.in_ok-ways.ways.items i ≡ item_ways c.args.func.now c.args.returns.now l c.in_ok-all.all.items i)
           c.deref.ensures.value

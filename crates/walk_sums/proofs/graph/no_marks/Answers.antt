@@ -1,9 +1,7 @@
-use Rattle.std.proofs.Common.{Bool, false, refl}
-use Rattle.call_graph.proofs.Growing.{grown}
+use Rattle.std.proofs.Common.{◌∙◌, Bool, List, false, get_or, ap}
+use Rattle.std.proofs.lemmas.List.{get_or-replicate}
 use Rattle.walk_sums.proofs.graph.no_marks.Goals as goal
 
-pub loop-node-preserved : goal.loop-node-preserved
-loop-node-preserved c =
-    let g = grown Bool c.loop-node.marks.items c.push.new.list.items false false c.loop-node.node (λ _. false)
-    c.loop-node.invariant.count c.loop-node.invariant.clear c.in_ok-push.ensures refl in
-    record { count = g.count; clear = g.exact }
+pub returns-clause-clear : goal.returns-clause-clear
+returns-clause-clear c = λ i lt.
+    ap (λ (l : List Bool). get_or l i false) (c.in_ok-marks.ensures.items_if_clones_equal (λ y same. same)) ∙ get_or-replicate c.args.count i false false lt

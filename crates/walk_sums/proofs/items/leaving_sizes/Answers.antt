@@ -7,8 +7,8 @@ use Rattle.walk_sums.proofs.items.leaving_sizes.Goals as goal
 pub loop-number-preserved : goal.loop-number-preserved
 loop-number-preserved c =
     let size =
-    c.leaving_size-size.ensures ∙ ap (λ (w : ℕ). leaving_size w c.numbered_op.result) c.number_at-weight.ensures
-    ∙ ap (leaving_size (get_or c.args.weights.now c.loop-number.number 0)) c.numbered_op.ensures in
+    c.leaving_size-size.ensures ∙ ap (λ (w : ℕ). leaving_size w c.op.result) c.number_at-weight.ensures
+    ∙ ap (leaving_size (get_or c.args.weights.now c.loop-number.number 0)) c.op.ensures in
     let is =
     c.if_alive.ensures ∙ ap (λ (b : Bool). cond b c.leaving_size-size.result 0) c.is_marked.ensures ∙ ap (λ (s : ℕ). cond (get_or c.args.alive.now c.loop-number.number false) s 0) size in
     let g = grown ℕ c.loop-number.sizes.items c.push.new.list.items c.if_alive.result 0 c.loop-number.number (λ i. cond (get_or c.args.alive.now i false) (leaving_size (get_or c.args.weights.now i 0) (item_of c.args.func.now i).op) 0)

@@ -32,7 +32,7 @@ returns c events small timed =
     decided c.args.self.now c.requires.rising c.requires.lines events small timed (sym c.is_late.ensures ∙ c.if-is_late.false)
     (subst P c.self.view_is (subst R front (subst Q c.if-not-branch.false c.in_ok-are_admitted.ensures))) c.may_leave.result
     (c.may_leave.ensures
-    ∙ (ap (λ k. may_leave inside.n inside.most k c.last_moment.result c.split_at.result.1.now) (c.ends.ensures)
-    ∙ (ap (λ k. may_leave inside.n inside.most inside.pass.ends k c.split_at.result.1.now) (c.last_moment.ensures ∙ ap last_moment front)
+    ∙ (ap (λ k. may_leave inside.n inside.most k c.last_moment-last.result c.split_at.result.1.now) (c.ends-ends.ensures)
+    ∙ (ap (λ k. may_leave inside.n inside.most inside.pass.ends k c.split_at.result.1.now) (c.last_moment-last.ensures ∙ ap last_moment front)
     ∙ (ap (λ l. may_leave inside.n inside.most inside.pass.ends (last_moment (take (length admits) inside.arrivals.now)) l) back
     ∙ ap (λ (k : KeptPass). may_leave k.n k.most k.scan.ends (last_moment (take (length k.admits) k.arrivals)) (drop (length k.admits) k.arrivals)) c.self.view_is))))

@@ -1,20 +1,12 @@
 use Rattle.std.proofs.Common.{◌∙◌, ℕ, List, Some, ap, sym, subst}
-use Rattle.sloth_base.specs.declared.config.Config.{Config}
-use Rattle.sloth_base.specs.declared.app.App.{App}
-use Rattle.call_graph.specs.Tables.{HasTaskBody}
 use Rattle.bound_rules.specs.declared.bound.Summary.{Summary}
 use Rattle.walk_sums.specs.declared.kinds.Kind.TheVariants as kinds
 use Rattle.walk_sums.specs.Early.{IsToldEarly}
 use Rattle.walk_sums.specs.Known.{AreSums}
 use Rattle.walk_sums.specs.Told.{told_section}
 use Rattle.walk_sums.proofs.Bodily.{facts_of}
-use Rattle.walk_sums.proofs.Telling.{early_told, task_body}
+use Rattle.walk_sums.proofs.Telling.{early_told}
 use Rattle.walk_sums.proofs.walks.Walks.early_section_sum.Goals as goal
-
-pub told_section-requires-clause-body : goal.told_section-requires-clause-body
-told_section-requires-clause-body c =
-    let w = c.args.self.now in
-    subst (λ (a : App). HasTaskBody a.funcs c.args.task) (sym c.app.ensures.is) (task_body w.config w.app c.app.ensures.well_formed c.args.task c.requires.lower.0)
 
 pub returns : goal.returns
 returns c =
@@ -24,11 +16,9 @@ returns c =
     let whole = c.in_ok-whole.whole.items in
     let own = c.in_ok-own.own.items in
     let own_is = subst (λ (p : ℕ). AreSums w.config w.app weights (kinds.EarlySections c.args.line) (Some p) own) c.priority.ensures c.in_ok-own.ensures in
-    let is = c.told_section.ensures
-    ∙ ap (λ (f : Config). told_section f.tasks c.app.result.now.funcs c.deref-2.result.now c.deref-3.result.now t) c.config.ensures.is
-    ∙ ap (λ (a : App). told_section w.config.tasks a.funcs c.deref-2.result.now c.deref-3.result.now t) c.app.ensures.is
+    let is = c.told_section.ensures.is
     ∙ ap (λ (l : List Summary). told_section w.config.tasks w.app.funcs l c.deref-3.result.now t) c.deref-2.ensures.value
     ∙ ap (λ (l : List Summary). told_section w.config.tasks w.app.funcs whole l t) c.deref-3.ensures.value in
     subst (IsToldEarly w.config w.app weights c.args.above t c.args.line) (sym is)
-    (early_told w.config w.app (facts_of w.config w.app c.app.ensures.well_formed) weights c.requires.weights c.args.above c.requires.above t c.requires.lower c.args.line whole own
+    (early_told w.config w.app (facts_of w.config w.app c.told_section.ensures.well_formed) weights c.requires.weights c.args.above c.requires.above t c.requires.lower c.args.line whole own
     c.in_ok-whole.ensures own_is)

@@ -1,31 +1,27 @@
-use Rattle.std.proofs.Common.{◌<◌, ℕ, Bool, List, length, get_or, false, sym, subst}
-use Rattle.std.specs.Prelude.{Decides}
-use Rattle.std.proofs.lemmas.Result.{IfOk-weaker}
-use Rattle.sloth_base.specs.declared.config.Config.{Config}
-use Rattle.sloth_base.specs.declared.app.App.{App}
-use Rattle.code_rules.specs.WellFormed.{WellFormed}
-use Rattle.bound_rules.specs.declared.bound.Summary.{Summary}
-use Rattle.walk_sums.specs.Rounds.{IsSteady}
-use Rattle.walk_sums.specs.Clears.{AreSteadyMarks}
+use Rattle.std.proofs.Common.{◌≡◌, ◌∙◌, Bool, ℕ, List, false, None, length, rules, ap, subst}
+use Rattle.bound_rules.specs.declared.weights.BodyWeights.{BodyWeights}
+use Rattle.walk_sums.specs.declared.kinds.Kind.TheVariants as kinds
+use Rattle.walk_sums.specs.declared.counted.Counted.TheVariants as counts
+use Rattle.walk_sums.specs.Counted.{counted_weights}
+use Rattle.walk_sums.specs.Known.{AreSums}
+use Rattle.call_graph.proofs.Growing.{grown}
+use Rattle.walk_sums.specs.Clears.{is_steady, AreSteadyMarks}
 use Rattle.walk_sums.proofs.SteadyTasks.{marks_decide}
-use Rattle.walk_sums.proofs.Telling.{task_body}
 use Rattle.walk_sums.proofs.walks.Walks.steady_tasks.Goals as goal
 
-pub marks-requires-clause-bodies : goal.marks-requires-clause-bodies
-marks-requires-clause-bodies c =
-    let well_formed = subst (λ (a : App). WellFormed c.config.result.now a) (sym c.app.ensures.is)
-    (subst (λ (g : Config). WellFormed g c.args.self.now.app) (sym c.config.ensures.is) c.config.ensures.well_formed) in
-    λ t lt. task_body c.config.result.now c.app.result.now well_formed t lt
+pub loop-task-preserved : goal.loop-task-preserved
+loop-task-preserved c =
+    let w = c.args.self.now in
+    let g = grown Bool c.loop-task.steady.items c.push.new.list.items _ false c.loop-task.task (is_steady w.config.tasks w.app.funcs c.in_ok-table.table.items)
+    c.loop-task.invariant.marked c.loop-task.invariant.exact c.in_ok-push.ensures (search rules) in
+    record { marked = g.count; exact = g.exact }
 
 pub returns : goal.returns
 returns c =
     let w = c.args.self.now in
-    let table = c.in_ok-table.table.items in
-    let made : (marks : List Bool) → AreSteadyMarks c.config.result.now.tasks c.app.result.now.funcs (length c.config.result.now.tasks) c.deref.result.now marks
-    → (t : ℕ) → t < length w.config.tasks → Decides (get_or marks t false) (IsSteady w.config w.app t) =
-    λ marks a.
-    marks_decide w.config w.app c.config.ensures.well_formed table c.in_ok-table.ensures marks
-    (subst (λ (l : List Summary). AreSteadyMarks w.config.tasks w.app.funcs (length w.config.tasks) l marks) c.deref.ensures.value
-    (subst (λ (p : App). AreSteadyMarks w.config.tasks p.funcs (length w.config.tasks) c.deref.result.now marks) c.app.ensures.is
-    (subst (λ (g : Config). AreSteadyMarks g.tasks c.app.result.now.funcs (length g.tasks) c.deref.result.now marks) c.config.ensures.is a))) in
-    IfOk-weaker _ _ _ (λ v a. made _ a) c.marks.ensures
+    let all : c.loop-task.task ≡ length w.config.tasks = search rules in
+    let are =
+    subst (λ (l : List BodyWeights). AreSums w.config w.app l kinds.Turns None c.in_ok-table.table.items)
+    (c.deref.ensures.value ∙ c.in_ok-weights.ensures.is ∙ ap (counted_weights counts.Schedules) c.app.ensures.is) c.in_ok-table.ensures in
+    marks_decide w.config w.app c.tasks-task-end.ensures.well_formed c.in_ok-table.table.items are c.loop-task.steady.items
+    (subst (λ (n : ℕ). AreSteadyMarks w.config.tasks w.app.funcs n c.in_ok-table.table.items c.loop-task.steady.items) all c.loop-task.invariant)

@@ -1,20 +1,15 @@
-use Rattle.std.proofs.Common.{◌∙◌, ap, sym, subst}
-use Rattle.sloth_base.specs.declared.app.App.{App}
-use Rattle.call_graph.specs.Tables.{HasTaskBody}
+use Rattle.std.proofs.Common.{◌∙◌, cond, ap, sym, subst}
+use Rattle.bound_rules.specs.declared.bound.Summary.{Summary}
+use Rattle.walk_sums.specs.declared.sections.Sum.TheVariants as sum
 use Rattle.walk_sums.specs.Rounds.{IsTurn}
-use Rattle.walk_sums.specs.Told.{IsToldSum, told_turn}
+use Rattle.walk_sums.specs.Told.{IsToldSum, told}
 use Rattle.walk_sums.proofs.Bodily.{facts_of}
-use Rattle.walk_sums.proofs.Telling.{turn_told, task_body}
+use Rattle.walk_sums.proofs.Telling.{turn_told}
 use Rattle.walk_sums.proofs.walks.Walks.turn_sum.Goals as goal
-
-pub told_turn-requires-clause-body : goal.told_turn-requires-clause-body
-told_turn-requires-clause-body c =
-    let w = c.args.self.now in
-    subst (λ (a : App). HasTaskBody a.funcs c.args.task) (sym c.app.ensures.is) (task_body w.config w.app c.app.ensures.well_formed c.args.task c.requires.inside)
 
 pub returns : goal.returns
 returns c =
     let w = c.args.self.now in
-    let weights = c.args.weights.now in
-    subst (IsToldSum (IsTurn w.app c.args.task) weights) (sym (c.told_turn.ensures ∙ ap (λ (a : App). told_turn a.funcs c.args.table.now c.args.task) c.app.ensures.is))
-    (turn_told w.config w.app (facts_of w.config w.app c.app.ensures.well_formed) weights c.requires.weights c.args.table.now c.args.task c.requires.inside c.requires.table)
+    let is = c.told_sum.ensures ∙ ap (λ (s : Summary). cond s.is_endless sum.Endless (told s.on)) c.body_summary-summary.ensures.is in
+    subst (IsToldSum (IsTurn w.app c.args.task) c.args.weights.now) (sym is)
+    (turn_told w.config w.app (facts_of w.config w.app c.body_summary-summary.ensures.well_formed) c.args.weights.now c.requires.weights c.args.table.now c.args.task c.requires.inside c.requires.table)

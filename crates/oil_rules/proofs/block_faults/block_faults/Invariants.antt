@@ -1,6 +1,0 @@
-use Rattle.sloth_base.proofs.Kept.{Loop}
-use Rattle.oil_rules.specs.AlarmFaults.{BlockFault}
-use Rattle.oil_rules.proofs.block_faults.block_faults.Given as goal
-
-abbrev pub invariant-loop-block : goal.invariant-loop-block
-invariant-loop-block l = Loop (BlockFault l.tasks l.limits) l.blocks l.block-index l.least

@@ -1,6 +1,0 @@
-use Rattle.std.proofs.Common.{◌≡◌, ◌+◌, ◌++◌, drop}
-use Rattle.symbol_image.specs.DataLines.{data_lines}
-use Rattle.symbol_image.proofs.line_places.data_lines.Given as goal
-
-abbrev pub invariant-loop-n : goal.invariant-loop-n
-invariant-loop-n l = l.found.items ++ data_lines (l.n + 1) (drop l.n l.lines) ≡ data_lines 1 l.lines
